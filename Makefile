@@ -1,0 +1,32 @@
+# make run     builds the proved program where needed, and gives it standard input
+# make test    the gate: proves everything from nothing, and runs every test and must-fail edit
+# make lexint  the program alone, as crates/lexint/out/lexint
+# make install puts it into $(PREFIX)/bin
+# make rows    writes the worked rows anew from tools/rows.txt
+
+RT ?= rt
+PREFIX ?= /usr/local
+PROGRAM := crates/lexint/out/lexint
+SOURCES := $(shell find crates -name out -prune -o -type f \( -name '*.rt' -o -name '*.antt' \) -print) crates.txt
+
+.PHONY: run test lexint install rows
+
+run: $(PROGRAM)
+	@./$(PROGRAM)
+
+lexint: $(PROGRAM)
+
+# What the prover and the linker say goes to standard error: standard output is the program's alone.
+$(PROGRAM): $(SOURCES)
+	@cd crates/lexint && $(RT) run </dev/null >&2
+	@touch $@
+
+test:
+	@$(RT) ci
+
+install: $(PROGRAM)
+	install -d $(DESTDIR)$(PREFIX)/bin
+	install -m 755 $(PROGRAM) $(DESTDIR)$(PREFIX)/bin/lexint
+
+rows:
+	@python3 tools/rows.py

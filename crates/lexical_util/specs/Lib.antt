@@ -1,0 +1,6 @@
+pub mod Compare
+pub mod Digit
+pub mod Faults
+pub mod Format
+pub mod Number
+pub mod Validity

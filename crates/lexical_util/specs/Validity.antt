@@ -1,0 +1,41 @@
+-- Which formats are valid, and which fault an invalid one has.
+use Rattle.std.specs.Prelude.{◌==◌, ◌+◌, ℕ, Bool, false, ◌||◌, not, Option, Some, None, is_some, if◌then◌else◌, nat_le}
+use Rattle.lexical_util.specs.Digit.{digit, is_between}
+use Rattle.lexical_util.specs.Format.{Format}
+use Rattle.lexical_util.specs.declared.error.Error.{Error}
+use Rattle.lexical_util.specs.declared.error.Error.TheVariants.{InvalidMantissaRadix, InvalidDigitSeparator, InvalidBasePrefix, InvalidBaseSuffix, InvalidPunctuation}
+
+-- a byte that can't be punctuation: it is not ASCII, or it is `+`, `-` or a digit of the radix
+abbrev pub is_unfit_byte : ℕ → ℕ → Bool
+is_unfit_byte radix byte = nat_le 128 byte || ((byte == 43) || ((byte == 45) || is_some (digit byte radix)))
+
+-- a separator, prefix or suffix is set, and to an unfit byte
+abbrev pub is_unfit : ℕ → Option ℕ → Bool
+is_unfit radix None = false
+is_unfit radix (Some byte) = is_unfit_byte radix byte
+
+-- an ASCII letter in lower case, and any other byte as it is
+abbrev pub lower : ℕ → ℕ
+lower byte = if is_between 65 90 byte then byte + 32 else byte
+
+-- both are set, and they are the same byte but for ASCII case
+abbrev pub are_alike : Option ℕ → Option ℕ → Bool
+are_alike None other = false
+are_alike (Some byte) None = false
+are_alike (Some byte) (Some other) = lower byte == lower other
+
+-- two of separator, prefix and suffix are alike
+abbrev pub has_alike : Format → Bool
+has_alike format =
+    are_alike format.digit_separator format.base_prefix
+    || (are_alike format.digit_separator format.base_suffix || are_alike format.base_prefix format.base_suffix)
+
+-- the first of the five rules that the format breaks, by its fault; none where the format is valid
+abbrev pub fault : Format → Option Error
+fault format =
+    if not (is_between 2 36 format.mantissa_radix) then Some InvalidMantissaRadix
+    else (if is_unfit format.mantissa_radix format.digit_separator then Some InvalidDigitSeparator
+    else (if is_unfit format.mantissa_radix format.base_prefix then Some InvalidBasePrefix
+    else (if is_unfit format.mantissa_radix format.base_suffix then Some InvalidBaseSuffix
+    else (if has_alike format then Some InvalidPunctuation
+    else None))))

@@ -1,0 +1,59 @@
+// `i128` as whole numbers.
+
+ghost use Rattle.std.specs.Prelude.{pos, true};
+ghost use Rattle.std.proofs.Common.{refl};
+ghost use Rattle.lexical_util.specs.Number.IsWidth.{w128};
+ghost use Rattle.lexical_util.specs.Compare.{signed-eq};
+
+use crate::num::Integer;
+
+impl Integer for i128 {
+    ghost number = { λ x. x };
+
+    ghost ZERO = { pos 0 };
+
+    ghost BITS = { 128 };
+
+    ghost IS_SIGNED = { true };
+
+    const ZERO: i128 = 0;
+
+    const BITS: u32 = 128;
+
+    const IS_SIGNED: bool = true;
+
+    fn from_u32(v: u32) -> i128 {
+        v as i128
+    }
+
+    #[tactic(auto, using(crate::proofs::Signed::step, crate::proofs::Signed::product_fits, crate::proofs::Signed::difference_fits, crate::proofs::Signed::sum_fits, crate::proofs::Signed::difference_is, crate::proofs::Signed::sum_is))]
+    fn mul_add(self, scale: i128, add: i128, negative: bool) -> i128 {
+        let product = self * scale;
+        if negative {
+            product - add
+        } else {
+            product + add
+        }
+    }
+
+    fn checked_mul_add(self, scale: i128, add: i128, negative: bool) -> Option<i128> {
+        let product = self.checked_mul(scale)?;
+        if negative {
+            product.checked_sub(add)
+        } else {
+            product.checked_add(add)
+        }
+    }
+
+    ghost eq_law = { signed-eq };
+
+    ghost order_law = { λ a b. refl };
+
+    ghost cmp_law = { λ a b. refl };
+
+    ghost injective_law = { λ a b e. e };
+
+    ghost zero_law = { refl };
+
+    ghost width_law = { w128 };
+}
