@@ -34,11 +34,11 @@ large_room false w64 r h = le_trans (pow-le-pow_left h 8) (lit≤ tt)
 large_room true w128 r h = le_trans (pow-le-pow_left h 16) (lit≤ tt)
 large_room false w128 r h = le_trans (pow-le-pow_left h 16) (lit≤ tt)
 
--- the number of size below n, and its negative, are numbers of a type whose limit is at least n
+-- a number below the limit, and its negative where the type is signed
 below_limit : (type : IntegerType) (n : ℕ) → 1 ≤ n → n ≤ number_limit type → IsNumber type (pos (n - 1))
 below_limit type n some low = lt-ltb (n - 1) (number_limit type) (omega arith)
 
-negative_below_limit : (type : IntegerType) (m : ℕ) → m < number_limit type → type.is_signed ≡ true → is_number type (neg_ℤ (pos m)) ≡ true
+pub negative_below_limit : (type : IntegerType) (m : ℕ) → m < number_limit type → type.is_signed ≡ true → is_number type (neg_ℤ (pos m)) ≡ true
 negative_below_limit type zero low signed = lt-ltb 0 (number_limit type) (omega arith)
 negative_below_limit type (suc m) low signed = ap (λ b. b && nat_lt m (number_limit type)) signed ∙ lt-ltb m (number_limit type) (omega arith)
 

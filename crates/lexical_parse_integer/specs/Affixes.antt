@@ -1,0 +1,32 @@
+-- Prefix and suffix of a numeral.
+use Rattle.std.specs.Prelude.{ℕ, ◌+◌, Bool, false, ◌&&◌, ◌==◌, nat_lt, if◌then◌else◌, List, length, Option, Some, None, slice_get}
+use Rattle.lexical_util.specs.Format.{Format}
+use Rattle.lexical_util.specs.Validity.{lower}
+use Rattle.lexical_parse_integer.specs.Runs.{are_same, end_of, places}
+
+-- whether a byte matches a prefix or suffix, with or without regard to ASCII case
+unfoldable pub matches : Bool → ℕ → ℕ → Bool
+matches is_case_sensitive affix byte = if is_case_sensitive then byte == affix else lower byte == lower affix
+
+-- whether a prefix or suffix is set, and the byte that stands there matches it
+unfoldable pub is_affix : Bool → Option ℕ → Option ℕ → Bool
+is_affix is_case_sensitive (Some affix) (Some byte) = matches is_case_sensitive affix byte
+is_affix is_case_sensitive (Some affix) None = false
+is_affix is_case_sensitive None byte = false
+
+-- whether a zero stands at a place, and the prefix directly behind it
+unfoldable pub prefix_at : Format → List ℕ → ℕ → Bool
+prefix_at format text place =
+    are_same (Some 48) (slice_get text place)
+    && is_affix format.case_sensitive_base_prefix format.base_prefix (slice_get text (place + 1))
+
+-- whether the suffix stands at a place
+unfoldable pub suffix_at : Format → List ℕ → ℕ → Bool
+suffix_at format text place = is_affix format.case_sensitive_base_suffix format.base_suffix (slice_get text place)
+
+-- where reading stops: at the numeral's end, or behind the suffix there where the numeral has a digit
+unfoldable pub numeral_stop : Format → ℕ → List ℕ → ℕ → ℕ
+numeral_stop format radix text start =
+    if nat_lt 0 (length (places format radix text start)) && suffix_at format text (end_of format radix text start)
+    then end_of format radix text start + 1
+    else end_of format radix text start

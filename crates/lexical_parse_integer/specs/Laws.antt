@@ -1,0 +1,30 @@
+-- What the definitions of the grammar come to.
+use Rattle.std.specs.Prelude.{◌≡◌, ℕ, ◌≤◌, ◌<◌, true, List, length, nat_lt, if◌then◌else◌, ℤ, Result, Ok, Err}
+use Rattle.lexical_util.specs.declared.error.Error.{Error}
+use Rattle.lexical_util.specs.declared.error.Error.TheVariants.{Empty, InvalidDigit}
+use Rattle.lexical_util.specs.Format.{Format}
+use Rattle.lexical_parse_integer.specs.Runs.{separator_at, belongs, end_of, run_begin, run_stop}
+
+-- the end is the greatest place such that each place from start to before it belongs to the numeral
+pub record IsGreatestEnd (format : Format) (radix : ℕ) (text : List ℕ) (start : ℕ) : Type 0 where
+  pub from : start ≤ end_of format radix text start
+  pub within : end_of format radix text start ≤ length text
+  pub belong : (place : ℕ) → start ≤ place → place < end_of format radix text start → belongs format radix text start place ≡ true
+  pub greatest : (end : ℕ) → end ≤ length text → ((place : ℕ) → start ≤ place → place < end → belongs format radix text start place ≡ true) → end ≤ end_of format radix text start
+
+-- the run of a separator holds its place and separators alone, and no longer stretch of the region that holds the
+-- place does
+pub record IsLongestRun (format : Format) (text : List ℕ) (start place : ℕ) : Type 0 where
+  pub from : start ≤ run_begin format text start place
+  pub holds_first : run_begin format text start place ≤ place
+  pub holds_last : place < run_stop format text place
+  pub within : run_stop format text place ≤ length text
+  pub separators : (k : ℕ) → run_begin format text start place ≤ k → k < run_stop format text place → separator_at format text k ≡ true
+  pub longest_before : (begin : ℕ) → start ≤ begin → begin ≤ place → ((k : ℕ) → begin ≤ k → k < place → separator_at format text k ≡ true) → run_begin format text start place ≤ begin
+  pub longest_behind : (stop : ℕ) → place < stop → stop ≤ length text → ((k : ℕ) → place ≤ k → k < stop → separator_at format text k ≡ true) → stop ≤ run_stop format text place
+
+-- what the complete parser answers for a text of this length, by what the partial one does
+abbrev pub completed : ℕ → Result (ℤ × ℕ) Error → Result ℤ Error
+completed length (Ok found) = if nat_lt found.1 length then Err (InvalidDigit found.1) else Ok found.0
+completed length (Err (Empty place)) = if nat_lt place length then Err (InvalidDigit place) else Err (Empty place)
+completed length (Err e) = Err e

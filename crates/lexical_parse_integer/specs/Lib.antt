@@ -1,0 +1,14 @@
+pub mod Affixes
+pub mod Answer
+pub mod CursorView
+pub mod Grammar
+pub mod Head
+pub mod Laws
+pub mod Numeral
+pub mod Reading
+pub mod Runs
+pub mod Seeking
+pub mod Tally
+pub mod Turns
+pub mod Value
+pub mod Words

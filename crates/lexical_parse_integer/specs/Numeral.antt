@@ -1,0 +1,42 @@
+-- The numeral in a text: its digits, where they stand, and what they are worth.
+use Rattle.std.specs.Prelude.{ℕ, Bool, List, length, take, map, ℤ}
+use Rattle.std.specs.Option.{unwrap_or}
+use Rattle.lexical_util.specs.Format.{Format}
+use Rattle.lexical_parse_integer.specs.Affixes.{numeral_stop}
+use Rattle.lexical_parse_integer.specs.Runs.{digit_at, end_of, places}
+use Rattle.lexical_parse_integer.specs.Value.{positional_value, signed}
+
+-- A numeral in the region of a text.
+pub record Numeral : Type 0 where
+  -- where the region starts, and the radix in force
+  pub start : ℕ
+  pub radix : ℕ
+  -- the places of its digits, and their values
+  pub places : List ℕ
+  pub digits : List ℕ
+  -- where it ends, and where reading stops
+  pub ends : ℕ
+  pub stop : ℕ
+
+-- the numeral of a text in the region from start on
+unfoldable pub numeral : Format → List ℕ → ℕ → ℕ → Numeral
+numeral format text start radix = record {
+  start = start;
+  radix = radix;
+  places = places format radix text start;
+  digits = map (λ place. unwrap_or (digit_at radix text place) 0) (places format radix text start);
+  ends = end_of format radix text start;
+  stop = numeral_stop format radix text start;
+}
+
+-- how many digits it has
+abbrev pub digit_count : Numeral → ℕ
+digit_count x = length x.digits
+
+-- the value of its first digits, so many, with the sign
+abbrev pub front_value : Bool → Numeral → ℕ → ℤ
+front_value is_minus x count = signed is_minus (positional_value x.radix (take count x.digits))
+
+-- the value of all its digits, with the sign
+abbrev pub numeral_value : Bool → Numeral → ℤ
+numeral_value is_minus x = front_value is_minus x (digit_count x)

@@ -1,0 +1,112 @@
+// Where the next digit stands, by places of the text.
+ghost use Rattle.std.specs.Prelude.{◌≡◌, ◌≤◌, ◌<◌, length};
+ghost use Rattle.lexical_parse_integer.specs.Runs.{digit_at, end_of, flag_for, run_passes, run_stop, separator_at};
+ghost use Rattle.lexical_parse_integer.specs.Seeking.{Finds, IsAtRunStart, IsSeparatorNoDigit};
+ghost use Rattle.lexical_util.specs.Digit.{IsRadix};
+
+use lexical_util::digit::char_to_digit;
+use lexical_util::format::NumberFormat;
+
+pub(crate) enum Found {
+    Digit(usize, u32),
+    End(usize),
+}
+
+#[tactic(auto, unfolding(crate::specs::Runs::digit_at))]
+fn digit_at(bytes: &[u8], radix: u32, place: usize) -> Option<u32>
+    requires { IsRadix radix }
+    ensures { result ≡ digit_at radix bytes.now place }
+{
+    if place < bytes.len() {
+        char_to_digit(bytes[place], radix)
+    } else {
+        None
+    }
+}
+
+#[tactic(auto, unfolding(crate::specs::Runs::separator_at, crate::specs::Runs::are_same))]
+fn separator_at(bytes: &[u8], format: &NumberFormat, place: usize) -> bool
+    ensures { result ≡ separator_at format.now bytes.now place }
+{
+    match format.digit_separator() {
+        Some(separator) => place < bytes.len() && bytes[place] == separator,
+        None => false,
+    }
+}
+
+// The place behind the separators that stand from `place` on.
+fn run_stop(bytes: &[u8], format: &NumberFormat, place: usize) -> usize
+    requires { place ≤ length bytes.now }
+    ensures { result ≡ run_stop format.now bytes.now place }
+{
+    let mut stop = place;
+    while stop < bytes.len() && separator_at(bytes, format, stop) {
+        stop += 1;
+    }
+    stop
+}
+
+#[tactic(auto, unfolding(crate::specs::Runs::flag_for))]
+fn flag_for(format: &NumberFormat, before: bool, after: bool) -> bool
+    ensures { result ≡ flag_for format.now before after }
+{
+    match (before, after) {
+        (true, true) => format.integer_internal_digit_separator(),
+        (false, true) => format.integer_leading_digit_separator(),
+        (true, false) => format.integer_trailing_digit_separator(),
+        (false, false) => {
+            format.integer_leading_digit_separator() || format.integer_trailing_digit_separator()
+        }
+    }
+}
+
+// Whether the run from `from`, which is its first byte, to before `to` passes.
+#[tactic(auto, unfolding(crate::specs::Runs::run_passes))]
+fn run_passes(
+    bytes: &[u8],
+    format: &NumberFormat,
+    radix: u32,
+    start: usize,
+    from: usize,
+    to: usize,
+) -> bool
+    requires order { from < to }
+    requires radix { IsRadix radix }
+    ensures { result ≡ run_passes format.now radix bytes.now start from to }
+{
+    let before = start < from && digit_at(bytes, radix, from - 1).is_some();
+    let after = digit_at(bytes, radix, to).is_some();
+    (format.integer_consecutive_digit_separator() || to - from == 1)
+        && flag_for(format, before, after)
+}
+
+/// The least place of a digit of the numeral at or after `position`.
+pub(crate) fn seek(
+    bytes: &[u8],
+    format: &NumberFormat,
+    radix: u32,
+    start: usize,
+    position: usize,
+) -> Found
+    requires radix { IsRadix radix }
+    requires separator { IsSeparatorNoDigit format.now radix bytes.now }
+    requires within { position ≤ length bytes.now }
+    requires after_start { start ≤ position }
+    requires before_end { position ≤ end_of format.now radix bytes.now start }
+    requires at_run_start { IsAtRunStart format.now bytes.now start position }
+    ensures { Finds format.now radix bytes.now start position result }
+{
+    let place = if separator_at(bytes, format, position) {
+        let stop = run_stop(bytes, format, position);
+        if !run_passes(bytes, format, radix, start, position, stop) {
+            return Found::End(position);
+        }
+        stop
+    } else {
+        position
+    };
+    match digit_at(bytes, radix, place) {
+        Some(value) => Found::Digit(place, value),
+        None => Found::End(place),
+    }
+}
