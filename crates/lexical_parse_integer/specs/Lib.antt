@@ -5,6 +5,7 @@ pub mod Grammar
 pub mod Head
 pub mod Laws
 pub mod Numeral
+pub mod OptionsView
 pub mod Reading
 pub mod Runs
 pub mod Seeking

@@ -1,7 +1,7 @@
 //! The parsers over a cursor.
 ghost use Rattle.std.specs.Prelude.{◌≡◌, ◌⊎◌, IsNone, IsTrue, ◌↔◌, ◌+◌, ◌<◌, ◌≤◌, ◌≤ℤ◌, pos, false, true, None, Some, Ok, Err, nat_lt, ◌&&◌, ◌||◌, ◌==◌, is_some, length, IfOk, OnOk, IfErr, MatchResult, OnErr};
 ghost use Rattle.std.specs.Option.{option_or};
-ghost use Rattle.lexical_parse_integer.specs.Answer.{seen};
+ghost use Rattle.lexical_parse_integer.specs.Answer.{placed, seen};
 ghost use Rattle.lexical_parse_integer.specs.CursorView.{IsSound, numeral_of};
 ghost use Rattle.lexical_parse_integer.specs.Grammar.{complete, digits_required, partial, range_error, range_fault, zero_fault};
 ghost use Rattle.lexical_parse_integer.specs.Head.{head_of, sign};
@@ -9,12 +9,15 @@ ghost use Rattle.lexical_parse_integer.specs.Numeral.{digit_count, numeral_value
 ghost use Rattle.lexical_parse_integer.specs.Reading.{GoesOn, IsAtHead, IsRead, Reads, StandsAtStop};
 ghost use Rattle.lexical_parse_integer.specs.Turns.{AsksWords, HasFewTurns, turns_bound};
 ghost use Rattle.lexical_util.specs.Digit.{IsRadix};
+ghost use Rattle.lexical_util.specs.Validity.{fault};
 ghost use Rattle.lexical_util.specs.Number.{HasSign, integer_type, is_number, mul_add, overflow_digits};
 
 use crate::cursor::Cursor;
 use crate::multi::read_words;
+use crate::options::Options;
 use lexical_util::digit::char_is_digit;
 use lexical_util::error::Error;
+use lexical_util::format::NumberFormat;
 use lexical_util::num::Integer;
 use lexical_util::result::Result;
 
@@ -233,14 +236,14 @@ fn is_settled(c: &Cursor<'_>) -> bool
 }
 
 /// The integer that the whole text stands for.
-pub fn algorithm_complete_on<T: Integer>(c: &mut Cursor<'_>, no_multi_digit: bool) -> Result<T>
+pub fn algorithm_complete_on<T: Integer>(c: &mut Cursor<'_>, options: &Options) -> Result<T>
     requires { c.old.position ≡ 0 }
     ensures answer { seen T.number result ≡ complete c.old.format (integer_type T.BITS T.IS_SIGNED) c.old.bytes }
     ensures at_stop { OnOk result (StandsAtStop c.old.format (integer_type T.BITS T.IS_SIGNED) c.old.bytes c.new) }
-    ensures each { IsTrue no_multi_digit → OnOk result (c.new.turns ≡ c.new.digits) }
-    ensures few { AsksWords T.BITS no_multi_digit c.old.format → HasFewTurns c.old.format (integer_type T.BITS T.IS_SIGNED) c.old.bytes c.new.turns }
+    ensures each { IsTrue options.now.no_multi_digit → OnOk result (c.new.turns ≡ c.new.digits) }
+    ensures few { AsksWords T.BITS options.now.no_multi_digit c.old.format → HasFewTurns c.old.format (integer_type T.BITS T.IS_SIGNED) c.old.bytes c.new.turns }
 {
-    let value = read::<T>(c, no_multi_digit)?;
+    let value = read::<T>(c, options.get_no_multi_digit())?;
     if !c.is_buffer_empty() {
         return Err(Error::InvalidDigit(c.cursor()));
     }
@@ -251,17 +254,14 @@ pub fn algorithm_complete_on<T: Integer>(c: &mut Cursor<'_>, no_multi_digit: boo
 }
 
 /// The integer that the front of the text stands for, and where reading stopped.
-pub fn algorithm_partial_on<T: Integer>(
-    c: &mut Cursor<'_>,
-    no_multi_digit: bool,
-) -> Result<(T, usize)>
+pub fn algorithm_partial_on<T: Integer>(c: &mut Cursor<'_>, options: &Options) -> Result<(T, usize)>
     requires { c.old.position ≡ 0 }
-    ensures answer { seen (λ found. (T.number found.0, found.1)) result ≡ partial c.old.format (integer_type T.BITS T.IS_SIGNED) c.old.bytes }
+    ensures answer { seen (placed T.number) result ≡ partial c.old.format (integer_type T.BITS T.IS_SIGNED) c.old.bytes }
     ensures at_stop { OnOk result (StandsAtStop c.old.format (integer_type T.BITS T.IS_SIGNED) c.old.bytes c.new) }
-    ensures each { IsTrue no_multi_digit → OnOk result (c.new.turns ≡ c.new.digits) }
-    ensures few { AsksWords T.BITS no_multi_digit c.old.format → HasFewTurns c.old.format (integer_type T.BITS T.IS_SIGNED) c.old.bytes c.new.turns }
+    ensures each { IsTrue options.now.no_multi_digit → OnOk result (c.new.turns ≡ c.new.digits) }
+    ensures few { AsksWords T.BITS options.now.no_multi_digit c.old.format → HasFewTurns c.old.format (integer_type T.BITS T.IS_SIGNED) c.old.bytes c.new.turns }
 {
-    let value = read::<T>(c, no_multi_digit)?;
+    let value = read::<T>(c, options.get_no_multi_digit())?;
     if lacks_digits(c) {
         if is_settled(c) {
             return Err(Error::Empty(c.cursor()));
@@ -269,4 +269,30 @@ pub fn algorithm_partial_on<T: Integer>(
         return Ok((value, c.cursor()));
     }
     Ok((value, c.cursor()))
+}
+
+/// The integer that the whole text stands for.
+#[inline(always)]
+pub fn algorithm_complete<T: Integer>(
+    bytes: &[u8],
+    format: &NumberFormat,
+    options: &Options,
+) -> Result<T>
+    requires valid { IsNone (fault format.now) }
+    ensures { seen T.number result ≡ complete format.now (integer_type T.BITS T.IS_SIGNED) bytes.now }
+{
+    algorithm_complete_on::<T>(&mut Cursor::new(bytes, format), options)
+}
+
+/// The integer that the front of the text stands for, and where reading stopped.
+#[inline(always)]
+pub fn algorithm_partial<T: Integer>(
+    bytes: &[u8],
+    format: &NumberFormat,
+    options: &Options,
+) -> Result<(T, usize)>
+    requires valid { IsNone (fault format.now) }
+    ensures { seen (placed T.number) result ≡ partial format.now (integer_type T.BITS T.IS_SIGNED) bytes.now }
+{
+    algorithm_partial_on::<T>(&mut Cursor::new(bytes, format), options)
 }

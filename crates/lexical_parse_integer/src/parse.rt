@@ -1,0 +1,59 @@
+//! Parsers under a format, as calls of the integer types.
+ghost use Rattle.std.specs.Prelude.{◌≡◌, IsNone};
+ghost use Rattle.lexical_util.specs.Number.{integer_type};
+ghost use Rattle.lexical_util.specs.Validity.{fault};
+ghost use Rattle.lexical_parse_integer.specs.Answer.{placed, seen};
+ghost use Rattle.lexical_parse_integer.specs.Grammar.{complete, partial};
+
+use crate::algorithm::{algorithm_complete, algorithm_partial};
+use crate::options::Options;
+use lexical_util::format::NumberFormat;
+use lexical_util::num::Integer;
+use lexical_util::result::Result;
+
+/// An integer type that is read under a valid format.
+pub trait ParseInteger: Integer {
+    /// The integer that the whole text stands for.
+    fn parse_complete(bytes: &[u8], format: &NumberFormat, options: &Options) -> Result<Self>
+        requires valid { IsNone (fault format.now) }
+        ensures { seen Self.number result ≡ complete format.now (integer_type Self.BITS Self.IS_SIGNED) bytes.now }
+    {
+        algorithm_complete::<Self>(bytes, format, options)
+    }
+
+    /// The integer that the front of the text stands for, and the place at which reading stopped.
+    fn parse_partial(
+        bytes: &[u8],
+        format: &NumberFormat,
+        options: &Options,
+    ) -> Result<(Self, usize)>
+        requires valid { IsNone (fault format.now) }
+        ensures { seen (placed Self.number) result ≡ partial format.now (integer_type Self.BITS Self.IS_SIGNED) bytes.now }
+    {
+        algorithm_partial::<Self>(bytes, format, options)
+    }
+}
+
+impl ParseInteger for u8 {}
+
+impl ParseInteger for u16 {}
+
+impl ParseInteger for u32 {}
+
+impl ParseInteger for u64 {}
+
+impl ParseInteger for u128 {}
+
+impl ParseInteger for usize {}
+
+impl ParseInteger for i8 {}
+
+impl ParseInteger for i16 {}
+
+impl ParseInteger for i32 {}
+
+impl ParseInteger for i64 {}
+
+impl ParseInteger for i128 {}
+
+impl ParseInteger for isize {}
