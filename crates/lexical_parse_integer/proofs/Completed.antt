@@ -41,7 +41,7 @@ all_cases n stop first_zero false false lacks separated true (Some k) at v order
 all_cases n stop first_zero false false lacks separated false (Some k) at v order = refl
 all_cases n stop first_zero false false lacks separated minus None at v order = last_cases n stop lacks separated v order
 
-numeral_within : (f : Format) (text : List ℕ) (start r : ℕ) → start ≤ length text → (numeral f text start r).stop ≤ length text
+pub numeral_within : (f : Format) (text : List ℕ) (start r : ℕ) → start ≤ length text → (numeral f text start r).stop ≤ length text
 unfolding numeral numeral_stop
 numeral_within f text start r low = by_tests (nat_lt 0 (length (places f r text start))) (suffix_at f text (end_of f r text start)) refl
   where
@@ -100,7 +100,7 @@ sign_fault f t (c ∷ cs) e h = by_tests (c == 43) f.no_positive_mantissa_sign (
 below : (a b : ℕ) → a ≤ b → (a < b) ⊎ (a ≡ b)
 below a b low = elim (cases_lt a b) [ inl l ↦ inl l | inr l ↦ inr (omega arith) ]
 
-head_within : (f : Format) (text : List ℕ) (s : Bool × ℕ) (p : Bool) → s.1 ≤ length text → prefix_at f text s.1 ≡ p → (head_behind f s p).start ≤ length text
+pub head_within : (f : Format) (text : List ℕ) (s : Bool × ℕ) (p : Bool) → s.1 ≤ length text → prefix_at f text s.1 ≡ p → (head_behind f s p).start ≤ length text
 head_within f text s false low e = omega arith
 head_within f text s true low e = let two = prefix_at_within f text s.1 e in omega arith
 

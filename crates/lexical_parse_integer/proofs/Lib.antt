@@ -1,4 +1,5 @@
 pub mod Completed
+pub mod Completing
 pub mod Counts
 pub mod CursorLemmas
 pub mod First

@@ -1,9 +1,11 @@
--- What the definitions of the grammar come to.
-use Rattle.std.specs.Prelude.{◌≡◌, ℕ, ◌≤◌, ◌<◌, true, List, length, nat_lt, if◌then◌else◌, ℤ, Result, Ok, Err}
+-- What the definitions of the grammar come to, and the laws of the parsers' answers.
+use Rattle.std.specs.Prelude.{◌≡◌, ◌↔◌, ℕ, ◌≤◌, ◌<◌, Bool, true, false, List, length, nat_lt, if◌then◌else◌, ℤ, Result, Ok, Err}
 use Rattle.lexical_util.specs.declared.error.Error.{Error}
 use Rattle.lexical_util.specs.declared.error.Error.TheVariants.{Empty, InvalidDigit}
 use Rattle.lexical_util.specs.Format.{Format}
 use Rattle.lexical_parse_integer.specs.Runs.{separator_at, belongs, end_of, run_begin, run_stop}
+
+-- ---- ends and runs
 
 -- the end is the greatest place such that each place from start to before it belongs to the numeral
 pub record IsGreatestEnd (format : Format) (radix : ℕ) (text : List ℕ) (start : ℕ) : Type 0 where
@@ -23,8 +25,28 @@ pub record IsLongestRun (format : Format) (text : List ℕ) (start place : ℕ) 
   pub longest_before : (begin : ℕ) → start ≤ begin → begin ≤ place → ((k : ℕ) → begin ≤ k → k < place → separator_at format text k ≡ true) → run_begin format text start place ≤ begin
   pub longest_behind : (stop : ℕ) → place < stop → stop ≤ length text → ((k : ℕ) → place ≤ k → k < stop → separator_at format text k ≡ true) → stop ≤ run_stop format text place
 
--- what the complete parser answers for a text of this length, by what the partial one does
+-- ---- complete and partial
+
+-- what the complete parser answers for a text of this size, by what the partial one does
 abbrev pub completed : ℕ → Result (ℤ × ℕ) Error → Result ℤ Error
-completed length (Ok found) = if nat_lt found.1 length then Err (InvalidDigit found.1) else Ok found.0
-completed length (Err (Empty place)) = if nat_lt place length then Err (InvalidDigit place) else Err (Empty place)
-completed length (Err e) = Err e
+completed size (Ok found) = if nat_lt found.1 size then Err (InvalidDigit found.1) else Ok found.0
+completed size (Err (Empty place)) = if nat_lt place size then Err (InvalidDigit place) else Err (Empty place)
+completed size (Err e) = Err e
+
+-- whether a fault is that digits are missing
+abbrev pub is_empty : Error → Bool
+is_empty (Empty place) = true
+is_empty e = false
+
+-- What the whole of a text of this size stands for, by what its front does.
+pub record Completes (size : ℕ) (whole : Result ℤ Error) (front : Result (ℤ × ℕ) Error) : Type 0 where
+  -- the whole is read exactly where the front is all of it
+  pub ok : (value : ℤ) → (whole ≡ Ok value) ↔ (front ≡ Ok (value, size))
+  -- a byte behind the front is an invalid digit
+  pub left : (value : ℤ) (place : ℕ) → front ≡ Ok (value, place) → place < size → whole ≡ Err (InvalidDigit place)
+  -- a fault is the same, unless it is that digits are missing
+  pub fault : (e : Error) → front ≡ Err e → is_empty e ≡ false → whole ≡ Err e
+  -- digits are missing at the end
+  pub empty : front ≡ Err (Empty size) → whole ≡ Err (Empty size)
+  -- a byte stands where they are missing
+  pub empty_left : (place : ℕ) → front ≡ Err (Empty place) → place < size → whole ≡ Err (InvalidDigit place)

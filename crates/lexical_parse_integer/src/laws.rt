@@ -1,5 +1,74 @@
 //! Laws of the grammar and of its parsers.
 //!
-//! A law is a call whose contract says what always holds. Those of `grammar` are about the definitions alone.
+//! A law is a call whose contract says what always holds. Each call here makes its parses and hands their answers
+//! back; those of `grammar` are about the definitions alone.
+ghost use Rattle.std.specs.Prelude.{◌≡◌, IsNone, length};
+ghost use Rattle.lexical_parse_integer.specs.Answer.{placed, seen};
+ghost use Rattle.lexical_parse_integer.specs.Grammar.{complete, partial};
+ghost use Rattle.lexical_parse_integer.specs.Laws.{Completes};
+ghost use Rattle.lexical_util.specs.Number.{integer_type};
+ghost use Rattle.lexical_util.specs.Validity.{fault};
 
 pub mod grammar;
+
+use crate::algorithm::{algorithm_complete, algorithm_partial};
+use crate::options::{LARGE_NUMBERS, Options, SMALL_NUMBERS};
+use lexical_util::format::NumberFormat;
+use lexical_util::num::Integer;
+use lexical_util::result::Result;
+
+/// The complete and the partial answer of one text: each follows from the other.
+///
+/// Lean on it where a front is parsed first and the whole text is to be judged later, or the other way round: one
+/// parse is enough. The whole text is read exactly where its front is all of it. A front that stops before the end
+/// makes the complete answer `InvalidDigit` at that place. Every fault but `Empty` is the same in both; a partial
+/// `Empty` is the complete one at the text's end, and before it the complete answer is `InvalidDigit` there.
+///
+/// Under the standard format `12x` as `i32` gives `InvalidDigit(2)` and `Ok((12, 2))`.
+pub fn complete_and_partial<T: Integer>(
+    bytes: &[u8],
+    format: &NumberFormat,
+    options: &Options,
+) -> (Result<T>, Result<(T, usize)>)
+    requires valid { IsNone (fault format.now) }
+    ensures whole { seen T.number result.0 ≡ complete format.now (integer_type T.BITS T.IS_SIGNED) bytes.now }
+    ensures front { seen (placed T.number) result.1 ≡ partial format.now (integer_type T.BITS T.IS_SIGNED) bytes.now }
+    ensures law { Completes (length bytes.now) (seen T.number result.0) (seen (placed T.number) result.1) }
+{
+    (
+        algorithm_complete::<T>(bytes, format, options),
+        algorithm_partial::<T>(bytes, format, options),
+    )
+}
+
+/// The partial answers of one text with `SMALL_NUMBERS` and with `LARGE_NUMBERS`: they are equal.
+///
+/// Lean on it to choose between the two by speed alone: no value, place or fault depends on the choice.
+///
+/// Under the standard format `18446744073709551616` as `u64` gives `Overflow(19)` twice.
+pub fn small_and_large<T: Integer>(
+    bytes: &[u8],
+    format: &NumberFormat,
+) -> (Result<(T, usize)>, Result<(T, usize)>)
+    requires valid { IsNone (fault format.now) }
+    ensures small { seen (placed T.number) result.0 ≡ partial format.now (integer_type T.BITS T.IS_SIGNED) bytes.now }
+    ensures large { seen (placed T.number) result.1 ≡ partial format.now (integer_type T.BITS T.IS_SIGNED) bytes.now }
+    ensures law { result.1 ≡ result.0 }
+{
+    (
+        algorithm_partial::<T>(bytes, format, &SMALL_NUMBERS),
+        algorithm_partial::<T>(bytes, format, &LARGE_NUMBERS),
+    )
+}
+
+/// Options taken apart and built again: they are equal to the ones given.
+///
+/// Lean on it to change one field of options that came from elsewhere and keep the others: the builder that
+/// `rebuild` gives has them all.
+///
+/// Of `LARGE_NUMBERS` it gives options equal to `LARGE_NUMBERS`, whose `get_no_multi_digit()` is false.
+pub fn rebuilt(options: &Options) -> Options
+    ensures { result ≡ options.now }
+{
+    options.rebuild().build_unchecked()
+}
