@@ -2,14 +2,17 @@ pub mod Completed
 pub mod Completing
 pub mod Counts
 pub mod CursorLemmas
+pub mod DigitTexts
 pub mod First
 pub mod FitLemmas
 pub mod Fronts
+pub mod InARow
 pub mod LawLemmas
 pub mod Lists
 pub mod NumeralLemmas
 pub mod Places
 pub mod Progress
+pub mod ShorterFronts
 pub mod Taking
 pub mod TurnBound
 pub mod Turning

@@ -1,9 +1,13 @@
 -- What the definitions of the grammar come to, and the laws of the parsers' answers.
-use Rattle.std.specs.Prelude.{◌≡◌, ◌↔◌, ℕ, ◌≤◌, ◌<◌, Bool, true, false, List, length, nat_lt, if◌then◌else◌, ℤ, Result, Ok, Err}
+use Rattle.std.specs.Prelude.{◌≡◌, ◌↔◌, ℕ, suc, ◌≤◌, ◌<◌, Bool, true, false, List, ◌∷◌, length, map, nat_lt, if◌then◌else◌, ℤ, pos, negsuc, Some, Result, Ok, Err}
 use Rattle.lexical_util.specs.declared.error.Error.{Error}
 use Rattle.lexical_util.specs.declared.error.Error.TheVariants.{Empty, InvalidDigit}
-use Rattle.lexical_util.specs.Format.{Format}
+use Rattle.lexical_util.specs.Digit.{digit}
+use Rattle.lexical_util.specs.Format.{Format, standard}
+use Rattle.lexical_util.specs.Number.{IntegerType, IsNumber}
+use Rattle.lexical_parse_integer.specs.Grammar.{complete}
 use Rattle.lexical_parse_integer.specs.Runs.{separator_at, belongs, end_of, run_begin, run_stop}
+use Rattle.lexical_parse_integer.specs.Value.{positional_value}
 
 -- ---- ends and runs
 
@@ -50,3 +54,31 @@ pub record Completes (size : ℕ) (whole : Result ℤ Error) (front : Result (�
   pub empty : front ≡ Err (Empty size) → whole ≡ Err (Empty size)
   -- a byte stands where they are missing
   pub empty_left : (place : ℕ) → front ≡ Err (Empty place) → place < size → whole ≡ Err (InvalidDigit place)
+
+-- ---- numerals
+
+-- the standard format in another radix
+abbrev pub with_radix : ℕ → Format
+with_radix radix = record standard { mantissa_radix = radix }
+
+-- A text of digits alone, in either letter case, that is worth a number.
+pub record Writes (radix number : ℕ) (text : List ℕ) : Type 0 where
+  -- the values of its bytes: each is a digit
+  pub digits : List ℕ
+  pub bytes : map (λ byte. digit byte radix) text ≡ map Some digits
+  pub some : 0 < length text
+  pub worth : positional_value radix digits ≡ number
+
+-- It has as few digits as such a text can have.
+pub record WritesShortest (radix number : ℕ) (text : List ℕ) : Type 0 where
+  pub writes : Writes radix number text
+  pub shortest : (other : List ℕ) → Writes radix number other → length text ≤ length other
+
+-- A text is the shortest numeral of a value: one below 0 has a minus in front.
+abbrev pub IsNumeralOf : ℕ → ℤ → List ℕ → Type 0
+IsNumeralOf radix (pos number) text = WritesShortest radix number text
+IsNumeralOf radix (negsuc number) text = (digits : List ℕ) × (text ≡ 45 ∷ digits) × WritesShortest radix (suc number) digits
+
+-- each numeral of a number of the type is read back
+abbrev pub ReadsNumerals : ℕ → IntegerType → Type 0
+ReadsNumerals radix type = (value : ℤ) (text : List ℕ) → IsNumber type value → IsNumeralOf radix value text → complete (with_radix radix) type text ≡ Ok value
