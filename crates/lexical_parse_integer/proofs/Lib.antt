@@ -10,6 +10,7 @@ pub mod InARow
 pub mod LawLemmas
 pub mod Lists
 pub mod NumeralLemmas
+pub mod Numerals
 pub mod Places
 pub mod Progress
 pub mod ShorterFronts

@@ -2,18 +2,19 @@
 //!
 //! A law is a call whose contract says what always holds. Each call here makes its parses and hands their answers
 //! back; those of `grammar` are about the definitions alone.
-ghost use Rattle.std.specs.Prelude.{◌≡◌, IsNone, length};
+ghost use Rattle.std.specs.Prelude.{◌≡◌, IsNone, Ok, length, ℤ};
 ghost use Rattle.lexical_parse_integer.specs.Answer.{placed, seen};
 ghost use Rattle.lexical_parse_integer.specs.Grammar.{complete, partial};
-ghost use Rattle.lexical_parse_integer.specs.Laws.{Completes};
-ghost use Rattle.lexical_util.specs.Number.{integer_type};
+ghost use Rattle.lexical_parse_integer.specs.Laws.{Completes, IsNumeralOf, with_radix};
+ghost use Rattle.lexical_util.specs.Digit.{IsRadix};
+ghost use Rattle.lexical_util.specs.Number.{IsNumber, integer_type};
 ghost use Rattle.lexical_util.specs.Validity.{fault};
 
 pub mod grammar;
 
 use crate::algorithm::{algorithm_complete, algorithm_partial};
-use crate::options::{LARGE_NUMBERS, Options, SMALL_NUMBERS};
-use lexical_util::format::NumberFormat;
+use crate::options::{LARGE_NUMBERS, Options, SMALL_NUMBERS, STANDARD};
+use lexical_util::format::{NumberFormat, NumberFormatBuilder};
 use lexical_util::num::Integer;
 use lexical_util::result::Result;
 
@@ -39,6 +40,22 @@ pub fn complete_and_partial<T: Integer>(
         algorithm_complete::<T>(bytes, format, options),
         algorithm_partial::<T>(bytes, format, options),
     )
+}
+
+/// The complete answer of a text in a radix from 2 to 36: where the text is the shortest numeral of a number of
+/// the type, that number.
+///
+/// Lean on it where what a writer wrote is read back. Show that its text is the shortest numeral of a value, with
+/// letters in either case and a `-` in front of a value below 0; then the value is what is read. What std and
+/// `itoa` write of an integer is such a text: see `grammar::numerals`.
+///
+/// `-10000000` in radix 2 gives -128 as `i8`, and `zZ` in radix 36 gives 1295 as `u16`.
+pub fn numeral<T: Integer>(text: &[u8], radix: u32) -> Result<T>
+    requires { IsRadix radix }
+    ensures answer { seen T.number result ≡ complete (with_radix radix) (integer_type T.BITS T.IS_SIGNED) text.now }
+    ensures law { (value : ℤ) → IsNumber (integer_type T.BITS T.IS_SIGNED) value → IsNumeralOf radix value text.now → seen T.number result ≡ Ok value }
+{
+    algorithm_complete::<T>(text, &NumberFormatBuilder::from_radix(radix as u8), &STANDARD)
 }
 
 /// The partial answers of one text with `SMALL_NUMBERS` and with `LARGE_NUMBERS`: they are equal.
