@@ -23,3 +23,4 @@ pub mod WordDigits
 pub mod WordReading
 pub mod WordTurns
 pub mod WordValues
+pub mod Zeros

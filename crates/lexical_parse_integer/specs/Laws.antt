@@ -1,12 +1,13 @@
 -- What the definitions of the grammar come to, and the laws of the parsers' answers.
-use Rattle.std.specs.Prelude.{◌≡◌, ◌↔◌, ℕ, suc, ◌≤◌, ◌<◌, Bool, true, false, List, ◌∷◌, length, map, nat_lt, if◌then◌else◌, ℤ, pos, negsuc, Some, Result, Ok, Err}
+use Rattle.std.specs.Prelude.{◌≡◌, ◌↔◌, ℕ, suc, ◌≤◌, ◌<◌, Bool, true, false, List, ◌∷◌, ◌++◌, length, map, replicate, nat_lt, if◌then◌else◌, ℤ, pos, negsuc, Some, IsSome, Result, Ok, Err}
 use Rattle.lexical_util.specs.declared.error.Error.{Error}
 use Rattle.lexical_util.specs.declared.error.Error.TheVariants.{Empty, InvalidDigit}
 use Rattle.lexical_util.specs.Digit.{digit}
 use Rattle.lexical_util.specs.Format.{Format, standard}
 use Rattle.lexical_util.specs.Number.{IntegerType, IsNumber}
 use Rattle.lexical_parse_integer.specs.Grammar.{complete}
-use Rattle.lexical_parse_integer.specs.Runs.{separator_at, belongs, end_of, run_begin, run_stop}
+use Rattle.lexical_parse_integer.specs.Runs.{digit_at, separator_at, belongs, end_of, run_begin, run_stop}
+use Rattle.lexical_parse_integer.specs.Seeking.{HasNoDigit}
 use Rattle.lexical_parse_integer.specs.Value.{positional_value}
 
 -- ---- ends and runs
@@ -82,3 +83,20 @@ IsNumeralOf radix (negsuc number) text = (digits : List ℕ) × (text ≡ 45 ∷
 -- each numeral of a number of the type is read back
 abbrev pub ReadsNumerals : ℕ → IntegerType → Type 0
 ReadsNumerals radix type = (value : ℤ) (text : List ℕ) → IsNumber type value → IsNumeralOf radix value text → complete (with_radix radix) type text ≡ Ok value
+
+-- ---- zeros in front
+
+-- A text with zeros put before its first digit.
+pub record PadsZeros (text padded : List ℕ) : Type 0 where
+  pub front : List ℕ
+  pub rest : List ℕ
+  pub zeros : ℕ
+  pub text_is : text ≡ front ++ rest
+  pub padded_is : padded ≡ front ++ (replicate zeros 48 ++ rest)
+  -- the first digit stands behind the front
+  pub no_digit_before : HasNoDigit 10 text 0 (length front)
+  pub digit_behind : IsSome (digit_at 10 text (length front))
+
+-- they leave the value of a text that is read
+abbrev pub ReadsPadded : IntegerType → Type 0
+ReadsPadded type = (text padded : List ℕ) (value : ℤ) → PadsZeros text padded → complete standard type text ≡ Ok value → complete standard type padded ≡ Ok value

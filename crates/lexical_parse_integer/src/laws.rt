@@ -5,16 +5,17 @@
 ghost use Rattle.std.specs.Prelude.{◌≡◌, IsNone, Ok, length, ℤ};
 ghost use Rattle.lexical_parse_integer.specs.Answer.{placed, seen};
 ghost use Rattle.lexical_parse_integer.specs.Grammar.{complete, partial};
-ghost use Rattle.lexical_parse_integer.specs.Laws.{Completes, IsNumeralOf, with_radix};
+ghost use Rattle.lexical_parse_integer.specs.Laws.{Completes, IsNumeralOf, PadsZeros, with_radix};
 ghost use Rattle.lexical_util.specs.Digit.{IsRadix};
+ghost use Rattle.lexical_util.specs.Format.{standard};
 ghost use Rattle.lexical_util.specs.Number.{IsNumber, integer_type};
 ghost use Rattle.lexical_util.specs.Validity.{fault};
 
 pub mod grammar;
 
 use crate::algorithm::{algorithm_complete, algorithm_partial};
-use crate::options::{LARGE_NUMBERS, Options, SMALL_NUMBERS, STANDARD};
-use lexical_util::format::{NumberFormat, NumberFormatBuilder};
+use crate::options::{self, LARGE_NUMBERS, Options, SMALL_NUMBERS};
+use lexical_util::format::{self, NumberFormat, NumberFormatBuilder};
 use lexical_util::num::Integer;
 use lexical_util::result::Result;
 
@@ -55,7 +56,28 @@ pub fn numeral<T: Integer>(text: &[u8], radix: u32) -> Result<T>
     ensures answer { seen T.number result ≡ complete (with_radix radix) (integer_type T.BITS T.IS_SIGNED) text.now }
     ensures law { (value : ℤ) → IsNumber (integer_type T.BITS T.IS_SIGNED) value → IsNumeralOf radix value text.now → seen T.number result ≡ Ok value }
 {
-    algorithm_complete::<T>(text, &NumberFormatBuilder::from_radix(radix as u8), &STANDARD)
+    algorithm_complete::<T>(
+        text,
+        &NumberFormatBuilder::from_radix(radix as u8),
+        &options::STANDARD,
+    )
+}
+
+/// The complete answers of two texts under the standard format: where the second is the first with zeros put
+/// before its first digit, the value of the first is that of the second too.
+///
+/// Lean on it where numbers come filled up to a width, as in columns and counters.
+///
+/// `-128` and `-00128` both give -128 as `i8`.
+pub fn zeros_in_front<T: Integer>(text: &[u8], padded: &[u8]) -> (Result<T>, Result<T>)
+    ensures first { seen T.number result.0 ≡ complete standard (integer_type T.BITS T.IS_SIGNED) text.now }
+    ensures second { seen T.number result.1 ≡ complete standard (integer_type T.BITS T.IS_SIGNED) padded.now }
+    ensures law { PadsZeros text.now padded.now → (value : ℤ) → seen T.number result.0 ≡ Ok value → seen T.number result.1 ≡ Ok value }
+{
+    (
+        algorithm_complete::<T>(text, &format::STANDARD, &options::STANDARD),
+        algorithm_complete::<T>(padded, &format::STANDARD, &options::STANDARD),
+    )
 }
 
 /// The partial answers of one text with `SMALL_NUMBERS` and with `LARGE_NUMBERS`: they are equal.

@@ -2,7 +2,7 @@
 ghost use Rattle.std.specs.Prelude.{◌≡◌, ◌≢◌, ◌≤◌, ◌⊎◌, true, List, length, slice_get, Some, ℕ, ℤ};
 ghost use Rattle.std.specs.Fmt.{signed_decimal};
 ghost use Rattle.lexical_parse_integer.specs.Grammar.{complete, partial};
-ghost use Rattle.lexical_parse_integer.specs.Laws.{IsGreatestEnd, IsLongestRun, IsNumeralOf, ReadsNumerals, Writes, WritesShortest, completed};
+ghost use Rattle.lexical_parse_integer.specs.Laws.{IsGreatestEnd, IsLongestRun, IsNumeralOf, ReadsNumerals, ReadsPadded, Writes, WritesShortest, completed};
 ghost use Rattle.lexical_parse_integer.specs.Runs.{separator_at};
 ghost use Rattle.lexical_util.specs.Format.{Format};
 ghost use Rattle.lexical_util.specs.Digit.{IsRadix};
@@ -38,4 +38,9 @@ pub fn numerals()
     ensures some { (radix : ℕ) (value : ℤ) → IsRadix radix → (text : List ℕ) × IsNumeralOf radix value text }
     ensures shortest { (radix number : ℕ) (text : List ℕ) → IsRadix radix → Writes radix number text → (length text ≡ 1) ⊎ (slice_get text 0 ≢ Some 48) → WritesShortest radix number text }
     ensures printed { (type : IntegerType) (value : ℤ) → type.bits ≤ 128 → IsNumber type value → IsNumeralOf 10 value (signed_decimal value) }
+{}
+
+/// Under the standard format, zeros put before the first digit of a text that is read leave its value.
+pub fn zeros()
+    ensures { (type : IntegerType) → ReadsPadded type }
 {}
