@@ -1,3 +1,4 @@
+pub mod Agreeing
 pub mod Completed
 pub mod Completing
 pub mod Counts
@@ -9,10 +10,13 @@ pub mod Fronts
 pub mod InARow
 pub mod LawLemmas
 pub mod Lists
+pub mod Locality
 pub mod NumeralLemmas
 pub mod Numerals
 pub mod Places
 pub mod Progress
+pub mod SeenLemmas
+pub mod SettledRows
 pub mod ShorterFronts
 pub mod Taking
 pub mod TurnBound

@@ -2,10 +2,10 @@
 //!
 //! A law is a call whose contract says what always holds. Each call here makes its parses and hands their answers
 //! back; those of `grammar` are about the definitions alone.
-ghost use Rattle.std.specs.Prelude.{◌≡◌, IsNone, Ok, length, ℤ};
+ghost use Rattle.std.specs.Prelude.{◌≡◌, ◌+◌, IsNone, Ok, OnOk, length, ℕ, ℤ};
 ghost use Rattle.lexical_parse_integer.specs.Answer.{placed, seen};
 ghost use Rattle.lexical_parse_integer.specs.Grammar.{complete, partial};
-ghost use Rattle.lexical_parse_integer.specs.Laws.{Completes, IsNumeralOf, PadsZeros, with_radix};
+ghost use Rattle.lexical_parse_integer.specs.Laws.{Completes, IsNumeralOf, IsSettledAt, PadsZeros, SameFront, with_radix};
 ghost use Rattle.lexical_util.specs.Digit.{IsRadix};
 ghost use Rattle.lexical_util.specs.Format.{standard};
 ghost use Rattle.lexical_util.specs.Number.{IsNumber, integer_type};
@@ -43,6 +43,34 @@ pub fn complete_and_partial<T: Integer>(
     )
 }
 
+/// The partial answers of two texts: they are equal where the first is settled at a place and the second has the
+/// same bytes up to and with that place. An answer is settled at a place where the front ends there, before the text
+/// does, or where a value leaves the type there. This needs a format without a separator byte: whether a run of
+/// separators passes may hang on later bytes.
+///
+/// Lean on it to cut an input behind the byte at which a parse stopped, or to parse before all of it has come: what
+/// is behind that byte changes nothing. An answer whose front is all of the text isn't settled: `12` may go on as
+/// `123`.
+///
+/// Under the standard format `12 x` and `12 345` both give `Ok((12, 2))` as `u64`, and `2567` and `256abc` both give
+/// `Overflow(2)` as `u8`.
+pub fn local<T: Integer>(
+    bytes: &[u8],
+    other: &[u8],
+    format: &NumberFormat,
+    options: &Options,
+) -> (Result<(T, usize)>, Result<(T, usize)>)
+    requires valid { IsNone (fault format.now) }
+    ensures first { seen (placed T.number) result.0 ≡ partial format.now (integer_type T.BITS T.IS_SIGNED) bytes.now }
+    ensures second { seen (placed T.number) result.1 ≡ partial format.now (integer_type T.BITS T.IS_SIGNED) other.now }
+    ensures law { IsNone format.now.digit_separator → (place : ℕ) → IsSettledAt (length bytes.now) place (seen (placed T.number) result.0) → SameFront (place + 1) bytes.now other.now → result.1 ≡ result.0 }
+{
+    (
+        algorithm_partial::<T>(bytes, format, options),
+        algorithm_partial::<T>(other, format, options),
+    )
+}
+
 /// The complete answer of a text in a radix from 2 to 36: where the text is the shortest numeral of a number of
 /// the type, that number.
 ///
@@ -72,7 +100,7 @@ pub fn numeral<T: Integer>(text: &[u8], radix: u32) -> Result<T>
 pub fn zeros_in_front<T: Integer>(text: &[u8], padded: &[u8]) -> (Result<T>, Result<T>)
     ensures first { seen T.number result.0 ≡ complete standard (integer_type T.BITS T.IS_SIGNED) text.now }
     ensures second { seen T.number result.1 ≡ complete standard (integer_type T.BITS T.IS_SIGNED) padded.now }
-    ensures law { PadsZeros text.now padded.now → (value : ℤ) → seen T.number result.0 ≡ Ok value → seen T.number result.1 ≡ Ok value }
+    ensures law { PadsZeros text.now padded.now → OnOk result.0 (result.1 ≡ result.0) }
 {
     (
         algorithm_complete::<T>(text, &format::STANDARD, &options::STANDARD),

@@ -1,12 +1,13 @@
 //! What the definitions of the grammar come to. These calls do nothing: their contracts are what they are for.
-ghost use Rattle.std.specs.Prelude.{◌≡◌, ◌≢◌, ◌≤◌, ◌⊎◌, true, List, length, slice_get, Some, ℕ, ℤ};
+ghost use Rattle.std.specs.Prelude.{◌≡◌, ◌≢◌, ◌≤◌, ◌⊎◌, true, List, length, slice_get, IsNone, Some, ℕ, ℤ};
 ghost use Rattle.std.specs.Fmt.{signed_decimal};
 ghost use Rattle.lexical_parse_integer.specs.Grammar.{complete, partial};
-ghost use Rattle.lexical_parse_integer.specs.Laws.{IsGreatestEnd, IsLongestRun, IsNumeralOf, ReadsNumerals, ReadsPadded, Writes, WritesShortest, completed};
+ghost use Rattle.lexical_parse_integer.specs.Laws.{IsGreatestEnd, IsLocal, IsLongestRun, IsNumeralOf, ReadsNumerals, ReadsPadded, Writes, WritesShortest, completed};
 ghost use Rattle.lexical_parse_integer.specs.Runs.{separator_at};
 ghost use Rattle.lexical_util.specs.Format.{Format};
 ghost use Rattle.lexical_util.specs.Digit.{IsRadix};
 ghost use Rattle.lexical_util.specs.Number.{IntegerType, IsNumber};
+ghost use Rattle.lexical_util.specs.Validity.{fault};
 
 use lexical_util::format::NumberFormat;
 
@@ -28,6 +29,12 @@ pub fn longest_run(bytes: &[u8], format: &NumberFormat, start: usize, place: usi
 /// The complete answer follows from the partial one, for every format, type and text.
 pub fn complete_by_partial()
     ensures { (format : Format) (type : IntegerType) (text : List ℕ) → complete format type text ≡ completed (length text) (partial format type text) }
+{}
+
+/// Under a valid format without a separator, a partial answer that is settled at a place is that of each text with
+/// the same bytes up to and with it.
+pub fn locality()
+    ensures { (format : Format) (type : IntegerType) → IsNone (fault format) → IsNone format.digit_separator → IsLocal format type }
 {}
 
 /// The shortest numeral of a number of a type is read back, in each radix from 2 to 36; each number has one; a text
