@@ -8,6 +8,7 @@ pub mod First
 pub mod FitLemmas
 pub mod Fronts
 pub mod InARow
+pub mod LawExamples
 pub mod LawLemmas
 pub mod Lists
 pub mod Locality

@@ -139,3 +139,6 @@ pub fn rebuilt(options: &Options) -> Options
 {
     options.rebuild().build_unchecked()
 }
+
+#[cfg(test)]
+mod tests;
