@@ -9,6 +9,7 @@ use Rattle.lexical_util.specs.declared.error.Error.{Error}
 use Rattle.lexical_util.specs.Format.{Format}
 use Rattle.lexical_util.specs.Number.{IntegerType, is_number}
 use Rattle.lexical_util.specs.Validity.{fault}
+use Rattle.lexical_parse_integer.specs.Answer.{placed, seen}
 use Rattle.lexical_parse_integer.specs.Affixes.{prefix_at}
 use Rattle.lexical_parse_integer.specs.Grammar.{first_outside, partial, range_error, range_fault}
 use Rattle.lexical_parse_integer.specs.Head.{Head, head_behind, head_of, sign}
@@ -22,6 +23,7 @@ use Rattle.lexical_parse_integer.proofs.FitLemmas.{fits}
 use Rattle.lexical_parse_integer.proofs.InARow.{EndsRow, has_digit, row_count, row_ends}
 use Rattle.lexical_parse_integer.proofs.Lists.{find_place}
 use Rattle.lexical_parse_integer.proofs.Places.{below_stop}
+use Rattle.lexical_parse_integer.proofs.SeenLemmas.{IsInjective, seen_placed_same}
 use Rattle.lexical_parse_integer.proofs.SettledRows.{IsReach, SettlesRow, digits_of_row, ends_low, front_of_row, has_zeros, head_behind_sign, head_row, outside_told, partial_by, partial_row, place_of_row, reach, settled_row, sign_fault_parts, zero_counts}
 
 pair_false : (a b : Bool) → b ≡ false → (a && b) ≡ false
@@ -163,7 +165,8 @@ pub is_local : (f : Format) (t : IntegerType) → IsNone (fault f) → IsNone f.
 is_local f t valid none = local_by f t (none_from_IsNone f.digit_separator none) (fits f valid).radix.low
 
 -- the law, at two answers that calls gave
-pub answers_local : (f : Format) (t : IntegerType) (text other : List ℕ) (first second : Result (ℤ × ℕ) Error) → IsNone (fault f) → first ≡ partial f t text → second ≡ partial f t other → IsNone f.digit_separator →
-    (k : ℕ) → IsSettledAt (length text) k first → SameFront (k + 1) text other → second ≡ first
-answers_local f t text other first second valid a b none k settled same =
-    b ∙ is_local f t valid none text other k (subst (λ (w : Result (ℤ × ℕ) Error). IsSettledAt (length text) k w) a settled) same ∙ sym a
+pub answers_local : {X : Type 0} → (view : X → ℤ) → IsInjective view → (f : Format) (t : IntegerType) (text other : List ℕ) (first second : Result (X × ℕ) Error) → IsNone (fault f) → seen (placed view) first ≡ partial f t text → seen (placed view) second ≡ partial f t other → IsNone f.digit_separator →
+    (k : ℕ) → IsSettledAt (length text) k (seen (placed view) first) → SameFront (k + 1) text other → second ≡ first
+answers_local view injective f t text other first second valid a b none k settled same =
+    seen_placed_same view injective second first
+    (b ∙ is_local f t valid none text other k (subst (λ (w : Result (ℤ × ℕ) Error). IsSettledAt (length text) k w) a settled) same ∙ sym a)

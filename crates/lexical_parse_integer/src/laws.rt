@@ -27,6 +27,7 @@ use lexical_util::result::Result;
 /// `Empty` is the complete one at the text's end, and before it the complete answer is `InvalidDigit` there.
 ///
 /// Under the standard format `12x` as `i32` gives `InvalidDigit(2)` and `Ok((12, 2))`.
+#[tactic(auto, using(crate::proofs::Completing::answers_complete))]
 pub fn complete_and_partial<T: Integer>(
     bytes: &[u8],
     format: &NumberFormat,
@@ -37,10 +38,9 @@ pub fn complete_and_partial<T: Integer>(
     ensures front { seen (placed T.number) result.1 ≡ partial format.now (integer_type T.BITS T.IS_SIGNED) bytes.now }
     ensures law { Completes (length bytes.now) (seen T.number result.0) (seen (placed T.number) result.1) }
 {
-    (
-        algorithm_complete::<T>(bytes, format, options),
-        algorithm_partial::<T>(bytes, format, options),
-    )
+    let whole = algorithm_complete::<T>(bytes, format, options);
+    let front = algorithm_partial::<T>(bytes, format, options);
+    (whole, front)
 }
 
 /// The partial answers of two texts: they are equal where the first is settled at a place and the second has the
@@ -54,6 +54,7 @@ pub fn complete_and_partial<T: Integer>(
 ///
 /// Under the standard format `12 x` and `12 345` both give `Ok((12, 2))` as `u64`, and `2567` and `256abc` both give
 /// `Overflow(2)` as `u8`.
+#[tactic(auto, using(crate::proofs::Locality::answers_local))]
 pub fn local<T: Integer>(
     bytes: &[u8],
     other: &[u8],
@@ -65,10 +66,9 @@ pub fn local<T: Integer>(
     ensures second { seen (placed T.number) result.1 ≡ partial format.now (integer_type T.BITS T.IS_SIGNED) other.now }
     ensures law { IsNone format.now.digit_separator → (place : ℕ) → IsSettledAt (length bytes.now) place (seen (placed T.number) result.0) → SameFront (place + 1) bytes.now other.now → result.1 ≡ result.0 }
 {
-    (
-        algorithm_partial::<T>(bytes, format, options),
-        algorithm_partial::<T>(other, format, options),
-    )
+    let first = algorithm_partial::<T>(bytes, format, options);
+    let second = algorithm_partial::<T>(other, format, options);
+    (first, second)
 }
 
 /// The complete answer of a text in a radix from 2 to 36: where the text is the shortest numeral of a number of
@@ -79,16 +79,14 @@ pub fn local<T: Integer>(
 /// `itoa` write of an integer is such a text: see `grammar::numerals`.
 ///
 /// `-10000000` in radix 2 gives -128 as `i8`, and `zZ` in radix 36 gives 1295 as `u16`.
+#[tactic(auto, using(crate::proofs::Numerals::answer_read))]
 pub fn numeral<T: Integer>(text: &[u8], radix: u32) -> Result<T>
     requires { IsRadix radix }
     ensures answer { seen T.number result ≡ complete (with_radix radix) (integer_type T.BITS T.IS_SIGNED) text.now }
     ensures law { (value : ℤ) → IsNumber (integer_type T.BITS T.IS_SIGNED) value → IsNumeralOf radix value text.now → seen T.number result ≡ Ok value }
 {
-    algorithm_complete::<T>(
-        text,
-        &NumberFormatBuilder::from_radix(radix as u8),
-        &options::STANDARD,
-    )
+    let format = NumberFormatBuilder::from_radix(radix as u8);
+    algorithm_complete::<T>(text, &format, &options::STANDARD)
 }
 
 /// The complete answers of two texts under the standard format: where the second is the first with zeros put
@@ -97,15 +95,15 @@ pub fn numeral<T: Integer>(text: &[u8], radix: u32) -> Result<T>
 /// Lean on it where numbers come filled up to a width, as in columns and counters.
 ///
 /// `-128` and `-00128` both give -128 as `i8`.
+#[tactic(auto, using(crate::proofs::Zeros::answers_padded))]
 pub fn zeros_in_front<T: Integer>(text: &[u8], padded: &[u8]) -> (Result<T>, Result<T>)
     ensures first { seen T.number result.0 ≡ complete standard (integer_type T.BITS T.IS_SIGNED) text.now }
     ensures second { seen T.number result.1 ≡ complete standard (integer_type T.BITS T.IS_SIGNED) padded.now }
     ensures law { PadsZeros text.now padded.now → OnOk result.0 (result.1 ≡ result.0) }
 {
-    (
-        algorithm_complete::<T>(text, &format::STANDARD, &options::STANDARD),
-        algorithm_complete::<T>(padded, &format::STANDARD, &options::STANDARD),
-    )
+    let first = algorithm_complete::<T>(text, &format::STANDARD, &options::STANDARD);
+    let second = algorithm_complete::<T>(padded, &format::STANDARD, &options::STANDARD);
+    (first, second)
 }
 
 /// The partial answers of one text with `SMALL_NUMBERS` and with `LARGE_NUMBERS`: they are equal.
@@ -122,10 +120,9 @@ pub fn small_and_large<T: Integer>(
     ensures large { seen (placed T.number) result.1 ≡ partial format.now (integer_type T.BITS T.IS_SIGNED) bytes.now }
     ensures law { result.1 ≡ result.0 }
 {
-    (
-        algorithm_partial::<T>(bytes, format, &SMALL_NUMBERS),
-        algorithm_partial::<T>(bytes, format, &LARGE_NUMBERS),
-    )
+    let small = algorithm_partial::<T>(bytes, format, &SMALL_NUMBERS);
+    let large = algorithm_partial::<T>(bytes, format, &LARGE_NUMBERS);
+    (small, large)
 }
 
 /// Options taken apart and built again: they are equal to the ones given.
