@@ -1,3 +1,4 @@
+pub mod rows
 pub mod Completed
 pub mod Counts
 pub mod CursorLemmas
