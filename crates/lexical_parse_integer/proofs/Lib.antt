@@ -1,3 +1,4 @@
+pub mod AsciiDigits
 pub mod Completed
 pub mod Counts
 pub mod CursorLemmas
@@ -12,9 +13,11 @@ pub mod Progress
 pub mod Taking
 pub mod TurnBound
 pub mod Turning
+pub mod Untested
 pub mod Whole
 pub mod WordBytes
 pub mod WordDigits
+pub mod WordLent
 pub mod WordReading
 pub mod WordTurns
 pub mod WordValues
