@@ -5,6 +5,7 @@
 //! `lexical-util`; a field for floats has no place here.
 
 ghost use Rattle.std.specs.Prelude.{◌≡◌, ◌↔◌, ◌||◌, IsTrue, None, is_some};
+ghost use Rattle.lexical_util.specs.Format.{json, standard};
 ghost use Rattle.lexical_util.specs.Validity.{fault};
 
 mod builder;
@@ -20,7 +21,6 @@ use validity::{are_alike, is_unfit};
 ///
 /// Two formats are equal where all their fields are. Contracts see a format as the record of its
 /// fields.
-// The fields that are an `Option` stand last: the derived equality is proved in that order.
 #[derive(Debug, Copy, Clone, PartialEq, Eq)]
 pub struct NumberFormat {
     mantissa_radix: u8,
@@ -35,6 +35,7 @@ pub struct NumberFormat {
     integer_internal_digit_separator: bool,
     integer_trailing_digit_separator: bool,
     integer_consecutive_digit_separator: bool,
+    // These stand last because the derived equality is proved in this order alone.
     digit_separator: Option<u8>,
     base_prefix: Option<u8>,
     base_suffix: Option<u8>,
@@ -104,22 +105,18 @@ pub const STANDARD: NumberFormat = NumberFormat {
 /// Integers as JSON writes them (RFC 8259, section 6): [`STANDARD`] without a plus, and without a zero
 /// in front of another digit. Digits are required twice over, as integer and as mantissa digits.
 pub const JSON: NumberFormat = NumberFormat {
-    mantissa_radix: 10,
-    digit_separator: None,
-    base_prefix: None,
-    base_suffix: None,
-    case_sensitive_base_prefix: false,
-    case_sensitive_base_suffix: false,
     required_integer_digits: true,
-    required_mantissa_digits: true,
     no_positive_mantissa_sign: true,
-    required_mantissa_sign: false,
     no_integer_leading_zeros: true,
-    integer_leading_digit_separator: false,
-    integer_internal_digit_separator: false,
-    integer_trailing_digit_separator: false,
-    integer_consecutive_digit_separator: false,
+    ..STANDARD
 };
+
+// The fields of the constants: a clause can't name a constant of this type, so it stands here.
+fn ready_made() -> (NumberFormat, NumberFormat)
+    ensures { result ≡ (standard, json) }
+{
+    (STANDARD, JSON)
+}
 
 impl NumberFormat {
     /// The radix of the digits, from 2 to 36 where the format is valid.
@@ -135,7 +132,7 @@ impl NumberFormat {
     pub fn radix(&self) -> u32
         ensures { result ≡ self.now.mantissa_radix }
     {
-        u32::from(self.mantissa_radix)
+        self.mantissa_radix()
     }
 
     /// The byte that may stand between digits and counts for nothing there, as `_` in `1_000`.

@@ -271,6 +271,6 @@ impl NumberFormatBuilder {
         requires { fault self.now ≡ None }
         ensures { result ≡ self.now }
     {
-        self.format
+        self.build_unchecked()
     }
 }
