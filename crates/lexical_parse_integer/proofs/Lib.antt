@@ -1,4 +1,4 @@
-pub mod rows
+pub mod AsciiDigits
 pub mod Completed
 pub mod Counts
 pub mod CursorLemmas
@@ -13,9 +13,12 @@ pub mod Progress
 pub mod Taking
 pub mod TurnBound
 pub mod Turning
+pub mod Untested
 pub mod Whole
 pub mod WordBytes
 pub mod WordDigits
+pub mod WordLent
 pub mod WordReading
 pub mod WordTurns
 pub mod WordValues
+pub mod rows

@@ -6,12 +6,10 @@ pub mod algorithm;
 mod api;
 pub mod cursor;
 pub mod laws;
-mod multi;
 pub mod options;
 pub mod parse;
 mod seek;
 mod turns;
-mod words;
 
 pub use api::{FromLexical, FromLexicalWithOptions};
 pub use lexical_util::error::Error;

@@ -2,7 +2,6 @@
 use Rattle.std.specs.Prelude.{◌≡◌, ◌≤◌, ◌<◌, ◌-◌, ◌*◌, ◌/◌, ◌^◌, ℕ, Bool, true, false, if◌then◌else◌}
 use Rattle.std.proofs.Common.{ap, arith, lit≤, suc, zero, ◌∙◌}
 use Rattle.std.proofs.Math.Nat.{pow-le-pow_left, one-le-pow, le_trans}
-use Rattle.std.proofs.lemmas.Int.{ints}
 use Rattle.std.specs.Prelude.{nat_lt, neg_ℤ, pos, ◌&&◌}
 use Rattle.std.proofs.lemmas.Bool.{lt-ltb}
 use Rattle.lexical_util.specs.Number.{HasRoom, IntegerType, IsNumber, IsWidth, integer_type, is_number, number_limit}
