@@ -4,6 +4,8 @@
     python3 tools/rows.py            writes the files
     python3 tools/rows.py --check    writes nothing, and fails where a file is not what it would write
 
+Either way each example of docs/GRAMMAR.md has to be one of the rows.
+
 Each row becomes a theorem, `complete FORMAT TYPE TEXT ≡ ANSWER`, or the same of `partial` or `fault`, with the proof
 `refl`. The check computes the definitions on that text, so it refuses a row and a definition that disagree. Each
 group of rows becomes a test, which runs the calls. The files are, below crates/lexical_parse_integer,
@@ -20,6 +22,7 @@ import sys
 
 TOP = os.path.dirname(os.path.dirname(os.path.abspath(__file__)))
 DATA = os.path.join(TOP, "tools", "rows.txt")
+GRAMMAR = os.path.join(TOP, "docs", "GRAMMAR.md")
 CRATE = os.path.join(TOP, "crates", "lexical_parse_integer")
 WRITTEN = "Written by tools/rows.py from tools/rows.txt: make rows writes it anew."
 LONGEST = 800  # lines of a file
@@ -188,6 +191,20 @@ def read_data(path):
             except Bad as bad:
                 sys.exit(f"tools/rows.txt:{number}: {bad}: {line.rstrip()}")
     return files
+
+
+def check_examples(path, rows):
+    """Each line of a table that begins as a row does has to be a row: `| complete | `FIELDS` | TYPE | `TEXT` | ANSWER |`."""
+    answers = {row.question(): row.answer for row in rows}
+    with open(path, encoding="utf-8") as document:
+        for number, line in enumerate(document, 1):
+            if re.match(r"\| (complete|partial|format) \| ", line):
+                try:
+                    row = read_row(line.strip().strip("|").strip().replace("`", ""))
+                    if answers.get(row.question()) != row.answer:
+                        raise Bad("no row of tools/rows.txt")
+                except Bad as bad:
+                    sys.exit(f"docs/{os.path.basename(path)}:{number}: {bad}: {line.rstrip()}")
 
 
 # ---- theorems
@@ -453,6 +470,8 @@ def is_as_written(path, text):
 
 def main():
     files = read_data(DATA)
+    rows = [row for file in files for group in file.groups for row in group.rows]
+    check_examples(GRAMMAR, rows)
     out = {os.path.join(CRATE, path): text for path, text in all_files(files).items()}
     stale = [path for path, text in out.items() if not is_as_written(path, text)]
     if "--check" in sys.argv[1:]:
@@ -463,7 +482,6 @@ def main():
         os.makedirs(os.path.dirname(path), exist_ok=True)
         with open(path, "w", encoding="utf-8") as file:
             file.write(out[path])
-    rows = [row for file in files for group in file.groups for row in group.rows]
     print(f"{len(rows)} rows, {sum(row.is_long for row in rows)} of them too long for a theorem; {len(stale)} files written")
 
 
