@@ -21,3 +21,4 @@ pub mod WordLent
 pub mod WordReading
 pub mod WordTurns
 pub mod WordValues
+pub mod rows

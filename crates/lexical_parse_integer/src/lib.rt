@@ -17,3 +17,6 @@ pub use lexical_util::format::{self, NumberFormat, NumberFormatBuilder};
 pub use lexical_util::options::ParseOptions;
 pub use lexical_util::result::Result;
 pub use options::{Options, OptionsBuilder};
+
+#[cfg(test)]
+mod tests;
