@@ -1,0 +1,4 @@
+pub mod LineSteps
+pub mod NumeralSteps
+pub mod Pieces
+pub mod Sending
