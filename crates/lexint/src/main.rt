@@ -3,6 +3,7 @@
 
 mod answer;
 mod batch;
+mod buffer;
 mod command;
 mod fault;
 mod field;
@@ -12,6 +13,8 @@ mod numeral;
 mod parse;
 mod program;
 mod settings;
+#[cfg(test)]
+mod tests;
 
 use fault::RunError;
 use std::process::ExitCode;
