@@ -3,6 +3,7 @@ pub mod Command
 pub mod Fault
 pub mod Field
 pub mod Gather
+pub mod Given
 pub mod Lines
 pub mod Numeral
 pub mod Output

@@ -1,7 +1,6 @@
 //! The lines of an input.
 
-ghost use Rattle.std.specs.Prelude.{◌≡◌, ◌≢◌, ℕ, List, ◌^◌, ◌<◌, ◌≤◌, length, slice_index};
-ghost use Rattle.lexint.specs.Lines.{lines, pieces, without_empty_last};
+ghost use Rattle.std.specs.Prelude.{◌≡◌, ◌≢◌, ℕ, ◌^◌, ◌<◌, ◌≤◌, length, slice_index};
 
 /// The length of the first line: the place of the first line feed, or the end.
 pub fn line_end(bytes: &[u8]) -> usize
@@ -17,8 +16,3 @@ pub fn line_end(bytes: &[u8]) -> usize
     }
     bytes.len()
 }
-
-/// The lines are the pieces between the line feeds, without the last where that is empty.
-pub fn lines_are_pieces()
-    ensures { (bytes : List ℕ) → lines bytes ≡ without_empty_last (pieces bytes) }
-{}

@@ -7,6 +7,7 @@ mod buffer;
 mod command;
 mod fault;
 mod field;
+mod laws;
 mod lines;
 mod number;
 mod numeral;

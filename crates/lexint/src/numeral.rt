@@ -1,6 +1,6 @@
 // Numbers as text, in a fixed array.
-ghost use Rattle.std.specs.Prelude.{◌≡◌, ℕ, ◌≤◌, ◌<◌, ◌+◌, ◌-◌, ◌/◌, ◌%◌, ◌∷◌, drop};
-ghost use Rattle.lexint.specs.Numeral.{numeral, signed_numeral, IsShortest};
+ghost use Rattle.std.specs.Prelude.{◌≡◌, ◌≤◌, ◌<◌, ◌+◌, ◌-◌, ◌/◌, ◌%◌, ◌∷◌, drop};
+ghost use Rattle.lexint.specs.Numeral.{numeral, signed_numeral};
 
 use crate::number::Number;
 
@@ -60,8 +60,3 @@ pub fn write_number(number: &Number, place: &mut [u8; MOST]) -> usize
     place[start - 1] = b'-';
     start - 1
 }
-
-/// A numeral is the shortest text of digits that writes its number.
-pub fn numeral_is_shortest()
-    ensures { (n : ℕ) → IsShortest (numeral n) n }
-{}
