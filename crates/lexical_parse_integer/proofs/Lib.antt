@@ -1,15 +1,20 @@
 pub mod AsciiDigits
 pub mod Completed
+pub mod Completing
 pub mod Counts
 pub mod CursorLemmas
+pub mod DigitTexts
 pub mod First
 pub mod FitLemmas
 pub mod Fronts
+pub mod InARow
 pub mod LawLemmas
 pub mod Lists
 pub mod NumeralLemmas
+pub mod Numerals
 pub mod Places
 pub mod Progress
+pub mod ShorterFronts
 pub mod Taking
 pub mod TurnBound
 pub mod Turning
@@ -21,4 +26,5 @@ pub mod WordLent
 pub mod WordReading
 pub mod WordTurns
 pub mod WordValues
+pub mod Zeros
 pub mod rows

@@ -1,13 +1,14 @@
-//! The parsers under a format, over a text and over a cursor, and their parts.
-ghost use Rattle.std.specs.Prelude.{◌≡◌, ◌⊎◌, ◌+◌, ◌≤◌, ◌&&◌, ◌||◌, ◌==◌, ◌↔◌, Err, None, Some, false, is_some, length, IfErr, IfOk, IsNone, IsTrue, OnOk};
-ghost use Rattle.lexical_util.specs.Number.{integer_type, overflow_digits};
+//! The parsers under a format, over a text and over a cursor, and the parts that they are made of.
+//!
+//! The names are those of the upstream crate's hidden module of that name; here they are documented, since a reader
+//! written by hand can use them.
+ghost use Rattle.std.specs.Prelude.{◌≡◌, ◌&&◌, ◌||◌, ◌==◌, Err, IfErr, IfOk, IsNone, IsTrue, OnOk, is_some, length};
+ghost use Rattle.lexical_util.specs.Number.{integer_type};
 ghost use Rattle.lexical_util.specs.Validity.{fault};
 ghost use Rattle.lexical_parse_integer.specs.Answer.{placed, seen};
-ghost use Rattle.lexical_parse_integer.specs.CursorView.{IsSound, numeral_of};
-ghost use Rattle.lexical_parse_integer.specs.Grammar.{complete, digits_required, partial, range_fault};
-ghost use Rattle.lexical_parse_integer.specs.Numeral.{digit_count, numeral_value};
-ghost use Rattle.lexical_parse_integer.specs.Reading.{GoesOn, IsRead, Reads, StandsAtStop};
-ghost use Rattle.lexical_parse_integer.specs.Turns.{AsksWords, HasFewTurns, turns_bound};
+ghost use Rattle.lexical_parse_integer.specs.Grammar.{complete, digits_required, partial};
+ghost use Rattle.lexical_parse_integer.specs.Reading.{IsRead, StandsAtStop};
+ghost use Rattle.lexical_parse_integer.specs.Turns.{AsksWords, HasFewTurns};
 
 mod digits;
 mod head;
@@ -29,7 +30,8 @@ use lexical_util::result::Result;
 pub use multi::{try_parse_4digits, try_parse_8digits};
 pub use words::{is_4digits, is_8digits, parse_4digits, parse_8digits};
 
-// Reads sign, prefix, numeral and suffix.
+// Reads sign, prefix, numeral and suffix: all that the two parsers have in common.
+#[inline(always)]
 fn read<T: Integer>(c: &mut Cursor<'_>, no_multi_digit: bool) -> Result<T>
     requires { c.old.position ≡ 0 }
     ensures found { IfOk result (λ value. IsRead c.old.format (integer_type T.BITS T.IS_SIGNED) c.old.bytes (T.number value) c.new) }
@@ -49,23 +51,35 @@ fn read<T: Integer>(c: &mut Cursor<'_>, no_multi_digit: bool) -> Result<T>
     Ok(value)
 }
 
-// Whether digits are missing.
+// Whether the numeral has no digit where the format asks for one.
+#[inline(always)]
 fn lacks_digits(c: &Cursor<'_>) -> bool
     ensures { result ≡ (digits_required c.now.format && (c.now.digits == 0)) }
 {
     c.format().required_digits() && c.digits() == 0
 }
 
-// Whether the position is the text's end, or the format has a separator.
+// Whether missing digits are the partial parser's fault: at the text's end, or where separators may stand.
+#[inline(always)]
 fn is_settled(c: &Cursor<'_>) -> bool
     ensures { result ≡ (is_some c.now.format.digit_separator || (c.now.position == length c.now.bytes)) }
 {
     !c.is_contiguous() || c.is_buffer_empty()
 }
 
-/// The integer that the whole text stands for.
+/// The integer that the cursor's whole text stands for; the cursor's position has to be 0.
+///
+/// The faults are those of [`algorithm_complete`]. At `Ok` the cursor stands where reading stops, with all digits of
+/// the numeral counted. After a fault it stands somewhere in its text, and is of no further use.
+///
+/// It takes few turns. With `no_multi_digit` an `Ok` takes one turn a digit. Without it, where the format has no
+/// separator byte and the radix is at most 10, let `d` be the number of the numeral's digits, `o` what
+/// `T::overflow_digits` answers for the radix and `m` the smaller of the two: then it takes at most
+/// `m / 8 + m % 8 + (d - m)` turns for types of 64 and 128 bits, and `m / 4 + m % 4 + (d - m)` for types of 32 bits,
+/// whatever it answers and whatever follows the numeral.
+#[inline(always)]
 pub fn algorithm_complete_on<T: Integer>(c: &mut Cursor<'_>, options: &Options) -> Result<T>
-    requires { c.old.position ≡ 0 }
+    requires front { c.old.position ≡ 0 }
     ensures answer { seen T.number result ≡ complete c.old.format (integer_type T.BITS T.IS_SIGNED) c.old.bytes }
     ensures at_stop { OnOk result (StandsAtStop c.old.format (integer_type T.BITS T.IS_SIGNED) c.old.bytes c.new) }
     ensures each { IsTrue options.now.no_multi_digit → OnOk result (c.new.turns ≡ c.new.digits) }
@@ -81,9 +95,13 @@ pub fn algorithm_complete_on<T: Integer>(c: &mut Cursor<'_>, options: &Options) 
     Ok(value)
 }
 
-/// The integer that the front of the text stands for, and where reading stopped.
+/// The integer that the front of the cursor's text stands for, and the place at which reading stops; the cursor's
+/// position has to be 0.
+///
+/// The faults are those of [`algorithm_partial`], and the cursor and the turns are as in [`algorithm_complete_on`].
+#[inline(always)]
 pub fn algorithm_partial_on<T: Integer>(c: &mut Cursor<'_>, options: &Options) -> Result<(T, usize)>
-    requires { c.old.position ≡ 0 }
+    requires front { c.old.position ≡ 0 }
     ensures answer { seen (placed T.number) result ≡ partial c.old.format (integer_type T.BITS T.IS_SIGNED) c.old.bytes }
     ensures at_stop { OnOk result (StandsAtStop c.old.format (integer_type T.BITS T.IS_SIGNED) c.old.bytes c.new) }
     ensures each { IsTrue options.now.no_multi_digit → OnOk result (c.new.turns ≡ c.new.digits) }
@@ -99,7 +117,18 @@ pub fn algorithm_partial_on<T: Integer>(c: &mut Cursor<'_>, options: &Options) -
     Ok((value, c.cursor()))
 }
 
-/// The integer that the whole text stands for.
+/// The integer that the whole text stands for under a valid format.
+///
+/// Places count bytes from 0. The first of these faults that applies is the answer:
+///
+/// 1. `InvalidPositiveSign(0)`, a `+` that the format forbids, or `MissingSign(0)`, no sign where it requires one;
+/// 2. `Empty` at the text's end, where the text ends behind its prefix;
+/// 3. `InvalidLeadingZeros` at the first digit, a zero in front of another digit that the format forbids;
+/// 4. `Overflow` or, behind a minus, `Underflow` at the digit with which the value leaves `T`;
+/// 5. `InvalidDigit` where reading stops, before the text's end;
+/// 6. `Empty` at the text's end, where no digit was read and the format requires one.
+///
+/// No answer depends on the options.
 #[inline(always)]
 pub fn algorithm_complete<T: Integer>(
     bytes: &[u8],
@@ -112,7 +141,13 @@ pub fn algorithm_complete<T: Integer>(
     algorithm_complete_on::<T>(&mut Cursor::new(bytes, format), options)
 }
 
-/// The integer that the front of the text stands for, and where reading stopped.
+/// The integer that the front of the text stands for under a valid format, and the place at which reading stops.
+///
+/// The first four faults are those of [`algorithm_complete`]. Then comes `Empty` where reading stops, if no digit was
+/// read, the format requires one, and reading stops at the text's end or the format has a separator byte. Where
+/// digits are required, none was read and none of this holds, the answer is 0 and the place.
+///
+/// No answer depends on the options.
 #[inline(always)]
 pub fn algorithm_partial<T: Integer>(
     bytes: &[u8],

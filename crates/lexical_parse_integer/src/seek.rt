@@ -1,17 +1,20 @@
-// Where the next digit stands, by places of the text.
+// Where the next digit stands. These functions take plain values, so that the compiler can keep a cursor in
+// registers.
 ghost use Rattle.std.specs.Prelude.{◌≡◌, ◌≤◌, ◌<◌, length};
+ghost use Rattle.lexical_util.specs.Digit.{IsRadix};
 ghost use Rattle.lexical_parse_integer.specs.Runs.{digit_at, end_of, flag_for, run_passes, run_stop, separator_at};
 ghost use Rattle.lexical_parse_integer.specs.Seeking.{Finds, IsAtRunStart, IsSeparatorNoDigit};
-ghost use Rattle.lexical_util.specs.Digit.{IsRadix};
 
 use lexical_util::digit::char_to_digit;
 use lexical_util::format::NumberFormat;
 
+// What stands ahead in a numeral: its next digit, with its place and value, or its end.
 pub(crate) enum Found {
     Digit(usize, u32),
     End(usize),
 }
 
+#[inline(always)]
 #[tactic(auto, unfolding(crate::specs::Runs::digit_at))]
 fn digit_at(bytes: &[u8], radix: u32, place: usize) -> Option<u32>
     requires { IsRadix radix }
@@ -24,6 +27,7 @@ fn digit_at(bytes: &[u8], radix: u32, place: usize) -> Option<u32>
     }
 }
 
+#[inline(always)]
 #[tactic(auto, unfolding(crate::specs::Runs::separator_at, crate::specs::Runs::are_same))]
 fn separator_at(bytes: &[u8], format: &NumberFormat, place: usize) -> bool
     ensures { result ≡ separator_at format.now bytes.now place }
@@ -35,6 +39,7 @@ fn separator_at(bytes: &[u8], format: &NumberFormat, place: usize) -> bool
 }
 
 // The place behind the separators that stand from `place` on.
+#[inline(always)]
 fn run_stop(bytes: &[u8], format: &NumberFormat, place: usize) -> usize
     requires { place ≤ length bytes.now }
     ensures { result ≡ run_stop format.now bytes.now place }
@@ -46,6 +51,7 @@ fn run_stop(bytes: &[u8], format: &NumberFormat, place: usize) -> usize
     stop
 }
 
+#[inline(always)]
 #[tactic(auto, unfolding(crate::specs::Runs::flag_for))]
 fn flag_for(format: &NumberFormat, before: bool, after: bool) -> bool
     ensures { result ≡ flag_for format.now before after }
@@ -61,6 +67,7 @@ fn flag_for(format: &NumberFormat, before: bool, after: bool) -> bool
 }
 
 // Whether the run from `from`, which is its first byte, to before `to` passes.
+#[inline(always)]
 #[tactic(auto, unfolding(crate::specs::Runs::run_passes))]
 fn run_passes(
     bytes: &[u8],
@@ -80,7 +87,9 @@ fn run_passes(
         && flag_for(format, before, after)
 }
 
-/// The least place of a digit of the numeral at or after `position`.
+// The next digit of the numeral at or after `position`, or the numeral's end. A run of separators is looked over
+// once: where it passes, what is sought stands behind it, and else the numeral ends before it.
+#[inline(always)]
 pub(crate) fn seek(
     bytes: &[u8],
     format: &NumberFormat,
