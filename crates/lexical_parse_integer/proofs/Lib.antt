@@ -1,4 +1,5 @@
 pub mod Agreeing
+pub mod AsciiDigits
 pub mod Completed
 pub mod Completing
 pub mod Counts
@@ -22,10 +23,13 @@ pub mod ShorterFronts
 pub mod Taking
 pub mod TurnBound
 pub mod Turning
+pub mod Untested
 pub mod Whole
 pub mod WordBytes
 pub mod WordDigits
+pub mod WordLent
 pub mod WordReading
 pub mod WordTurns
 pub mod WordValues
 pub mod Zeros
+pub mod rows

@@ -1,0 +1,7 @@
+pub mod LineSteps
+pub mod NumeralSteps
+pub mod Pieces
+pub mod AfterLast
+pub mod FieldChanges
+pub mod LastGiven
+pub mod Sending

@@ -1,0 +1,10 @@
+pub mod Change
+pub mod Command
+pub mod Fault
+pub mod Field
+pub mod Gather
+pub mod Given
+pub mod Lines
+pub mod Numeral
+pub mod Output
+pub mod Settings

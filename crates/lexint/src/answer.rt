@@ -1,0 +1,185 @@
+//! One line's answer.
+
+ghost use Rattle.std.specs.Prelude.{◌≡◌, ◌∷◌, [], ◌++◌, codes, OnOk, IsOkUnless, option_map};
+ghost use Rattle.lexical_util.specs.Faults.{place_of};
+ghost use Rattle.lexint.specs.Command.{seen_command};
+ghost use Rattle.lexint.specs.Gather.{Gathers};
+ghost use Rattle.lexint.specs.Numeral.{numeral, signed_numeral};
+ghost use Rattle.lexint.specs.Output.{answer_of, command_answer, command_effect, complete_text, fault_name, fault_text, partial_text, place_text, settings_after};
+
+use crate::batch::{Batch, put};
+use crate::command::Command;
+use crate::fault::RunError;
+use crate::number::Number;
+use crate::settings::Settings;
+use crate::{numeral, parse};
+use lexical_parse_integer::{Error, Result as Parse};
+use std::io::Write;
+
+/// Writes a line's answer and a line feed, and sets what the line sets.
+#[tactic(auto, unfolding(crate::specs::Output::answer_of, crate::specs::Output::settings_after))]
+pub fn answer<W: Write>(
+    line: &[u8],
+    settings: &mut Settings,
+    batch: &mut Batch,
+    out: &mut W,
+) -> Result<(), RunError>
+    ensures ok { OnOk result (Gathers (W.contents out.old) batch.old (W.contents out.new) batch.new
+        (answer_of settings.old line.now ++ 10 ∷ [])) }
+    ensures settings { OnOk result (settings.new ≡ settings_after settings.old line.now) }
+    ensures fault { IsOkUnless result RunError.Write }
+{
+    let command = Command::of(line);
+    tell(command, settings, batch, out)?;
+    put(b"\n", batch, out)?;
+    obey(command, settings);
+    Ok(())
+}
+
+// Writes the answer to a command.
+fn tell<W: Write>(
+    command: Option<Command<'_>>,
+    settings: &Settings,
+    batch: &mut Batch,
+    out: &mut W,
+) -> Result<(), RunError>
+    ensures ok { OnOk result (Gathers (W.contents out.old) batch.old (W.contents out.new) batch.new
+        (command_answer settings.now (option_map seen_command command.entry))) }
+    ensures fault { IsOkUnless result RunError.Write }
+{
+    match command {
+        None => put(b"bad line", batch, out),
+        Some(Command::Complete(name, text)) => {
+            put_complete(parse::complete(name, text, settings), batch, out)
+        }
+        Some(Command::Partial(name, text)) => {
+            put_partial(parse::partial(name, text, settings), batch, out)
+        }
+        Some(Command::Change(_)) | Some(Command::Reset) => put(b"ok", batch, out),
+    }
+}
+
+// Sets what a command sets.
+fn obey(command: Option<Command<'_>>, settings: &mut Settings)
+    ensures { settings.new ≡ command_effect settings.old (option_map seen_command command.entry) }
+{
+    match command {
+        Some(Command::Change(change)) => settings.make(change),
+        Some(Command::Reset) => *settings = Settings::standard(),
+        None | Some(Command::Complete(..)) | Some(Command::Partial(..)) => {}
+    }
+}
+
+// `ok V`, or a fault.
+fn put_complete<W: Write>(
+    answer: Parse<Number>,
+    batch: &mut Batch,
+    out: &mut W,
+) -> Result<(), RunError>
+    ensures ok { OnOk result (Gathers (W.contents out.old) batch.old (W.contents out.new) batch.new
+        (complete_text answer)) }
+    ensures fault { IsOkUnless result RunError.Write }
+{
+    match answer {
+        Ok(value) => put_value(&value, batch, out),
+        Err(fault) => put_fault(fault, batch, out),
+    }
+}
+
+// `ok V PLACE`, or a fault.
+fn put_partial<W: Write>(
+    answer: Parse<(Number, usize)>,
+    batch: &mut Batch,
+    out: &mut W,
+) -> Result<(), RunError>
+    ensures ok { OnOk result (Gathers (W.contents out.old) batch.old (W.contents out.new) batch.new
+        (partial_text answer)) }
+    ensures fault { IsOkUnless result RunError.Write }
+{
+    match answer {
+        Ok((value, stop)) => put_found(&value, stop, batch, out),
+        Err(fault) => put_fault(fault, batch, out),
+    }
+}
+
+// `ok V`.
+fn put_value<W: Write>(value: &Number, batch: &mut Batch, out: &mut W) -> Result<(), RunError>
+    ensures ok { OnOk result (Gathers (W.contents out.old) batch.old (W.contents out.new) batch.new
+        (codes "ok " ++ signed_numeral value.now)) }
+    ensures fault { IsOkUnless result RunError.Write }
+{
+    put(b"ok ", batch, out)?;
+    let mut digits = [0u8; numeral::MOST];
+    let start = numeral::write_number(value, &mut digits);
+    put(&digits[start..], batch, out)
+}
+
+// `ok V PLACE`.
+fn put_found<W: Write>(
+    value: &Number,
+    stop: usize,
+    batch: &mut Batch,
+    out: &mut W,
+) -> Result<(), RunError>
+    ensures ok { OnOk result (Gathers (W.contents out.old) batch.old (W.contents out.new) batch.new
+        (codes "ok " ++ signed_numeral value.now ++ codes " " ++ numeral stop)) }
+    ensures fault { IsOkUnless result RunError.Write }
+{
+    put_value(value, batch, out)?;
+    put_place(stop, batch, out)
+}
+
+// `err NAME PLACE`, or `err NAME`.
+fn put_fault<W: Write>(fault: Error, batch: &mut Batch, out: &mut W) -> Result<(), RunError>
+    ensures ok { OnOk result (Gathers (W.contents out.old) batch.old (W.contents out.new) batch.new
+        (fault_text fault)) }
+    ensures fault { IsOkUnless result RunError.Write }
+{
+    put(b"err ", batch, out)?;
+    put(fault_name(fault).as_bytes(), batch, out)?;
+    put_place_of(fault, batch, out)
+}
+
+// A space and the fault's place, where it has one.
+fn put_place_of<W: Write>(fault: Error, batch: &mut Batch, out: &mut W) -> Result<(), RunError>
+    ensures ok { OnOk result (Gathers (W.contents out.old) batch.old (W.contents out.new) batch.new
+        (place_text (place_of fault))) }
+    ensures fault { IsOkUnless result RunError.Write }
+{
+    match fault.index() {
+        Some(place) => put_place(place, batch, out),
+        None => Ok(()),
+    }
+}
+
+// A space and a place.
+fn put_place<W: Write>(place: usize, batch: &mut Batch, out: &mut W) -> Result<(), RunError>
+    ensures ok { OnOk result (Gathers (W.contents out.old) batch.old (W.contents out.new) batch.new
+        (codes " " ++ numeral place)) }
+    ensures fault { IsOkUnless result RunError.Write }
+{
+    put(b" ", batch, out)?;
+    let mut digits = [0u8; numeral::MOST];
+    let start = numeral::write_numeral(place as u128, &mut digits);
+    put(&digits[start..], batch, out)
+}
+
+// The name of a fault, which is that of its variant.
+fn fault_name(fault: Error) -> &'static str
+    ensures { result.now ≡ fault_name fault }
+{
+    match fault {
+        Error::Overflow(_) => "Overflow",
+        Error::Underflow(_) => "Underflow",
+        Error::InvalidDigit(_) => "InvalidDigit",
+        Error::Empty(_) => "Empty",
+        Error::MissingSign(_) => "MissingSign",
+        Error::InvalidPositiveSign(_) => "InvalidPositiveSign",
+        Error::InvalidLeadingZeros(_) => "InvalidLeadingZeros",
+        Error::InvalidMantissaRadix => "InvalidMantissaRadix",
+        Error::InvalidDigitSeparator => "InvalidDigitSeparator",
+        Error::InvalidBasePrefix => "InvalidBasePrefix",
+        Error::InvalidBaseSuffix => "InvalidBaseSuffix",
+        Error::InvalidPunctuation => "InvalidPunctuation",
+    }
+}

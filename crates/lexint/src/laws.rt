@@ -1,0 +1,24 @@
+//! What the definitions of the program's output come to.
+
+ghost use Rattle.std.specs.Prelude.{◌≡◌, ℕ, List};
+ghost use Rattle.lexint.specs.Given.{IsAnsweredInTurn, LeavesLastGiven};
+ghost use Rattle.lexint.specs.Lines.{lines, pieces, without_empty_last};
+ghost use Rattle.lexint.specs.Numeral.{numeral, IsShortest};
+
+/// The lines are the pieces between the line feeds, without the last where that is empty.
+pub fn lines_are_pieces()
+    ensures { (bytes : List ℕ) → lines bytes ≡ without_empty_last (pieces bytes) }
+{}
+
+/// A numeral is the shortest text of digits that writes its number.
+pub fn numeral_is_shortest()
+    ensures { (n : ℕ) → IsShortest (numeral n) n }
+{}
+
+/// Each line is answered under the settings that the lines before it leave, and of those each
+/// field has the value that the last accepted `f` line after the last `r` line gave it, or the
+/// standard one where there is none.
+pub fn fields_hold_what_was_last_given()
+    ensures answered { (before : List (List ℕ)) → (line : List ℕ) → (after : List (List ℕ)) → IsAnsweredInTurn before line after }
+    ensures left { (lines : List (List ℕ)) → LeavesLastGiven lines }
+{}

@@ -1,0 +1,35 @@
+//! Reads all of standard input, and writes an answer line for each line of it.
+#![tactic(auto)]
+
+mod answer;
+mod batch;
+mod buffer;
+mod command;
+mod fault;
+mod field;
+mod laws;
+mod lines;
+mod number;
+mod numeral;
+mod parse;
+mod program;
+mod settings;
+#[cfg(test)]
+mod tests;
+
+use fault::RunError;
+use std::process::ExitCode;
+
+/// Runs over standard input and output. A fault is told on standard error, and the status is then 2.
+fn main(rt: HostRuntime) -> ExitCode {
+    let mut input = rt.stdin();
+    let mut out = rt.stdout();
+    match program::run_from(rt.alloc(), &mut input, &mut out) {
+        Ok(()) => ExitCode::SUCCESS,
+        Err(fault) => {
+            let text = fault.message();
+            let _told = eprintln!(rt; "{text}");
+            ExitCode::from(2)
+        }
+    }
+}

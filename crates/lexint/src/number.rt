@@ -1,0 +1,61 @@
+//! Integers of every type as one type of number.
+
+ghost use Rattle.std.specs.Prelude.{◌≡◌, ◌↔◌, ◌<◌, ◌<ℤ◌, pos, IsTrue, unsigned_abs};
+
+use std::marker::Model;
+
+/// An integer of any of the twelve types. Contracts see it as a whole number.
+#[derive(Debug, Drop)]
+pub struct Number {
+    is_negative: bool,
+    size: u128,
+}
+
+impl Model for Number {
+    ghost use Rattle.std.specs.Prelude.{◌<◌, IsTrue, ℤ};
+    ghost use Rattle.lexint.specs.Numeral.{signed};
+
+    ghost Value = { ℤ };
+
+    ghost view = { λ n. signed n.is_negative n.size };
+
+    ghost invariant = { λ n. IsTrue n.is_negative → 0 < n.size };
+}
+
+impl Number {
+    /// A number from 0 up.
+    #[inline(always)]
+    pub fn unsigned(n: u128) -> Number
+        ensures { result ≡ pos n }
+    {
+        Number {
+            is_negative: false,
+            size: n,
+        }
+    }
+
+    /// A number that may be negative.
+    #[inline(always)]
+    pub fn signed(z: i128) -> Number
+        ensures { result ≡ z }
+    {
+        Number {
+            is_negative: z < 0,
+            size: z.unsigned_abs(),
+        }
+    }
+
+    /// Whether it is below 0.
+    pub fn is_negative(&self) -> bool
+        ensures { IsTrue result ↔ (self.now <ℤ pos 0) }
+    {
+        self.is_negative
+    }
+
+    /// Its distance from 0.
+    pub fn size(&self) -> u128
+        ensures { result ≡ unsigned_abs self.now }
+    {
+        self.size
+    }
+}

@@ -1,0 +1,82 @@
+//! Texts as numbers of the type that a line names.
+
+ghost use Rattle.std.specs.Prelude.{◌≡◌};
+ghost use Rattle.lexical_parse_integer.specs.Grammar.{complete_if_valid, partial_if_valid};
+ghost use Rattle.lexical_util.specs.Number.{integer_type};
+ghost use Rattle.lexint.specs.Command.{type_of};
+
+use crate::command::TypeName;
+use crate::number::Number;
+use crate::settings::Settings;
+use lexical_parse_integer::{FromLexicalWithOptions, Options, Result};
+
+mod impls;
+
+/// An integer type that texts are parsed as, and whose values are printed.
+trait Parsed: FromLexicalWithOptions<Options = Options> {
+    // The value as a number.
+    fn to_number(self) -> Number
+        ensures { result ≡ Self.number self };
+}
+
+// The number that the whole text stands for as one of type `T`.
+fn complete_as<T: Parsed>(text: &[u8], settings: &Settings) -> Result<Number>
+    ensures { result ≡ complete_if_valid settings.now.format (integer_type T.BITS T.IS_SIGNED) text.now }
+{
+    let value = T::from_lexical_with_options(text, &settings.format(), settings.options())?;
+    Ok(value.to_number())
+}
+
+// The number that the front of the text stands for as one of type `T`, and the place at which
+// reading stopped.
+fn partial_as<T: Parsed>(text: &[u8], settings: &Settings) -> Result<(Number, usize)>
+    ensures { result ≡ partial_if_valid settings.now.format (integer_type T.BITS T.IS_SIGNED) text.now }
+{
+    let (value, stop) = T::from_lexical_partial_with_options(
+        text,
+        &settings.format(),
+        settings.options(),
+    )?;
+    Ok((value.to_number(), stop))
+}
+
+/// The number that the whole text stands for as one of the named type.
+pub fn complete(name: TypeName, text: &[u8], settings: &Settings) -> Result<Number>
+    ensures { result ≡ complete_if_valid settings.now.format (type_of name) text.now }
+{
+    match name {
+        TypeName::U8 => complete_as::<u8>(text, settings),
+        TypeName::U16 => complete_as::<u16>(text, settings),
+        TypeName::U32 => complete_as::<u32>(text, settings),
+        TypeName::U64 => complete_as::<u64>(text, settings),
+        TypeName::U128 => complete_as::<u128>(text, settings),
+        TypeName::Usize => complete_as::<usize>(text, settings),
+        TypeName::I8 => complete_as::<i8>(text, settings),
+        TypeName::I16 => complete_as::<i16>(text, settings),
+        TypeName::I32 => complete_as::<i32>(text, settings),
+        TypeName::I64 => complete_as::<i64>(text, settings),
+        TypeName::I128 => complete_as::<i128>(text, settings),
+        TypeName::Isize => complete_as::<isize>(text, settings),
+    }
+}
+
+/// The number that the front of the text stands for as one of the named type, and the place at
+/// which reading stopped.
+pub fn partial(name: TypeName, text: &[u8], settings: &Settings) -> Result<(Number, usize)>
+    ensures { result ≡ partial_if_valid settings.now.format (type_of name) text.now }
+{
+    match name {
+        TypeName::U8 => partial_as::<u8>(text, settings),
+        TypeName::U16 => partial_as::<u16>(text, settings),
+        TypeName::U32 => partial_as::<u32>(text, settings),
+        TypeName::U64 => partial_as::<u64>(text, settings),
+        TypeName::U128 => partial_as::<u128>(text, settings),
+        TypeName::Usize => partial_as::<usize>(text, settings),
+        TypeName::I8 => partial_as::<i8>(text, settings),
+        TypeName::I16 => partial_as::<i16>(text, settings),
+        TypeName::I32 => partial_as::<i32>(text, settings),
+        TypeName::I64 => partial_as::<i64>(text, settings),
+        TypeName::I128 => partial_as::<i128>(text, settings),
+        TypeName::Isize => partial_as::<isize>(text, settings),
+    }
+}

@@ -1,0 +1,78 @@
+// The parts below the lines: numerals and batches.
+
+use super::devices::CountingWriter;
+use crate::batch::{Batch, SIZE, put, send};
+use crate::fault::RunError;
+use crate::number::Number;
+use crate::numeral::{MOST, write_number, write_numeral};
+use crate::program::run;
+
+/// Each of these lines is answered by nine bytes.
+const EMPTY_LINES: &[u8] = &[b'\n'; 40_000];
+
+#[test]
+fn answers_go_out_by_the_batch(rt: HostRuntime) {
+    let mut out = CountingWriter::new(usize::MAX);
+    assert_eq!(rt; run(EMPTY_LINES, &mut out), Ok(()));
+    assert_eq!(rt; out.bytes, 360_000);
+    assert_eq!(rt; out.writes, 6);
+}
+
+#[test]
+fn a_refused_batch_is_told(rt: HostRuntime) {
+    for good in 0..6 {
+        let mut out = CountingWriter::new(good);
+        assert_eq!(rt; run(EMPTY_LINES, &mut out), Err(RunError::Write));
+        assert_eq!(rt; out.writes, good);
+    }
+}
+
+#[test]
+fn a_piece_longer_than_the_batch_goes_out(rt: HostRuntime) {
+    let mut out = CountingWriter::new(usize::MAX);
+    let mut batch = Batch::new();
+    assert_eq!(rt; put(b"abc", &mut batch, &mut out), Ok(()));
+    assert_eq!(rt; out.writes, 0);
+    assert_eq!(rt; put(&[b'x'; SIZE + 1], &mut batch, &mut out), Ok(()));
+    assert_eq!(rt; out.bytes, SIZE + 4);
+    assert_eq!(rt; out.writes, 2);
+    assert_eq!(rt; put(&[b'x'; SIZE], &mut batch, &mut out), Ok(()));
+    assert_eq!(rt; out.writes, 2);
+    assert_eq!(rt; send(&mut batch, &mut out), Ok(()));
+    assert_eq!(rt; out.writes, 3);
+    assert_eq!(rt; send(&mut batch, &mut out), Ok(()));
+    assert_eq!(rt; out.writes, 3);
+}
+
+#[test]
+fn writes_numbers_of_each_length(rt: HostRuntime) {
+    let mut place = [0u8; MOST];
+    for (number, want) in [
+        (0, "0"),
+        (9, "9"),
+        (10, "10"),
+        (99, "99"),
+        (100, "100"),
+        (1_009, "1009"),
+        (18_446_744_073_709_551_615, "18446744073709551615"),
+        (18_446_744_073_709_551_616, "18446744073709551616"),
+        (u128::MAX, "340282366920938463463374607431768211455"),
+    ] {
+        let start = write_numeral(number, &mut place);
+        assert_eq!(rt; &place[start..], want.as_bytes(), "{number}");
+    }
+}
+
+#[test]
+fn writes_signs(rt: HostRuntime) {
+    let mut place = [0u8; MOST];
+    let start = write_number(&Number::signed(i128::MIN), &mut place);
+    assert_eq!(rt;
+        &place[start..],
+        "-170141183460469231731687303715884105728".as_bytes()
+    );
+    let start = write_number(&Number::signed(-1), &mut place);
+    assert_eq!(rt; &place[start..], "-1".as_bytes());
+    let start = write_number(&Number::signed(0), &mut place);
+    assert_eq!(rt; &place[start..], "0".as_bytes());
+}
