@@ -1,0 +1,3 @@
+pub mod EachLemmas
+pub mod Settled
+pub mod Sums

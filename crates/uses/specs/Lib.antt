@@ -1,0 +1,5 @@
+pub mod Config
+pub mod Digits
+pub mod Each
+pub mod Json
+pub mod Ledger
