@@ -1,5 +1,5 @@
 -- The total of a ledger, one line at a time.
-use Rattle.std.proofs.Common.{◌≡◌, ◌∙◌, ℕ, ◌+◌, ◌<◌, ◌≤◌, ◌==◌, List, ◌∷◌, [], ◌++◌, length, get_or, take, map, fold, pos, ◌+ℤ◌, refl, sym, ap, add-one, zero-add, Result, Ok, Err, Some, arith}
+use Rattle.std.proofs.Common.{◌≡◌, ◌∙◌, ℕ, ◌+◌, ◌<◌, ◌≤◌, ◌==◌, List, ◌∷◌, [], ◌++◌, length, get_or, take, map, fold, pos, ◌+ℤ◌, refl, sym, ap, add-one, zero-add, Result, Ok, Err, Some, true, arith}
 use Rattle.std.proofs.Math.IntN.{ℤ}
 use Rattle.std.proofs.lemmas.List.{length-map, take_all}
 use Rattle.std.proofs.lemmas.List.FromFn.{get_or-enumerate_from, length-enumerate_from}
@@ -9,12 +9,14 @@ use Rattle.std.proofs.lemmas.Bool.Decides.{nat_tests}
 use Rattle.std.proofs.lemmas.Option.{slice_get-get_or, slice_get-map}
 use Rattle.std.specs.Prelude.{IsOkAnd, option_map, slice_get}
 use Rattle.std.specs.List.{enumerate_from, slice_split}
+use Rattle.std.specs.Option.{ok_or}
 use Rattle.std.specs.Str.Lines.{lines, lines_of_parts}
+use Rattle.lexical_util.specs.Number.{checked, integer_type}
 use Rattle.uses.specs.Each.{each}
-use Rattle.uses.specs.Ledger.{as_cents, cents_in, total_in, total_of}
+use Rattle.uses.specs.Ledger.{cents_in, total_in, total_of}
 use Rattle.uses.specs.declared.ledger.LedgerError.{LedgerError}
 use Rattle.uses.specs.declared.ledger.LineError.{LineError}
-use Rattle.uses.specs.declared.ledger.LedgerError.TheVariants.{Line}
+use Rattle.uses.specs.declared.ledger.LedgerError.TheVariants.{Line, OutOfRange}
 use Rattle.uses.proofs.EachLemmas.{each_fault, each_more}
 
 -- the first amounts of a ledger, so many, are read, and this is their sum
@@ -59,13 +61,13 @@ pub sum_same : (text : List ℕ) (n m : ℕ) (sum other : ℤ) → IsSum text n 
 sum_same text n m sum other h e e' = rw (← e, e') h
 
 -- all lines are read
-pub sum_end : (text : List ℕ) (n : ℕ) (sum : ℤ) (answer : Result ℤ LedgerError) → IsSum text n sum → n ≡ length (enumerate_from 0 (lines text)) → answer ≡ as_cents sum → answer ≡ total_in text
+pub sum_end : (text : List ℕ) (n : ℕ) (sum : ℤ) (answer : Result ℤ LedgerError) → IsSum text n sum → n ≡ length (enumerate_from 0 (lines text)) → answer ≡ ok_or (checked (integer_type 64 true) sum) OutOfRange → answer ≡ total_in text
 sum_end text n sum answer h all e =
-    let told = sum_by _ sum h in
     let size = length-enumerate_from 0 (lines text) in
     let whole : take n (map cents_in (lines text)) ≡ map cents_in (lines text) = take_all n _ (omega (arith, length-map (lines text) cents_in)) in
+    let told = sum_by _ sum h in
     let found : each (map cents_in (lines text)) ≡ Ok told.0 = sym (ap each whole) ∙ told.1 in
-    e ∙ ap as_cents told.2 ∙ sym (ap total_of found)
+    e ∙ ap (λ total. ok_or (checked (integer_type 64 true) total) OutOfRange) told.2 ∙ sym (ap total_of found)
 
 parts_most : (parts : List (List ℕ)) → length (lines_of_parts parts) ≤ length parts
 parts_most [] = omega arith

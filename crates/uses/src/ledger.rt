@@ -2,8 +2,9 @@
 
 ghost use Rattle.std.specs.Prelude.{◌≡◌, ◌<◌, length, position, IfSome};
 ghost use Rattle.lexical_parse_integer.specs.Answer.{seen};
-ghost use Rattle.uses.specs.Ledger.{as_cents, cents_in, entry_in, is_blank, seen_entry, total_in};
+ghost use Rattle.uses.specs.Ledger.{cents_in, entry_in, is_blank, seen_entry, total_in};
 
+use crate::narrow::as_i64;
 use lexical_parse_integer::{Error, FromLexical};
 
 /// One line of a ledger.
@@ -71,13 +72,6 @@ fn cents(line: &[u8]) -> Result<i64, LineError>
     Ok(Entry::of(line)?.cents)
 }
 
-// A sum as an amount.
-fn as_cents(sum: i128) -> Result<i64, LedgerError>
-    ensures { result ≡ as_cents sum }
-{
-    i64::try_from(sum).map_err(|_| LedgerError::OutOfRange)
-}
-
 /// The sum of the amounts of a ledger's lines; an empty line has none.
 ///
 /// The first line that is no entry is told before a sum that leaves `i64`. The sum is that of all
@@ -92,5 +86,5 @@ pub fn total(text: &str) -> Result<i64, LedgerError>
             Err(error) => return Err(LedgerError::Line { line, error }),
         }
     }
-    as_cents(sum)
+    as_i64(sum).ok_or(LedgerError::OutOfRange)
 }

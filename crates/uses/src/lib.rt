@@ -3,7 +3,10 @@
 
 pub mod config;
 mod digits;
+pub mod fixed_point;
+pub mod fixed_width;
 pub mod json;
 pub mod ledger;
+mod narrow;
 #[cfg(test)]
 mod tests;

@@ -42,4 +42,4 @@ loop-line-preserved c =
 pub returns : goal.returns
 returns c =
     let turn = YieldsList-end (YieldsList-from_enumerate (YieldsList-from_lines c.args.text.now cc) cc) c.loop-line.yielded _ c.loop-line.yielded_by _ _ c.in-None.is c.next.ensures.steps in
-    sum_end c.args.text.now (length c.loop-line.yielded) _ _ c.loop-line.invariant.read turn.1 c.as_cents.ensures
+    sum_end c.args.text.now (length c.loop-line.yielded) _ _ c.loop-line.invariant.read turn.1 cc
