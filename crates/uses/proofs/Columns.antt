@@ -1,9 +1,9 @@
 -- The numbers in the columns of a row, one column at a time.
-use Rattle.std.proofs.Common.{◌≡◌, ◌∙◌, ℕ, ◌+◌, ◌<◌, ◌≤◌, List, length, get_or, take, sum, refl, sym, ap, add-one, zero-add, Ok, Err, Some, arith}
+use Rattle.std.proofs.Common.{◌≡◌, ◌∙◌, ℕ, ◌+◌, ◌<◌, ◌≤◌, List, length, get_or, take, refl, sym, ap, add-one, zero-add, Ok, Err, Some, arith}
 use Rattle.std.proofs.Math.IntN.{ℤ}
 use Rattle.std.proofs.lemmas.List.{take_all, take_more_set}
 use Rattle.std.proofs.lemmas.List.FromFn.{get_or-range_with_len, length-map-range_with_len, length-range_with_len}
-use Rattle.std.proofs.lemmas.List.Sums.{sum_by_more, sum_by_more_le}
+use Rattle.std.proofs.lemmas.List.Sums.{sum_by_more}
 use Rattle.std.proofs.lemmas.Option.{slice_get-get_or, slice_get-map}
 use Rattle.std.proofs.Math.ListN.{set}
 use Rattle.std.specs.Prelude.{option_map, slice_get}
@@ -18,12 +18,9 @@ use Rattle.uses.proofs.EachLemmas.{each_fault, each_more}
 abbrev pub AreRead : List ℕ → List ℕ → ℕ → List ℤ → Type 0
 AreRead widths row column values = each (take column (numbers_in widths row)) ≡ Ok (take column values)
 
--- the next column starts where this one ends, and it ends within the row
+-- the next column starts where this one ends
 pub start_more : (widths : List ℕ) (column : ℕ) → column < length widths → start_of widths (column + 1) ≡ start_of widths column + get_or widths column 0
 start_more widths column inside = sum_by_more (λ x. x) widths column 0 inside
-
-pub start_within : (widths : List ℕ) (column : ℕ) → column < length widths → start_of widths column + get_or widths column 0 ≤ sum widths
-start_within widths column inside = sum_by_more_le (λ x. x) widths column 0 inside
 
 number_at : (widths row : List ℕ) (column : ℕ) → column < length widths → slice_get (numbers_in widths row) column ≡ Some (number_in widths row column)
 number_at widths row column inside =

@@ -57,6 +57,7 @@ sum_fault text n number line sum e h turn read =
     let fault = each_fault (map cents_in (lines text)) n told.0 e told.1 (answer_at text n line there.1 ∙ ap Some read) in
     rw (fault, there.0) refl
 
+-- the same number of lines, and the same sum
 pub sum_same : (text : List ℕ) (n m : ℕ) (sum other : ℤ) → IsSum text n sum → n ≡ m → other ≡ sum → IsSum text m other
 sum_same text n m sum other h e e' = rw (← e, e') h
 
@@ -69,6 +70,7 @@ sum_end text n sum answer h all e =
     let found : each (map cents_in (lines text)) ≡ Ok told.0 = sym (ap each whole) ∙ told.1 in
     e ∙ ap (λ total. ok_or (checked (integer_type 64 true) total) OutOfRange) told.2 ∙ sym (ap total_of found)
 
+-- parts between line feeds are no fewer than lines
 parts_most : (parts : List (List ℕ)) → length (lines_of_parts parts) ≤ length parts
 parts_most [] = omega arith
 parts_most (part ∷ []) = grind (arith, nat_tests)

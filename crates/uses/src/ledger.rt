@@ -72,7 +72,8 @@ fn cents(line: &[u8]) -> Result<i64, LineError>
     Ok(Entry::of(line)?.cents)
 }
 
-/// The sum of the amounts of a ledger's lines; an empty line has none.
+/// The sum of the amounts in a ledger's lines, which are those of `str::lines`; an empty line has
+/// none.
 ///
 /// The first line that is no entry is told before a sum that leaves `i64`. The sum is that of all
 /// lines, so that their order doesn't matter: an amount may make up for what others exceed.
