@@ -14,11 +14,15 @@ is_affix is_case_sensitive (Some affix) (Some byte) = matches is_case_sensitive 
 is_affix is_case_sensitive (Some affix) None = false
 is_affix is_case_sensitive None byte = false
 
--- whether a zero stands at a place, and the prefix directly behind it
-unfoldable pub prefix_at : Format → List ℕ → ℕ → Bool
-prefix_at format text place =
-    are_same (Some 48) (slice_get text place)
-    && is_affix format.case_sensitive_base_prefix format.base_prefix (slice_get text (place + 1))
+-- the radix in force behind a zero and a byte, where the two are a prefix: the format's own leaves its radix
+unfoldable pub marked_radix : Format → Option ℕ → Option ℕ
+marked_radix format byte =
+    if is_affix format.case_sensitive_base_prefix format.base_prefix byte then Some format.mantissa_radix else None
+
+-- the radix in force behind the prefix at a place, where one stands there: a zero, and the byte directly behind it
+unfoldable pub prefix_radix : Format → List ℕ → ℕ → Option ℕ
+prefix_radix format text place =
+    if are_same (Some 48) (slice_get text place) then marked_radix format (slice_get text (place + 1)) else None
 
 -- whether the suffix stands at a place
 unfoldable pub suffix_at : Format → List ℕ → ℕ → Bool
