@@ -4,7 +4,7 @@ use Rattle.std.proofs.lemmas.Bool.{lt-ltb, le-ltb, cases_lt}
 use Rattle.std.proofs.Math.IntN.{ℤ}
 use Rattle.std.specs.Prelude.{nat_lt}
 use Rattle.lexical_util.specs.declared.error.Error.{Error}
-use Rattle.lexical_util.specs.declared.error.Error.TheVariants.{Overflow, Underflow, InvalidDigit, Empty, MissingSign, InvalidPositiveSign, InvalidLeadingZeros, InvalidMantissaRadix, InvalidDigitSeparator, InvalidBasePrefix, InvalidBaseSuffix, InvalidPunctuation}
+use Rattle.lexical_util.specs.declared.error.Error.TheVariants.{Overflow, Underflow, InvalidDigit, Empty, MissingSign, InvalidPositiveSign, InvalidLeadingZeros, InvalidMantissaRadix, InvalidDigitSeparator, InvalidBasePrefix, InvalidBaseSuffix, InvalidPunctuation, InvalidLiteralPrefixes}
 use Rattle.lexical_util.specs.Format.{Format}
 use Rattle.lexical_util.specs.Number.{IntegerType}
 use Rattle.lexical_parse_integer.specs.Affixes.{prefix_radix}
@@ -70,6 +70,7 @@ completed_ok n (Err e) v within h = absurd (no_value e h)
     no_value InvalidBasePrefix g = cc
     no_value InvalidBaseSuffix g = cc
     no_value InvalidPunctuation g = cc
+    no_value InvalidLiteralPrefixes g = cc
 
 completed_fault : (n : ℕ) (e : Error) → is_empty e ≡ false → completed n (Err e) ≡ Err e
 completed_fault n (Empty i) h = cc
@@ -84,6 +85,7 @@ completed_fault n InvalidDigitSeparator h = refl
 completed_fault n InvalidBasePrefix h = refl
 completed_fault n InvalidBaseSuffix h = refl
 completed_fault n InvalidPunctuation h = refl
+completed_fault n InvalidLiteralPrefixes h = refl
 
 completes_from : (n : ℕ) (whole : Result ℤ Error) (front : Result (ℤ × ℕ) Error) → whole ≡ completed n front → ((v : ℤ) (k : ℕ) → front ≡ Ok (v, k) → k ≤ n) → Completes n whole front
 completes_from n whole front is within = record {

@@ -3,7 +3,7 @@ use Rattle.std.proofs.Common.{◌≡◌, ℕ, ◌+◌, ◌-◌, ◌≤◌, ◌<�
 use Rattle.std.proofs.lemmas.Bool.{false≢true, cases_lt}
 use Rattle.std.proofs.lemmas.Bool.Decides.{nat_tests}
 use Rattle.std.proofs.lemmas.Option.{slice_get_past}
-use Rattle.lexical_parse_integer.specs.Affixes.{is_affix, marked_radix, matches, numeral_stop, prefix_radix, suffix_at}
+use Rattle.lexical_parse_integer.specs.Affixes.{is_affix, literal_radix, marked_radix, matches, numeral_stop, prefix_radix, suffix_at}
 use Rattle.lexical_parse_integer.specs.CursorView.{CursorView, IsSound, IsSuffixNoDigit, IsSuffixNoSeparator, numeral_end}
 use Rattle.lexical_parse_integer.specs.Runs.{are_same, belongs, digit_at, digits_between, end_of, places, separator_at}
 use Rattle.lexical_parse_integer.specs.Seeking.{Finds, IsSeparatorNoDigit}
@@ -211,13 +211,26 @@ pub suffix_at_within : (f : Format) (b : List ℕ) (k : ℕ) → suffix_at f b k
 unfolding suffix_at
 suffix_at_within f b k t = mark_within f.case_sensitive_base_suffix f.base_suffix b k t
 
+letter_within : (sensitive : Bool) (b : List ℕ) (k r : ℕ) → literal_radix sensitive (slice_get b k) ≡ Some r → k < length b
+unfolding literal_radix
+letter_within sensitive b k r e = by_letter (is_affix sensitive (Some 120) (slice_get b k)) (is_affix sensitive (Some 111) (slice_get b k)) (is_affix sensitive (Some 98) (slice_get b k)) refl refl refl e
+  where
+    by_letter : (x o c : Bool) → is_affix sensitive (Some 120) (slice_get b k) ≡ x → is_affix sensitive (Some 111) (slice_get b k) ≡ o → is_affix sensitive (Some 98) (slice_get b k) ≡ c
+        → cond x (Some 16) (cond o (Some 8) (cond c (Some 2) None)) ≡ Some r → k < length b
+    by_letter true o c t u v h = mark_within sensitive (Some 120) b k t
+    by_letter false true c t u v h = mark_within sensitive (Some 111) b k u
+    by_letter false false true t u v h = mark_within sensitive (Some 98) b k v
+    by_letter false false false t u v h = cc
+
 marked_within : (f : Format) (b : List ℕ) (k r : ℕ) → marked_radix f (slice_get b k) ≡ Some r → k < length b
 unfolding marked_radix
-marked_within f b k r e = by_own (is_affix f.case_sensitive_base_prefix f.base_prefix (slice_get b k)) refl e
+marked_within f b k r e = by_own (is_affix f.case_sensitive_base_prefix f.base_prefix (slice_get b k)) f.literal_prefixes refl e
   where
-    by_own : (own : Bool) → is_affix f.case_sensitive_base_prefix f.base_prefix (slice_get b k) ≡ own → cond own (Some f.mantissa_radix) None ≡ Some r → k < length b
-    by_own true t h = mark_within f.case_sensitive_base_prefix f.base_prefix b k t
-    by_own false t h = cc
+    by_own : (own asked : Bool) → is_affix f.case_sensitive_base_prefix f.base_prefix (slice_get b k) ≡ own
+        → cond own (Some f.mantissa_radix) (cond asked (literal_radix f.case_sensitive_base_prefix (slice_get b k)) None) ≡ Some r → k < length b
+    by_own true asked t h = mark_within f.case_sensitive_base_prefix f.base_prefix b k t
+    by_own false true t h = letter_within f.case_sensitive_base_prefix b k r h
+    by_own false false t h = cc
 
 pub prefix_within : (f : Format) (b : List ℕ) (k r : ℕ) → prefix_radix f b k ≡ Some r → k + 1 < length b
 unfolding prefix_radix

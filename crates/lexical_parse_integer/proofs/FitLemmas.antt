@@ -1,14 +1,14 @@
 -- What a format's validity gives a cursor.
 use Rattle.std.proofs.Common.{◌≡◌, ℕ, Bool, true, false, cond, subst, List, IsNone, Option, Some, None, refl, sym, ap, arith, inl, inr, ◌+◌}
-use Rattle.std.specs.Prelude.{◌≢◌, slice_get}
+use Rattle.std.specs.Prelude.{◌≢◌, ◌≤◌, slice_get}
 use Rattle.std.proofs.lemmas.Bool.{false≢true, cases_eq}
 use Rattle.std.proofs.lemmas.Bool.Decides.{nat_tests}
 use Rattle.lexical_util.specs.declared.error.Error.{Error}
 use Rattle.lexical_util.specs.Digit.{IsRadix, digit}
 use Rattle.lexical_util.specs.Format.{Format}
 use Rattle.lexical_util.specs.Validity.{fault, lower}
-use Rattle.lexical_util.proofs.Valid.{separator_no_digit, suffix_no_digit, suffix_no_separator, valid_radix}
-use Rattle.lexical_parse_integer.specs.Affixes.{is_affix, marked_radix, matches, prefix_radix}
+use Rattle.lexical_util.proofs.Valid.{separator_no_digit, separator_no_literal_digit, suffix_no_digit, suffix_no_literal_digit, suffix_no_separator, valid_radix}
+use Rattle.lexical_parse_integer.specs.Affixes.{is_affix, literal_radix, marked_radix, matches, prefix_radix}
 use Rattle.lexical_parse_integer.specs.Runs.{are_same}
 
 -- what the format's validity gives a cursor under a radix in force
@@ -44,14 +44,42 @@ fits f is_none =
       suffix_separator = λ m c e t. other_byte f.digit_separator c (suffix_no_separator f m c valid e (same_lower f.case_sensitive_base_suffix m c t));
     }
 
+-- a radix that a literal prefix puts in force
+fits_literal : (f : Format) (r : ℕ) → IsNone (fault f) → f.literal_prefixes ≡ true → IsRadix r → r ≤ 16 → IsFit f r
+fits_literal f r is_none asked radix small =
+    let valid = none_from_is_none (fault f) is_none in
+    record {
+      is_radix = radix;
+      separator = λ s e. separator_no_literal_digit f s s r valid asked small e refl;
+      suffix_digit = λ m c e t. suffix_no_literal_digit f m c r valid asked small e (same_lower f.case_sensitive_base_suffix m c t);
+      suffix_separator = (fits f is_none).suffix_separator;
+    }
+
+fits_letter : (f : Format) (byte : Option ℕ) (r : ℕ) → IsNone (fault f) → f.literal_prefixes ≡ true → literal_radix f.case_sensitive_base_prefix byte ≡ Some r → IsFit f r
+unfolding literal_radix
+fits_letter f byte r valid asked found = by_letter (is_affix s (Some 120) byte) (is_affix s (Some 111) byte) (is_affix s (Some 98) byte) found
+  where
+    s : Bool
+    s = f.case_sensitive_base_prefix
+
+    fit : (n : ℕ) → IsRadix n → n ≤ 16 → Some n ≡ Some r → IsFit f r
+    fit n radix small e = let same : n ≡ r = cc in subst (IsFit f) same (fits_literal f n valid asked radix small)
+
+    by_letter : (x o b : Bool) → cond x (Some 16) (cond o (Some 8) (cond b (Some 2) None)) ≡ Some r → IsFit f r
+    by_letter true o b e = fit 16 (record { low = omega arith; high = omega arith }) (omega arith) e
+    by_letter false true b e = fit 8 (record { low = omega arith; high = omega arith }) (omega arith) e
+    by_letter false false true e = fit 2 (record { low = omega arith; high = omega arith }) (omega arith) e
+    by_letter false false false e = cc
+
 -- the radix behind a prefix
 pub fits_marked : (f : Format) (byte : Option ℕ) (r : ℕ) → IsNone (fault f) → marked_radix f byte ≡ Some r → IsFit f r
 unfolding marked_radix
-fits_marked f byte r valid marked = by_own (is_affix f.case_sensitive_base_prefix f.base_prefix byte) marked
+fits_marked f byte r valid marked = by_own (is_affix f.case_sensitive_base_prefix f.base_prefix byte) f.literal_prefixes refl marked
   where
-    by_own : (own : Bool) → cond own (Some f.mantissa_radix) None ≡ Some r → IsFit f r
-    by_own true e = let same : f.mantissa_radix ≡ r = cc in subst (IsFit f) same (fits f valid)
-    by_own false e = cc
+    by_own : (own asked : Bool) → f.literal_prefixes ≡ asked → cond own (Some f.mantissa_radix) (cond asked (literal_radix f.case_sensitive_base_prefix byte) None) ≡ Some r → IsFit f r
+    by_own true asked a e = let same : f.mantissa_radix ≡ r = cc in subst (IsFit f) same (fits f valid)
+    by_own false true a e = fits_letter f byte r valid a e
+    by_own false false a e = cc
 
 pub fits_prefix : (f : Format) (text : List ℕ) (place r : ℕ) → IsNone (fault f) → prefix_radix f text place ≡ Some r → IsFit f r
 unfolding prefix_radix

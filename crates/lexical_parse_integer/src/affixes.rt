@@ -1,6 +1,6 @@
 // Prefix and suffix at a place of a text.
 ghost use Rattle.std.specs.Prelude.{◌≡◌};
-ghost use Rattle.lexical_parse_integer.specs.Affixes.{is_affix, marked_radix, matches, prefix_radix, suffix_at};
+ghost use Rattle.lexical_parse_integer.specs.Affixes.{is_affix, literal_radix, marked_radix, matches, prefix_radix, suffix_at};
 
 use lexical_util::format::NumberFormat;
 
@@ -40,6 +40,23 @@ pub(crate) fn suffix_at(bytes: &[u8], format: &NumberFormat, place: usize) -> bo
     )
 }
 
+// The radix that the letter of a literal prefix puts in force.
+#[inline(always)]
+#[tactic(auto, unfolding(crate::specs::Affixes::literal_radix))]
+fn literal_radix(is_case_sensitive: bool, byte: Option<u8>) -> Option<u32>
+    ensures { result ≡ literal_radix is_case_sensitive byte }
+{
+    if is_affix(is_case_sensitive, Some(b'x'), byte) {
+        Some(16)
+    } else if is_affix(is_case_sensitive, Some(b'o'), byte) {
+        Some(8)
+    } else if is_affix(is_case_sensitive, Some(b'b'), byte) {
+        Some(2)
+    } else {
+        None
+    }
+}
+
 // The radix in force behind a zero and a byte, where the two are a prefix.
 #[inline(always)]
 #[tactic(auto, unfolding(crate::specs::Affixes::marked_radix))]
@@ -52,6 +69,8 @@ fn marked_radix(format: &NumberFormat, byte: Option<u8>) -> Option<u32>
         byte,
     ) {
         Some(format.mantissa_radix())
+    } else if format.literal_prefixes() {
+        literal_radix(format.case_sensitive_base_prefix(), byte)
     } else {
         None
     }
