@@ -3,7 +3,7 @@ use Rattle.std.specs.Prelude.{ℕ, List, [], ◌∷◌, ◌++◌, codes, Result,
 use lib.IntN.{ℤ}
 use Rattle.lexical_parse_integer.specs.Grammar.{complete_if_valid, partial_if_valid}
 use Rattle.lexical_util.specs.declared.error.Error.{Error}
-use Rattle.lexical_util.specs.declared.error.Error.TheVariants.{Overflow, Underflow, InvalidDigit, Empty, MissingSign, InvalidPositiveSign, InvalidLeadingZeros, InvalidMantissaRadix, InvalidDigitSeparator, InvalidBasePrefix, InvalidBaseSuffix, InvalidPunctuation}
+use Rattle.lexical_util.specs.declared.error.Error.TheVariants.{Overflow, Underflow, InvalidDigit, Empty, MissingSign, InvalidPositiveSign, InvalidLeadingZeros, InvalidMantissaRadix, InvalidDigitSeparator, InvalidBasePrefix, InvalidBaseSuffix, InvalidPunctuation, InvalidLiteralPrefixes}
 use Rattle.lexical_util.specs.Faults.{place_of}
 use Rattle.lexint.specs.Change.{changed}
 use Rattle.lexint.specs.Command.{Command, command_in, parse_complete, parse_partial, change, reset, type_of}
@@ -27,6 +27,7 @@ fault_name InvalidDigitSeparator = codes "InvalidDigitSeparator"
 fault_name InvalidBasePrefix = codes "InvalidBasePrefix"
 fault_name InvalidBaseSuffix = codes "InvalidBaseSuffix"
 fault_name InvalidPunctuation = codes "InvalidPunctuation"
+fault_name InvalidLiteralPrefixes = codes "InvalidLiteralPrefixes"
 
 -- a space and a place, where there is one
 abbrev pub place_text : Option ℕ → List ℕ
