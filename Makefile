@@ -2,7 +2,7 @@
 # make test    the gate: proves everything from nothing, and runs every test and must-fail edit
 # make lexint  the program alone, as crates/lexint/out/lexint
 # make install puts it into $(PREFIX)/bin
-# make rows    writes the worked rows anew from tools/rows.txt
+# make rows    writes the theorems and tests of the worked rows anew from tools/rows.txt
 
 RT ?= rt
 PREFIX ?= /usr/local
@@ -22,6 +22,7 @@ $(PROGRAM): $(SOURCES)
 	@touch $@
 
 test:
+	@python3 tools/rows.py --check
 	@$(RT) ci
 
 install: $(PROGRAM)
@@ -30,3 +31,4 @@ install: $(PROGRAM)
 
 rows:
 	@python3 tools/rows.py
+	@cd crates/lexical_parse_integer && $(RT) fmt

@@ -3,25 +3,20 @@ use Rattle.std.proofs.Common.{cond, ◌≡◌, ◌≢◌, ℕ, ◌+◌, ◌<◌,
 use Rattle.std.proofs.lemmas.Bool.{lt-ltb, le-ltb, cases_lt}
 use Rattle.std.proofs.lemmas.Bool.Decides.{eqb_tells}
 use Rattle.std.proofs.Math.IntN.{ℤ}
-use Rattle.std.specs.Prelude.{◌==◌, nat_lt, is_some, slice_index, if◌then◌else◌}
+use Rattle.std.specs.Prelude.{◌==◌, nat_lt, is_some, slice_index}
 use Rattle.std.specs.Option.{option_map}
 use Rattle.lexical_util.specs.declared.error.Error.{Error}
 use Rattle.lexical_util.specs.declared.error.Error.TheVariants.{InvalidDigit, Empty, MissingSign, InvalidPositiveSign, InvalidLeadingZeros}
 use Rattle.lexical_parse_integer.specs.Affixes.{numeral_stop, prefix_at, suffix_at}
 use Rattle.lexical_parse_integer.specs.Grammar.{after_head, common_faults, complete, complete_faults, fault_if, first_fault_or, first_outside, lacks_digits, partial, partial_faults, range_error, range_fault}
 use Rattle.lexical_parse_integer.specs.Head.{Head, head_after, head_behind, head_of, no_sign, sign}
+use Rattle.lexical_parse_integer.specs.Laws.{completed}
 use Rattle.lexical_parse_integer.specs.Numeral.{Numeral, numeral, numeral_value}
 use Rattle.lexical_parse_integer.specs.Runs.{end_of, places}
 use Rattle.lexical_util.specs.Format.{Format}
 use Rattle.lexical_util.specs.Number.{IntegerType}
 use Rattle.lexical_parse_integer.proofs.NumeralLemmas.{IsStop-end_of}
 use Rattle.lexical_parse_integer.proofs.CursorLemmas.{suffix_at_within, prefix_at_within}
-
--- what the complete parser answers, by what the partial one does
-abbrev pub completed : ℕ → Result (ℤ × ℕ) Error → Result ℤ Error
-completed n (Ok found) = if nat_lt found.1 n then Err (InvalidDigit found.1) else Ok found.0
-completed n (Err (Empty i)) = if nat_lt i n then Err (InvalidDigit i) else Err (Empty i)
-completed n (Err e) = Err e
 
 apart_eqb : (a b : ℕ) → a ≢ b → (a == b) ≡ false
 apart_eqb a b apart = elim (eqb_tells a b) [ inl w ↦ absurd (apart w.1) | inr w ↦ w.0 ]
@@ -46,7 +41,7 @@ all_cases n stop first_zero false false lacks separated true (Some k) at v order
 all_cases n stop first_zero false false lacks separated false (Some k) at v order = refl
 all_cases n stop first_zero false false lacks separated minus None at v order = last_cases n stop lacks separated v order
 
-numeral_within : (f : Format) (text : List ℕ) (start r : ℕ) → start ≤ length text → (numeral f text start r).stop ≤ length text
+pub numeral_within : (f : Format) (text : List ℕ) (start r : ℕ) → start ≤ length text → (numeral f text start r).stop ≤ length text
 unfolding numeral numeral_stop
 numeral_within f text start r low = by_tests (nat_lt 0 (length (places f r text start))) (suffix_at f text (end_of f r text start)) refl
   where
@@ -105,7 +100,7 @@ sign_fault f t (c ∷ cs) e h = by_tests (c == 43) f.no_positive_mantissa_sign (
 below : (a b : ℕ) → a ≤ b → (a < b) ⊎ (a ≡ b)
 below a b low = elim (cases_lt a b) [ inl l ↦ inl l | inr l ↦ inr (omega arith) ]
 
-head_within : (f : Format) (text : List ℕ) (s : Bool × ℕ) (p : Bool) → s.1 ≤ length text → prefix_at f text s.1 ≡ p → (head_behind f s p).start ≤ length text
+pub head_within : (f : Format) (text : List ℕ) (s : Bool × ℕ) (p : Bool) → s.1 ≤ length text → prefix_at f text s.1 ≡ p → (head_behind f s p).start ≤ length text
 head_within f text s false low e = omega arith
 head_within f text s true low e = let two = prefix_at_within f text s.1 e in omega arith
 

@@ -4,12 +4,13 @@ use Rattle.std.proofs.lemmas.Bool.{false≢true, cases_lt}
 use Rattle.std.proofs.lemmas.Bool.Decides.{nat_tests}
 use Rattle.std.proofs.lemmas.Option.{slice_get_past}
 use Rattle.lexical_parse_integer.specs.Affixes.{is_affix, matches, numeral_stop, prefix_at, suffix_at}
-use Rattle.lexical_parse_integer.specs.CursorView.{CursorView, IsFit, IsSound, IsSuffixNoDigit, IsSuffixNoSeparator, numeral_end}
+use Rattle.lexical_parse_integer.specs.CursorView.{CursorView, IsSound, IsSuffixNoDigit, IsSuffixNoSeparator, numeral_end}
 use Rattle.lexical_parse_integer.specs.Runs.{are_same, belongs, digit_at, digits_between, end_of, places, separator_at}
 use Rattle.lexical_parse_integer.specs.Seeking.{Finds, IsSeparatorNoDigit}
 use Rattle.lexical_util.specs.Digit.{digit}
 use Rattle.lexical_util.specs.Format.{Format}
 use Rattle.lexical_parse_integer.specs.declared.seek.Found.TheVariants.{Digit, End}
+use Rattle.lexical_parse_integer.proofs.FitLemmas.{IsFit}
 use Rattle.lexical_parse_integer.proofs.Places.{true_or_false}
 use Rattle.lexical_parse_integer.proofs.NumeralLemmas.{IsStop-end_of, is_end, belongs_other, reaches, digit_at_within, digit_at_past}
 use Rattle.lexical_parse_integer.proofs.Counts.{digits_between_digit, digits_between_none, digits_between_to, length-digits_between, length-digits_between_all}

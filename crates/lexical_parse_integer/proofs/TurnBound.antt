@@ -1,34 +1,109 @@
 -- The bound on the turns.
-use Rattle.std.proofs.Common.{◌≡◌, ℕ, ◌+◌, ◌*◌, ◌≤◌, ◌<◌, Bool, List, Err, min, sym, subst, arith, inl, inr, ◌⊎◌}
-use Rattle.std.specs.Prelude.{◌/◌}
+use Rattle.std.proofs.Common.{◌≡◌, ℕ, ◌+◌, ◌-◌, ◌*◌, ◌≤◌, ◌<◌, Bool, true, false, cond, List, Err, min, refl, sym, ap, subst, arith, inl, inr, ◌⊎◌, ◌∙◌}
+use Rattle.std.specs.Prelude.{◌/◌, nat_le}
 use Rattle.lexical_util.specs.declared.error.Error.{Error}
+use Rattle.lexical_util.specs.Format.{Format}
+use Rattle.lexical_util.specs.Number.{IntegerType, overflow_digits}
 use Rattle.lexical_parse_integer.specs.CursorView.{CursorView, numeral_of}
 use Rattle.lexical_parse_integer.specs.Head.{head_of}
 use Rattle.lexical_parse_integer.specs.Numeral.{Numeral, digit_count}
 use Rattle.lexical_parse_integer.specs.Reading.{IsAtHead}
-use Rattle.lexical_parse_integer.specs.Turns.{HasFewTurns, turns_bound}
-use Rattle.lexical_util.specs.Format.{Format}
-use Rattle.lexical_util.specs.Number.{IntegerType, overflow_digits}
+use Rattle.lexical_parse_integer.specs.Turns.{HasFewTurns, turns_bound, word_length}
 use Rattle.lexical_parse_integer.proofs.Whole.{same_text}
 
-quotient : (m k : ℕ) → 8 * k ≤ m → m < 8 * k + 8 → m / 8 ≡ k
-quotient m k low high = omega arith
+-- a word has eight digits or four
+word_cases : (bits : ℕ) → (word_length bits ≡ 8) ⊎ (word_length bits ≡ 4)
+unfolding word_length
+word_cases bits = by_test (nat_le 64 bits)
+  where
+    by_test : (b : Bool) → let n : ℕ = cond b 8 4 in (n ≡ 8) ⊎ (n ≡ 4)
+    by_test true = inl refl
+    by_test false = inr refl
 
-pub few_turns : (o q d₀ t₀ d₁ t₁ d₂ t₂ : ℕ) → t₀ ≡ d₀ → d₀ ≤ q → (d₀ ≡ 0) ⊎ (q ≤ 1) → d₁ + 8 * t₀ ≡ d₀ + 8 * t₁ → (d₁ ≡ d₀) ⊎ (d₁ ≤ o) → (o < d₁ + 8) ⊎ (q < d₁ + 8) → d₁ ≤ q → t₂ + d₁ ≡ t₁ + d₂ → d₂ ≤ q → t₂ ≤ turns_bound 8 o q
-few_turns o q d₀ t₀ d₁ t₁ d₂ t₂ fresh some (inl zero) words within ended low rest all =
-    let first : d₁ ≡ 8 * t₁ = omega arith in
-    let most : d₁ ≤ o = elim within [ inl e ↦ omega arith | inr l ↦ l ] in
-    let high : min q o < 8 * t₁ + 8 = elim ended [ inl l ↦ omega arith | inr l ↦ omega arith ] in
-    let quot = quotient (min q o) t₁ (omega arith) high in
-    omega arith
-few_turns o q d₀ t₀ d₁ t₁ d₂ t₂ fresh some (inr few) words within ended low rest all = omega arith
+pub word_some : (bits : ℕ) → 1 ≤ word_length bits
+word_some bits = elim (word_cases bits) [ inl e ↦ omega arith | inr e ↦ omega arith ]
 
-pub one_turn : (o q t : ℕ) → t ≤ 1 → t ≤ q → t ≤ turns_bound 8 o q
-one_turn o q t one low = omega arith
+-- one word more
+pub turn_of_word : (w d t d₀ t₀ d₁ t₁ : ℕ) → d₀ + w * t ≡ d + w * t₀ → d₁ ≡ d₀ + w → t₁ ≡ t₀ + 1 → d₁ + w * t ≡ d + w * t₁
+turn_of_word w d t d₀ t₀ d₁ t₁ e more turn =
+    let next : w * t₁ ≡ w * t₀ + w = ap (λ n. w * n) turn ∙ grind arith in
+    omega (arith, e, more, next)
 
-pub few_at_head : (f : Format) (t : IntegerType) (text : List ℕ) (minus p : Bool) (v : CursorView) (turns : ℕ) → IsAtHead f t text minus p v → (v.radix ≤ 10 → turns ≤ turns_bound 8 (overflow_digits t v.radix) (digit_count (numeral_of v))) → HasFewTurns f t text turns
+quotient_8 : (m k : ℕ) → 8 * k ≤ m → m < 8 * k + 8 → m / 8 ≡ k
+quotient_8 m k low high = omega arith
+
+quotient_4 : (m k : ℕ) → 4 * k ≤ m → m < 4 * k + 4 → m / 4 ≡ k
+quotient_4 m k low high = omega arith
+
+-- What the words left: d₀ digits were read by t₀ turns before them and d₁ by t₁ with them; no further word is
+-- within the room o or the digits q.
+pub record TakesWords (w o q d₀ t₀ d₁ t₁ : ℕ) : Type 0 where
+  pub fresh : t₀ ≡ d₀
+  pub first : (d₀ ≡ 0) ⊎ (q ≤ 1)
+  pub words : d₁ + w * t₀ ≡ d₀ + w * t₁
+  pub within : (d₁ ≡ d₀) ⊎ (d₁ ≤ o)
+  pub ended : (o < d₁ + w) ⊎ (q < d₁ + w)
+  pub some : d₀ ≤ q
+  pub all : d₁ ≤ q
+
+few_turns_8 : (o q d₀ t₀ d₁ t₁ : ℕ) → TakesWords 8 o q d₀ t₀ d₁ t₁ → t₁ + (q - d₁) ≤ turns_bound 8 o q
+few_turns_8 o q d₀ t₀ d₁ t₁ s = by_first s.first
+  where
+    by_first : (d₀ ≡ 0) ⊎ (q ≤ 1) → t₁ + (q - d₁) ≤ turns_bound 8 o q
+    by_first (inl zero) =
+        let first : d₁ ≡ 8 * t₁ = omega (arith, s.fresh, s.words) in
+        let most : d₁ ≤ o = elim s.within [ inl e ↦ omega arith | inr l ↦ l ] in
+        let high : min q o < 8 * t₁ + 8 = elim s.ended [ inl l ↦ omega arith | inr l ↦ omega arith ] in
+        let all = s.all in
+        let quot = quotient_8 (min q o) t₁ (omega arith) high in
+        omega arith
+    by_first (inr few) =
+        let a = s.fresh in
+        let b = s.words in
+        let c = s.some in
+        let d = s.all in
+        omega arith
+
+few_turns_4 : (o q d₀ t₀ d₁ t₁ : ℕ) → TakesWords 4 o q d₀ t₀ d₁ t₁ → t₁ + (q - d₁) ≤ turns_bound 4 o q
+few_turns_4 o q d₀ t₀ d₁ t₁ s = by_first s.first
+  where
+    by_first : (d₀ ≡ 0) ⊎ (q ≤ 1) → t₁ + (q - d₁) ≤ turns_bound 4 o q
+    by_first (inl zero) =
+        let first : d₁ ≡ 4 * t₁ = omega (arith, s.fresh, s.words) in
+        let most : d₁ ≤ o = elim s.within [ inl e ↦ omega arith | inr l ↦ l ] in
+        let high : min q o < 4 * t₁ + 4 = elim s.ended [ inl l ↦ omega arith | inr l ↦ omega arith ] in
+        let all = s.all in
+        let quot = quotient_4 (min q o) t₁ (omega arith) high in
+        omega arith
+    by_first (inr few) =
+        let a = s.fresh in
+        let b = s.words in
+        let c = s.some in
+        let d = s.all in
+        omega arith
+
+-- the turns stay within the bound, where each digit that is left takes one
+pub few_turns : (bits o q d₀ t₀ d₁ t₁ : ℕ) → TakesWords (word_length bits) o q d₀ t₀ d₁ t₁ → t₁ + (q - d₁) ≤ turns_bound (word_length bits) o q
+few_turns bits o q d₀ t₀ d₁ t₁ s =
+    elim (word_cases bits) [
+      | inl e ↦ subst (λ w. t₁ + (q - d₁) ≤ turns_bound w o q) (sym e) (few_turns_8 o q d₀ t₀ d₁ t₁ (subst (λ w. TakesWords w o q d₀ t₀ d₁ t₁) e s))
+      | inr e ↦ subst (λ w. t₁ + (q - d₁) ≤ turns_bound w o q) (sym e) (few_turns_4 o q d₀ t₀ d₁ t₁ (subst (λ w. TakesWords w o q d₀ t₀ d₁ t₁) e s))
+    ]
+
+one_turn_of : (w o q t : ℕ) → (w ≡ 8) ⊎ (w ≡ 4) → t ≤ 1 → t ≤ q → t ≤ turns_bound w o q
+one_turn_of w o q t (inl e) one low = subst (λ w. t ≤ turns_bound w o q) (sym e) (omega arith)
+one_turn_of w o q t (inr e) one low = subst (λ w. t ≤ turns_bound w o q) (sym e) (omega arith)
+
+pub one_turn : (bits o q t : ℕ) → t ≤ 1 → t ≤ q → t ≤ turns_bound (word_length bits) o q
+one_turn bits o q t one low = one_turn_of (word_length bits) o q t (word_cases bits) one low
+
+pub few_at_head : (f : Format) (t : IntegerType) (text : List ℕ) (minus p : Bool) (v : CursorView) (turns : ℕ) → IsAtHead f t text minus p v → (v.radix ≤ 10 → turns ≤ turns_bound (word_length t.bits) (overflow_digits t v.radix) (digit_count (numeral_of v))) → HasFewTurns f t text turns
 few_at_head f t text minus p v turns at few =
-    rw at.head_is (λ ten. subst (λ (x : Numeral). turns ≤ turns_bound 8 (overflow_digits t v.radix) (digit_count x)) (sym (same_text f t text minus p v at)) (few ten))
+    rw at.head_is (λ ten. subst (λ (x : Numeral). turns ≤ turns_bound (word_length t.bits) (overflow_digits t v.radix) (digit_count x)) (sym (same_text f t text minus p v at)) (few ten))
 
 pub few_at_fault : (f : Format) (t : IntegerType) (text : List ℕ) (e : Error) (turns : ℕ) → head_of f t text ≡ Err e → turns ≡ 0 → HasFewTurns f t text turns
 few_at_fault f t text e turns fault none = rw fault none
+
+-- digits that take a turn each leave the bound as it is
+pub still_few : (bound q d₁ t₁ d₂ t₂ : ℕ) → t₁ + (q - d₁) ≤ bound → t₂ + d₁ ≡ t₁ + d₂ → d₁ ≤ q → d₂ ≤ q → t₂ + (q - d₂) ≤ bound
+still_few bound q d₁ t₁ d₂ t₂ few turns one two = omega arith

@@ -18,7 +18,7 @@ pub numeral_ends : (v : CursorView) → (numeral_of v).ends ≡ numeral_end v
 unfolding numeral
 numeral_ends v = refl
 
-digit_taken : (u v w : CursorView) (d : ℕ) → GoesOn u v → (k : TakesDigit v w d) → IsDigitOf (numeral_of u) v.digits d k.place
+pub digit_taken : (u v w : CursorView) (d : ℕ) → GoesOn u v → (k : TakesDigit v w d) → IsDigitOf (numeral_of u) v.digits d k.place
 digit_taken u v w d g k = subst (λ (x : Numeral). IsDigitOf x v.digits d k.place) (same_numeral u v g) (digit_found v w d g.sound g.closed k)
 
 pub digit_below : (v w : CursorView) (d r : ℕ) → TakesDigit v w d → r ≡ w.radix → d < r

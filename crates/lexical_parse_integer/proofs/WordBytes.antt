@@ -4,7 +4,8 @@ use Rattle.std.proofs.Math.Nat.{pow-suc}
 use Rattle.std.proofs.lemmas.Nat.{or_block, and_block, or_lt, mod-mul-add, and_le_r}
 use Rattle.std.proofs.lemmas.Nat.Bits.{and_pow, bit_at_or}
 use Rattle.std.proofs.lemmas.Bool.{eqb-true, eq-eqb}
-use Rattle.lexical_parse_integer.specs.Words.{AreDigits, IsDigit, word_bytes}
+use Rattle.lexical_parse_integer.specs.Words.{word_bytes}
+use Rattle.lexical_parse_integer.proofs.AsciiDigits.{AreAsciiDigits, IsAsciiDigit}
 
 -- the word whose `count` bytes all are `byte`
 abbrev pub repeated : ℕ → ℕ → ℕ
@@ -57,13 +58,13 @@ lowered count word = word + (256 ^ count - repeated 48 count)
 
 -- a byte is a digit where neither sum sets the highest bit of its byte
 digit_from_low : (radix count word : ℕ) → radix ≤ 10 →
-    raised radix (suc count) word % 256 < 128 → lowered (suc count) word % 256 < 128 → IsDigit radix (word % 256)
+    raised radix (suc count) word % 256 < 128 → lowered (suc count) word % 256 < 128 → IsAsciiDigit radix (word % 256)
 digit_from_low radix count word r p q =
     let e = pow-suc 256 count in
     let l = repeated-lt 48 count (omega arith) in
     (omega arith, omega arith)
 
-low_from_digit : (radix count word : ℕ) → radix ≤ 10 → IsDigit radix (word % 256) →
+low_from_digit : (radix count word : ℕ) → radix ≤ 10 → IsAsciiDigit radix (word % 256) →
     (raised radix (suc count) word % 256 < 128) × (lowered (suc count) word % 256 < 128)
 low_from_digit radix count word r d =
     let e = pow-suc 256 count in
@@ -71,11 +72,11 @@ low_from_digit radix count word r d =
     (omega arith, omega arith)
 
 -- and then nothing carries or borrows
-raised_rest : (radix count word : ℕ) → radix ≤ 10 → IsDigit radix (word % 256) →
+raised_rest : (radix count word : ℕ) → radix ≤ 10 → IsAsciiDigit radix (word % 256) →
     raised radix (suc count) word / 256 ≡ raised radix count (word / 256)
 raised_rest radix count word r d = omega arith
 
-lowered_rest : (radix count word : ℕ) → radix ≤ 10 → IsDigit radix (word % 256) →
+lowered_rest : (radix count word : ℕ) → radix ≤ 10 → IsAsciiDigit radix (word % 256) →
     lowered (suc count) word / 256 ≡ lowered count (word / 256)
 lowered_rest radix count word r d =
     let e = pow-suc 256 count in
@@ -86,7 +87,7 @@ abbrev pub IsClear : ℕ → ℕ → ℕ → Type 0
 IsClear radix count word =
     bit_and (bit_or (raised radix count word % 256 ^ count) (lowered count word % 256 ^ count)) (repeated 128 count) ≡ 0
 
-digits_from_clear : (radix count word : ℕ) → radix ≤ 10 → IsClear radix count word → AreDigits radix (word_bytes count word)
+digits_from_clear : (radix count word : ℕ) → radix ≤ 10 → IsClear radix count word → AreAsciiDigits radix (word_bytes count word)
 digits_from_clear radix zero word r z = tt
 digits_from_clear radix (suc count) word r z =
     let s = sym (high_bits_step (raised radix (suc count) word) (lowered (suc count) word) count) ∙ z in
@@ -96,7 +97,7 @@ digits_from_clear radix (suc count) word r z =
     let rest : bit_and (bit_or (raised radix (suc count) word / 256 % 256 ^ count) (lowered (suc count) word / 256 % 256 ^ count)) (repeated 128 count) ≡ 0 = omega arith in
     (d, digits_from_clear radix count (word / 256) r (rw (raised_rest radix count word r d, lowered_rest radix count word r d) at rest))
 
-clear_from_digits : (radix count word : ℕ) → radix ≤ 10 → AreDigits radix (word_bytes count word) → IsClear radix count word
+clear_from_digits : (radix count word : ℕ) → radix ≤ 10 → AreAsciiDigits radix (word_bytes count word) → IsClear radix count word
 clear_from_digits radix zero word r h =
     omega (arith, and_le_r (bit_or (raised radix zero word % 256 ^ zero) (lowered zero word % 256 ^ zero)) 0)
 clear_from_digits radix (suc count) word r h =
@@ -121,7 +122,7 @@ pub is_digits : (radix count word : ℕ) → radix ≤ 10 →
     ((word + (256 ^ count - repeated 48 count)) % 256 ^ count))
     (repeated 128 count))
     0)
-    ↔ AreDigits radix (word_bytes count word)
+    ↔ AreAsciiDigits radix (word_bytes count word)
 is_digits radix count word r =
     rw (← repeated-mul (80 - radix) count) (
       (λ t. digits_from_clear radix count word r (eqb-true _ _ t)),

@@ -8,7 +8,8 @@ use Rattle.std.proofs.lemmas.Bool.Decides.{nat_tests}
 use Rattle.std.proofs.lemmas.List.{get_or-take, get_or-drop, length-drop, length-take-le}
 use Rattle.std.proofs.lemmas.Option.{slice_get-get_or}
 use Rattle.lexical_parse_integer.specs.Runs.{digit_at}
-use Rattle.lexical_parse_integer.specs.Words.{AreDigits, IsDigit, word_value}
+use Rattle.lexical_parse_integer.specs.Words.{AreDigits, word_value}
+use Rattle.lexical_parse_integer.proofs.AsciiDigits.{AreAsciiDigits, IsAsciiDigit, ascii_from_digits, ascii_value, ascii_value_is, digit_from, digit_to, digits_from_ascii}
 use Rattle.lexical_util.specs.Digit.{below, digit, digit_value}
 use Rattle.lexical_util.specs.Number.{IsNumber, IsWidth, integer_type}
 use Rattle.lexical_util.specs.Number.IsWidth.{w8, w16, w32, w64, w128}
@@ -46,42 +47,31 @@ stands_rest b c cs p s = let w = s.within in record { within = omega arith; byte
 
 -- ---- digits of a radix up to 10
 
-digit_from : (r c : ℕ) → IsDigit r c → r ≤ 10 → digit c r ≡ Some (c - 48)
-digit_from r c d ten =
-    let low = d.0 in
-    let high = d.1 in
-    let value : digit_value c ≡ Some (c - 48) = grind (arith, nat_tests) in
-    let small : nat_lt (c - 48) r ≡ true = lt-ltb (c - 48) r (omega arith) in
-    ap (below r) value ∙ rw small refl
-
-digit_to : (r c : ℕ) → is_some (digit c r) ≡ true → r ≤ 10 → IsDigit r c
-digit_to r c t ten = grind (arith, nat_tests)
-
-digit_here : (r : ℕ) (b : List ℕ) (k c : ℕ) → slice_get b k ≡ Some c → IsDigit r c → r ≤ 10 → digit_at r b k ≡ Some (c - 48)
+digit_here : (r : ℕ) (b : List ℕ) (k c : ℕ) → slice_get b k ≡ Some c → IsAsciiDigit r c → r ≤ 10 → digit_at r b k ≡ Some (c - 48)
 unfolding digit_at
 digit_here r b k c e d ten = ap (option_and_then (λ x. digit x r)) e ∙ digit_from r c d ten
 
-byte_here : (r : ℕ) (b : List ℕ) (k c : ℕ) → slice_get b k ≡ Some c → is_some (digit_at r b k) ≡ true → r ≤ 10 → IsDigit r c
+byte_here : (r : ℕ) (b : List ℕ) (k c : ℕ) → slice_get b k ≡ Some c → is_some (digit_at r b k) ≡ true → r ≤ 10 → IsAsciiDigit r c
 unfolding digit_at
 byte_here r b k c e t ten = digit_to r c (ap (λ o. is_some (option_and_then (λ x. digit x r) o)) (sym e) ∙ t) ten
 
 -- each digit of a word by its place
-pub word_digit : (r : ℕ) (b bs : List ℕ) (p : ℕ) → r ≤ 10 → StandsAt b bs p → AreDigits r bs → (i k : ℕ) → p + i ≡ k → i < length bs → digit_at r b k ≡ Some (get_or bs i 0 - 48)
+pub word_digit : (r : ℕ) (b bs : List ℕ) (p : ℕ) → r ≤ 10 → StandsAt b bs p → AreAsciiDigits r bs → (i k : ℕ) → p + i ≡ k → i < length bs → digit_at r b k ≡ Some (get_or bs i 0 - 48)
 word_digit r b [] p ten s d i k at l = absurd (omega arith)
 word_digit r b (c ∷ cs) p ten s d zero k at l = digit_here r b k c (s.byte 0 k at l) d.0 ten
 word_digit r b (c ∷ cs) p ten s d (suc i) k at l = word_digit r b cs (p + 1) ten (stands_rest b c cs p s) d.1 i k (omega arith) (omega arith)
 
-pub are_digits : (r : ℕ) (b bs : List ℕ) (p : ℕ) → r ≤ 10 → StandsAt b bs p → ((k : ℕ) → p ≤ k → k < p + length bs → is_some (digit_at r b k) ≡ true) → AreDigits r bs
+pub are_digits : (r : ℕ) (b bs : List ℕ) (p : ℕ) → r ≤ 10 → StandsAt b bs p → ((k : ℕ) → p ≤ k → k < p + length bs → is_some (digit_at r b k) ≡ true) → AreAsciiDigits r bs
 are_digits r b [] p ten s all = tt
 are_digits r b (c ∷ cs) p ten s all =
     (byte_here r b p c (s.byte 0 p (omega arith) (omega arith)) (all p (omega arith) (omega arith)) ten, are_digits r b cs (p + 1) ten (stands_rest b c cs p s) (λ k low high. all k (omega arith) (omega arith)))
 
-pub all_ahead : (r : ℕ) (b bs : List ℕ) (p : ℕ) → r ≤ 10 → StandsAt b bs p → AreDigits r bs → (k : ℕ) → p ≤ k → k < p + length bs → is_some (digit_at r b k) ≡ true
+pub all_ahead : (r : ℕ) (b bs : List ℕ) (p : ℕ) → r ≤ 10 → StandsAt b bs p → AreAsciiDigits r bs → (k : ℕ) → p ≤ k → k < p + length bs → is_some (digit_at r b k) ≡ true
 all_ahead r b bs p ten s d k low high = ap is_some (word_digit r b bs p ten s d (k - p) k (omega arith) (omega arith))
 
 -- ---- the value of a word
 
-pub word_below : (r : ℕ) (bs : List ℕ) → AreDigits r bs → word_value r bs < r ^ length bs
+pub word_below : (r : ℕ) (bs : List ℕ) → AreAsciiDigits r bs → ascii_value r bs < r ^ length bs
 word_below r [] d = let one = pow-zero r in omega arith
 word_below r (c ∷ cs) d =
     let rest = word_below r cs d.1 in
@@ -94,13 +84,15 @@ word_below r (c ∷ cs) d =
     let turned : r * r ^ length cs ≡ r ^ length cs * r = grind arith in
     omega (arith, power, up, spread, turned)
 
-pub word_small : (r n : ℕ) (bs : List ℕ) → r ≤ 10 → length bs ≡ 8 → AreDigits r bs → n ≡ word_value r bs → n < 100_000_000
-word_small r n bs ten size d e =
-    let low = word_below r bs d in
-    let power : r ^ length bs ≤ 10 ^ 8 = rw size (pow-le-pow_left ten 8) in
+pub word_small : (r n w : ℕ) (bs : List ℕ) → r ≤ 10 → length bs ≡ w → AreDigits r bs → n ≡ word_value r bs → n < 10 ^ w
+word_small r n w bs ten size d e =
+    let low = word_below r bs (ascii_from_digits r bs ten d) in
+    let same = ascii_value_is r bs in
+    let power : r ^ length bs ≤ 10 ^ w = rw size (pow-le-pow_left ten w) in
     omega arith
 
-pub word_number : (bits : ℕ) (s : Bool) (n : ℕ) → IsWidth bits → 64 ≤ bits → n < 100_000_000 → IsNumber (integer_type bits s) (pos n)
+-- a number below 10 to the power of a word's length is one of each type that takes such words
+pub word_number : (bits : ℕ) (s : Bool) (n : ℕ) → IsWidth bits → 64 ≤ bits → n < 10 ^ 8 + 1 → IsNumber (integer_type bits s) (pos n)
 word_number _ s n w8 h l = absurd (omega arith)
 word_number _ s n w16 h l = absurd (omega arith)
 word_number _ s n w32 h l = absurd (omega arith)
@@ -109,26 +101,36 @@ word_number _ false n w64 h l = lt-ltb n (2 ^ 64) (omega arith)
 word_number _ true n w128 h l = lt-ltb n (2 ^ 127) (omega arith)
 word_number _ false n w128 h l = lt-ltb n (2 ^ 128) (omega arith)
 
+pub half_word_number : (bits : ℕ) (s : Bool) (n : ℕ) → IsWidth bits → 32 ≤ bits → n < 10 ^ 4 + 1 → IsNumber (integer_type bits s) (pos n)
+half_word_number _ s n w8 h l = absurd (omega arith)
+half_word_number _ s n w16 h l = absurd (omega arith)
+half_word_number _ true n w32 h l = lt-ltb n (2 ^ 31) (omega arith)
+half_word_number _ false n w32 h l = lt-ltb n (2 ^ 32) (omega arith)
+half_word_number _ true n w64 h l = lt-ltb n (2 ^ 63) (omega arith)
+half_word_number _ false n w64 h l = lt-ltb n (2 ^ 64) (omega arith)
+half_word_number _ true n w128 h l = lt-ltb n (2 ^ 127) (omega arith)
+half_word_number _ false n w128 h l = lt-ltb n (2 ^ 128) (omega arith)
+
 -- ---- a word that was lent
 
-pub record IsWord (r r' : ℕ) (b bytes : List ℕ) (p : ℕ) : Type 0 where
-  pub forth : AreDigits r' (slice_range bytes 0 8) → (k : ℕ) → p ≤ k → k < p + 8 → IsSome (digit_at r b k)
-  pub back : ((k : ℕ) → p ≤ k → k < p + 8 → IsSome (digit_at r b k)) → AreDigits r' (slice_range bytes 0 8)
-  pub size : length (slice_range bytes 0 8) ≡ 8
+pub record IsWord (r r' : ℕ) (b bytes : List ℕ) (p w : ℕ) : Type 0 where
+  pub forth : AreDigits r' (slice_range bytes 0 w) → (k : ℕ) → p ≤ k → k < p + w → IsSome (digit_at r b k)
+  pub back : ((k : ℕ) → p ≤ k → k < p + w → IsSome (digit_at r b k)) → AreDigits r' (slice_range bytes 0 w)
+  pub size : length (slice_range bytes 0 w) ≡ w
 
-pub is_word : (r r' : ℕ) (b bytes : List ℕ) (p : ℕ) → r ≤ 10 → p + 8 ≤ length b → bytes ≡ slice_range b p (p + 8) → r' ≡ r → IsWord r r' b bytes p
-is_word r r' b bytes p ten within is same =
-    let size = length-ahead b p 8 within in
-    let all : slice_range bytes 0 8 ≡ slice_range b p (p + 8) = slice_all bytes 8 (ap length is ∙ size) ∙ is in
-    let s = stands_ahead b p 8 within in
+pub is_word : (r r' : ℕ) (b bytes : List ℕ) (p w : ℕ) → r ≤ 10 → p + w ≤ length b → bytes ≡ slice_range b p (p + w) → r' ≡ r → IsWord r r' b bytes p w
+is_word r r' b bytes p w ten within is same =
+    let size = length-ahead b p w within in
+    let all : slice_range bytes 0 w ≡ slice_range b p (p + w) = slice_all bytes w (ap length is ∙ size) ∙ is in
+    let s = stands_ahead b p w within in
     record {
-      forth = λ d k low high. all_ahead r b (slice_range b p (p + 8)) p ten s (subst (λ (x : List ℕ). AreDigits r x) all (subst (λ (q : ℕ). AreDigits q (slice_range bytes 0 8)) same d)) k low (omega arith);
-      back = λ h. subst (λ (q : ℕ). AreDigits q (slice_range bytes 0 8)) (sym same) (subst (λ (x : List ℕ). AreDigits r x) (sym all) (are_digits r b (slice_range b p (p + 8)) p ten s (λ k low high. h k low (omega arith))));
+      forth = λ d k low high. all_ahead r b (slice_range b p (p + w)) p ten s (ascii_from_digits r (slice_range b p (p + w)) ten (subst (λ (x : List ℕ). AreDigits r x) all (subst (λ (q : ℕ). AreDigits q (slice_range bytes 0 w)) same d))) k low (omega arith);
+      back = λ h. subst (λ (q : ℕ). AreDigits q (slice_range bytes 0 w)) (sym same) (subst (λ (x : List ℕ). AreDigits r x) (sym all) (digits_from_ascii r (slice_range b p (p + w)) ten (are_digits r b (slice_range b p (p + w)) p ten s (λ k low high. h k low (omega arith)))));
       size = ap length all ∙ size;
     }
 
-pub past_end : (r : ℕ) (b : List ℕ) (p : ℕ) → length b < p + 8 → ((k : ℕ) → p ≤ k → k < p + 8 → IsSome (digit_at r b k)) → ⊥
-past_end r b p short all =
-    let none : digit_at r b (p + 7) ≡ None = digit_at_past r b (p + 7) (omega arith) in
-    let some : is_some (digit_at r b (p + 7)) ≡ true = all (p + 7) (omega arith) (omega arith) in
-    false≢true (sym (ap is_some none) ∙ some)
+pub past_end : (r : ℕ) (b : List ℕ) (p w : ℕ) → 1 ≤ w → length b < p + w → ((k : ℕ) → p ≤ k → k < p + w → IsSome (digit_at r b k)) → ⊥
+past_end r b p w some short all =
+    let none : digit_at r b (p + w - 1) ≡ None = digit_at_past r b (p + w - 1) (omega arith) in
+    let one : is_some (digit_at r b (p + w - 1)) ≡ true = all (p + w - 1) (omega arith) (omega arith) in
+    false≢true (sym (ap is_some none) ∙ one)

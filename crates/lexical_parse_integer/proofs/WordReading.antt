@@ -6,7 +6,8 @@ use Rattle.std.proofs.Math.Nat.{pow-suc, pow-zero, pow-le-pow_left}
 use Rattle.std.proofs.Math.Seq.{take-add}
 use Rattle.std.proofs.lemmas.List.{length-take-le}
 use Rattle.std.proofs.lemmas.Nat.{pow-add, mul-le}
-use Rattle.lexical_parse_integer.specs.Words.{AreDigits, word_bytes, word_value}
+use Rattle.lexical_parse_integer.specs.Words.{word_bytes}
+use Rattle.lexical_parse_integer.proofs.AsciiDigits.{AreAsciiDigits, ascii_value}
 
 pub word_bytes_4 : (word : ℕ) → word_bytes 4 word ≡ to_le_bytes w32 word
 word_bytes_4 word =
@@ -24,18 +25,18 @@ word_bytes_8 word =
     let f : word / 281474976710656 / 256 ≡ word / 72057594037927936 = omega arith in
     rw (a, b, c, d, e, f)
 
-pub word_value-append : (radix : ℕ) (xs ys : List ℕ) →
-    word_value radix (xs ++ ys) ≡ word_value radix xs * radix ^ length ys + word_value radix ys
-word_value-append radix [] ys = omega arith
-word_value-append radix (x ∷ xs) ys =
+pub ascii_value-append : (radix : ℕ) (xs ys : List ℕ) →
+    ascii_value radix (xs ++ ys) ≡ ascii_value radix xs * radix ^ length ys + ascii_value radix ys
+ascii_value-append radix [] ys = omega arith
+ascii_value-append radix (x ∷ xs) ys =
     let e : radix ^ length (xs ++ ys) ≡ radix ^ length xs * radix ^ length ys =
     ap (λ n. radix ^ n) (length-append xs ys) ∙ pow-add radix (length xs) (length ys) in
-    let f = word_value-append radix xs ys in
+    let f = ascii_value-append radix xs ys in
     let g : (x - 48) * (radix ^ length xs * radix ^ length ys) ≡ (x - 48) * radix ^ length xs * radix ^ length ys = sym (mul_assoc (x - 48) (radix ^ length xs) (radix ^ length ys)) in
     rw (e, f) (omega (arith, g))
 
 after : (radix n : ℕ) (xs : List ℕ) →
-    number_from_digits_after radix n (map (λ x. x - 48) xs) ≡ n * radix ^ length xs + word_value radix xs
+    number_from_digits_after radix n (map (λ x. x - 48) xs) ≡ n * radix ^ length xs + ascii_value radix xs
 after radix n [] = rw (pow-zero radix) (omega arith)
 after radix n (x ∷ xs) =
     let e = pow-suc radix (length xs) in
@@ -43,31 +44,31 @@ after radix n (x ∷ xs) =
 
 -- and the value of a text of digits by std's words
 pub positional_value_is : (radix : ℕ) (xs : List ℕ) →
-    word_value radix xs ≡ number_from_digits radix (map (λ x. x - 48) xs)
+    ascii_value radix xs ≡ number_from_digits radix (map (λ x. x - 48) xs)
 positional_value_is radix xs = sym (omega (arith, after radix 0 xs))
 
 -- a text is read in pieces: each piece moves what stands before it
-pub word_value-take : (radix at count : ℕ) (xs : List ℕ) → at + count ≤ length xs →
-    word_value radix (take (at + count) xs)
-    ≡ word_value radix (take at xs) * radix ^ count + word_value radix (take count (drop at xs))
-word_value-take radix at count xs h =
+pub ascii_value-take : (radix at count : ℕ) (xs : List ℕ) → at + count ≤ length xs →
+    ascii_value radix (take (at + count) xs)
+    ≡ ascii_value radix (take at xs) * radix ^ count + ascii_value radix (take count (drop at xs))
+ascii_value-take radix at count xs h =
     let short : count ≤ length (drop at xs) = omega (arith, length-drop at xs) in
     let size : length (take count (drop at xs)) ≡ count = length-take-le count (drop at xs) short in
     rw take-add
-    (word_value-append radix (take at xs) (take count (drop at xs))
-    ∙ ap (λ n. word_value radix (take at xs) * radix ^ n + word_value radix (take count (drop at xs))) size)
+    (ascii_value-append radix (take at xs) (take count (drop at xs))
+    ∙ ap (λ n. ascii_value radix (take at xs) * radix ^ n + ascii_value radix (take count (drop at xs))) size)
 
-pub word_value-lt : (radix : ℕ) (xs : List ℕ) → AreDigits radix xs → word_value radix xs < radix ^ length xs
-word_value-lt radix [] h = omega (arith, pow-zero radix)
-word_value-lt radix (x ∷ xs) h =
+pub ascii_value-lt : (radix : ℕ) (xs : List ℕ) → AreAsciiDigits radix xs → ascii_value radix xs < radix ^ length xs
+ascii_value-lt radix [] h = omega (arith, pow-zero radix)
+ascii_value-lt radix (x ∷ xs) h =
     let digit : suc (x - 48) ≤ radix = omega arith in
     let e = pow-suc radix (length xs) in
     let top = mul-le (suc (x - 48)) (radix ^ length xs) radix (radix ^ length xs) digit (le_refl _) in
-    omega (arith, word_value-lt radix xs h.1)
+    omega (arith, ascii_value-lt radix xs h.1)
 
 -- eight digits fit 32 bits
-pub value_of_8-lt : (radix word : ℕ) → radix ≤ 10 → AreDigits radix (word_bytes 8 word) → word_value radix (word_bytes 8 word) < 4294967296
+pub value_of_8-lt : (radix word : ℕ) → radix ≤ 10 → AreAsciiDigits radix (word_bytes 8 word) → ascii_value radix (word_bytes 8 word) < 4294967296
 value_of_8-lt radix word r h =
-    let below = word_value-lt radix (word_bytes 8 word) h in
+    let below = ascii_value-lt radix (word_bytes 8 word) h in
     let most : radix ^ 8 ≤ 10 ^ 8 = pow-le-pow_left r 8 in
     omega arith

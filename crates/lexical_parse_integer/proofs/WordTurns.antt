@@ -10,7 +10,8 @@ use Rattle.lexical_parse_integer.specs.Numeral.{Numeral, digit_count, front_valu
 use Rattle.lexical_parse_integer.specs.Reading.{FrontsFit, GoesOn, Reads}
 use Rattle.lexical_parse_integer.specs.Runs.{belongs, digit_at, digits_between, places, separator_at}
 use Rattle.lexical_parse_integer.specs.Value.{positional_value, signed}
-use Rattle.lexical_parse_integer.specs.Words.{AreDigits, word_value}
+use Rattle.lexical_parse_integer.specs.Words.{word_value}
+use Rattle.lexical_parse_integer.proofs.AsciiDigits.{AreAsciiDigits, ascii_value, ascii_value_is}
 use Rattle.lexical_util.specs.Format.{Format}
 use Rattle.lexical_util.specs.Number.{HasRoom, IntegerType, IsNumber, integer_type, is_number, mul_add, number_limit}
 use Rattle.lexical_parse_integer.proofs.NumeralLemmas.{IsStop-end_of, reaches}
@@ -47,10 +48,10 @@ end_count v s open_now none =
     let count = length-map (places v.format v.radix v.bytes v.start) (λ k. unwrap_or (digit_at v.radix v.bytes k) 0) in
     omega (arith, o.digits, o.before_end)
 
--- where the next eight bytes aren't all digits, fewer digits are left
-pub few_left : (v : CursorView) → IsSound v → v.closed ≡ false → v.format.digit_separator ≡ None → (AreDigitsAhead v 8 → ⊥) → digit_count (numeral_of v) < v.digits + 8
-few_left v s open_now none no_word =
-    elim (cases_lt (digit_count (numeral_of v)) (v.digits + 8)) [
+-- where the next bytes, so many, aren't all digits, fewer digits are left
+pub few_left : (v : CursorView) (w : ℕ) → IsSound v → v.closed ≡ false → v.format.digit_separator ≡ None → (AreDigitsAhead v w → ⊥) → digit_count (numeral_of v) < v.digits + w
+few_left v w s open_now none no_word =
+    elim (cases_lt (digit_count (numeral_of v)) (v.digits + w)) [
       | inl l ↦ l
       | inr l ↦ let count = end_count v s open_now none in absurd (no_word (λ k low high. every_digit v s none k (omega (arith, s.after_start)) (omega arith)))
     ]
@@ -61,7 +62,7 @@ record IsPart (x : Numeral) (m : ℕ) (bs : List ℕ) : Type 0 where
   more : (i : ℕ) → i < length bs → m + i < digit_count x
   digit : (i : ℕ) → i < length bs → get_or x.digits (m + i) 0 ≡ get_or bs i 0 - 48
 
-is_part : (v : CursorView) (bs : List ℕ) → IsSound v → v.closed ≡ false → v.radix ≤ 10 → StandsAt v.bytes bs v.position → AreDigits v.radix bs → ((k : ℕ) → v.position ≤ k → k < v.position + length bs → is_some (digit_at v.radix v.bytes k) ≡ true) → v.position + length bs ≤ numeral_end v → IsPart (numeral_of v) v.digits bs
+is_part : (v : CursorView) (bs : List ℕ) → IsSound v → v.closed ≡ false → v.radix ≤ 10 → StandsAt v.bytes bs v.position → AreAsciiDigits v.radix bs → ((k : ℕ) → v.position ≤ k → k < v.position + length bs → is_some (digit_at v.radix v.bytes k) ≡ true) → v.position + length bs ≤ numeral_end v → IsPart (numeral_of v) v.digits bs
 unfolding numeral
 is_part v bs s open_now ten stands digits all inside =
     let o = s.while_open open_now in
@@ -76,7 +77,7 @@ is_part v bs s open_now ten stands digits all inside =
       digit = λ i l. get_or-map h ps (v.digits + i) 0 0 (found i l).0 ∙ ap h (found i l).1 ∙ ap (λ d. unwrap_or d 0) (here i l);
     }
 
-word_front : (r : ℕ) (ds bs : List ℕ) (m : ℕ) → ((i : ℕ) → i < length bs → m + i < length ds) → ((i : ℕ) → i < length bs → get_or ds (m + i) 0 ≡ get_or bs i 0 - 48) → positional_value r (take (m + length bs) ds) ≡ positional_value r (take m ds) * r ^ length bs + word_value r bs
+word_front : (r : ℕ) (ds bs : List ℕ) (m : ℕ) → ((i : ℕ) → i < length bs → m + i < length ds) → ((i : ℕ) → i < length bs → get_or ds (m + i) 0 ≡ get_or bs i 0 - 48) → positional_value r (take (m + length bs) ds) ≡ positional_value r (take m ds) * r ^ length bs + ascii_value r bs
 word_front r ds [] m more digit =
     let same : m + 0 ≡ m = omega arith in
     let one = pow-zero r in
@@ -88,7 +89,7 @@ word_front r ds (c ∷ cs) m more digit =
     let rest = word_front r ds cs (m + 1) (λ i h. let g = more (suc i) (omega arith) in omega arith) (λ i h. ap (λ k. get_or ds k 0) (let e : m + 1 + i ≡ m + suc i = omega arith in e) ∙ digit (suc i) (omega arith)) in
     let push : positional_value r (take (m + 1) ds) ≡ positional_value r (take m ds) * r + (c - 48) = ap (positional_value r) (take_more ds m 0 l ∙ ap (λ d. take m ds ++ d ∷ []) first) ∙ positional_value-push r (take m ds) (c - 48) in
     let power = pow-suc r (length cs) in
-    ap (λ k. positional_value r (take k ds)) next ∙ rest ∙ ap (λ n. n * r ^ length cs + word_value r cs) push ∙ regroup (positional_value r (take m ds)) r (c - 48) (r ^ length cs) (word_value r cs) (r ^ suc (length cs)) power
+    ap (λ k. positional_value r (take k ds)) next ∙ rest ∙ ap (λ n. n * r ^ length cs + ascii_value r cs) push ∙ regroup (positional_value r (take m ds)) r (c - 48) (r ^ length cs) (ascii_value r cs) (r ^ suc (length cs)) power
   where
     regroup : (a r d q w p : ℕ) → p ≡ q * r → (a * r + d) * q + w ≡ a * p + (d * q + w)
     regroup a r d q w p e = rw e (grind arith)
@@ -131,7 +132,7 @@ digits_below v one k l =
     let low : h (get_or ps k 0) < v.radix = value_below v.radix (digit_at v.radix v.bytes (get_or ps k 0)) one (digit_at_below v.radix v.bytes (get_or ps k 0)) in
     omega arith
 
-room_fits : (bits : ℕ) (s b : Bool) (v : CursorView) (o n : ℕ) → IsSound v → HasRoom (integer_type bits s) v.radix o → (b ≡ true → s ≡ true) → n ≤ o → n ≤ digit_count (numeral_of v) → FrontsFit (integer_type bits s) b (numeral_of v) n
+pub room_fits : (bits : ℕ) (s b : Bool) (v : CursorView) (o n : ℕ) → IsSound v → HasRoom (integer_type bits s) v.radix o → (b ≡ true → s ≡ true) → n ≤ o → n ≤ digit_count (numeral_of v) → FrontsFit (integer_type bits s) b (numeral_of v) n
 room_fits bits s b v o n sound room may le count k l =
     let two = sound.radix.low in
     let low : positional_value v.radix (take (k + 1) (numeral_of v).digits) < v.radix ^ (k + 1) = front_below v.radix (numeral_of v).digits (k + 1) (digits_below v (omega arith)) (omega arith) in
@@ -143,47 +144,47 @@ belongs_some : (v : CursorView) (k : ℕ) → is_some (digit_at v.radix v.bytes 
 unfolding belongs
 belongs_some v k e = rw e refl
 
-pub record ReadsWord (bits : ℕ) (s b : Bool) (u v : CursorView) (next : ℤ) : Type 0 where
+pub record ReadsWord (bits : ℕ) (s b : Bool) (u v : CursorView) (w : ℕ) (next : ℤ) : Type 0 where
   pub fits : IsNumber (integer_type bits s) next
-  pub reads : Reads (integer_type bits s) b (numeral_of u) (v.digits + 8) next
+  pub reads : Reads (integer_type bits s) b (numeral_of u) (v.digits + w) next
 
-pub reads_word : (bits : ℕ) (s b : Bool) (u v : CursorView) (o : ℕ) (value scale word : ℤ) → GoesOn u v → v.radix ≤ 10 → v.format.digit_separator ≡ None → HasRoom (integer_type bits s) v.radix o → (b ≡ true → s ≡ true) → v.digits + 8 ≤ o → AreDigitsAhead v 8 → Reads (integer_type bits s) b (numeral_of u) v.digits value
-    → scale ≡ pos (v.radix ^ 8) → word ≡ pos (word_value v.radix (slice_range v.bytes v.position (v.position + 8))) → ReadsWord bits s b u v (mul_add b value scale word)
-reads_word bits s b u v o value scale word g ten none room may le ahead reads is_scale is_word =
+pub reads_word : (bits : ℕ) (s b : Bool) (u v : CursorView) (w o : ℕ) (value scale word : ℤ) → 1 ≤ w → GoesOn u v → v.radix ≤ 10 → v.format.digit_separator ≡ None → HasRoom (integer_type bits s) v.radix o → (b ≡ true → s ≡ true) → v.digits + w ≤ o → AreDigitsAhead v w → Reads (integer_type bits s) b (numeral_of u) v.digits value
+    → scale ≡ pos (v.radix ^ w) → word ≡ pos (word_value v.radix (slice_range v.bytes v.position (v.position + w))) → ReadsWord bits s b u v w (mul_add b value scale word)
+reads_word bits s b u v w o value scale word some g ten none room may le ahead reads is_scale is_word =
     let sound = g.sound in
     let state = sound.while_open g.closed in
-    let bs : List ℕ = slice_range v.bytes v.position (v.position + 8) in
-    let within : v.position + 8 ≤ length v.bytes = elim (cases_lt (length v.bytes) (v.position + 8)) [ inl l ↦ absurd (past_end v.radix v.bytes v.position l ahead) | inr l ↦ l ] in
-    let size : length bs ≡ 8 = length-ahead v.bytes v.position 8 within in
-    let stands = stands_ahead v.bytes v.position 8 within in
+    let bs : List ℕ = slice_range v.bytes v.position (v.position + w) in
+    let within : v.position + w ≤ length v.bytes = elim (cases_lt (length v.bytes) (v.position + w)) [ inl l ↦ absurd (past_end v.radix v.bytes v.position w some l ahead) | inr l ↦ l ] in
+    let size : length bs ≡ w = length-ahead v.bytes v.position w within in
+    let stands = stands_ahead v.bytes v.position w within in
     let all = λ (k : ℕ) (low : v.position ≤ k) (high : k < v.position + length bs). ahead k low (omega arith) in
-    let digits : AreDigits v.radix bs = are_digits v.radix v.bytes bs v.position ten stands all in
-    let inside : v.position + 8 ≤ numeral_end v = reaches v.format v.radix v.bytes v.start v.position (v.position + 8) sound.after_start state.before_end within sound.within (λ k low high. belongs_some v k (ahead k low high)) in
+    let digits : AreAsciiDigits v.radix bs = are_digits v.radix v.bytes bs v.position ten stands all in
+    let inside : v.position + w ≤ numeral_end v = reaches v.format v.radix v.bytes v.start v.position (v.position + w) sound.after_start state.before_end within sound.within (λ k low high. belongs_some v k (ahead k low high)) in
     let part = is_part v bs sound g.closed ten stands digits all (omega arith) in
     let same = same_numeral u v g in
-    let last = part.more 7 (omega arith) in
+    let last = part.more (w - 1) (omega arith) in
     let front = word_front v.radix (numeral_of v).digits bs v.digits part.more part.digit in
-    let eight : v.digits + length bs ≡ v.digits + 8 = omega arith in
-    let value_is : positional_value v.radix (take (v.digits + 8) (numeral_of v).digits) ≡ positional_value v.radix (take v.digits (numeral_of v).digits) * v.radix ^ 8 + word_value v.radix bs =
-    ap (λ k. positional_value v.radix (take k (numeral_of v).digits)) (sym eight) ∙ front ∙ ap (λ k. positional_value v.radix (take v.digits (numeral_of v).digits) * v.radix ^ k + word_value v.radix bs) size in
+    let whole : v.digits + length bs ≡ v.digits + w = omega arith in
+    let value_is : positional_value v.radix (take (v.digits + w) (numeral_of v).digits) ≡ positional_value v.radix (take v.digits (numeral_of v).digits) * v.radix ^ w + ascii_value v.radix bs =
+    ap (λ k. positional_value v.radix (take k (numeral_of v).digits)) (sym whole) ∙ front ∙ ap (λ k. positional_value v.radix (take v.digits (numeral_of v).digits) * v.radix ^ k + ascii_value v.radix bs) size in
     let radix = numeral_radix v in
     let before : value ≡ signed b (positional_value v.radix (take v.digits (numeral_of v).digits)) = reads.front ∙ ap (λ (x : Numeral). front_value b x v.digits) (sym same) ∙ ap (λ r. signed b (positional_value r (take v.digits (numeral_of v).digits))) radix in
-    let next : mul_add b value scale word ≡ front_value b (numeral_of v) (v.digits + 8) =
+    let next : mul_add b value scale word ≡ front_value b (numeral_of v) (v.digits + w) =
     ap (λ z. mul_add b z scale word) before ∙ ap (λ z. mul_add b (signed b (positional_value v.radix (take v.digits (numeral_of v).digits))) z word) is_scale
-    ∙ ap (λ z. mul_add b (signed b (positional_value v.radix (take v.digits (numeral_of v).digits))) (pos (v.radix ^ 8)) z) is_word
-    ∙ signed-step b (positional_value v.radix (take v.digits (numeral_of v).digits)) (v.radix ^ 8) (word_value v.radix bs)
-    ∙ ap (signed b) (sym value_is) ∙ ap (λ r. signed b (positional_value r (take (v.digits + 8) (numeral_of v).digits))) (sym radix) in
-    let fit : FrontsFit (integer_type bits s) b (numeral_of v) (v.digits + 8) = room_fits bits s b v o (v.digits + 8) sound room may le (omega arith) in
-    let lasts : v.digits + 7 + 1 ≡ v.digits + 8 = omega arith in
-    let here : is_number (integer_type bits s) (front_value b (numeral_of v) (v.digits + 8)) ≡ true = ap (λ k. is_number (integer_type bits s) (front_value b (numeral_of v) k)) (sym lasts) ∙ fit (v.digits + 7) (omega arith) in
-    let there : Reads (integer_type bits s) b (numeral_of v) (v.digits + 8) (mul_add b value scale word) = record { count = omega arith; front = next; fit = fit } in
+    ∙ ap (λ z. mul_add b (signed b (positional_value v.radix (take v.digits (numeral_of v).digits))) (pos (v.radix ^ w)) z) (is_word ∙ ap pos (sym (ascii_value_is v.radix bs)))
+    ∙ signed-step b (positional_value v.radix (take v.digits (numeral_of v).digits)) (v.radix ^ w) (ascii_value v.radix bs)
+    ∙ ap (signed b) (sym value_is) ∙ ap (λ r. signed b (positional_value r (take (v.digits + w) (numeral_of v).digits))) (sym radix) in
+    let fit : FrontsFit (integer_type bits s) b (numeral_of v) (v.digits + w) = room_fits bits s b v o (v.digits + w) sound room may le (omega arith) in
+    let lasts : v.digits + (w - 1) + 1 ≡ v.digits + w = omega arith in
+    let here : is_number (integer_type bits s) (front_value b (numeral_of v) (v.digits + w)) ≡ true = ap (λ k. is_number (integer_type bits s) (front_value b (numeral_of v) k)) (sym lasts) ∙ fit (v.digits + (w - 1)) (omega arith) in
+    let there : Reads (integer_type bits s) b (numeral_of v) (v.digits + w) (mul_add b value scale word) = record { count = omega arith; front = next; fit = fit } in
     record {
       fits = ap (is_number (integer_type bits s)) next ∙ here;
-      reads = subst (λ (x : Numeral). Reads (integer_type bits s) b x (v.digits + 8) (mul_add b value scale word)) same there;
+      reads = subst (λ (x : Numeral). Reads (integer_type bits s) b x (v.digits + w) (mul_add b value scale word)) same there;
     }
 
-pub goes_on_word : (u v w : CursorView) → GoesOn u v → IsSound w → w ≡ record v { position = v.position + 8; digits = v.digits + 8; turns = v.turns + 1 } → GoesOn u w
-goes_on_word u v w g s e = record {
+pub goes_on_word : (u v next : CursorView) (w : ℕ) → GoesOn u v → IsSound next → next ≡ record v { position = v.position + w; digits = v.digits + w; turns = v.turns + 1 } → GoesOn u next
+goes_on_word u v next w g s e = record {
   bytes = ap (λ (z : CursorView). z.bytes) e ∙ g.bytes;
   format = ap (λ (z : CursorView). z.format) e ∙ g.format;
   radix = ap (λ (z : CursorView). z.radix) e ∙ g.radix;
@@ -192,8 +193,8 @@ goes_on_word u v w g s e = record {
   sound = s;
 }
 
-pub few_left_from : (u v : CursorView) → GoesOn u v → v.format.digit_separator ≡ None → (AreDigitsAhead v 8 → ⊥) → digit_count (numeral_of u) < v.digits + 8
-few_left_from u v g none no_word =
-    let low = few_left v g.sound g.closed none no_word in
+pub few_left_from : (u v : CursorView) (w : ℕ) → GoesOn u v → v.format.digit_separator ≡ None → (AreDigitsAhead v w → ⊥) → digit_count (numeral_of u) < v.digits + w
+few_left_from u v w g none no_word =
+    let low = few_left v w g.sound g.closed none no_word in
     let same : digit_count (numeral_of v) ≡ digit_count (numeral_of u) = ap digit_count (same_numeral u v g) in
     omega arith

@@ -3,7 +3,8 @@ use Rattle.std.proofs.Common.{◌≡◌, ℕ, zero, suc, ◌+◌, ◌-◌, ◌*�
 use Rattle.std.proofs.Math.Nat.{pow-suc, pow-zero}
 use Rattle.std.proofs.lemmas.Nat.{and_block, and_mask, mod-mul-add, mul-le}
 use Rattle.lexical_parse_integer.proofs.WordBytes.{repeated}
-use Rattle.lexical_parse_integer.specs.Words.{AreDigits, word_bytes, word_value}
+use Rattle.lexical_parse_integer.specs.Words.{word_bytes}
+use Rattle.lexical_parse_integer.proofs.AsciiDigits.{AreAsciiDigits, ascii_value}
 
 power_1 : (n : ℕ) → n ^ 1 ≡ n
 power_1 n = pow-suc n 0 ∙ (ap (λ m. m * n) (pow-zero n) ∙ omega arith)
@@ -32,7 +33,7 @@ digits_word zero word = 0
 digits_word (suc count) word = (word % 256 - 48) + 256 * digits_word count (word / 256)
 
 -- to take 48 from each byte borrows nothing
-subtract_zeros : (radix count word : ℕ) → word < 256 ^ count → AreDigits radix (word_bytes count word) →
+subtract_zeros : (radix count word : ℕ) → word < 256 ^ count → AreAsciiDigits radix (word_bytes count word) →
     (repeated 48 count ≤ word) × (word - repeated 48 count ≡ digits_word count word)
 subtract_zeros radix zero word l h = (omega arith, omega arith)
 subtract_zeros radix (suc count) word l h =
@@ -71,10 +72,10 @@ value_4 radix d0 d1 d2 d3 digits r p0 p1 p2 p3 e =
     low_7_bits ((digits * radix + digits / 256) / 65536) (d2 * radix + d3) (d3 * radix) l2 (omega arith) in
     rw (low, high, power_3 radix, power_2 radix, power_1 radix, pow-zero radix) (omega arith)
 
-pub parse_4 : (radix word : ℕ) → radix ≤ 10 → word < 256 ^ 4 → AreDigits radix (word_bytes 4 word) →
+pub parse_4 : (radix word : ℕ) → radix ≤ 10 → word < 256 ^ 4 → AreAsciiDigits radix (word_bytes 4 word) →
     bit_and ((word - 808464432) * radix + (word - 808464432) / 256) 127 * radix * radix
     + bit_and (((word - 808464432) * radix + (word - 808464432) / 256) / 65536) 127
-    ≡ word_value radix (word_bytes 4 word)
+    ≡ ascii_value radix (word_bytes 4 word)
 parse_4 radix word r l h =
     value_4 radix (word % 256 - 48) (word / 256 % 256 - 48) (word / 256 / 256 % 256 - 48) (word / 256 / 256 / 256 % 256 - 48) (word - 808464432) r
     (omega arith) (omega arith) (omega arith) (omega arith) (subtract_zeros radix 4 word l h).1
@@ -153,10 +154,10 @@ value_8 radix d0 d1 d2 d3 d4 d5 d6 d7 digits r p0 p1 p2 p3 p4 p5 p6 p7 e =
     l0 l2 l4 l6 s2 s4 s6 both.0 both.1
     ∙ rw (power_7 radix, power_6 radix, power_5 radix, power_4 radix, power_3 radix, power_2 radix, power_1 radix, pow-zero radix) (omega arith)
 
-pub parse_8 : (radix word : ℕ) → radix ≤ 10 → word < 256 ^ 8 → AreDigits radix (word_bytes 8 word) →
+pub parse_8 : (radix word : ℕ) → radix ≤ 10 → word < 256 ^ 8 → AreAsciiDigits radix (word_bytes 8 word) →
     (bit_and ((word - 3472328296227680304) * radix + (word - 3472328296227680304) / 256) 1095216660735 * (radix * radix + radix * radix * (radix * radix * (radix * radix)) * 4294967296 % 18446744073709551616) % 18446744073709551616
     + bit_and (((word - 3472328296227680304) * radix + (word - 3472328296227680304) / 256) / 65536) 1095216660735 * (1 + radix * radix * (radix * radix) * 4294967296 % 18446744073709551616) % 18446744073709551616) % 18446744073709551616 / 4294967296
-    ≡ word_value radix (word_bytes 8 word)
+    ≡ ascii_value radix (word_bytes 8 word)
 parse_8 radix word r l h =
     value_8 radix (word % 256 - 48) (word / 256 % 256 - 48) (word / 256 / 256 % 256 - 48) (word / 256 / 256 / 256 % 256 - 48) (word / 256 / 256 / 256 / 256 % 256 - 48) (word / 256 / 256 / 256 / 256 / 256 % 256 - 48) (word / 256 / 256 / 256 / 256 / 256 / 256 % 256 - 48) (word / 256 / 256 / 256 / 256 / 256 / 256 / 256 % 256 - 48) (word - 3472328296227680304) r
     (omega arith) (omega arith) (omega arith) (omega arith) (omega arith) (omega arith) (omega arith) (omega arith) (subtract_zeros radix 8 word l h).1

@@ -1,10 +1,10 @@
 -- What contracts see of a cursor, and what its calls do.
 use Rattle.std.specs.Prelude.{◌≡◌, ℕ, ◌+◌, ◌≤◌, ◌<◌, Bool, true, false, List, length, ◌&&◌, nat_lt, Some, None, IsSome}
-use Rattle.lexical_util.specs.Digit.{digit, IsRadix}
+use Rattle.lexical_util.specs.Digit.{IsRadix}
 use Rattle.lexical_util.specs.Format.{Format}
-use Rattle.lexical_parse_integer.specs.Affixes.{matches, suffix_at, numeral_stop}
+use Rattle.lexical_parse_integer.specs.Affixes.{suffix_at, numeral_stop}
 use Rattle.lexical_parse_integer.specs.Numeral.{Numeral, numeral}
-use Rattle.lexical_parse_integer.specs.Runs.{are_same, digit_at, separator_at, end_of, places, digits_between}
+use Rattle.lexical_parse_integer.specs.Runs.{digit_at, separator_at, end_of, places, digits_between}
 use Rattle.lexical_parse_integer.specs.Seeking.{IsSeparatorNoDigit, IsAtRunStart, HasNoDigit}
 
 -- A cursor in a text.
@@ -30,13 +30,6 @@ abbrev pub numeral_end : CursorView → ℕ
 numeral_end cursor = end_of cursor.format cursor.radix cursor.bytes cursor.start
 
 -- ---- what is true of each cursor
-
--- what the format's validity gives a cursor
-pub record IsFit (format : Format) : Type 0 where
-  pub radix : IsRadix format.mantissa_radix
-  pub separator : (byte : ℕ) → format.digit_separator ≡ Some byte → digit byte format.mantissa_radix ≡ None
-  pub suffix_digit : (suffix byte : ℕ) → format.base_suffix ≡ Some suffix → matches format.case_sensitive_base_suffix suffix byte ≡ true → digit byte format.mantissa_radix ≡ None
-  pub suffix_separator : (suffix byte : ℕ) → format.base_suffix ≡ Some suffix → matches format.case_sensitive_base_suffix suffix byte ≡ true → are_same format.digit_separator (Some byte) ≡ false
 
 -- no byte that matches the suffix is a digit
 abbrev pub IsSuffixNoDigit : Format → ℕ → List ℕ → Type 0

@@ -1,9 +1,13 @@
 -- How many turns a parser may take.
-use Rattle.std.specs.Prelude.{◌≡◌, ℕ, ◌+◌, ◌-◌, ◌/◌, ◌%◌, ◌≤◌, Bool, false, List, min, IsNone, MatchResult}
+use Rattle.std.specs.Prelude.{◌≡◌, ℕ, ◌+◌, ◌-◌, ◌/◌, ◌%◌, ◌≤◌, Bool, false, if◌then◌else◌, nat_le, List, min, IsNone, MatchResult}
 use Rattle.lexical_util.specs.Format.{Format}
 use Rattle.lexical_util.specs.Number.{IntegerType, overflow_digits}
 use Rattle.lexical_parse_integer.specs.Head.{head_of}
 use Rattle.lexical_parse_integer.specs.Numeral.{numeral, digit_count}
+
+-- how many digits a word has for a type of this width: eight from 64 bits on, and four for 32 bits
+unfoldable pub word_length : ℕ → ℕ
+word_length bits = if nat_le 64 bits then 8 else 4
 
 -- the greatest number of turns for so many digits, where words have `word` digits and are taken from the first
 -- `room` digits alone
@@ -13,11 +17,11 @@ turns_bound word room digits = min digits room / word + min digits room % word +
 -- few turns for a text: none at a sign's fault
 abbrev pub HasFewTurns : Format → IntegerType → List ℕ → ℕ → Type 0
 HasFewTurns format type text turns = MatchResult (head_of format type text)
-    (λ head. head.radix ≤ 10 → turns ≤ turns_bound 8 (overflow_digits type head.radix) (digit_count (numeral format text head.start head.radix)))
+    (λ head. head.radix ≤ 10 → turns ≤ turns_bound (word_length type.bits) (overflow_digits type head.radix) (digit_count (numeral format text head.start head.radix)))
     (λ e. turns ≡ 0)
 
--- words of eight are to be taken
+-- words are to be taken
 pub record AsksWords (bits : ℕ) (no_multi_digit : Bool) (format : Format) : Type 0 where
   pub multi : no_multi_digit ≡ false
-  pub wide : 64 ≤ bits
+  pub wide : 32 ≤ bits
   pub contiguous : IsNone format.digit_separator

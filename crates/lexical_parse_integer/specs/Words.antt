@@ -1,21 +1,18 @@
--- A machine word as text: its bytes, the digits among them, and the number that they write.
+-- A machine word as text: its bytes, and the number that its digits write.
+use Rattle.std.specs.Prelude.{ℕ, zero, suc, ◌-◌, ◌/◌, ◌%◌, List, [], ◌∷◌, map, IsSome}
 use Rattle.std.specs.List.{AllByRecursion}
-use Rattle.std.specs.Prelude.{ℕ, zero, suc, ◌+◌, ◌-◌, ◌*◌, ◌/◌, ◌%◌, ◌^◌, ◌<◌, ◌≤◌, List, [], ◌∷◌, length}
+use Rattle.lexical_util.specs.Digit.{digit}
+use Rattle.lexical_parse_integer.specs.Value.{positional_value}
 
 -- the lowest bytes of a word, so many, the lowest first
 abbrev pub word_bytes : ℕ → ℕ → List ℕ
 word_bytes zero word = []
 word_bytes (suc count) word = word % 256 ∷ word_bytes count (word / 256)
 
--- an ASCII digit of a radix up to 10: `0` is 48
-abbrev pub IsDigit : ℕ → ℕ → Type 0
-IsDigit radix byte = (48 ≤ byte) × (byte < 48 + radix)
-
--- each byte is one
+-- each byte is a digit of the radix
 abbrev pub AreDigits : ℕ → List ℕ → Type 0
-AreDigits radix bytes = AllByRecursion (IsDigit radix) bytes
+AreDigits radix bytes = AllByRecursion (λ byte. IsSome (digit byte radix)) bytes
 
--- the number that ASCII digits write, the first worth the most
+-- the number that ASCII digits write, the first worth the most: `0` is byte 48
 abbrev pub word_value : ℕ → List ℕ → ℕ
-word_value radix [] = 0
-word_value radix (byte ∷ bytes) = (byte - 48) * radix ^ length bytes + word_value radix bytes
+word_value radix bytes = positional_value radix (map (λ byte. byte - 48) bytes)

@@ -1,30 +1,34 @@
 // Prefix and suffix at a place of a text.
-ghost use Rattle.std.specs.Prelude.{◌≡◌, ◌+◌, ◌<◌, length, slice_get};
+ghost use Rattle.std.specs.Prelude.{◌≡◌};
 ghost use Rattle.lexical_parse_integer.specs.Affixes.{is_affix, matches, prefix_at, suffix_at};
 
 use lexical_util::format::NumberFormat;
 
+#[inline(always)]
 #[tactic(auto, unfolding(crate::specs::Affixes::matches))]
-fn matches_mark(sensitive: bool, mark: u8, c: u8) -> bool
-    ensures { result ≡ matches sensitive mark c }
+fn matches(is_case_sensitive: bool, affix: u8, byte: u8) -> bool
+    ensures { result ≡ matches is_case_sensitive affix byte }
 {
-    if sensitive {
-        c == mark
+    if is_case_sensitive {
+        byte == affix
     } else {
-        c.eq_ignore_ascii_case(&mark)
+        byte.eq_ignore_ascii_case(&affix)
     }
 }
 
+#[inline(always)]
 #[tactic(auto, unfolding(crate::specs::Affixes::is_affix))]
-fn is_affix(sensitive: bool, mark: Option<u8>, c: Option<u8>) -> bool
-    ensures { result ≡ is_affix sensitive mark c }
+fn is_affix(is_case_sensitive: bool, affix: Option<u8>, byte: Option<u8>) -> bool
+    ensures { result ≡ is_affix is_case_sensitive affix byte }
 {
-    match (mark, c) {
-        (Some(mark), Some(c)) => matches_mark(sensitive, mark, c),
+    match (affix, byte) {
+        (Some(affix), Some(byte)) => matches(is_case_sensitive, affix, byte),
         _ => false,
     }
 }
 
+// Whether the suffix stands at a place.
+#[inline(always)]
 #[tactic(auto, unfolding(crate::specs::Affixes::suffix_at))]
 pub(crate) fn suffix_at(bytes: &[u8], format: &NumberFormat, place: usize) -> bool
     ensures { result ≡ suffix_at format.now bytes.now place }
@@ -36,6 +40,8 @@ pub(crate) fn suffix_at(bytes: &[u8], format: &NumberFormat, place: usize) -> bo
     )
 }
 
+// Whether a zero stands at a place, and the prefix directly behind it.
+#[inline(always)]
 #[tactic(auto, unfolding(crate::specs::Affixes::prefix_at, crate::specs::Runs::are_same))]
 pub(crate) fn prefix_at(bytes: &[u8], format: &NumberFormat, place: usize) -> bool
     ensures { result ≡ prefix_at format.now bytes.now place }

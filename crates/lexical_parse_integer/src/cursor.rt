@@ -1,9 +1,17 @@
-//! A place in a text, from which a numeral is read digit by digit.
-ghost use Rattle.std.specs.Prelude.{◌≡◌, ℕ, ◌+◌, ◌<◌, ◌≤◌, ◌↔◌, ◌⊎◌, IsTrue, IsNone, IsSome, MatchOption, Some, None, false, true, if◌then◌else◌, length, slice_get, slice_range};
-ghost use Rattle.lexical_parse_integer.specs.Affixes.{numeral_stop, prefix_at};
-ghost use Rattle.lexical_parse_integer.specs.CursorView.{IsSound, ReachesEnd, TakesDigit, closes, numeral_end};
-ghost use Rattle.lexical_parse_integer.specs.Runs.{digit_at};
+//! A place in a text, from which a numeral is read: sign, prefix, digits and suffix.
+//!
+//! A cursor borrows the text and keeps the format. It goes forward alone, and lends no more of the text than the
+//! next word. The parsers of [`algorithm`](crate::algorithm) stand on its calls; a reader written by hand can too:
+//! after `new` come `step_sign`, `read_prefix`, the digits by `next_digit` or `take_digits`, and `read_suffix`, each
+//! where it is wanted.
+//!
+//! Contracts see a cursor as a record: the text, the format, the radix in force, where the numeral's region starts,
+//! the position, how many digits were read, whether the suffix was read, and how many turns that took. A turn is one
+//! digit taken alone, or one word of four or eight digits taken at once; their count takes no byte at run time.
+ghost use Rattle.std.specs.Prelude.{◌≡◌, ◌+◌, ◌<◌, ◌≤◌, ◌↔◌, ◌⊎◌, IsTrue, IsNone, MatchOption, Some, false, true, if◌then◌else◌, length, slice_get, slice_range};
 ghost use Rattle.lexical_util.specs.Validity.{fault};
+ghost use Rattle.lexical_parse_integer.specs.Affixes.{numeral_stop, prefix_at};
+ghost use Rattle.lexical_parse_integer.specs.CursorView.{AreDigitsAhead, IsSound, ReachesEnd, TakesDigit, closes, numeral_end};
 
 use crate::affixes::{prefix_at, suffix_at};
 use crate::seek::{Found, seek};
@@ -35,9 +43,12 @@ impl<'a> Model for Cursor<'a> {
 }
 
 impl<'a> Cursor<'a> {
-    /// A cursor at the text's front.
+    /// A cursor at the text's front: nothing is read.
+    ///
+    /// The format has to be valid; `NumberFormat::is_valid` is the test.
+    #[inline(always)]
     pub fn new(bytes: &'a [u8], format: &NumberFormat) -> Cursor<'a>
-        requires { IsNone (fault format.now) }
+        requires valid { IsNone (fault format.now) }
         ensures { result ≡ record { bytes = bytes.now; format = format.now; radix = format.now.mantissa_radix; start = 0; position = 0; digits = 0; closed = false; turns = 0 } }
     {
         Cursor {
@@ -52,7 +63,13 @@ impl<'a> Cursor<'a> {
         }
     }
 
-    /// The position.
+    /// The position: how many bytes of the text stand before it.
+    ///
+    /// Its contract also says what is true of each cursor: the region starts at the position or before it, no
+    /// more turns than digits were taken, and `digits` counts the digits from the region's start to the position.
+    /// Until the suffix is read, the position is in the numeral or at its end; then it is where reading stops, and
+    /// all digits are counted. So at position 0 nothing was read.
+    #[inline(always)]
     pub fn cursor(&self) -> usize
         ensures place { result ≡ self.now.position }
         ensures sound { IsSound self.now }
@@ -60,14 +77,16 @@ impl<'a> Cursor<'a> {
         self.position
     }
 
-    /// What is true of each cursor. A call for proofs alone.
+    // What is true of each cursor. It does nothing: the proofs of the calls above lean on its contract.
+    #[inline(always)]
     pub(crate) fn sound(&self)
         ensures { IsSound self.now }
     {
         let _position = &self.position;
     }
 
-    /// The start of the numeral's region.
+    /// Where the numeral's region starts: behind the sign and the prefix that were read.
+    #[inline(always)]
     pub fn start(&self) -> usize
         ensures { result ≡ self.now.start }
     {
@@ -75,6 +94,7 @@ impl<'a> Cursor<'a> {
     }
 
     /// How many digits were read.
+    #[inline(always)]
     pub fn digits(&self) -> usize
         ensures { result ≡ self.now.digits }
     {
@@ -82,6 +102,7 @@ impl<'a> Cursor<'a> {
     }
 
     /// How many bytes the text has.
+    #[inline(always)]
     pub fn buffer_length(&self) -> usize
         ensures { result ≡ length self.now.bytes }
     {
@@ -89,20 +110,23 @@ impl<'a> Cursor<'a> {
     }
 
     /// Whether the position is the text's end.
+    #[inline(always)]
     pub fn is_buffer_empty(&self) -> bool
         ensures { IsTrue result ↔ (self.now.position ≡ length self.now.bytes) }
     {
         self.position == self.bytes.len()
     }
 
-    /// Whether a suffix was read.
+    /// Whether the suffix was read. Then the cursor reads nothing more.
+    #[inline(always)]
     pub fn is_closed(&self) -> bool
         ensures { result ≡ self.now.closed }
     {
         self.closed
     }
 
-    /// Whether the format has no separator.
+    /// Whether the format has no separator byte, so that the digits stand in a row.
+    #[inline(always)]
     pub fn is_contiguous(&self) -> bool
         ensures { IsTrue result ↔ IsNone self.now.format.digit_separator }
     {
@@ -110,6 +134,7 @@ impl<'a> Cursor<'a> {
     }
 
     /// The radix in force.
+    #[inline(always)]
     pub fn radix(&self) -> u32
         ensures { result ≡ self.now.radix }
     {
@@ -117,20 +142,25 @@ impl<'a> Cursor<'a> {
     }
 
     /// The format that the cursor was made with.
+    #[inline(always)]
     pub fn format(&self) -> NumberFormat
         ensures { result ≡ self.now.format }
     {
         self.format
     }
 
-    /// The byte at the position.
+    /// The byte at the position, whatever it is, and `None` at the text's end.
+    #[inline(always)]
     pub fn first(&self) -> Option<u8>
         ensures { result ≡ slice_get self.now.bytes self.now.position }
     {
         self.bytes.get(self.position).copied()
     }
 
-    /// The next `n` bytes, for as long as the text is lent.
+    /// The next `n` bytes, and `None` where fewer are left. `n` is 4 or 8.
+    ///
+    /// They are lent for as long as the text is, not copied. No call lends more of the text.
+    #[inline(always)]
     pub fn peek_word(&self, n: usize) -> Option<&'a [u8]>
         requires { (n ≡ 4) ⊎ (n ≡ 8) }
         ensures { MatchOption result (length self.now.bytes < self.now.position + n) (λ word. (self.now.position + n ≤ length self.now.bytes) × (word.now ≡ slice_range self.now.bytes self.now.position (self.now.position + n))) }
@@ -142,7 +172,10 @@ impl<'a> Cursor<'a> {
         Some(&bytes[self.position..self.position + n])
     }
 
-    /// Steps over a sign.
+    /// Steps over a sign at the text's front: position and region start are 1.
+    ///
+    /// The position has to be 0, and the first byte `+` or `-`.
+    #[inline(always)]
     pub fn step_sign(&mut self)
         requires front { self.old.position ≡ 0 }
         requires sign { (slice_get self.old.bytes 0 ≡ Some 43) ⊎ (slice_get self.old.bytes 0 ≡ Some 45) }
@@ -152,9 +185,34 @@ impl<'a> Cursor<'a> {
         self.position = 1;
     }
 
-    /// Takes the next digit, behind separators that pass.
+    /// Steps over the prefix where it stands at the position, and answers whether it does; else the cursor stays.
+    ///
+    /// The prefix is a `0` and the format's prefix byte directly behind it; the region starts behind them. The
+    /// position has to be where the region starts, at most 1, and no digit may have been read.
+    #[inline(always)]
+    pub fn read_prefix(&mut self) -> bool
+        requires front { self.old.position ≤ 1 }
+        requires at_start { self.old.position ≡ self.old.start }
+        requires no_digit { self.old.digits ≡ 0 }
+        ensures answer { result ≡ prefix_at self.old.format self.old.bytes self.old.position }
+        ensures after { self.new ≡ (if result then record self.old { start = self.old.position + 2; position = self.old.position + 2 } else self.old) }
+    {
+        if !prefix_at(self.bytes, &self.format, self.position) {
+            return false;
+        }
+        self.position += 2;
+        self.start = self.position;
+        true
+    }
+
+    /// Takes the next digit of the numeral, behind separators that pass, and answers its value; `None` where no
+    /// digit is left, and the cursor then stands at the numeral's end.
+    ///
+    /// A digit takes one turn. A run of separators is judged whole, by the digits beside it, with one look over it.
+    /// The suffix may not have been read.
+    #[inline(always)]
     pub fn next_digit(&mut self) -> Option<u32>
-        requires { self.old.closed ≡ false }
+        requires is_open { self.old.closed ≡ false }
         ensures step { MatchOption result (ReachesEnd self.old self.new) (λ value. TakesDigit self.old self.new value) }
         ensures sound { IsSound self.new }
     {
@@ -178,12 +236,16 @@ impl<'a> Cursor<'a> {
         }
     }
 
-    /// Takes the next `n` bytes, which are digits, as one turn.
+    /// Takes the next `n` bytes, which are digits, as one turn. `n` is 4 or 8.
+    ///
+    /// Each of the bytes has to be a digit of the radix in force, the format without a separator byte, and the
+    /// suffix not read.
+    #[inline(always)]
     pub fn take_digits(&mut self, n: usize)
         requires word { (n ≡ 4) ⊎ (n ≡ 8) }
         requires is_open { self.old.closed ≡ false }
         requires contiguous { IsNone self.old.format.digit_separator }
-        requires digits { (k : ℕ) → self.old.position ≤ k → k < self.old.position + n → IsSome (digit_at self.old.radix self.old.bytes k) }
+        requires digits { AreDigitsAhead self.old n }
         ensures { self.new ≡ record self.old { position = self.old.position + n; digits = self.old.digits + n; turns = self.old.turns + 1 } }
     {
         self.position += n;
@@ -191,25 +253,13 @@ impl<'a> Cursor<'a> {
         self.turns.tick();
     }
 
-    /// Steps over the prefix, if it stands at the position.
-    pub fn read_prefix(&mut self) -> bool
-        requires front { self.old.position ≤ 1 }
-        requires at_start { self.old.position ≡ self.old.start }
-        requires no_digit { self.old.digits ≡ 0 }
-        ensures answer { result ≡ prefix_at self.old.format self.old.bytes self.old.position }
-        ensures after { self.new ≡ (if result then record self.old { start = self.old.position + 2; position = self.old.position + 2 } else self.old) }
-    {
-        if !prefix_at(self.bytes, &self.format, self.position) {
-            return false;
-        }
-        self.position += 2;
-        self.start = self.position;
-        true
-    }
-
-    /// Steps over the suffix, if it stands at the position, behind a digit.
+    /// Steps over the suffix where it stands at the position and a digit was read, closes the cursor, and answers
+    /// whether it did; else the cursor stays.
+    ///
+    /// At the numeral's end the cursor then stands where reading stops. The suffix may not have been read before.
+    #[inline(always)]
     pub fn read_suffix(&mut self) -> bool
-        requires { self.old.closed ≡ false }
+        requires is_open { self.old.closed ≡ false }
         ensures answer { result ≡ closes self.old }
         ensures at_end { self.old.position ≡ numeral_end self.old → self.new.position ≡ numeral_stop self.old.format self.old.radix self.old.bytes self.old.start }
         ensures before_end { self.old.position < numeral_end self.old → self.new ≡ self.old }

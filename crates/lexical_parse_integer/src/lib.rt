@@ -6,12 +6,10 @@ pub mod algorithm;
 mod api;
 pub mod cursor;
 pub mod laws;
-mod multi;
 pub mod options;
 pub mod parse;
 mod seek;
 mod turns;
-mod words;
 
 pub use api::{FromLexical, FromLexicalWithOptions};
 pub use lexical_util::error::Error;
@@ -19,3 +17,6 @@ pub use lexical_util::format::{self, NumberFormat, NumberFormatBuilder};
 pub use lexical_util::options::ParseOptions;
 pub use lexical_util::result::Result;
 pub use options::{Options, OptionsBuilder};
+
+#[cfg(test)]
+mod tests;

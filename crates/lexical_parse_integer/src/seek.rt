@@ -1,17 +1,20 @@
-// Where the next digit stands, by places of the text.
-ghost use Rattle.std.specs.Prelude.{◌≡◌, ◌≤◌, ◌<◌, length};
+// Where the next digit stands. These functions take plain values, so that the compiler can keep a cursor in
+// registers.
+ghost use Rattle.std.specs.Prelude.{◌≡◌, ◌≤◌, ◌<◌, None, length};
+ghost use Rattle.lexical_util.specs.Digit.{IsRadix};
 ghost use Rattle.lexical_parse_integer.specs.Runs.{digit_at, end_of, flag_for, run_passes, run_stop, separator_at};
 ghost use Rattle.lexical_parse_integer.specs.Seeking.{Finds, IsAtRunStart, IsSeparatorNoDigit};
-ghost use Rattle.lexical_util.specs.Digit.{IsRadix};
 
 use lexical_util::digit::char_to_digit;
 use lexical_util::format::NumberFormat;
 
+// What stands ahead in a numeral: its next digit, with its place and value, or its end.
 pub(crate) enum Found {
     Digit(usize, u32),
     End(usize),
 }
 
+#[inline(always)]
 #[tactic(auto, unfolding(crate::specs::Runs::digit_at))]
 fn digit_at(bytes: &[u8], radix: u32, place: usize) -> Option<u32>
     requires { IsRadix radix }
@@ -24,6 +27,7 @@ fn digit_at(bytes: &[u8], radix: u32, place: usize) -> Option<u32>
     }
 }
 
+#[inline(always)]
 #[tactic(auto, unfolding(crate::specs::Runs::separator_at, crate::specs::Runs::are_same))]
 fn separator_at(bytes: &[u8], format: &NumberFormat, place: usize) -> bool
     ensures { result ≡ separator_at format.now bytes.now place }
@@ -35,6 +39,7 @@ fn separator_at(bytes: &[u8], format: &NumberFormat, place: usize) -> bool
 }
 
 // The place behind the separators that stand from `place` on.
+#[inline(always)]
 fn run_stop(bytes: &[u8], format: &NumberFormat, place: usize) -> usize
     requires { place ≤ length bytes.now }
     ensures { result ≡ run_stop format.now bytes.now place }
@@ -46,6 +51,7 @@ fn run_stop(bytes: &[u8], format: &NumberFormat, place: usize) -> usize
     stop
 }
 
+#[inline(always)]
 #[tactic(auto, unfolding(crate::specs::Runs::flag_for))]
 fn flag_for(format: &NumberFormat, before: bool, after: bool) -> bool
     ensures { result ≡ flag_for format.now before after }
@@ -61,6 +67,7 @@ fn flag_for(format: &NumberFormat, before: bool, after: bool) -> bool
 }
 
 // Whether the run from `from`, which is its first byte, to before `to` passes.
+#[inline(always)]
 #[tactic(auto, unfolding(crate::specs::Runs::run_passes))]
 fn run_passes(
     bytes: &[u8],
@@ -80,7 +87,42 @@ fn run_passes(
         && flag_for(format, before, after)
 }
 
-/// The least place of a digit of the numeral at or after `position`.
+// What stands behind the run of separators at `position`, where there is one and no digit stands there. A run is
+// looked over once: where it passes, what is sought stands behind it, and else the numeral ends before it.
+//
+// It stays out of line and takes the format by value, so that texts without separators don't pay for it.
+#[inline(never)]
+fn seek_behind_run(
+    bytes: &[u8],
+    format: NumberFormat,
+    radix: u32,
+    start: usize,
+    position: usize,
+) -> Found
+    requires radix { IsRadix radix }
+    requires separator { IsSeparatorNoDigit format radix bytes.now }
+    requires within { position ≤ length bytes.now }
+    requires after_start { start ≤ position }
+    requires before_end { position ≤ end_of format radix bytes.now start }
+    requires at_run_start { IsAtRunStart format bytes.now start position }
+    requires no_digit { digit_at radix bytes.now position ≡ None }
+    ensures { Finds format radix bytes.now start position result }
+{
+    if !separator_at(bytes, &format, position) {
+        return Found::End(position);
+    }
+    let stop = run_stop(bytes, &format, position);
+    if !run_passes(bytes, &format, radix, start, position, stop) {
+        return Found::End(position);
+    }
+    match digit_at(bytes, radix, stop) {
+        Some(value) => Found::Digit(stop, value),
+        None => Found::End(stop),
+    }
+}
+
+// The next digit of the numeral at or after `position`, or the numeral's end.
+#[inline(always)]
 pub(crate) fn seek(
     bytes: &[u8],
     format: &NumberFormat,
@@ -96,17 +138,11 @@ pub(crate) fn seek(
     requires at_run_start { IsAtRunStart format.now bytes.now start position }
     ensures { Finds format.now radix bytes.now start position result }
 {
-    let place = if separator_at(bytes, format, position) {
-        let stop = run_stop(bytes, format, position);
-        if !run_passes(bytes, format, radix, start, position, stop) {
-            return Found::End(position);
-        }
-        stop
-    } else {
-        position
-    };
-    match digit_at(bytes, radix, place) {
-        Some(value) => Found::Digit(place, value),
-        None => Found::End(place),
+    if let Some(value) = digit_at(bytes, radix, position) {
+        return Found::Digit(position, value);
     }
+    if format.digit_separator().is_none() {
+        return Found::End(position);
+    }
+    seek_behind_run(bytes, *format, radix, start, position)
 }

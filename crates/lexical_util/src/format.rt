@@ -1,15 +1,26 @@
-//! Formats: which texts a parser admits.
+//! Formats: what a text of an integer may look like.
+//!
+//! A format is made by a [`NumberFormatBuilder`] from [`STANDARD`], field by field, and is then
+//! handed to a parser by reference. The names of the fields are those of the Rust crate
+//! `lexical-util`; a field for floats has no place here.
 
-ghost use Rattle.std.specs.Prelude.{◌≡◌, ◌||◌, is_some, is_none, None};
-ghost use Rattle.lexical_util.specs.Digit.{IsRadix};
+ghost use Rattle.std.specs.Prelude.{◌≡◌, ◌↔◌, ◌||◌, IsTrue, None, is_some};
 ghost use Rattle.lexical_util.specs.Format.{json, standard};
-ghost use Rattle.lexical_util.specs.Validity.{are_alike, fault, is_unfit};
+ghost use Rattle.lexical_util.specs.Validity.{fault};
 
-use crate::digit::char_is_digit;
+mod builder;
+mod validity;
+
 use crate::error::Error;
+pub use builder::NumberFormatBuilder;
 use std::marker::Model;
+use validity::{are_alike, is_unfit};
 
-/// A format.
+/// What a text of an integer may look like: its radix, its punctuation, and what is required or
+/// forbidden.
+///
+/// Two formats are equal where all their fields are. Contracts see a format as the record of its
+/// fields.
 #[derive(Debug, Copy, Clone, PartialEq, Eq)]
 pub struct NumberFormat {
     mantissa_radix: u8,
@@ -24,6 +35,7 @@ pub struct NumberFormat {
     integer_internal_digit_separator: bool,
     integer_trailing_digit_separator: bool,
     integer_consecutive_digit_separator: bool,
+    // These stand last because the derived equality is proved in this order alone.
     digit_separator: Option<u8>,
     base_prefix: Option<u8>,
     base_suffix: Option<u8>,
@@ -34,12 +46,44 @@ impl Model for NumberFormat {
 
     ghost Value = { Format };
 
-    ghost view = { λ a. record { mantissa_radix = a.mantissa_radix; digit_separator = a.digit_separator; base_prefix = a.base_prefix; base_suffix = a.base_suffix; case_sensitive_base_prefix = a.case_sensitive_base_prefix; case_sensitive_base_suffix = a.case_sensitive_base_suffix; required_integer_digits = a.required_integer_digits; required_mantissa_digits = a.required_mantissa_digits; no_positive_mantissa_sign = a.no_positive_mantissa_sign; required_mantissa_sign = a.required_mantissa_sign; no_integer_leading_zeros = a.no_integer_leading_zeros; integer_leading_digit_separator = a.integer_leading_digit_separator; integer_internal_digit_separator = a.integer_internal_digit_separator; integer_trailing_digit_separator = a.integer_trailing_digit_separator; integer_consecutive_digit_separator = a.integer_consecutive_digit_separator } };
+    ghost view = { λ a. record {
+      mantissa_radix = a.mantissa_radix;
+      digit_separator = a.digit_separator;
+      base_prefix = a.base_prefix;
+      base_suffix = a.base_suffix;
+      case_sensitive_base_prefix = a.case_sensitive_base_prefix;
+      case_sensitive_base_suffix = a.case_sensitive_base_suffix;
+      required_integer_digits = a.required_integer_digits;
+      required_mantissa_digits = a.required_mantissa_digits;
+      no_positive_mantissa_sign = a.no_positive_mantissa_sign;
+      required_mantissa_sign = a.required_mantissa_sign;
+      no_integer_leading_zeros = a.no_integer_leading_zeros;
+      integer_leading_digit_separator = a.integer_leading_digit_separator;
+      integer_internal_digit_separator = a.integer_internal_digit_separator;
+      integer_trailing_digit_separator = a.integer_trailing_digit_separator;
+      integer_consecutive_digit_separator = a.integer_consecutive_digit_separator;
+    } };
 
-    ghost inverse = { λ a. record { mantissa_radix = a.mantissa_radix; digit_separator = a.digit_separator; base_prefix = a.base_prefix; base_suffix = a.base_suffix; case_sensitive_base_prefix = a.case_sensitive_base_prefix; case_sensitive_base_suffix = a.case_sensitive_base_suffix; required_integer_digits = a.required_integer_digits; required_mantissa_digits = a.required_mantissa_digits; no_positive_mantissa_sign = a.no_positive_mantissa_sign; required_mantissa_sign = a.required_mantissa_sign; no_integer_leading_zeros = a.no_integer_leading_zeros; integer_leading_digit_separator = a.integer_leading_digit_separator; integer_internal_digit_separator = a.integer_internal_digit_separator; integer_trailing_digit_separator = a.integer_trailing_digit_separator; integer_consecutive_digit_separator = a.integer_consecutive_digit_separator } };
+    ghost inverse = { λ a. record {
+      mantissa_radix = a.mantissa_radix;
+      digit_separator = a.digit_separator;
+      base_prefix = a.base_prefix;
+      base_suffix = a.base_suffix;
+      case_sensitive_base_prefix = a.case_sensitive_base_prefix;
+      case_sensitive_base_suffix = a.case_sensitive_base_suffix;
+      required_integer_digits = a.required_integer_digits;
+      required_mantissa_digits = a.required_mantissa_digits;
+      no_positive_mantissa_sign = a.no_positive_mantissa_sign;
+      required_mantissa_sign = a.required_mantissa_sign;
+      no_integer_leading_zeros = a.no_integer_leading_zeros;
+      integer_leading_digit_separator = a.integer_leading_digit_separator;
+      integer_internal_digit_separator = a.integer_internal_digit_separator;
+      integer_trailing_digit_separator = a.integer_trailing_digit_separator;
+      integer_consecutive_digit_separator = a.integer_consecutive_digit_separator;
+    } };
 }
 
-/// Radix 10, and a digit is asked for.
+/// Plain numerals in radix 10: an optional sign, and then at least one digit.
 pub const STANDARD: NumberFormat = NumberFormat {
     mantissa_radix: 10,
     digit_separator: None,
@@ -58,158 +102,192 @@ pub const STANDARD: NumberFormat = NumberFormat {
     integer_consecutive_digit_separator: false,
 };
 
-/// The integers of JSON.
+/// Integers as JSON writes them (RFC 8259, section 6): [`STANDARD`] without a plus, and without a zero
+/// in front of another digit. Digits are required twice over, as integer and as mantissa digits.
 pub const JSON: NumberFormat = NumberFormat {
-    mantissa_radix: 10,
-    digit_separator: None,
-    base_prefix: None,
-    base_suffix: None,
-    case_sensitive_base_prefix: false,
-    case_sensitive_base_suffix: false,
     required_integer_digits: true,
-    required_mantissa_digits: true,
     no_positive_mantissa_sign: true,
-    required_mantissa_sign: false,
     no_integer_leading_zeros: true,
-    integer_leading_digit_separator: false,
-    integer_internal_digit_separator: false,
-    integer_trailing_digit_separator: false,
-    integer_consecutive_digit_separator: false,
+    ..STANDARD
 };
 
-// Whether a mark is set to a byte that may not mark anything.
-fn is_unfit(mark: Option<u8>, radix: u32) -> bool
-    requires { IsRadix radix }
-    ensures { result ≡ is_unfit radix mark }
+// The fields of the constants: a clause can't name a constant of this type, so it stands here.
+fn ready_made() -> (NumberFormat, NumberFormat)
+    ensures { result ≡ (standard, json) }
 {
-    match mark {
-        None => false,
-        Some(byte) => {
-            !byte.is_ascii() || byte == b'+' || byte == b'-' || char_is_digit(byte, radix)
-        }
-    }
-}
-
-// Whether two marks are set to one byte but for ASCII case.
-fn is_clash(a: Option<u8>, b: Option<u8>) -> bool
-    ensures { result ≡ are_alike a b }
-{
-    match (a, b) {
-        (Some(a), Some(b)) => a.eq_ignore_ascii_case(&b),
-        _ => false,
-    }
+    (STANDARD, JSON)
 }
 
 impl NumberFormat {
+    /// The radix of the digits, from 2 to 36 where the format is valid.
+    #[inline(always)]
     pub fn mantissa_radix(&self) -> u32
         ensures { result ≡ self.now.mantissa_radix }
     {
         u32::from(self.mantissa_radix)
     }
 
+    /// The radix of the digits, as `mantissa_radix`.
+    #[inline(always)]
     pub fn radix(&self) -> u32
         ensures { result ≡ self.now.mantissa_radix }
     {
-        u32::from(self.mantissa_radix)
+        self.mantissa_radix()
     }
 
+    /// The byte that may stand between digits and counts for nothing there, as `_` in `1_000`.
+    ///
+    /// It is matched exactly, also where it is a letter. The four `integer_` flags say where it may
+    /// stand; with none of them it may stand nowhere, and without a separator they have no effect.
+    #[inline(always)]
     pub fn digit_separator(&self) -> Option<u8>
         ensures { result ≡ self.now.digit_separator }
     {
         self.digit_separator
     }
 
+    /// The letter of the prefix: `x` lets a text begin with `0x`, directly after the sign.
+    ///
+    /// A text may leave the prefix out. It doesn't change the radix.
+    #[inline(always)]
     pub fn base_prefix(&self) -> Option<u8>
         ensures { result ≡ self.now.base_prefix }
     {
         self.base_prefix
     }
 
+    /// The byte that may stand behind the last digit, as `h` in `1Fh`.
+    ///
+    /// A text may leave the suffix out. It is read once, and only where there is a digit before it.
+    #[inline(always)]
     pub fn base_suffix(&self) -> Option<u8>
         ensures { result ≡ self.now.base_suffix }
     {
         self.base_suffix
     }
 
-    pub fn case_sensitive_base_prefix(&self) -> bool
-        ensures { result ≡ self.now.case_sensitive_base_prefix }
-    {
-        self.case_sensitive_base_prefix
-    }
-
-    pub fn case_sensitive_base_suffix(&self) -> bool
-        ensures { result ≡ self.now.case_sensitive_base_suffix }
-    {
-        self.case_sensitive_base_suffix
-    }
-
-    pub fn required_integer_digits(&self) -> bool
-        ensures { result ≡ self.now.required_integer_digits }
-    {
-        self.required_integer_digits
-    }
-
-    pub fn required_mantissa_digits(&self) -> bool
-        ensures { result ≡ self.now.required_mantissa_digits }
-    {
-        self.required_mantissa_digits
-    }
-
-    pub fn no_positive_mantissa_sign(&self) -> bool
-        ensures { result ≡ self.now.no_positive_mantissa_sign }
-    {
-        self.no_positive_mantissa_sign
-    }
-
-    pub fn required_mantissa_sign(&self) -> bool
-        ensures { result ≡ self.now.required_mantissa_sign }
-    {
-        self.required_mantissa_sign
-    }
-
-    pub fn no_integer_leading_zeros(&self) -> bool
-        ensures { result ≡ self.now.no_integer_leading_zeros }
-    {
-        self.no_integer_leading_zeros
-    }
-
-    pub fn integer_leading_digit_separator(&self) -> bool
-        ensures { result ≡ self.now.integer_leading_digit_separator }
-    {
-        self.integer_leading_digit_separator
-    }
-
-    pub fn integer_internal_digit_separator(&self) -> bool
-        ensures { result ≡ self.now.integer_internal_digit_separator }
-    {
-        self.integer_internal_digit_separator
-    }
-
-    pub fn integer_trailing_digit_separator(&self) -> bool
-        ensures { result ≡ self.now.integer_trailing_digit_separator }
-    {
-        self.integer_trailing_digit_separator
-    }
-
-    pub fn integer_consecutive_digit_separator(&self) -> bool
-        ensures { result ≡ self.now.integer_consecutive_digit_separator }
-    {
-        self.integer_consecutive_digit_separator
-    }
-
+    /// Whether a prefix is set.
+    #[inline(always)]
     pub fn has_base_prefix(&self) -> bool
         ensures { result ≡ is_some self.now.base_prefix }
     {
         self.base_prefix.is_some()
     }
 
+    /// Whether the prefix's letter is matched exactly: `x` then doesn't match `X`.
+    #[inline(always)]
+    pub fn case_sensitive_base_prefix(&self) -> bool
+        ensures { result ≡ self.now.case_sensitive_base_prefix }
+    {
+        self.case_sensitive_base_prefix
+    }
+
+    /// Whether the suffix is matched exactly: `h` then doesn't match `H`.
+    #[inline(always)]
+    pub fn case_sensitive_base_suffix(&self) -> bool
+        ensures { result ≡ self.now.case_sensitive_base_suffix }
+    {
+        self.case_sensitive_base_suffix
+    }
+
+    /// Whether digits are required in the integer part. An integer has no other part.
+    #[inline(always)]
+    pub fn required_integer_digits(&self) -> bool
+        ensures { result ≡ self.now.required_integer_digits }
+    {
+        self.required_integer_digits
+    }
+
+    /// Whether digits are required at all, as [`STANDARD`] does.
+    #[inline(always)]
+    pub fn required_mantissa_digits(&self) -> bool
+        ensures { result ≡ self.now.required_mantissa_digits }
+    {
+        self.required_mantissa_digits
+    }
+
+    /// Whether a text without digits is refused (`Error::Empty`): either of `required_integer_digits`
+    /// and `required_mantissa_digits` is set.
+    #[inline(always)]
     pub fn required_digits(&self) -> bool
         ensures { result ≡ (self.now.required_integer_digits || self.now.required_mantissa_digits) }
     {
         self.required_integer_digits || self.required_mantissa_digits
     }
 
-    /// The first rule that the format breaks.
+    /// Whether a text that begins with `+` is refused (`Error::InvalidPositiveSign`).
+    #[inline(always)]
+    pub fn no_positive_mantissa_sign(&self) -> bool
+        ensures { result ≡ self.now.no_positive_mantissa_sign }
+    {
+        self.no_positive_mantissa_sign
+    }
+
+    /// Whether a text without a sign is refused (`Error::MissingSign`).
+    ///
+    /// For an unsigned type `-` is no sign.
+    #[inline(always)]
+    pub fn required_mantissa_sign(&self) -> bool
+        ensures { result ≡ self.now.required_mantissa_sign }
+    {
+        self.required_mantissa_sign
+    }
+
+    /// Whether a zero in front of another digit is refused (`Error::InvalidLeadingZeros`): `01` is,
+    /// `0` isn't. Zeros after a prefix are never refused.
+    #[inline(always)]
+    pub fn no_integer_leading_zeros(&self) -> bool
+        ensures { result ≡ self.now.no_integer_leading_zeros }
+    {
+        self.no_integer_leading_zeros
+    }
+
+    /// Whether separators may stand before the first digit: `_12`.
+    #[inline(always)]
+    pub fn integer_leading_digit_separator(&self) -> bool
+        ensures { result ≡ self.now.integer_leading_digit_separator }
+    {
+        self.integer_leading_digit_separator
+    }
+
+    /// Whether separators may stand between two digits: `1_2`.
+    #[inline(always)]
+    pub fn integer_internal_digit_separator(&self) -> bool
+        ensures { result ≡ self.now.integer_internal_digit_separator }
+    {
+        self.integer_internal_digit_separator
+    }
+
+    /// Whether separators may stand behind the last digit: `12_`.
+    #[inline(always)]
+    pub fn integer_trailing_digit_separator(&self) -> bool
+        ensures { result ≡ self.now.integer_trailing_digit_separator }
+    {
+        self.integer_trailing_digit_separator
+    }
+
+    /// Whether separators may stand next to one another: `1__2`. Where this isn't set, two in a row
+    /// may stand nowhere, whatever the other three flags are.
+    #[inline(always)]
+    pub fn integer_consecutive_digit_separator(&self) -> bool
+        ensures { result ≡ self.now.integer_consecutive_digit_separator }
+    {
+        self.integer_consecutive_digit_separator
+    }
+
+    /// The first rule that the format breaks, and `None` where it is valid.
+    ///
+    /// 1. The radix is from 2 to 36; else `InvalidMantissaRadix`.
+    /// 2. A separator is an ASCII byte, and not `+`, `-` or a digit of the radix; else
+    ///    `InvalidDigitSeparator`.
+    /// 3. A prefix is such a byte; else `InvalidBasePrefix`.
+    /// 4. A suffix is such a byte; else `InvalidBaseSuffix`.
+    /// 5. No two of the three are alike, that is the same byte or the same letter in two cases; else
+    ///    `InvalidPunctuation`.
+    ///
+    /// The first rule is that of the Rust crate `lexical-util`; the others, and which fault each has,
+    /// are this crate's own.
+    #[inline(always)]
     pub fn error(&self) -> Option<Error>
         ensures { result ≡ fault self.now }
     {
@@ -222,9 +300,9 @@ impl NumberFormat {
             Some(Error::InvalidBasePrefix)
         } else if is_unfit(self.base_suffix, radix) {
             Some(Error::InvalidBaseSuffix)
-        } else if is_clash(self.digit_separator, self.base_prefix)
-            || is_clash(self.digit_separator, self.base_suffix)
-            || is_clash(self.base_prefix, self.base_suffix)
+        } else if are_alike(self.digit_separator, self.base_prefix)
+            || are_alike(self.digit_separator, self.base_suffix)
+            || are_alike(self.base_prefix, self.base_suffix)
         {
             Some(Error::InvalidPunctuation)
         } else {
@@ -232,191 +310,11 @@ impl NumberFormat {
         }
     }
 
+    /// Whether the format breaks no rule, so that `error` answers `None`.
+    #[inline(always)]
     pub fn is_valid(&self) -> bool
-        ensures { result ≡ is_none (fault self.now) }
+        ensures { IsTrue result ↔ (fault self.now ≡ None) }
     {
         self.error().is_none()
     }
-}
-
-/// A format that is being made.
-#[derive(Debug, Copy, Clone, PartialEq, Eq)]
-pub struct NumberFormatBuilder {
-    format: NumberFormat,
-}
-
-impl Model for NumberFormatBuilder {
-    ghost use Rattle.lexical_util.specs.Format.{Format};
-
-    ghost Value = { Format };
-
-    ghost view = { λ a. a.format };
-
-    ghost inverse = { λ a. record { format = a } };
-}
-
-impl NumberFormatBuilder {
-    pub fn new() -> Self
-        ensures { result ≡ standard }
-    {
-        NumberFormatBuilder { format: STANDARD }
-    }
-
-    pub fn from_radix(radix: u8) -> NumberFormat
-        ensures { result ≡ record standard { mantissa_radix = radix } }
-    {
-        NumberFormatBuilder::new()
-            .mantissa_radix(radix)
-            .build_unchecked()
-    }
-
-    pub fn binary() -> NumberFormat
-        ensures { result ≡ record standard { mantissa_radix = 2 } }
-    {
-        NumberFormatBuilder::from_radix(2)
-    }
-
-    pub fn mantissa_radix(mut self, value: u8) -> Self
-        ensures { result ≡ record self { mantissa_radix = value } }
-    {
-        self.format.mantissa_radix = value;
-        self
-    }
-
-    pub fn digit_separator(mut self, value: Option<u8>) -> Self
-        ensures { result ≡ record self { digit_separator = value } }
-    {
-        self.format.digit_separator = value;
-        self
-    }
-
-    pub fn base_prefix(mut self, value: Option<u8>) -> Self
-        ensures { result ≡ record self { base_prefix = value } }
-    {
-        self.format.base_prefix = value;
-        self
-    }
-
-    pub fn base_suffix(mut self, value: Option<u8>) -> Self
-        ensures { result ≡ record self { base_suffix = value } }
-    {
-        self.format.base_suffix = value;
-        self
-    }
-
-    pub fn case_sensitive_base_prefix(mut self, value: bool) -> Self
-        ensures { result ≡ record self { case_sensitive_base_prefix = value } }
-    {
-        self.format.case_sensitive_base_prefix = value;
-        self
-    }
-
-    pub fn case_sensitive_base_suffix(mut self, value: bool) -> Self
-        ensures { result ≡ record self { case_sensitive_base_suffix = value } }
-    {
-        self.format.case_sensitive_base_suffix = value;
-        self
-    }
-
-    pub fn required_integer_digits(mut self, value: bool) -> Self
-        ensures { result ≡ record self { required_integer_digits = value } }
-    {
-        self.format.required_integer_digits = value;
-        self
-    }
-
-    pub fn required_mantissa_digits(mut self, value: bool) -> Self
-        ensures { result ≡ record self { required_mantissa_digits = value } }
-    {
-        self.format.required_mantissa_digits = value;
-        self
-    }
-
-    pub fn no_positive_mantissa_sign(mut self, value: bool) -> Self
-        ensures { result ≡ record self { no_positive_mantissa_sign = value } }
-    {
-        self.format.no_positive_mantissa_sign = value;
-        self
-    }
-
-    pub fn required_mantissa_sign(mut self, value: bool) -> Self
-        ensures { result ≡ record self { required_mantissa_sign = value } }
-    {
-        self.format.required_mantissa_sign = value;
-        self
-    }
-
-    pub fn no_integer_leading_zeros(mut self, value: bool) -> Self
-        ensures { result ≡ record self { no_integer_leading_zeros = value } }
-    {
-        self.format.no_integer_leading_zeros = value;
-        self
-    }
-
-    pub fn integer_leading_digit_separator(mut self, value: bool) -> Self
-        ensures { result ≡ record self { integer_leading_digit_separator = value } }
-    {
-        self.format.integer_leading_digit_separator = value;
-        self
-    }
-
-    pub fn integer_internal_digit_separator(mut self, value: bool) -> Self
-        ensures { result ≡ record self { integer_internal_digit_separator = value } }
-    {
-        self.format.integer_internal_digit_separator = value;
-        self
-    }
-
-    pub fn integer_trailing_digit_separator(mut self, value: bool) -> Self
-        ensures { result ≡ record self { integer_trailing_digit_separator = value } }
-    {
-        self.format.integer_trailing_digit_separator = value;
-        self
-    }
-
-    pub fn integer_consecutive_digit_separator(mut self, value: bool) -> Self
-        ensures { result ≡ record self { integer_consecutive_digit_separator = value } }
-    {
-        self.format.integer_consecutive_digit_separator = value;
-        self
-    }
-
-    pub fn required_digits(self, value: bool) -> Self
-        ensures { result ≡ record self { required_integer_digits = value; required_mantissa_digits = value } }
-    {
-        self.required_integer_digits(value)
-            .required_mantissa_digits(value)
-    }
-
-    pub fn is_valid(&self) -> bool
-        ensures { result ≡ is_none (fault self.now) }
-    {
-        self.format.is_valid()
-    }
-
-    pub fn build_unchecked(&self) -> NumberFormat
-        ensures { result ≡ self.now }
-    {
-        self.format
-    }
-
-    pub fn build_strict(&self) -> NumberFormat
-        requires { fault self.now ≡ None }
-        ensures { result ≡ self.now }
-    {
-        self.format
-    }
-}
-
-// The constants hold the fields that are said of them.
-pub fn standard_format() -> NumberFormat
-    ensures { result ≡ standard }
-{
-    STANDARD
-}
-
-pub fn json_format() -> NumberFormat
-    ensures { result ≡ json }
-{
-    JSON
 }

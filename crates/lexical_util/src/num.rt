@@ -1,14 +1,21 @@
-//! The integer types, as contracts see them: whole numbers.
+//! The integer types, which contracts see as whole numbers.
 
 ghost use Rattle.std.specs.Prelude.{◌≡◌, ◌↔◌, ◌≤ℤ◌, ℕ, ℤ, Bool, Some, IsTrue, pos};
 ghost use Rattle.std.specs.Option.{option_map};
 ghost use Rattle.std.specs.Ordering.{int_cmp};
 ghost use Rattle.lexical_util.specs.Digit.{IsRadix};
-ghost use Rattle.lexical_util.specs.Number.{HasRoom, HasSign, IsNumber, IsWidth, checked, integer_type, mul_add, overflow_digits};
+ghost use Rattle.lexical_util.specs.Number.{HasRoom, HasSign, IsNumber, IsWidth};
+ghost use Rattle.lexical_util.specs.Number.{checked, integer_type, mul_add, overflow_digits};
 
 mod impls;
 
-/// A primitive integer type.
+/// An integer type whose values stand for whole numbers.
+///
+/// Its numbers are 0 to `2^BITS - 1`, or `-2^(BITS-1)` to `2^(BITS-1) - 1` where it is signed. The
+/// twelve primitive types implement it; `usize` and `isize` are 64 bits wide.
+///
+/// A function with this bound is proved once, from the contracts and the laws that stand here, for
+/// every type that keeps them.
 pub trait Integer: Copy + Eq + Ord {
     // The whole number that a value stands for.
     ghost number: { Self → ℤ };
@@ -19,37 +26,55 @@ pub trait Integer: Copy + Eq + Ord {
 
     ghost IS_SIGNED: { Bool };
 
-    /// 0.
+    /// The value of the number 0.
     const ZERO: Self;
 
-    /// The width.
+    /// The width in bits: 8, 16, 32, 64 or 128.
     const BITS: u32;
 
     /// Whether the type has numbers below 0.
     const IS_SIGNED: bool;
 
-    /// The value `v`.
+    /// The value of the number `v`, which has to be a number of the type.
+    ///
+    /// Numbers up to 127 are numbers of every type, and so are all digits and all radixes.
     fn from_u32(v: u32) -> Self
         requires { IsNumber (integer_type BITS IS_SIGNED) (pos v) }
         ensures { number result ≡ pos v };
 
-    /// `self * scale + add`, or `self * scale - add` where `negative`.
+    /// One more digit of a numeral: `self * scale + add`, or `self * scale - add` where `negative`.
+    ///
+    /// `scale` has to be at least 1 and `add` at least 0; `self` has to be at most 0 where
+    /// `negative` and at least 0 elsewhere; and the result has to be a number of the type. So a
+    /// negative numeral is summed downwards, and reaches the type's least number: with the scale 10
+    /// the `i8` -12 and the digit 8 give -128.
     fn mul_add(self, scale: Self, add: Self, negative: bool) -> Self
         requires scale { pos 1 ≤ℤ number scale }
         requires add { pos 0 ≤ℤ number add }
         requires sign { HasSign negative (number self) }
-        requires fits { IsNumber (integer_type BITS IS_SIGNED) (mul_add negative (number self) (number scale) (number add)) }
+        requires fits { IsNumber (integer_type BITS IS_SIGNED)
+            (mul_add negative (number self) (number scale) (number add)) }
         ensures { number result ≡ mul_add negative (number self) (number scale) (number add) };
 
-    /// `self * scale + add`, or `self * scale - add` where `negative`, and `None` where the type
-    /// does not have that number.
+    /// `mul_add` where its result is a number of the type, and `None` elsewhere.
+    ///
+    /// `scale`, `add` and `self` have to be as for `mul_add`. With the scale 10 the `u8` 25 and the
+    /// digit 5 give `Some(255)`, and 25 and 6 give `None`.
     fn checked_mul_add(self, scale: Self, add: Self, negative: bool) -> Option<Self>
         requires scale { pos 1 ≤ℤ number scale }
         requires add { pos 0 ≤ℤ number add }
         requires sign { HasSign negative (number self) }
-        ensures { option_map number result ≡ checked (integer_type BITS IS_SIGNED) (mul_add negative (number self) (number scale) (number add)) };
+        ensures { option_map number result ≡ checked (integer_type BITS IS_SIGNED)
+            (mul_add negative (number self) (number scale) (number add)) };
 
-    /// How many digits of the radix every number of so many digits has room for in the type.
+    /// How many digits of the radix may be joined by `mul_add` with no test, since no numeral of so
+    /// many digits leaves the type, with a minus neither where the type is signed.
+    ///
+    /// The radix has to be from 2 to 36. Up to 16 it is two digits a byte, less one where the type
+    /// is signed, and above 16 one digit a byte: `u8` has 2 for 16 and 1 for 17, `i8` has 1 for
+    /// both. It is no greatest such number: in radix 10 `u64` has room for 19 digits, and 16 is
+    /// answered. The rule is that of the Rust crate `lexical-parse-integer`.
+    #[inline(always)]
     fn overflow_digits(radix: u32) -> usize
         requires { IsRadix radix }
         ensures value { result ≡ overflow_digits (integer_type BITS IS_SIGNED) radix }
@@ -70,7 +95,7 @@ pub trait Integer: Copy + Eq + Ord {
 
     ghost cmp_law: { (a b : Self) → Self.cmp a b ≡ int_cmp (number a) (number b) };
 
-    // Each value stands for a number of its own.
+    // No two values stand for one number.
     ghost injective_law: { (a b : Self) → number a ≡ number b → a ≡ b };
 
     ghost zero_law: { number ZERO ≡ pos 0 };

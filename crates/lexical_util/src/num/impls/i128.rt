@@ -22,11 +22,12 @@ impl Integer for i128 {
 
     const IS_SIGNED: bool = true;
 
+    #[inline(always)]
     fn from_u32(v: u32) -> i128 {
         v as i128
     }
 
-    #[tactic(auto, using(crate::proofs::Signed::step, crate::proofs::Signed::product_fits, crate::proofs::Signed::difference_fits, crate::proofs::Signed::sum_fits, crate::proofs::Signed::difference_is, crate::proofs::Signed::sum_is))]
+    #[inline(always)]
     fn mul_add(self, scale: i128, add: i128, negative: bool) -> i128 {
         let product = self * scale;
         if negative {
@@ -36,6 +37,7 @@ impl Integer for i128 {
         }
     }
 
+    #[inline(always)]
     fn checked_mul_add(self, scale: i128, add: i128, negative: bool) -> Option<i128> {
         let product = self.checked_mul(scale)?;
         if negative {

@@ -22,11 +22,12 @@ impl Integer for i16 {
 
     const IS_SIGNED: bool = true;
 
+    #[inline(always)]
     fn from_u32(v: u32) -> i16 {
         v as i16
     }
 
-    #[tactic(auto, using(crate::proofs::Signed::step, crate::proofs::Signed::product_fits, crate::proofs::Signed::difference_fits, crate::proofs::Signed::sum_fits, crate::proofs::Signed::difference_is, crate::proofs::Signed::sum_is))]
+    #[inline(always)]
     fn mul_add(self, scale: i16, add: i16, negative: bool) -> i16 {
         let product = self * scale;
         if negative {
@@ -36,6 +37,7 @@ impl Integer for i16 {
         }
     }
 
+    #[inline(always)]
     fn checked_mul_add(self, scale: i16, add: i16, negative: bool) -> Option<i16> {
         let product = self.checked_mul(scale)?;
         if negative {

@@ -22,10 +22,12 @@ impl Integer for u128 {
 
     const IS_SIGNED: bool = false;
 
+    #[inline(always)]
     fn from_u32(v: u32) -> u128 {
         v as u128
     }
 
+    #[inline(always)]
     fn mul_add(self, scale: u128, add: u128, negative: bool) -> u128 {
         let product = self * scale;
         if negative {
@@ -35,6 +37,7 @@ impl Integer for u128 {
         }
     }
 
+    #[inline(always)]
     fn checked_mul_add(self, scale: u128, add: u128, negative: bool) -> Option<u128> {
         let product = self.checked_mul(scale)?;
         if negative {

@@ -22,10 +22,12 @@ impl Integer for u16 {
 
     const IS_SIGNED: bool = false;
 
+    #[inline(always)]
     fn from_u32(v: u32) -> u16 {
         v as u16
     }
 
+    #[inline(always)]
     fn mul_add(self, scale: u16, add: u16, negative: bool) -> u16 {
         let product = self * scale;
         if negative {
@@ -35,6 +37,7 @@ impl Integer for u16 {
         }
     }
 
+    #[inline(always)]
     fn checked_mul_add(self, scale: u16, add: u16, negative: bool) -> Option<u16> {
         let product = self.checked_mul(scale)?;
         if negative {

@@ -22,10 +22,12 @@ impl Integer for u32 {
 
     const IS_SIGNED: bool = false;
 
+    #[inline(always)]
     fn from_u32(v: u32) -> u32 {
         v
     }
 
+    #[inline(always)]
     fn mul_add(self, scale: u32, add: u32, negative: bool) -> u32 {
         let product = self * scale;
         if negative {
@@ -35,6 +37,7 @@ impl Integer for u32 {
         }
     }
 
+    #[inline(always)]
     fn checked_mul_add(self, scale: u32, add: u32, negative: bool) -> Option<u32> {
         let product = self.checked_mul(scale)?;
         if negative {

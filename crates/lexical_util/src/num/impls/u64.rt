@@ -22,10 +22,12 @@ impl Integer for u64 {
 
     const IS_SIGNED: bool = false;
 
+    #[inline(always)]
     fn from_u32(v: u32) -> u64 {
         v as u64
     }
 
+    #[inline(always)]
     fn mul_add(self, scale: u64, add: u64, negative: bool) -> u64 {
         let product = self * scale;
         if negative {
@@ -35,6 +37,7 @@ impl Integer for u64 {
         }
     }
 
+    #[inline(always)]
     fn checked_mul_add(self, scale: u64, add: u64, negative: bool) -> Option<u64> {
         let product = self.checked_mul(scale)?;
         if negative {

@@ -22,10 +22,12 @@ impl Integer for u8 {
 
     const IS_SIGNED: bool = false;
 
+    #[inline(always)]
     fn from_u32(v: u32) -> u8 {
         v as u8
     }
 
+    #[inline(always)]
     fn mul_add(self, scale: u8, add: u8, negative: bool) -> u8 {
         let product = self * scale;
         if negative {
@@ -35,6 +37,7 @@ impl Integer for u8 {
         }
     }
 
+    #[inline(always)]
     fn checked_mul_add(self, scale: u8, add: u8, negative: bool) -> Option<u8> {
         let product = self.checked_mul(scale)?;
         if negative {

@@ -22,10 +22,12 @@ impl Integer for usize {
 
     const IS_SIGNED: bool = false;
 
+    #[inline(always)]
     fn from_u32(v: u32) -> usize {
         v as usize
     }
 
+    #[inline(always)]
     fn mul_add(self, scale: usize, add: usize, negative: bool) -> usize {
         let product = self * scale;
         if negative {
@@ -35,6 +37,7 @@ impl Integer for usize {
         }
     }
 
+    #[inline(always)]
     fn checked_mul_add(self, scale: usize, add: usize, negative: bool) -> Option<usize> {
         let product = self.checked_mul(scale)?;
         if negative {

@@ -1,0 +1,38 @@
+use Rattle.std.proofs.Common.{◌≡◌, ◌+◌, ap, arith}
+use Rattle.std.specs.Prelude.{ℤ, pos}
+use Rattle.lexical_parse_integer.specs.CursorView.{CursorView}
+use Rattle.lexical_util.specs.Number.{mul_add}
+use Rattle.lexical_util.proofs.Room.{small_is_number}
+use Rattle.lexical_parse_integer.proofs.Taking.{goes_on_digit}
+use Rattle.lexical_parse_integer.proofs.Untested.{JoinsDigit, digit_small, joins_digit}
+use Rattle.lexical_parse_integer.proofs.algorithm.digits.read_untested.Goals as goal
+use Rattle.lexical_parse_integer.proofs.algorithm.digits.read_untested.Given.{Over}
+
+pub from_u32-requires : goal.from_u32-requires
+from_u32-requires g c =
+    small_is_number _ _ c.in-Some.digit g.met.T.Integer.width_law
+    (digit_small c.args.c.now c.loop-radix.c c.next_digit.new.self c.in-Some.digit c.requires.sound c.loop-radix.invariant.goes_on c.in-Some.ensures.step)
+
+joined : (g : Over) (c : goal.In-Some g) (digit : ℤ) → digit ≡ pos c.in-Some.digit → JoinsDigit g.T.Integer.BITS g.T.Integer.IS_SIGNED c.args.negative c.args.c.now c.next_digit.new.self (mul_add c.args.negative (g.T.Integer.number c.loop-radix.value) (g.T.Integer.number c.from_u32-radix.result) digit)
+joined g c digit is_digit =
+    let i = c.loop-radix.invariant in
+    let count = c.digits.ensures in
+    joins_digit _ _ c.args.negative c.args.c.now c.loop-radix.c c.next_digit.new.self c.args.most c.in-Some.digit _ _ _
+    c.requires.sound i.goes_on c.in-Some.ensures.step c.requires.room c.requires.minus (omega (arith, c.loop-radix-test.true)) i.reads i.radix is_digit
+
+pub mul_add-value-requires-clause-fits : goal.mul_add-value-requires-clause-fits
+mul_add-value-requires-clause-fits g c = (joined g c.before _ c.from_u32.ensures).fits
+
+pub loop-radix-preserved : goal.loop-radix-preserved
+loop-radix-preserved g c =
+    let i = c.loop-radix.invariant in
+    let digits : c.next_digit.new.self.digits ≡ c.loop-radix.c.digits + 1 = ap (λ (v : CursorView). v.digits) c.in-Some.ensures.step.after in
+    let turns : c.next_digit.new.self.turns ≡ c.loop-radix.c.turns + 1 = ap (λ (v : CursorView). v.turns) c.in-Some.ensures.step.after in
+    let before = i.turns in
+    record {
+      goes_on = goes_on_digit c.args.c.now c.loop-radix.c c.next_digit.new.self c.in-Some.digit i.goes_on c.in-Some.ensures.step c.in-Some.ensures.sound;
+      reads = rw c.mul_add-value.ensures (joined g c.before.before _ c.from_u32.ensures).reads;
+      turns = omega arith;
+      radix = i.radix;
+      sign = i.sign;
+    }

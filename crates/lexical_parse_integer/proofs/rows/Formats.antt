@@ -1,0 +1,182 @@
+-- Worked rows: formats, and the fault of the first rule that one breaks.
+-- Written by tools/rows.py from tools/rows.txt: make rows writes it anew.
+use Rattle.std.specs.Prelude.{◌≡◌, codes, Some, None, true, false, Err}
+use Rattle.std.proofs.Common.{refl}
+use Rattle.lexical_util.specs.declared.error.Error.TheVariants.{InvalidMantissaRadix, InvalidDigitSeparator, InvalidBasePrefix, InvalidBaseSuffix, InvalidPunctuation}
+use Rattle.lexical_util.specs.Format.{standard, json}
+use Rattle.lexical_util.specs.Number.{IntegerType, integer_type}
+use Rattle.lexical_util.specs.Validity.{fault}
+use Rattle.lexical_parse_integer.specs.Affixes.{is_affix, matches, numeral_stop, prefix_at, suffix_at}
+use Rattle.lexical_parse_integer.specs.Grammar.{complete, complete_if_valid, partial, partial_if_valid, range_fault}
+use Rattle.lexical_parse_integer.specs.Head.{head_of, sign}
+use Rattle.lexical_parse_integer.specs.Numeral.{numeral}
+use Rattle.lexical_parse_integer.specs.Runs.{are_same, begin_of, belongs, digit_at, digits_between, end_of, flag_for, run_passes, separator_at}
+
+abbrev u8 : IntegerType
+u8 = integer_type 8 false
+
+abbrev i32 : IntegerType
+i32 = integer_type 32 true
+
+-- ---- a radix is one from 2 to 36, and this rule is the first
+
+broken_radix_1 : fault (record standard { mantissa_radix = 0 }) ≡ Some InvalidMantissaRadix
+broken_radix_1 = refl
+
+broken_radix_2 : fault (record standard { mantissa_radix = 1 }) ≡ Some InvalidMantissaRadix
+broken_radix_2 = refl
+
+broken_radix_3 : fault (record standard { mantissa_radix = 37 }) ≡ Some InvalidMantissaRadix
+broken_radix_3 = refl
+
+broken_radix_4 : fault (record standard { mantissa_radix = 1; digit_separator = Some 43 }) ≡ Some InvalidMantissaRadix
+broken_radix_4 = refl
+
+broken_radix_5 : fault (record standard { mantissa_radix = 37; base_prefix = Some 43 }) ≡ Some InvalidMantissaRadix
+broken_radix_5 = refl
+
+broken_radix_6 : fault (record standard { mantissa_radix = 0; base_suffix = Some 45 }) ≡ Some InvalidMantissaRadix
+broken_radix_6 = refl
+
+broken_radix_7 : fault (record standard { mantissa_radix = 1; base_prefix = Some 120; base_suffix = Some 88 }) ≡ Some InvalidMantissaRadix
+broken_radix_7 = refl
+
+broken_radix_8 : complete_if_valid (record standard { mantissa_radix = 1 }) u8 (codes "0") ≡ Err InvalidMantissaRadix
+unfolding complete partial numeral head_of sign range_fault begin_of digit_at are_same separator_at flag_for run_passes belongs end_of digits_between matches is_affix prefix_at suffix_at numeral_stop
+broken_radix_8 = refl
+
+broken_radix_9 : partial_if_valid (record standard { mantissa_radix = 1 }) u8 (codes "0") ≡ Err InvalidMantissaRadix
+unfolding complete partial numeral head_of sign range_fault begin_of digit_at are_same separator_at flag_for run_passes belongs end_of digits_between matches is_affix prefix_at suffix_at numeral_stop
+broken_radix_9 = refl
+
+-- ---- a separator is ASCII, no sign, and no digit of the radix
+
+broken_separator_1 : fault (record standard { digit_separator = Some 128 }) ≡ Some InvalidDigitSeparator
+broken_separator_1 = refl
+
+broken_separator_2 : fault (record standard { digit_separator = Some 43 }) ≡ Some InvalidDigitSeparator
+broken_separator_2 = refl
+
+broken_separator_3 : fault (record standard { digit_separator = Some 45 }) ≡ Some InvalidDigitSeparator
+broken_separator_3 = refl
+
+broken_separator_4 : fault (record standard { digit_separator = Some 53 }) ≡ Some InvalidDigitSeparator
+broken_separator_4 = refl
+
+broken_separator_5 : fault (record standard { mantissa_radix = 16; digit_separator = Some 97 }) ≡ Some InvalidDigitSeparator
+broken_separator_5 = refl
+
+broken_separator_6 : fault (record standard { mantissa_radix = 16; digit_separator = Some 70 }) ≡ Some InvalidDigitSeparator
+broken_separator_6 = refl
+
+broken_separator_7 : fault (record standard { digit_separator = Some 43; base_suffix = Some 45 }) ≡ Some InvalidDigitSeparator
+broken_separator_7 = refl
+
+broken_separator_8 : fault (record standard { digit_separator = Some 43; base_prefix = Some 48 }) ≡ Some InvalidDigitSeparator
+broken_separator_8 = refl
+
+broken_separator_9 : fault (record standard { digit_separator = Some 53; base_prefix = Some 120; base_suffix = Some 88 }) ≡ Some InvalidDigitSeparator
+broken_separator_9 = refl
+
+-- ---- so is a prefix
+
+broken_prefix_1 : fault (record standard { base_prefix = Some 48 }) ≡ Some InvalidBasePrefix
+broken_prefix_1 = refl
+
+broken_prefix_2 : fault (record standard { base_prefix = Some 45; base_suffix = Some 57 }) ≡ Some InvalidBasePrefix
+broken_prefix_2 = refl
+
+broken_prefix_3 : fault (record standard { base_prefix = Some 48; digit_separator = Some 120; base_suffix = Some 88 }) ≡ Some InvalidBasePrefix
+broken_prefix_3 = refl
+
+-- ---- so is a suffix
+
+broken_suffix_1 : fault (record standard { base_suffix = Some 57 }) ≡ Some InvalidBaseSuffix
+broken_suffix_1 = refl
+
+broken_suffix_2 : fault (record standard { base_suffix = Some 57; digit_separator = Some 95; base_prefix = Some 95 }) ≡ Some InvalidBaseSuffix
+broken_suffix_2 = refl
+
+-- ---- no two of separator, prefix and suffix are one byte, in either case
+
+broken_punctuation_1 : fault (record standard { base_prefix = Some 120; base_suffix = Some 88 }) ≡ Some InvalidPunctuation
+broken_punctuation_1 = refl
+
+broken_punctuation_2 : fault (record standard { digit_separator = Some 95; base_prefix = Some 95 }) ≡ Some InvalidPunctuation
+broken_punctuation_2 = refl
+
+broken_punctuation_3 : fault (record standard { digit_separator = Some 120; base_suffix = Some 88 }) ≡ Some InvalidPunctuation
+broken_punctuation_3 = refl
+
+-- also where other fields tell the cases apart
+broken_punctuation_4 : fault (record standard { base_prefix = Some 120; base_suffix = Some 88; case_sensitive_base_prefix = true; case_sensitive_base_suffix = true }) ≡ Some InvalidPunctuation
+broken_punctuation_4 = refl
+
+-- ---- formats that break no rule
+
+valid_1 : fault standard ≡ None
+valid_1 = refl
+
+valid_2 : fault json ≡ None
+valid_2 = refl
+
+valid_3 : fault (record standard { mantissa_radix = 2 }) ≡ None
+valid_3 = refl
+
+valid_4 : fault (record standard { mantissa_radix = 36 }) ≡ None
+valid_4 = refl
+
+valid_5 : fault (record standard { digit_separator = Some 0 }) ≡ None
+valid_5 = refl
+
+valid_6 : fault (record standard { integer_internal_digit_separator = true }) ≡ None
+valid_6 = refl
+
+-- 9 is no digit of radix 9
+valid_7 : fault (record standard { mantissa_radix = 9; digit_separator = Some 57 }) ≡ None
+valid_7 = refl
+
+valid_8 : fault (record standard { base_prefix = Some 120; base_suffix = Some 104; digit_separator = Some 95 }) ≡ None
+valid_8 = refl
+
+-- ---- an invalid format is refused before any byte is judged
+
+refused_formats_1 : complete_if_valid (record standard { mantissa_radix = 37; base_prefix = Some 43 }) u8 (codes "256") ≡ Err InvalidMantissaRadix
+unfolding complete partial numeral head_of sign range_fault begin_of digit_at are_same separator_at flag_for run_passes belongs end_of digits_between matches is_affix prefix_at suffix_at numeral_stop
+refused_formats_1 = refl
+
+refused_formats_2 : partial_if_valid (record standard { mantissa_radix = 37; base_prefix = Some 43 }) u8 (codes "256") ≡ Err InvalidMantissaRadix
+unfolding complete partial numeral head_of sign range_fault begin_of digit_at are_same separator_at flag_for run_passes belongs end_of digits_between matches is_affix prefix_at suffix_at numeral_stop
+refused_formats_2 = refl
+
+refused_formats_3 : complete_if_valid (record standard { digit_separator = Some 43; base_prefix = Some 48 }) u8 (codes "+") ≡ Err InvalidDigitSeparator
+unfolding complete partial numeral head_of sign range_fault begin_of digit_at are_same separator_at flag_for run_passes belongs end_of digits_between matches is_affix prefix_at suffix_at numeral_stop
+refused_formats_3 = refl
+
+refused_formats_4 : partial_if_valid (record standard { digit_separator = Some 43; base_prefix = Some 48 }) u8 (codes "+") ≡ Err InvalidDigitSeparator
+unfolding complete partial numeral head_of sign range_fault begin_of digit_at are_same separator_at flag_for run_passes belongs end_of digits_between matches is_affix prefix_at suffix_at numeral_stop
+refused_formats_4 = refl
+
+refused_formats_5 : complete_if_valid (record standard { base_prefix = Some 45; base_suffix = Some 57; no_positive_mantissa_sign = true }) i32 (codes "+1") ≡ Err InvalidBasePrefix
+unfolding complete partial numeral head_of sign range_fault begin_of digit_at are_same separator_at flag_for run_passes belongs end_of digits_between matches is_affix prefix_at suffix_at numeral_stop
+refused_formats_5 = refl
+
+refused_formats_6 : partial_if_valid (record standard { base_prefix = Some 45; base_suffix = Some 57; no_positive_mantissa_sign = true }) i32 (codes "+1") ≡ Err InvalidBasePrefix
+unfolding complete partial numeral head_of sign range_fault begin_of digit_at are_same separator_at flag_for run_passes belongs end_of digits_between matches is_affix prefix_at suffix_at numeral_stop
+refused_formats_6 = refl
+
+refused_formats_7 : complete_if_valid (record standard { base_suffix = Some 57; digit_separator = Some 95; base_prefix = Some 95; required_mantissa_sign = true }) i32 (codes "1") ≡ Err InvalidBaseSuffix
+unfolding complete partial numeral head_of sign range_fault begin_of digit_at are_same separator_at flag_for run_passes belongs end_of digits_between matches is_affix prefix_at suffix_at numeral_stop
+refused_formats_7 = refl
+
+refused_formats_8 : partial_if_valid (record standard { base_suffix = Some 57; digit_separator = Some 95; base_prefix = Some 95; required_mantissa_sign = true }) i32 (codes "1") ≡ Err InvalidBaseSuffix
+unfolding complete partial numeral head_of sign range_fault begin_of digit_at are_same separator_at flag_for run_passes belongs end_of digits_between matches is_affix prefix_at suffix_at numeral_stop
+refused_formats_8 = refl
+
+refused_formats_9 : complete_if_valid (record standard { base_prefix = Some 120; base_suffix = Some 88 }) i32 (codes "0x") ≡ Err InvalidPunctuation
+unfolding complete partial numeral head_of sign range_fault begin_of digit_at are_same separator_at flag_for run_passes belongs end_of digits_between matches is_affix prefix_at suffix_at numeral_stop
+refused_formats_9 = refl
+
+refused_formats_10 : partial_if_valid (record standard { base_prefix = Some 120; base_suffix = Some 88 }) i32 (codes "0x") ≡ Err InvalidPunctuation
+unfolding complete partial numeral head_of sign range_fault begin_of digit_at are_same separator_at flag_for run_passes belongs end_of digits_between matches is_affix prefix_at suffix_at numeral_stop
+refused_formats_10 = refl

@@ -1,0 +1,77 @@
+// Leading zeros, where the format forbids them.
+ghost use Rattle.std.specs.Prelude.{◌≡◌, ◌⊎◌, ◌+◌, ◌≤◌, false, None, Some, nat_lt, IfErr, IfOk, IsNone, OnOk};
+ghost use Rattle.std.specs.Option.{option_or};
+ghost use Rattle.lexical_util.specs.Number.{integer_type};
+ghost use Rattle.lexical_parse_integer.specs.CursorView.{IsSound, numeral_of};
+ghost use Rattle.lexical_parse_integer.specs.Grammar.{range_fault, zero_fault};
+ghost use Rattle.lexical_parse_integer.specs.Numeral.{digit_count};
+ghost use Rattle.lexical_parse_integer.specs.Reading.{GoesOn, Reads};
+
+use crate::algorithm::digits::join_checked;
+use crate::cursor::Cursor;
+use lexical_util::digit::char_is_digit;
+use lexical_util::error::Error;
+use lexical_util::num::Integer;
+use lexical_util::result::Result;
+
+// Whether another digit follows. Where separators may stand before it, it is taken.
+#[inline(always)]
+fn has_more(c: &mut Cursor<'_>) -> bool
+    requires open { c.old.closed ≡ false }
+    requires sound { IsSound c.old }
+    ensures answer { result ≡ nat_lt c.old.digits (digit_count (numeral_of c.old)) }
+    ensures goes_on { result ≡ false → GoesOn c.old c.new }
+    ensures digits { result ≡ false → c.new.digits ≡ c.old.digits }
+    ensures turns { c.new.turns + c.old.digits ≡ c.old.turns + c.new.digits }
+    ensures count { c.old.digits ≤ digit_count (numeral_of c.old) → c.new.digits ≤ digit_count (numeral_of c.old) }
+    ensures stays { IsNone c.old.format.digit_separator → c.new ≡ c.old }
+{
+    if c.is_contiguous() {
+        match c.first() {
+            Some(byte) => char_is_digit(byte, c.radix()),
+            None => false,
+        }
+    } else {
+        c.next_digit().is_some()
+    }
+}
+
+// Takes the first digit, where it may be a zero that no digit may follow. Without a separator it looks
+// first, and takes a zero alone: so a text of digits loses no word to it.
+#[inline(always)]
+pub(crate) fn read_first<T: Integer>(
+    c: &mut Cursor<'_>,
+    negative: bool,
+    is_prefixed: bool,
+) -> Result<T>
+    requires open { c.old.closed ≡ false }
+    requires sound { IsSound c.old }
+    requires none { c.old.digits ≡ 0 }
+    ensures no_zeros { OnOk result (zero_fault c.old.format is_prefixed (numeral_of c.old) ≡ None) }
+    ensures reads { IfOk result (λ value. Reads (integer_type T.BITS T.IS_SIGNED) negative (numeral_of c.old) c.new.digits (T.number value)) }
+    ensures goes_on { OnOk result (GoesOn c.old c.new) }
+    ensures turns { c.new.turns ≡ c.old.turns + c.new.digits }
+    ensures count { c.new.digits ≤ digit_count (numeral_of c.old) }
+    ensures one { IsNone c.old.format.digit_separator → c.new.digits ≤ 1 }
+    ensures lone { IsNone c.old.format.digit_separator → OnOk result ((c.new.digits ≡ 0) ⊎ (digit_count (numeral_of c.old) ≤ 1)) }
+    ensures fault { IfErr result (λ e. option_or (zero_fault c.old.format is_prefixed (numeral_of c.old)) (range_fault (integer_type T.BITS T.IS_SIGNED) negative (numeral_of c.old)) ≡ Some e) }
+{
+    if is_prefixed || !c.format().no_integer_leading_zeros() {
+        return Ok(T::ZERO);
+    }
+    if c.is_contiguous() && c.first() != Some(b'0') {
+        return Ok(T::ZERO);
+    }
+    let digit = match c.next_digit() {
+        Some(digit) => digit,
+        None => return Ok(T::ZERO),
+    };
+    let place = c.cursor() - 1;
+    if digit == 0 {
+        if has_more(c) {
+            return Err(Error::InvalidLeadingZeros(place));
+        }
+        return Ok(T::ZERO);
+    }
+    join_checked::<T>(T::ZERO, digit, c.radix(), place, negative)
+}

@@ -1,0 +1,101 @@
+-- What a format's validity says of its radix, and of the bytes that separator, prefix and suffix match. A byte
+-- matches a mark where it is the same but for ASCII case, and so in particular where it is the mark.
+use Rattle.std.proofs.Common.{◌≡◌, ◌∙◌, ℕ, Bool, true, false, not, is_some, leb, Option, Some, None, if◌then◌else◌, refl, sym, ap, arith}
+use Rattle.std.specs.Prelude.{◌==◌, ◌≢◌}
+use Rattle.std.proofs.lemmas.Bool.{eq-eqb, false≢true, or_parts}
+use Rattle.std.proofs.lemmas.Bool.Decides.{nat_tests}
+use Rattle.lexical_util.specs.declared.error.Error.{Error}
+use Rattle.lexical_util.specs.Digit.{IsRadix, below, digit, digit_value, is_between}
+use Rattle.lexical_util.specs.Format.{Format}
+use Rattle.lexical_util.specs.Validity.{are_alike, fault, has_alike, is_unfit, is_unfit_byte, lower}
+
+-- the tests that the five rules make all fail
+record PassesRules (format : Format) : Type 0 where
+  radix : not (is_between 2 36 format.mantissa_radix) ≡ false
+  separator : is_unfit format.mantissa_radix format.digit_separator ≡ false
+  prefix : is_unfit format.mantissa_radix format.base_prefix ≡ false
+  suffix : is_unfit format.mantissa_radix format.base_suffix ≡ false
+  apart : has_alike format ≡ false
+
+-- a test that a fault hangs on fails where there is no fault
+test_fails : (test : Bool) (error : Error) (rest : Option Error) → (if test then Some error else rest) ≡ None → (test ≡ false) × (rest ≡ None)
+test_fails false error rest valid = (refl, valid)
+test_fails true error rest valid = cc
+
+passes_rules : (format : Format) → fault format ≡ None → PassesRules format
+passes_rules format valid =
+    let past_radix = test_fails _ _ _ valid in
+    let past_separator = test_fails _ _ _ past_radix.1 in
+    let past_prefix = test_fails _ _ _ past_separator.1 in
+    let past_suffix = test_fails _ _ _ past_prefix.1 in
+    record {
+      radix = past_radix.0;
+      separator = past_separator.0;
+      prefix = past_prefix.0;
+      suffix = past_suffix.0;
+      apart = (test_fails _ _ _ past_suffix.1).0;
+    }
+
+-- letter case doesn't matter to a digit
+digit_value-lower : (byte : ℕ) → digit_value (lower byte) ≡ digit_value byte
+digit_value-lower byte = grind (arith, nat_tests)
+
+digit-alike : (radix byte mark : ℕ) → lower byte ≡ lower mark → digit byte radix ≡ digit mark radix
+digit-alike radix byte mark alike =
+    ap (below radix) (sym (digit_value-lower byte) ∙ ap digit_value alike ∙ digit_value-lower mark)
+
+none_from_is_some : (found : Option ℕ) → is_some found ≡ false → found ≡ None
+none_from_is_some None h = refl
+none_from_is_some (Some value) h = absurd (false≢true (sym h))
+
+fit_byte_no_digit : (radix mark : ℕ) → is_unfit_byte radix mark ≡ false → digit mark radix ≡ None
+fit_byte_no_digit radix mark fit =
+    let not_high = (or_parts (leb 128 mark) _ fit).1 in
+    let not_plus = (or_parts (mark == 43) _ not_high).1 in
+    none_from_is_some _ (or_parts (mark == 45) _ not_plus).1
+
+fit_no_digit : (radix : ℕ) (set : Option ℕ) (mark byte : ℕ) → is_unfit radix set ≡ false → set ≡ Some mark → lower byte ≡ lower mark → digit byte radix ≡ None
+fit_no_digit radix set mark byte fit is_set alike =
+    let fit' = rw is_set at fit in
+    digit-alike radix byte mark alike ∙ fit_byte_no_digit radix mark fit'
+
+not_alike : (set other : Option ℕ) (mark byte : ℕ) → are_alike set other ≡ false → other ≡ Some mark → lower byte ≡ lower mark → set ≢ Some byte
+not_alike set other mark byte apart is_mark alike is_byte =
+    let apart' = rw (is_byte, is_mark, alike) at apart in
+    false≢true (sym apart' ∙ eq-eqb (lower mark) (lower mark) refl)
+
+-- the radix of a valid format is from 2 to 36
+pub valid_radix : (format : Format) → fault format ≡ None → IsRadix format.mantissa_radix
+valid_radix format valid =
+    let passes = (passes_rules format valid).radix in
+    record { low = grind (arith, nat_tests); high = grind (arith, nat_tests) }
+
+-- what matches the separator is no digit
+pub separator_no_digit : (format : Format) (separator byte : ℕ) → fault format ≡ None → format.digit_separator ≡ Some separator
+    → lower byte ≡ lower separator → digit byte format.mantissa_radix ≡ None
+separator_no_digit format separator byte valid is_set alike = fit_no_digit _ _ separator byte (passes_rules format valid).separator is_set alike
+
+-- what matches the prefix is no digit
+pub prefix_no_digit : (format : Format) (prefix byte : ℕ) → fault format ≡ None → format.base_prefix ≡ Some prefix
+    → lower byte ≡ lower prefix → digit byte format.mantissa_radix ≡ None
+prefix_no_digit format prefix byte valid is_set alike = fit_no_digit _ _ prefix byte (passes_rules format valid).prefix is_set alike
+
+-- what matches the suffix is no digit
+pub suffix_no_digit : (format : Format) (suffix byte : ℕ) → fault format ≡ None → format.base_suffix ≡ Some suffix
+    → lower byte ≡ lower suffix → digit byte format.mantissa_radix ≡ None
+suffix_no_digit format suffix byte valid is_set alike = fit_no_digit _ _ suffix byte (passes_rules format valid).suffix is_set alike
+
+-- what matches the prefix is not the separator
+pub prefix_no_separator : (format : Format) (prefix byte : ℕ) → fault format ≡ None → format.base_prefix ≡ Some prefix
+    → lower byte ≡ lower prefix → format.digit_separator ≢ Some byte
+prefix_no_separator format prefix byte valid is_set alike =
+    let apart = (or_parts (are_alike format.digit_separator format.base_prefix) _ (passes_rules format valid).apart).0 in
+    not_alike _ _ prefix byte apart is_set alike
+
+-- what matches the suffix is not the separator
+pub suffix_no_separator : (format : Format) (suffix byte : ℕ) → fault format ≡ None → format.base_suffix ≡ Some suffix
+    → lower byte ≡ lower suffix → format.digit_separator ≢ Some byte
+suffix_no_separator format suffix byte valid is_set alike =
+    let rest = (or_parts (are_alike format.digit_separator format.base_prefix) _ (passes_rules format valid).apart).1 in
+    let apart = (or_parts (are_alike format.digit_separator format.base_suffix) _ rest).0 in
+    not_alike _ _ suffix byte apart is_set alike

@@ -1,0 +1,279 @@
+//! Making a format, field by field.
+
+ghost use Rattle.std.specs.Prelude.{◌≡◌, ◌↔◌, IsTrue, None};
+ghost use Rattle.lexical_util.specs.Format.{standard};
+ghost use Rattle.lexical_util.specs.Validity.{fault};
+
+use super::{NumberFormat, STANDARD};
+use std::marker::Model;
+
+/// A format in the making. It starts as [`STANDARD`]; each setter changes its own field and keeps
+/// the others, whatever the fields are so far.
+///
+/// ```rust
+/// // C's hexadecimal integers, with or without their prefix.
+/// let format = NumberFormatBuilder::new()
+///     .mantissa_radix(16)
+///     .base_prefix(Some(b'x'))
+///     .build_strict();
+/// ```
+#[derive(Debug, Copy, Clone, PartialEq, Eq)]
+pub struct NumberFormatBuilder {
+    format: NumberFormat,
+}
+
+impl Model for NumberFormatBuilder {
+    ghost use Rattle.lexical_util.specs.Format.{Format};
+
+    ghost Value = { Format };
+
+    ghost view = { λ a. a.format };
+
+    ghost inverse = { λ a. record { format = a } };
+}
+
+impl NumberFormatBuilder {
+    /// A builder with the fields of [`STANDARD`].
+    #[inline]
+    pub fn new() -> Self
+        ensures { result ≡ standard }
+    {
+        NumberFormatBuilder { format: STANDARD }
+    }
+
+    /// [`STANDARD`] with this radix. Nothing is checked: with a radix that isn't from 2 to 36 the
+    /// format is invalid.
+    #[inline]
+    pub fn from_radix(radix: u8) -> NumberFormat
+        ensures { result ≡ record standard { mantissa_radix = radix } }
+    {
+        NumberFormatBuilder::new()
+            .mantissa_radix(radix)
+            .build_unchecked()
+    }
+
+    /// [`STANDARD`] with the radix 2.
+    #[inline]
+    pub fn binary() -> NumberFormat
+        ensures { result ≡ record standard { mantissa_radix = 2 } }
+    {
+        NumberFormatBuilder::from_radix(2)
+    }
+
+    /// Sets the radix of the digits. A valid format has one from 2 to 36.
+    #[inline]
+    pub fn mantissa_radix(mut self, value: u8) -> Self
+        ensures { result ≡ record self { mantissa_radix = value } }
+    {
+        self.format.mantissa_radix = value;
+        self
+    }
+
+    /// Sets the separator. Flags say where it may stand:
+    ///
+    /// ```rust
+    /// // 1_000_000, but not 1__000 or _1.
+    /// let format = NumberFormatBuilder::new()
+    ///     .digit_separator(Some(b'_'))
+    ///     .integer_internal_digit_separator(true)
+    ///     .build_unchecked();
+    /// ```
+    #[inline]
+    pub fn digit_separator(mut self, value: Option<u8>) -> Self
+        ensures { result ≡ record self { digit_separator = value } }
+    {
+        self.format.digit_separator = value;
+        self
+    }
+
+    /// Sets the letter of the prefix: with `Some(b'x')` a text may begin with `0x`, directly after
+    /// the sign. The radix stays as it is.
+    #[inline]
+    pub fn base_prefix(mut self, value: Option<u8>) -> Self
+        ensures { result ≡ record self { base_prefix = value } }
+    {
+        self.format.base_prefix = value;
+        self
+    }
+
+    /// Sets the suffix: with `Some(b'h')` a text may end with `h`, directly behind its digits.
+    #[inline]
+    pub fn base_suffix(mut self, value: Option<u8>) -> Self
+        ensures { result ≡ record self { base_suffix = value } }
+    {
+        self.format.base_suffix = value;
+        self
+    }
+
+    /// Sets whether the prefix's letter is matched exactly, or else but for ASCII case.
+    #[inline]
+    pub fn case_sensitive_base_prefix(mut self, value: bool) -> Self
+        ensures { result ≡ record self { case_sensitive_base_prefix = value } }
+    {
+        self.format.case_sensitive_base_prefix = value;
+        self
+    }
+
+    /// Sets whether the suffix is matched exactly, or else but for ASCII case.
+    #[inline]
+    pub fn case_sensitive_base_suffix(mut self, value: bool) -> Self
+        ensures { result ≡ record self { case_sensitive_base_suffix = value } }
+    {
+        self.format.case_sensitive_base_suffix = value;
+        self
+    }
+
+    /// Sets whether digits are required in the integer part. They are required where this or
+    /// `required_mantissa_digits` is set, so setting this one to `false` may not be enough.
+    #[inline]
+    pub fn required_integer_digits(mut self, value: bool) -> Self
+        ensures { result ≡ record self { required_integer_digits = value } }
+    {
+        self.format.required_integer_digits = value;
+        self
+    }
+
+    /// Sets whether digits are required at all. They are required where this or
+    /// `required_integer_digits` is set, so setting this one to `false` may not be enough.
+    #[inline]
+    pub fn required_mantissa_digits(mut self, value: bool) -> Self
+        ensures { result ≡ record self { required_mantissa_digits = value } }
+    {
+        self.format.required_mantissa_digits = value;
+        self
+    }
+
+    /// Sets `required_integer_digits` and `required_mantissa_digits` to one value: with `false` a text
+    /// without digits is 0.
+    #[inline]
+    pub fn required_digits(self, value: bool) -> Self
+        ensures { result ≡ record self {
+          required_integer_digits = value;
+          required_mantissa_digits = value;
+        } }
+    {
+        self.required_integer_digits(value)
+            .required_mantissa_digits(value)
+    }
+
+    /// Sets whether a text that begins with `+` is refused.
+    #[inline]
+    pub fn no_positive_mantissa_sign(mut self, value: bool) -> Self
+        ensures { result ≡ record self { no_positive_mantissa_sign = value } }
+    {
+        self.format.no_positive_mantissa_sign = value;
+        self
+    }
+
+    /// Sets whether a text without a sign is refused.
+    #[inline]
+    pub fn required_mantissa_sign(mut self, value: bool) -> Self
+        ensures { result ≡ record self { required_mantissa_sign = value } }
+    {
+        self.format.required_mantissa_sign = value;
+        self
+    }
+
+    /// Sets whether a zero in front of another digit is refused.
+    #[inline]
+    pub fn no_integer_leading_zeros(mut self, value: bool) -> Self
+        ensures { result ≡ record self { no_integer_leading_zeros = value } }
+    {
+        self.format.no_integer_leading_zeros = value;
+        self
+    }
+
+    /// Sets `integer_leading_digit_separator`: the integer part is all that an integer has.
+    #[inline]
+    pub fn leading_digit_separator(self, value: bool) -> Self
+        ensures { result ≡ record self { integer_leading_digit_separator = value } }
+    {
+        self.integer_leading_digit_separator(value)
+    }
+
+    /// Sets `integer_internal_digit_separator`.
+    #[inline]
+    pub fn internal_digit_separator(self, value: bool) -> Self
+        ensures { result ≡ record self { integer_internal_digit_separator = value } }
+    {
+        self.integer_internal_digit_separator(value)
+    }
+
+    /// Sets `integer_trailing_digit_separator`.
+    #[inline]
+    pub fn trailing_digit_separator(self, value: bool) -> Self
+        ensures { result ≡ record self { integer_trailing_digit_separator = value } }
+    {
+        self.integer_trailing_digit_separator(value)
+    }
+
+    /// Sets `integer_consecutive_digit_separator`.
+    #[inline]
+    pub fn consecutive_digit_separator(self, value: bool) -> Self
+        ensures { result ≡ record self { integer_consecutive_digit_separator = value } }
+    {
+        self.integer_consecutive_digit_separator(value)
+    }
+
+    /// Sets whether separators may stand before the first digit: `_12`.
+    #[inline]
+    pub fn integer_leading_digit_separator(mut self, value: bool) -> Self
+        ensures { result ≡ record self { integer_leading_digit_separator = value } }
+    {
+        self.format.integer_leading_digit_separator = value;
+        self
+    }
+
+    /// Sets whether separators may stand between two digits: `1_2`.
+    #[inline]
+    pub fn integer_internal_digit_separator(mut self, value: bool) -> Self
+        ensures { result ≡ record self { integer_internal_digit_separator = value } }
+    {
+        self.format.integer_internal_digit_separator = value;
+        self
+    }
+
+    /// Sets whether separators may stand behind the last digit: `12_`.
+    #[inline]
+    pub fn integer_trailing_digit_separator(mut self, value: bool) -> Self
+        ensures { result ≡ record self { integer_trailing_digit_separator = value } }
+    {
+        self.format.integer_trailing_digit_separator = value;
+        self
+    }
+
+    /// Sets whether separators may stand next to one another: `1__2`.
+    #[inline]
+    pub fn integer_consecutive_digit_separator(mut self, value: bool) -> Self
+        ensures { result ≡ record self { integer_consecutive_digit_separator = value } }
+    {
+        self.format.integer_consecutive_digit_separator = value;
+        self
+    }
+
+    /// Whether the format is valid as it is so far (`NumberFormat::error` has the rules).
+    #[inline]
+    pub fn is_valid(&self) -> bool
+        ensures { IsTrue result ↔ (fault self.now ≡ None) }
+    {
+        self.format.is_valid()
+    }
+
+    /// The format, valid or not. A parser that takes any format refuses an invalid one with the
+    /// fault that `NumberFormat::error` answers.
+    #[inline]
+    pub fn build_unchecked(&self) -> NumberFormat
+        ensures { result ≡ self.now }
+    {
+        self.format
+    }
+
+    /// The format, which has to be valid, as `is_valid` tests.
+    #[inline]
+    pub fn build_strict(&self) -> NumberFormat
+        requires { fault self.now ≡ None }
+        ensures { result ≡ self.now }
+    {
+        self.build_unchecked()
+    }
+}

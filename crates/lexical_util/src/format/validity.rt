@@ -1,0 +1,32 @@
+// The tests that a format's validity hangs on.
+
+ghost use Rattle.std.specs.Prelude.{◌≡◌};
+ghost use Rattle.lexical_util.specs.Digit.{IsRadix};
+ghost use Rattle.lexical_util.specs.Validity.{are_alike, is_unfit};
+
+use crate::digit::char_is_digit;
+
+// Whether a separator, prefix or suffix is set to a byte that can't be one.
+#[inline(always)]
+pub(super) fn is_unfit(mark: Option<u8>, radix: u32) -> bool
+    requires { IsRadix radix }
+    ensures { result ≡ is_unfit radix mark }
+{
+    match mark {
+        None => false,
+        Some(byte) => {
+            !byte.is_ascii() || byte == b'+' || byte == b'-' || char_is_digit(byte, radix)
+        }
+    }
+}
+
+// Whether both are set, to one byte or to one letter in two cases.
+#[inline(always)]
+pub(super) fn are_alike(mark: Option<u8>, other: Option<u8>) -> bool
+    ensures { result ≡ are_alike mark other }
+{
+    match (mark, other) {
+        (Some(mark), Some(other)) => mark.eq_ignore_ascii_case(&other),
+        _ => false,
+    }
+}

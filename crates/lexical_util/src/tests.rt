@@ -1,0 +1,117 @@
+// What no clause says: that the calls answer values which are known from outside.
+
+use crate::digit::{char_is_digit, char_to_digit};
+use crate::error::Error;
+use crate::options::ParseOptions;
+use std::test::Fail;
+
+mod caller;
+mod derives;
+mod formats;
+mod integers;
+
+#[test]
+fn digits_of_a_radix(rt: HostRuntime) -> Result<(), Fail> {
+    for (byte, radix, want) in [
+        (b'0', 2, Some(0)),
+        (b'1', 2, Some(1)),
+        (b'2', 2, None),
+        (b'9', 10, Some(9)),
+        (b'a', 10, None),
+        (b'a', 11, Some(10)),
+        (b'A', 11, Some(10)),
+        (b'f', 16, Some(15)),
+        (b'F', 16, Some(15)),
+        (b'g', 16, None),
+        (b'G', 16, None),
+        (b'9', 36, Some(9)),
+        (b'z', 36, Some(35)),
+        (b'Z', 36, Some(35)),
+        (b'z', 35, None),
+        (b'/', 36, None),
+        (b':', 36, None),
+        (b'@', 36, None),
+        (b'[', 36, None),
+        (b'`', 36, None),
+        (b'{', 36, None),
+        (0, 36, None),
+        (255, 36, None),
+    ] {
+        assert!(rt; 2 <= radix && radix <= 36);
+        assert_eq!(rt;
+            char_to_digit(byte, radix),
+            want,
+            "byte {byte}, radix {radix}"
+        );
+        assert_eq!(rt;
+            char_is_digit(byte, radix),
+            want.is_some(),
+            "byte {byte}, radix {radix}"
+        );
+    }
+    Ok(())
+}
+
+// Which of the twelve tests hold, in the order of the variants.
+fn tests_of(fault: &Error) -> [bool; 12] {
+    [
+        fault.is_overflow(),
+        fault.is_underflow(),
+        fault.is_invalid_digit(),
+        fault.is_empty(),
+        fault.is_missing_sign(),
+        fault.is_invalid_positive_sign(),
+        fault.is_invalid_leading_zeros(),
+        fault.is_invalid_mantissa_radix(),
+        fault.is_invalid_digit_separator(),
+        fault.is_invalid_base_prefix(),
+        fault.is_invalid_base_suffix(),
+        fault.is_invalid_punctuation(),
+    ]
+}
+
+#[test]
+fn faults_and_their_places(rt: HostRuntime) -> Result<(), Fail> {
+    for (fault, place, variant) in [
+        (Error::Overflow(19), Some(19), 0),
+        (Error::Underflow(3), Some(3), 1),
+        (Error::InvalidDigit(1), Some(1), 2),
+        (Error::Empty(0), Some(0), 3),
+        (Error::MissingSign(0), Some(0), 4),
+        (Error::InvalidPositiveSign(0), Some(0), 5),
+        (Error::InvalidLeadingZeros(1), Some(1), 6),
+        (Error::InvalidMantissaRadix, None, 7),
+        (Error::InvalidDigitSeparator, None, 8),
+        (Error::InvalidBasePrefix, None, 9),
+        (Error::InvalidBaseSuffix, None, 10),
+        (Error::InvalidPunctuation, None, 11),
+    ] {
+        assert_eq!(rt; fault.index(), place, "{fault:?}");
+        for (i, holds) in tests_of(&fault).iter().enumerate() {
+            assert_eq!(rt; *holds, i == variant, "{fault:?}, test {i}");
+        }
+    }
+    Ok(())
+}
+
+struct EvenOnly(u8);
+
+impl ParseOptions for EvenOnly {
+    ghost use Rattle.std.specs.Prelude.{◌==◌, ◌%◌};
+
+    ghost valid = { λ options. options.0 % 2 == 0 };
+
+    fn is_valid(&self) -> bool {
+        self.0 % 2 == 0
+    }
+}
+
+fn may_be_given<O: ParseOptions>(options: &O) -> bool {
+    options.is_valid()
+}
+
+#[test]
+fn options_by_their_bound(rt: HostRuntime) {
+    assert!(rt; may_be_given(&EvenOnly(4)));
+    assert!(rt; !may_be_given(&EvenOnly(5)));
+}
