@@ -287,7 +287,7 @@ impl NumberFormat {
     ///
     /// The first rule is that of the Rust crate `lexical-util`; the others, and which fault each has,
     /// are this crate's own.
-    #[inline]
+    #[inline(always)]
     pub fn error(&self) -> Option<Error>
         ensures { result ≡ fault self.now }
     {
@@ -311,7 +311,7 @@ impl NumberFormat {
     }
 
     /// Whether the format breaks no rule, so that `error` answers `None`.
-    #[inline]
+    #[inline(always)]
     pub fn is_valid(&self) -> bool
         ensures { IsTrue result ↔ (fault self.now ≡ None) }
     {
