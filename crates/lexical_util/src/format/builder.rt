@@ -147,7 +147,10 @@ impl NumberFormatBuilder {
     /// without digits is 0.
     #[inline]
     pub fn required_digits(self, value: bool) -> Self
-        ensures { result ≡ record self { required_integer_digits = value; required_mantissa_digits = value } }
+        ensures { result ≡ record self {
+          required_integer_digits = value;
+          required_mantissa_digits = value;
+        } }
     {
         self.required_integer_digits(value)
             .required_mantissa_digits(value)
