@@ -1,5 +1,4 @@
-use Rattle.std.proofs.Common.{◌++◌, drop, arith, rules}
-use Rattle.lexint.specs.Numeral.{numeral}
+use Rattle.std.proofs.Common.{arith, rules}
 use Rattle.lexint.proofs.NumeralSteps.{numeral_last, numeral_pair, numeral_pair_last, room_pair}
 use Rattle.lexint.proofs.numeral.write_front.Goals as goal
 
