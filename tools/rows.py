@@ -40,6 +40,7 @@ FLAGS = {
     "no-plus": "no_positive_mantissa_sign",
     "sign-required": "required_mantissa_sign",
     "no-leading-zeros": "no_integer_leading_zeros",
+    "literal-prefixes": "literal_prefixes",
 }
 BYTES = {"separator": "digit_separator", "prefix": "base_prefix", "suffix": "base_suffix"}
 STANDARD, JSON = (), ("json",)
@@ -50,6 +51,7 @@ OF_TEXTS = [
 ]
 OF_FORMATS = [
     "InvalidMantissaRadix", "InvalidDigitSeparator", "InvalidBasePrefix", "InvalidBaseSuffix", "InvalidPunctuation",
+    "InvalidLiteralPrefixes",
 ]
 
 

@@ -3,6 +3,7 @@ mod affixes;
 mod ends;
 mod flags;
 mod formats;
+mod literals;
 mod long;
 mod radixes;
 mod separators;

@@ -336,9 +336,10 @@ impl NumberFormat {
     fn has_unfit_literals(&self) -> bool
         ensures { result ≡ has_unfit_literals self.now }
     {
-        self.literal_prefixes
+        let are_asked_for = self.literal_prefixes;
+        are_asked_for
             && (self.mantissa_radix != 10
-                || self.base_prefix.is_some()
+                || self.has_base_prefix()
                 || is_unfit_beside_literals(self.digit_separator)
                 || is_unfit_beside_literals(self.base_suffix))
     }

@@ -2,7 +2,7 @@
 -- Written by tools/rows.py from tools/rows.txt: make rows writes it anew.
 use Rattle.std.specs.Prelude.{◌≡◌, codes, Some, None, true, false, Err}
 use Rattle.std.proofs.Common.{refl}
-use Rattle.lexical_util.specs.declared.error.Error.TheVariants.{InvalidMantissaRadix, InvalidDigitSeparator, InvalidBasePrefix, InvalidBaseSuffix, InvalidPunctuation}
+use Rattle.lexical_util.specs.declared.error.Error.TheVariants.{InvalidMantissaRadix, InvalidDigitSeparator, InvalidBasePrefix, InvalidBaseSuffix, InvalidPunctuation, InvalidLiteralPrefixes}
 use Rattle.lexical_util.specs.Format.{standard, json}
 use Rattle.lexical_util.specs.Number.{IntegerType, integer_type}
 use Rattle.lexical_util.specs.Validity.{fault}
@@ -111,6 +111,53 @@ broken_punctuation_3 = refl
 -- also where other fields tell the cases apart
 broken_punctuation_4 : fault (record standard { base_prefix = Some 120; base_suffix = Some 88; case_sensitive_base_prefix = true; case_sensitive_base_suffix = true }) ≡ Some InvalidPunctuation
 broken_punctuation_4 = refl
+
+-- ---- literal prefixes ask for radix 10, no prefix of the format's own, and for a separator and a suffix that can't be taken for a part of them
+
+broken_literals_1 : fault (record standard { literal_prefixes = true; mantissa_radix = 16 }) ≡ Some InvalidLiteralPrefixes
+broken_literals_1 = refl
+
+broken_literals_2 : fault (record standard { literal_prefixes = true; mantissa_radix = 2 }) ≡ Some InvalidLiteralPrefixes
+broken_literals_2 = refl
+
+broken_literals_3 : fault (record standard { literal_prefixes = true; base_prefix = Some 100 }) ≡ Some InvalidLiteralPrefixes
+broken_literals_3 = refl
+
+broken_literals_4 : fault (record standard { literal_prefixes = true; base_suffix = Some 102 }) ≡ Some InvalidLiteralPrefixes
+broken_literals_4 = refl
+
+broken_literals_5 : fault (record standard { literal_prefixes = true; base_suffix = Some 70 }) ≡ Some InvalidLiteralPrefixes
+broken_literals_5 = refl
+
+broken_literals_6 : fault (record standard { literal_prefixes = true; base_suffix = Some 88 }) ≡ Some InvalidLiteralPrefixes
+broken_literals_6 = refl
+
+broken_literals_7 : fault (record standard { literal_prefixes = true; base_suffix = Some 111 }) ≡ Some InvalidLiteralPrefixes
+broken_literals_7 = refl
+
+broken_literals_8 : fault (record standard { literal_prefixes = true; base_suffix = Some 79 }) ≡ Some InvalidLiteralPrefixes
+broken_literals_8 = refl
+
+broken_literals_9 : fault (record standard { literal_prefixes = true; base_suffix = Some 98 }) ≡ Some InvalidLiteralPrefixes
+broken_literals_9 = refl
+
+broken_literals_10 : fault (record standard { literal_prefixes = true; digit_separator = Some 97 }) ≡ Some InvalidLiteralPrefixes
+broken_literals_10 = refl
+
+broken_literals_11 : fault (record standard { literal_prefixes = true; digit_separator = Some 88 }) ≡ Some InvalidLiteralPrefixes
+broken_literals_11 = refl
+
+broken_literals_12 : fault (record standard { literal_prefixes = true; base_prefix = Some 120; base_suffix = Some 88 }) ≡ Some InvalidPunctuation
+broken_literals_12 = refl
+
+broken_literals_13 : fault (record standard { literal_prefixes = true; digit_separator = Some 95; base_suffix = Some 117 }) ≡ None
+broken_literals_13 = refl
+
+broken_literals_14 : fault (record standard { literal_prefixes = true }) ≡ None
+broken_literals_14 = refl
+
+broken_literals_15 : fault (record standard { literal_prefixes = true; digit_separator = Some 103; base_suffix = Some 121 }) ≡ None
+broken_literals_15 = refl
 
 -- ---- formats that break no rule
 
