@@ -53,7 +53,8 @@ fields =
     ∷ field.Mark DigitSeparator ∷ field.Mark BasePrefix ∷ field.Mark BaseSuffix
     ∷ field.Flag CaseSensitiveBasePrefix ∷ field.Flag CaseSensitiveBaseSuffix
     ∷ field.Flag RequiredIntegerDigits ∷ field.Flag RequiredMantissaDigits ∷ field.RequiredDigits
-    ∷ field.Flag NoPositiveMantissaSign ∷ field.Flag RequiredMantissaSign ∷ field.Flag NoIntegerLeadingZeros
+    ∷ field.Flag NoPositiveMantissaSign ∷ field.Flag RequiredMantissaSign
+    ∷ field.Flag NoIntegerLeadingZeros
     ∷ field.Flag IntegerLeadingDigitSeparator ∷ field.Flag IntegerInternalDigitSeparator
     ∷ field.Flag IntegerTrailingDigitSeparator ∷ field.Flag IntegerConsecutiveDigitSeparator
     ∷ field.Flag LiteralPrefixes

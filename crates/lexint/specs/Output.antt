@@ -53,8 +53,10 @@ partial_text (Err fault) = fault_text fault
 -- the answer to a command under the settings, and `bad line` where there is none
 abbrev pub command_answer : Settings → Option Command → List ℕ
 command_answer settings None = codes "bad line"
-command_answer settings (Some (parse_complete type text)) = complete_text (complete_if_valid settings.format (type_of type) text)
-command_answer settings (Some (parse_partial type text)) = partial_text (partial_if_valid settings.format (type_of type) text)
+command_answer settings (Some (parse_complete type text)) =
+    complete_text (complete_if_valid settings.format (type_of type) text)
+command_answer settings (Some (parse_partial type text)) =
+    partial_text (partial_if_valid settings.format (type_of type) text)
 command_answer settings (Some (change asked)) = codes "ok"
 command_answer settings (Some reset) = codes "ok"
 
@@ -76,10 +78,12 @@ settings_after settings line = command_effect settings (command_in line)
 
 -- ---- output
 
--- for each line its answer and a line feed, joined in order, each under the settings that the lines before it leave
+-- for each line its answer and a line feed, joined in order, each under the settings that the lines
+-- before it leave
 abbrev pub answers : Settings → List (List ℕ) → List ℕ
 answers settings [] = []
-answers settings (line ∷ more) = answer_of settings line ++ 10 ∷ [] ++ answers (settings_after settings line) more
+answers settings (line ∷ more) =
+    answer_of settings line ++ 10 ∷ [] ++ answers (settings_after settings line) more
 
 -- what the program writes for an input
 abbrev pub output : List ℕ → List ℕ
