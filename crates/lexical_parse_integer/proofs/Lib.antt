@@ -17,6 +17,7 @@ pub mod Progress
 pub mod ShorterFronts
 pub mod Taking
 pub mod TurnBound
+pub mod TurnRows
 pub mod Turning
 pub mod Untested
 pub mod Whole
