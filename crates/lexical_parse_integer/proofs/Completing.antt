@@ -98,3 +98,7 @@ completes_from n whole front is within = record {
 pub answers_complete : (f : Format) (t : IntegerType) (text : List ℕ) (whole : Result ℤ Error) (front : Result (ℤ × ℕ) Error) → whole ≡ complete f t text → front ≡ partial f t text → Completes (length text) whole front
 answers_complete f t text whole front a b =
     completes_from (length text) whole front (a ∙ complete_is_completed f t text ∙ ap (completed (length text)) (sym b)) (λ v k h. partial_within f t text v k (sym b ∙ h))
+
+-- the law, over every text
+pub complete_completes : (f : Format) (t : IntegerType) (text : List ℕ) → Completes (length text) (complete f t text) (partial f t text)
+complete_completes f t text = answers_complete f t text (complete f t text) (partial f t text) refl refl

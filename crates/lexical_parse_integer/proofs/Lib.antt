@@ -1,3 +1,4 @@
+pub mod Agreeing
 pub mod AsciiDigits
 pub mod Completed
 pub mod Completing
@@ -8,12 +9,16 @@ pub mod First
 pub mod FitLemmas
 pub mod Fronts
 pub mod InARow
+pub mod LawExamples
 pub mod LawLemmas
 pub mod Lists
+pub mod Locality
 pub mod NumeralLemmas
 pub mod Numerals
 pub mod Places
 pub mod Progress
+pub mod SeenLemmas
+pub mod SettledRows
 pub mod ShorterFronts
 pub mod Taking
 pub mod TurnBound

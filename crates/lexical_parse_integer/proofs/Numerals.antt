@@ -194,7 +194,7 @@ writes_below r n text writes =
     let power : r ^ length writes.digits ≡ r ^ length text = ap (λ k. r ^ k) (sym size) in
     omega (arith, number_is r writes.digits, writes.worth)
 
-digit_zero : (r : ℕ) → 2 ≤ r → digit 48 r ≡ Some 0
+pub digit_zero : (r : ℕ) → 2 ≤ r → digit 48 r ≡ Some 0
 digit_zero r low = let t : nat_lt 0 r ≡ true = lt-ltb 0 r (omega arith) in rw t refl
 
 pub digits_text_is : (r n : ℕ) → 2 ≤ r → r ≤ 36 → WritesShortest r n (digits_text r n)

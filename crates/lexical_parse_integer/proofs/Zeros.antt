@@ -3,12 +3,13 @@ use Rattle.std.proofs.Common.{◌≡◌, ℕ, zero, suc, ◌+◌, ◌<◌, ◌�
 use Rattle.std.proofs.Math.IntN.{ℤ}
 use Rattle.std.proofs.lemmas.Bool.{cases_lt}
 use Rattle.std.proofs.lemmas.Bool.Decides.{nat_tests}
-use Rattle.std.specs.Prelude.{◌==◌, option_and_then, replicate, slice_get}
+use Rattle.std.specs.Prelude.{◌==◌, OnOk, option_and_then, replicate, slice_get}
 use Rattle.std.specs.Option.{unwrap_or}
 use Rattle.lexical_util.specs.declared.error.Error.{Error}
 use Rattle.lexical_util.specs.Digit.{digit}
-use Rattle.lexical_util.specs.Format.{Format, standard}
+use Rattle.lexical_util.specs.Format.{standard}
 use Rattle.lexical_util.specs.Number.{IntegerType, is_number}
+use Rattle.lexical_parse_integer.specs.Answer.{seen}
 use Rattle.lexical_parse_integer.specs.Grammar.{complete}
 use Rattle.lexical_parse_integer.specs.Head.{sign}
 use Rattle.lexical_parse_integer.specs.Laws.{PadsZeros, ReadsPadded}
@@ -19,6 +20,7 @@ use Rattle.lexical_parse_integer.proofs.DigitTexts.{digits_read, rest_value, who
 use Rattle.lexical_parse_integer.proofs.InARow.{has_digit}
 use Rattle.lexical_parse_integer.proofs.Numerals.{AreDigits, GoesOnWith, all_there, rest_is, sign_of_digit}
 use Rattle.lexical_parse_integer.proofs.Places.{HoldsBetween}
+use Rattle.lexical_parse_integer.proofs.SeenLemmas.{IsInjective, seen_ok_same}
 
 -- ---- the bytes behind a front
 
@@ -141,6 +143,6 @@ reads_padded t text padded v pads read =
     padded_read t text padded pads.rest s pads.zeros sign_padded on on' whole.some whole.all whole.fits ∙ ap (λ (z : ℤ). Ok z) (sym whole.value)
 
 -- the law, at two answers that calls gave
-pub answers_padded : (t : IntegerType) (text padded : List ℕ) (f : Format) (first second : Result ℤ Error) → f ≡ standard → first ≡ complete f t text → second ≡ complete f t padded → PadsZeros text padded → (v : ℤ) → first ≡ Ok v → second ≡ Ok v
-answers_padded t text padded f first second same a b pads v read =
-    b ∙ ap (λ (g : Format). complete g t padded) same ∙ reads_padded t text padded v pads (sym (a ∙ ap (λ (g : Format). complete g t text) same) ∙ read)
+pub answers_padded : {X : Type 0} → (view : X → ℤ) → IsInjective view → (t : IntegerType) (text padded : List ℕ) (first second : Result X Error) → seen view first ≡ complete standard t text → seen view second ≡ complete standard t padded → PadsZeros text padded → OnOk first (second ≡ first)
+answers_padded view injective t text padded first second a b pads =
+    seen_ok_same view injective first second (λ v read. b ∙ reads_padded t text padded v pads (sym a ∙ read))

@@ -1,11 +1,11 @@
 -- What the definitions of the grammar come to, and the laws of the parsers' answers.
-use Rattle.std.specs.Prelude.{◌≡◌, ◌↔◌, ℕ, suc, ◌≤◌, ◌<◌, Bool, true, false, List, ◌∷◌, ◌++◌, length, map, replicate, nat_lt, if◌then◌else◌, ℤ, pos, negsuc, Some, IsSome, Result, Ok, Err}
+use Rattle.std.specs.Prelude.{◌≡◌, ◌↔◌, ℕ, suc, ◌+◌, ◌≤◌, ◌<◌, Bool, true, false, List, ◌∷◌, ◌++◌, length, take, map, replicate, nat_lt, if◌then◌else◌, ℤ, pos, negsuc, Some, IsSome, Result, Ok, Err}
 use Rattle.lexical_util.specs.declared.error.Error.{Error}
-use Rattle.lexical_util.specs.declared.error.Error.TheVariants.{Empty, InvalidDigit}
+use Rattle.lexical_util.specs.declared.error.Error.TheVariants.{Empty, InvalidDigit, Overflow, Underflow}
 use Rattle.lexical_util.specs.Digit.{digit}
 use Rattle.lexical_util.specs.Format.{Format, standard}
 use Rattle.lexical_util.specs.Number.{IntegerType, IsNumber}
-use Rattle.lexical_parse_integer.specs.Grammar.{complete}
+use Rattle.lexical_parse_integer.specs.Grammar.{complete, partial}
 use Rattle.lexical_parse_integer.specs.Runs.{digit_at, separator_at, belongs, end_of, run_begin, run_stop}
 use Rattle.lexical_parse_integer.specs.Seeking.{HasNoDigit}
 use Rattle.lexical_parse_integer.specs.Value.{positional_value}
@@ -55,6 +55,24 @@ pub record Completes (size : ℕ) (whole : Result ℤ Error) (front : Result (�
   pub empty : front ≡ Err (Empty size) → whole ≡ Err (Empty size)
   -- a byte stands where they are missing
   pub empty_left : (place : ℕ) → front ≡ Err (Empty place) → place < size → whole ≡ Err (InvalidDigit place)
+
+-- ---- locality
+
+-- The partial answer of a text of this size is settled at a place: the front ends there, before the text does, or
+-- a value leaves the type there.
+abbrev pub IsSettledAt : ℕ → ℕ → Result (ℤ × ℕ) Error → Type 0
+IsSettledAt size place (Ok found) = (found.1 ≡ place) × (place < size)
+IsSettledAt size place (Err (Overflow at)) = at ≡ place
+IsSettledAt size place (Err (Underflow at)) = at ≡ place
+IsSettledAt size place (Err e) = ⊥
+
+-- two texts have the same first bytes, so many
+abbrev pub SameFront : ℕ → List ℕ → List ℕ → Type 0
+SameFront count text other = take count text ≡ take count other
+
+-- an answer that is settled at a place is that of each text with the same bytes up to and with it
+abbrev pub IsLocal : Format → IntegerType → Type 0
+IsLocal format type = (text other : List ℕ) (place : ℕ) → IsSettledAt (length text) place (partial format type text) → SameFront (place + 1) text other → partial format type other ≡ partial format type text
 
 -- ---- numerals
 

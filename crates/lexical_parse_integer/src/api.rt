@@ -17,6 +17,7 @@ use lexical_util::result::Result;
 /// An integer type that is read from decimal bytes.
 pub trait FromLexical: Integer {
     /// The integer that the whole text stands for.
+    #[inline(always)]
     fn from_lexical(bytes: &[u8]) -> Result<Self>
         ensures { seen Self.number result ≡ complete standard (integer_type Self.BITS Self.IS_SIGNED) bytes.now }
     {
@@ -24,6 +25,7 @@ pub trait FromLexical: Integer {
     }
 
     /// The integer that the front of the text stands for, and the place at which reading stopped.
+    #[inline(always)]
     fn from_lexical_partial(bytes: &[u8]) -> Result<(Self, usize)>
         ensures { seen (placed Self.number) result ≡ partial standard (integer_type Self.BITS Self.IS_SIGNED) bytes.now }
     {

@@ -14,6 +14,7 @@ use lexical_util::result::Result;
 /// An integer type that is read under a valid format.
 pub trait ParseInteger: Integer {
     /// The integer that the whole text stands for.
+    #[inline(always)]
     fn parse_complete(bytes: &[u8], format: &NumberFormat, options: &Options) -> Result<Self>
         requires valid { IsNone (fault format.now) }
         ensures { seen Self.number result ≡ complete format.now (integer_type Self.BITS Self.IS_SIGNED) bytes.now }
@@ -22,6 +23,7 @@ pub trait ParseInteger: Integer {
     }
 
     /// The integer that the front of the text stands for, and the place at which reading stopped.
+    #[inline(always)]
     fn parse_partial(
         bytes: &[u8],
         format: &NumberFormat,

@@ -1,6 +1,6 @@
 // Where the next digit stands. These functions take plain values, so that the compiler can keep a cursor in
 // registers.
-ghost use Rattle.std.specs.Prelude.{◌≡◌, ◌≤◌, ◌<◌, length};
+ghost use Rattle.std.specs.Prelude.{◌≡◌, ◌≤◌, ◌<◌, None, length};
 ghost use Rattle.lexical_util.specs.Digit.{IsRadix};
 ghost use Rattle.lexical_parse_integer.specs.Runs.{digit_at, end_of, flag_for, run_passes, run_stop, separator_at};
 ghost use Rattle.lexical_parse_integer.specs.Seeking.{Finds, IsAtRunStart, IsSeparatorNoDigit};
@@ -87,8 +87,41 @@ fn run_passes(
         && flag_for(format, before, after)
 }
 
-// The next digit of the numeral at or after `position`, or the numeral's end. A run of separators is looked over
-// once: where it passes, what is sought stands behind it, and else the numeral ends before it.
+// What stands behind the run of separators at `position`, where there is one and no digit stands there. A run is
+// looked over once: where it passes, what is sought stands behind it, and else the numeral ends before it.
+//
+// It stays out of line and takes the format by value, so that texts without separators don't pay for it.
+#[inline(never)]
+fn seek_behind_run(
+    bytes: &[u8],
+    format: NumberFormat,
+    radix: u32,
+    start: usize,
+    position: usize,
+) -> Found
+    requires radix { IsRadix radix }
+    requires separator { IsSeparatorNoDigit format radix bytes.now }
+    requires within { position ≤ length bytes.now }
+    requires after_start { start ≤ position }
+    requires before_end { position ≤ end_of format radix bytes.now start }
+    requires at_run_start { IsAtRunStart format bytes.now start position }
+    requires no_digit { digit_at radix bytes.now position ≡ None }
+    ensures { Finds format radix bytes.now start position result }
+{
+    if !separator_at(bytes, &format, position) {
+        return Found::End(position);
+    }
+    let stop = run_stop(bytes, &format, position);
+    if !run_passes(bytes, &format, radix, start, position, stop) {
+        return Found::End(position);
+    }
+    match digit_at(bytes, radix, stop) {
+        Some(value) => Found::Digit(stop, value),
+        None => Found::End(stop),
+    }
+}
+
+// The next digit of the numeral at or after `position`, or the numeral's end.
 #[inline(always)]
 pub(crate) fn seek(
     bytes: &[u8],
@@ -105,17 +138,11 @@ pub(crate) fn seek(
     requires at_run_start { IsAtRunStart format.now bytes.now start position }
     ensures { Finds format.now radix bytes.now start position result }
 {
-    let place = if separator_at(bytes, format, position) {
-        let stop = run_stop(bytes, format, position);
-        if !run_passes(bytes, format, radix, start, position, stop) {
-            return Found::End(position);
-        }
-        stop
-    } else {
-        position
-    };
-    match digit_at(bytes, radix, place) {
-        Some(value) => Found::Digit(place, value),
-        None => Found::End(place),
+    if let Some(value) = digit_at(bytes, radix, position) {
+        return Found::Digit(position, value);
     }
+    if format.digit_separator().is_none() {
+        return Found::End(position);
+    }
+    seek_behind_run(bytes, *format, radix, start, position)
 }

@@ -1,4 +1,5 @@
--- Comparisons of a type's values are those of the numbers that they stand for, and each width is one of the five.
+-- Comparisons of a type's values are those of the numbers that they stand for. An unsigned type's values
+-- are natural numbers, and a signed type's are integers.
 use Rattle.std.specs.Prelude.{◌≡◌, ◌↔◌, ◌==◌, ℕ, pos, Some, IsTrue}
 use Rattle.std.specs.Ordering.{int_cmp, int_eq, nat_cmp}
 use Rattle.std.proofs.Common.{ap, arith}
@@ -7,19 +8,24 @@ use Rattle.std.proofs.lemmas.Int.{ints}
 use lib.IntN.{ℤ}
 use lib.Signed.{mag}
 
-pub unsigned-eq : (a b : ℕ) → IsTrue (a == b) ↔ (pos a ≡ pos b)
-unsigned-eq a b =
-    let told = Decides-eqb a b in
+-- `==` of an unsigned type
+pub unsigned-eq : (value other : ℕ) → IsTrue (value == other) ↔ (pos value ≡ pos other)
+unsigned-eq value other =
+    let told = Decides-eqb value other in
     ((λ e. ap pos (told.0 e)), (λ e. told.1 (ap mag e)))
 
-pub signed-eq : (a b : ℤ) → IsTrue (int_eq a b) ↔ (a ≡ b)
-signed-eq a b = Decides-int_eq a b
+-- `==` of a signed type
+pub signed-eq : (value other : ℤ) → IsTrue (int_eq value other) ↔ (value ≡ other)
+signed-eq value other = Decides-int_eq value other
 
-pub unsigned-cmp : (a b : ℕ) → nat_cmp a b ≡ int_cmp (pos a) (pos b)
-unsigned-cmp a b = grind (arith, ints)
+-- `cmp` of an unsigned type
+pub unsigned-cmp : (value other : ℕ) → nat_cmp value other ≡ int_cmp (pos value) (pos other)
+unsigned-cmp value other = grind (arith, ints)
 
-pub unsigned-order : (a b : ℕ) → Some (nat_cmp a b) ≡ Some (int_cmp (pos a) (pos b))
-unsigned-order a b = ap Some (unsigned-cmp a b)
+-- `partial_cmp` of an unsigned type
+pub unsigned-order : (value other : ℕ) → Some (nat_cmp value other) ≡ Some (int_cmp (pos value) (pos other))
+unsigned-order value other = ap Some (unsigned-cmp value other)
 
-pub pos-injective : (a b : ℕ) → pos a ≡ pos b → a ≡ b
-pos-injective a b e = ap mag e
+-- no two values of an unsigned type are one number
+pub pos-injective : (value other : ℕ) → pos value ≡ pos other → value ≡ other
+pos-injective value other e = ap mag e

@@ -1,4 +1,4 @@
--- Formats, as contracts see them.
+-- Formats, as contracts see them: the records of their fields.
 use Rattle.std.specs.Prelude.{ℕ, Bool, true, false, Option, None}
 
 -- What a format says of the texts that it admits.
@@ -41,4 +41,8 @@ standard = record {
 
 -- the integers of JSON: no plus, and no zero in front of another digit
 abbrev pub json : Format
-json = record standard { required_integer_digits = true; no_positive_mantissa_sign = true; no_integer_leading_zeros = true }
+json = record standard {
+  required_integer_digits = true;
+  no_positive_mantissa_sign = true;
+  no_integer_leading_zeros = true;
+}

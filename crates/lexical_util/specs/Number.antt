@@ -15,28 +15,29 @@ integer_type bits is_signed = record { bits = bits; is_signed = is_signed }
 abbrev pub number_limit : IntegerType → ℕ
 number_limit type = 2 ^ (if type.is_signed then type.bits - 1 else type.bits)
 
--- whether the type has this number
+-- whether the type has this number (`negsuc n` is -1 - n)
 abbrev pub is_number : IntegerType → ℤ → Bool
 is_number type (pos n) = nat_lt n (number_limit type)
 is_number type (negsuc n) = type.is_signed && nat_lt n (number_limit type)
 
 -- the type has this number
 abbrev pub IsNumber : IntegerType → ℤ → Type 0
-IsNumber type z = is_number type z ≡ true
+IsNumber type number = is_number type number ≡ true
 
 -- the number, where the type has it
 abbrev pub checked : IntegerType → ℤ → Option ℤ
-checked type z = if is_number type z then Some z else None
+checked type number = if is_number type number then Some number else None
 
 -- ---- one step of a numeral
 
--- x times the scale plus the summand, or minus it where the numeral is negative
+-- the number times the scale, plus the summand, or minus it where the numeral is negative
 abbrev pub mul_add : Bool → ℤ → ℤ → ℤ → ℤ
-mul_add negative x scale add = if negative then (x *ℤ scale) -ℤ add else (x *ℤ scale) +ℤ add
+mul_add negative number scale add =
+    if negative then (number *ℤ scale) -ℤ add else (number *ℤ scale) +ℤ add
 
 -- at most 0 where the numeral is negative, and at least 0 elsewhere
 abbrev pub HasSign : Bool → ℤ → Type 0
-HasSign negative x = MatchBool negative (x ≤ℤ pos 0) (pos 0 ≤ℤ x)
+HasSign negative number = MatchBool negative (number ≤ℤ pos 0) (pos 0 ≤ℤ number)
 
 -- ---- digits that never leave the type
 
@@ -48,10 +49,12 @@ pub data IsWidth : ℕ → Type 0 where
   w64 : IsWidth 64
   w128 : IsWidth 128
 
--- how many digits of the radix are joined with no test: two a byte for radixes up to 16, less one where the type
--- is signed, and one a byte for greater ones
+-- how many digits of the radix are joined with no test: two a byte for a radix up to 16, less one where
+-- the type is signed, and one a byte for a greater radix
 abbrev pub overflow_digits : IntegerType → ℕ → ℕ
-overflow_digits type radix = if nat_le radix 16 then (2 * (type.bits / 8)) - (if type.is_signed then 1 else 0) else type.bits / 8
+overflow_digits type radix =
+    if nat_le radix 16 then (2 * (type.bits / 8)) - (if type.is_signed then 1 else 0)
+    else type.bits / 8
 
 -- every number of so many digits of the radix is one of the type, and its negative too where the type is signed
 pub record HasRoom (type : IntegerType) (radix count : ℕ) : Type 0 where

@@ -7,7 +7,8 @@ use Rattle.lexical_util.specs.declared.error.Error.TheVariants.{InvalidMantissaR
 
 -- a byte that can't be punctuation: it is not ASCII, or it is `+`, `-` or a digit of the radix
 abbrev pub is_unfit_byte : ℕ → ℕ → Bool
-is_unfit_byte radix byte = nat_le 128 byte || ((byte == 43) || ((byte == 45) || is_some (digit byte radix)))
+is_unfit_byte radix byte =
+    nat_le 128 byte || ((byte == 43) || ((byte == 45) || is_some (digit byte radix)))
 
 -- a separator, prefix or suffix is set, and to an unfit byte
 abbrev pub is_unfit : ℕ → Option ℕ → Bool
@@ -28,7 +29,8 @@ are_alike (Some byte) (Some other) = lower byte == lower other
 abbrev pub has_alike : Format → Bool
 has_alike format =
     are_alike format.digit_separator format.base_prefix
-    || (are_alike format.digit_separator format.base_suffix || are_alike format.base_prefix format.base_suffix)
+    || (are_alike format.digit_separator format.base_suffix
+    || are_alike format.base_prefix format.base_suffix)
 
 -- the first of the five rules that the format breaks, by its fault; none where the format is valid
 abbrev pub fault : Format → Option Error

@@ -19,8 +19,8 @@ use validity::{are_alike, is_unfit};
 /// What a text of an integer may look like: its radix, its punctuation, and what is required or
 /// forbidden.
 ///
-/// Two formats are equal where all their fields are. Contracts see a format as the record of its
-/// fields.
+/// Any values of the fields make a format. Whether it is valid is another question, which
+/// [`NumberFormat::error`] answers. Two formats are equal where all their fields are.
 #[derive(Debug, Copy, Clone, PartialEq, Eq)]
 pub struct NumberFormat {
     mantissa_radix: u8,
@@ -135,7 +135,7 @@ impl NumberFormat {
         self.mantissa_radix()
     }
 
-    /// The byte that may stand between digits and counts for nothing there, as `_` in `1_000`.
+    /// The byte that may stand among the digits and counts for nothing, as `_` in `1_000`.
     ///
     /// It is matched exactly, also where it is a letter. The four `integer_` flags say where it may
     /// stand; with none of them it may stand nowhere, and without a separator they have no effect.
@@ -146,7 +146,8 @@ impl NumberFormat {
         self.digit_separator
     }
 
-    /// The letter of the prefix: `x` lets a text begin with `0x`, directly after the sign.
+    /// The byte that makes a prefix with a `0` before it: with `x` a text may begin with `0x`, directly
+    /// after the sign.
     ///
     /// A text may leave the prefix out. It doesn't change the radix.
     #[inline(always)]
@@ -174,7 +175,8 @@ impl NumberFormat {
         self.base_prefix.is_some()
     }
 
-    /// Whether the prefix's letter is matched exactly: `x` then doesn't match `X`.
+    /// Whether the prefix is matched exactly, so that `0X` is none where `x` is set. Else ASCII case
+    /// doesn't matter.
     #[inline(always)]
     pub fn case_sensitive_base_prefix(&self) -> bool
         ensures { result ≡ self.now.case_sensitive_base_prefix }
@@ -182,7 +184,8 @@ impl NumberFormat {
         self.case_sensitive_base_prefix
     }
 
-    /// Whether the suffix is matched exactly: `h` then doesn't match `H`.
+    /// Whether the suffix is matched exactly, so that `H` is none where `h` is set. Else ASCII case
+    /// doesn't matter.
     #[inline(always)]
     pub fn case_sensitive_base_suffix(&self) -> bool
         ensures { result ≡ self.now.case_sensitive_base_suffix }
@@ -190,7 +193,7 @@ impl NumberFormat {
         self.case_sensitive_base_suffix
     }
 
-    /// Whether digits are required in the integer part. An integer has no other part.
+    /// Whether digits are required in the integer part, which is all that an integer has.
     #[inline(always)]
     pub fn required_integer_digits(&self) -> bool
         ensures { result ≡ self.now.required_integer_digits }
@@ -198,7 +201,7 @@ impl NumberFormat {
         self.required_integer_digits
     }
 
-    /// Whether digits are required at all, as [`STANDARD`] does.
+    /// Whether digits are required, as in [`STANDARD`].
     #[inline(always)]
     pub fn required_mantissa_digits(&self) -> bool
         ensures { result ≡ self.now.required_mantissa_digits }
@@ -206,8 +209,8 @@ impl NumberFormat {
         self.required_mantissa_digits
     }
 
-    /// Whether a text without digits is refused (`Error::Empty`): either of `required_integer_digits`
-    /// and `required_mantissa_digits` is set.
+    /// Whether a text without digits is refused (`Error::Empty`), since `required_integer_digits` or
+    /// `required_mantissa_digits` is set.
     #[inline(always)]
     pub fn required_digits(&self) -> bool
         ensures { result ≡ (self.now.required_integer_digits || self.now.required_mantissa_digits) }
@@ -242,7 +245,7 @@ impl NumberFormat {
         self.no_integer_leading_zeros
     }
 
-    /// Whether separators may stand before the first digit: `_12`.
+    /// Whether separators may stand before the first digit, as in `_12`, or where there is none.
     #[inline(always)]
     pub fn integer_leading_digit_separator(&self) -> bool
         ensures { result ≡ self.now.integer_leading_digit_separator }
@@ -250,7 +253,7 @@ impl NumberFormat {
         self.integer_leading_digit_separator
     }
 
-    /// Whether separators may stand between two digits: `1_2`.
+    /// Whether separators may stand between two digits, as in `1_2`.
     #[inline(always)]
     pub fn integer_internal_digit_separator(&self) -> bool
         ensures { result ≡ self.now.integer_internal_digit_separator }
@@ -258,7 +261,7 @@ impl NumberFormat {
         self.integer_internal_digit_separator
     }
 
-    /// Whether separators may stand behind the last digit: `12_`.
+    /// Whether separators may stand behind the last digit, as in `12_`, or where there is none.
     #[inline(always)]
     pub fn integer_trailing_digit_separator(&self) -> bool
         ensures { result ≡ self.now.integer_trailing_digit_separator }
@@ -266,8 +269,8 @@ impl NumberFormat {
         self.integer_trailing_digit_separator
     }
 
-    /// Whether separators may stand next to one another: `1__2`. Where this isn't set, two in a row
-    /// may stand nowhere, whatever the other three flags are.
+    /// Whether separators may stand next to one another, as in `1__2`. Where this isn't set, two in a
+    /// row may stand nowhere, whatever the other three flags are.
     #[inline(always)]
     pub fn integer_consecutive_digit_separator(&self) -> bool
         ensures { result ≡ self.now.integer_consecutive_digit_separator }
@@ -287,7 +290,7 @@ impl NumberFormat {
     ///
     /// The first rule is that of the Rust crate `lexical-util`; the others, and which fault each has,
     /// are this crate's own.
-    #[inline]
+    #[inline(always)]
     pub fn error(&self) -> Option<Error>
         ensures { result ≡ fault self.now }
     {
@@ -311,7 +314,7 @@ impl NumberFormat {
     }
 
     /// Whether the format breaks no rule, so that `error` answers `None`.
-    #[inline]
+    #[inline(always)]
     pub fn is_valid(&self) -> bool
         ensures { IsTrue result ↔ (fault self.now ≡ None) }
     {

@@ -5,6 +5,7 @@ use crate::error::Error;
 use crate::options::ParseOptions;
 use std::test::Fail;
 
+mod caller;
 mod derives;
 mod formats;
 mod integers;

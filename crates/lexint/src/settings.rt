@@ -48,8 +48,9 @@ impl Settings {
         &self.options
     }
 
-    /// Sets a field to its new value, and no other.
-    pub fn make(&mut self, change: Change)
+    /// Sets a field to its new value, and changes no other. No value is refused: the format may
+    /// become invalid.
+    pub fn apply(&mut self, change: Change)
         ensures { self.new ≡ changed change self.old }
     {
         let format = self.format;

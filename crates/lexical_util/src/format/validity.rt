@@ -7,7 +7,7 @@ ghost use Rattle.lexical_util.specs.Validity.{are_alike, is_unfit};
 use crate::digit::char_is_digit;
 
 // Whether a separator, prefix or suffix is set to a byte that can't be one.
-#[inline]
+#[inline(always)]
 pub(super) fn is_unfit(mark: Option<u8>, radix: u32) -> bool
     requires { IsRadix radix }
     ensures { result ≡ is_unfit radix mark }
@@ -21,7 +21,7 @@ pub(super) fn is_unfit(mark: Option<u8>, radix: u32) -> bool
 }
 
 // Whether both are set, to one byte or to one letter in two cases.
-#[inline]
+#[inline(always)]
 pub(super) fn are_alike(mark: Option<u8>, other: Option<u8>) -> bool
     ensures { result ≡ are_alike mark other }
 {

@@ -1,56 +1,17 @@
-use Rattle.std.proofs.Common.{◌≡◌, true, false, length, Some, None}
-use Rattle.lexical_parse_integer.specs.Runs.{digit_at, run_passes, separator_at}
-use Rattle.lexical_parse_integer.proofs.Places.{IsStop, IsStop-stop_of}
-use Rattle.lexical_parse_integer.proofs.NumeralLemmas.{finds_here, ends_here, ends_refused, finds_behind, ends_behind, run_below}
+use Rattle.std.proofs.Common.{◌≡◌, ◌∙◌, Some, None, sym}
+use Rattle.lexical_parse_integer.specs.Runs.{digit_at}
+use Rattle.lexical_parse_integer.proofs.CursorLemmas.{none_from_IsNone}
+use Rattle.lexical_parse_integer.proofs.First.{no_separator}
+use Rattle.lexical_parse_integer.proofs.NumeralLemmas.{ends_here, finds_here}
 use Rattle.lexical_parse_integer.proofs.seek.seek.Goals as goal
-use Rattle.lexical_parse_integer.proofs.seek.seek.Goals.{then-separator_at+else-not-run_passes, else-separator_at}
-
-pub run_passes-requires-clause-order : goal.run_passes-requires-clause-order
-run_passes-requires-clause-order c =
-    let f = c.args.format.now in
-    let b = c.args.bytes.now in
-    let run : IsStop (separator_at f b) c.args.position (length b) c.run_stop-stop.result = rw c.run_stop-stop.ensures (IsStop-stop_of (separator_at f b) c.args.position (length b) c.requires.within) in
-    let first : separator_at f b c.args.position ≡ true = cc in
-    run_below f b c.args.position c.run_stop-stop.result first run
-
-pub returns-then-not-run_passes : goal.returns-then-not-run_passes
-returns-then-not-run_passes c =
-    let f = c.args.format.now in
-    let b = c.args.bytes.now in
-    let run : IsStop (separator_at f b) c.args.position (length b) c.run_stop-stop.result = rw c.run_stop-stop.ensures (IsStop-stop_of (separator_at f b) c.args.position (length b) c.requires.within) in
-    let first : separator_at f b c.args.position ≡ true = cc in
-    let verdict : run_passes f c.args.radix b c.args.start c.args.position c.run_stop-stop.result ≡ false = cc in
-    ends_refused f c.args.radix b c.args.start c.args.position c.requires.after_start c.requires.before_end c.requires.within c.run_stop-stop.result first c.requires.separator c.requires.at_run_start run verdict
 
 pub returns-in-Some : goal.returns-in-Some
 returns-in-Some c =
-    let f = c.args.format.now in
-    let b = c.args.bytes.now in
-    elim c.if-separator_at.branch [
-      | then-separator_at+else-not-run_passes w ↦
-          let run : IsStop (separator_at f b) c.args.position (length b) w.run_stop-stop.result = rw w.run_stop-stop.ensures (IsStop-stop_of (separator_at f b) c.args.position (length b) c.requires.within) in
-          let first : separator_at f b c.args.position ≡ true = cc in
-          let verdict : run_passes f c.args.radix b c.args.start c.args.position w.run_stop-stop.result ≡ true = cc in
-          let value : digit_at c.args.radix b w.run_stop-stop.result ≡ Some c.in-Some.value = cc in
-          rw w.place-is (finds_behind f c.args.radix b c.args.start c.args.position c.requires.after_start c.requires.before_end c.requires.within w.run_stop-stop.result first c.requires.separator c.requires.at_run_start run verdict _ value)
-      | else-separator_at w ↦
-          let value : digit_at c.args.radix b c.args.position ≡ Some c.in-Some.value = cc in
-          rw w.place-is (finds_here f c.args.radix b c.args.start c.args.position c.requires.after_start c.requires.before_end c.requires.within _ value)
-    ]
+    let value : digit_at c.args.radix c.args.bytes.now c.args.position ≡ Some c.in-Some.value = cc in
+    finds_here c.args.format.now c.args.radix c.args.bytes.now c.args.start c.args.position c.requires.after_start c.requires.before_end c.requires.within _ value
 
-pub returns-in-None : goal.returns-in-None
-returns-in-None c =
-    let f = c.args.format.now in
-    let b = c.args.bytes.now in
-    elim c.if-separator_at.branch [
-      | then-separator_at+else-not-run_passes w ↦
-          let run : IsStop (separator_at f b) c.args.position (length b) w.run_stop-stop.result = rw w.run_stop-stop.ensures (IsStop-stop_of (separator_at f b) c.args.position (length b) c.requires.within) in
-          let first : separator_at f b c.args.position ≡ true = cc in
-          let verdict : run_passes f c.args.radix b c.args.start c.args.position w.run_stop-stop.result ≡ true = cc in
-          let none : digit_at c.args.radix b w.run_stop-stop.result ≡ None = cc in
-          rw w.place-is (ends_behind f c.args.radix b c.args.start c.args.position c.requires.after_start c.requires.before_end c.requires.within w.run_stop-stop.result first c.requires.separator c.requires.at_run_start run verdict none)
-      | else-separator_at w ↦
-          let none : digit_at c.args.radix b c.args.position ≡ None = cc in
-          let plain : separator_at f b c.args.position ≡ false = cc in
-          rw w.place-is (ends_here f c.args.radix b c.args.start c.args.position c.requires.after_start c.requires.before_end c.requires.within none plain)
-    ]
+pub returns-then-is_none : goal.returns-then-is_none
+returns-then-is_none c =
+    let none : digit_at c.args.radix c.args.bytes.now c.args.position ≡ None = cc in
+    let plain : c.args.format.now.digit_separator ≡ None = sym c.digit_separator.ensures ∙ none_from_IsNone _ c.if-is_none.ensures in
+    ends_here c.args.format.now c.args.radix c.args.bytes.now c.args.start c.args.position c.requires.after_start c.requires.before_end c.requires.within none (no_separator c.args.format.now c.args.bytes.now c.args.position plain)

@@ -1,0 +1,5 @@
+use Rattle.lexical_parse_integer.proofs.Locality.{is_local}
+use Rattle.lexical_parse_integer.proofs.laws.grammar.locality.Goals as goal
+
+pub returns : goal.returns
+returns c = is_local

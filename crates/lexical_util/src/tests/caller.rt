@@ -1,0 +1,26 @@
+// The caller that CALLING.md shows, proved and run.
+
+ghost use Rattle.std.specs.Prelude.{◌≡◌, ◌≤ℤ◌, None, false, pos};
+ghost use Rattle.std.specs.Option.{option_and_then, option_map};
+ghost use Rattle.lexical_util.specs.Digit.{digit};
+ghost use Rattle.lexical_util.specs.Number.{checked, integer_type, mul_add};
+ghost use Rattle.lexical_util.specs.Validity.{fault};
+
+use crate::digit::char_to_digit;
+use crate::format::{NumberFormat, NumberFormatBuilder};
+use crate::num::Integer;
+
+/// The number with the digit `byte` behind it, and `None` where the byte is no digit of the format's
+/// radix or the new number is none of the type.
+pub fn pushed<T: Integer>(number: T, byte: u8, format: &NumberFormat) -> Option<T>
+    requires valid { fault format.now ≡ None }
+    requires not_negative { pos 0 ≤ℤ T.number number }
+    ensures { option_map T.number result ≡ option_and_then
+        (λ value. checked (integer_type T.BITS T.IS_SIGNED)
+        (mul_add false (T.number number) (pos format.now.mantissa_radix) (pos value)))
+        (digit byte format.now.mantissa_radix) }
+{
+    let value = char_to_digit(byte, format.radix())?;
+    let scale = T::from_u32(format.radix());
+    number.checked_mul_add(scale, T::from_u32(value), false)
+}
