@@ -26,6 +26,7 @@ pub mod SettledRows
 pub mod ShorterFronts
 pub mod Taking
 pub mod TurnBound
+pub mod TurnRows
 pub mod Turning
 pub mod Untested
 pub mod Whole
