@@ -9,6 +9,10 @@ pub mod First
 pub mod FitLemmas
 pub mod Fronts
 pub mod InARow
+pub mod LaneJoins
+pub mod LaneMasks
+pub mod LaneValues
+pub mod LanesLent
 pub mod LawExamples
 pub mod LawLemmas
 pub mod Lists
@@ -22,12 +26,12 @@ pub mod SettledRows
 pub mod ShorterFronts
 pub mod Taking
 pub mod TurnBound
+pub mod TurnRows
 pub mod Turning
 pub mod Untested
 pub mod Whole
 pub mod WordBytes
 pub mod WordDigits
-pub mod WordLent
 pub mod WordReading
 pub mod WordTurns
 pub mod WordValues

@@ -1,19 +1,24 @@
 // What no clause says: that the definitions are those of worked texts, and that the calls answer so when they run.
 mod affixes;
+mod cursor;
 mod ends;
 mod flags;
 mod formats;
+mod literals;
 mod long;
+mod options;
+mod parsers;
 mod radixes;
 mod separators;
 mod signs;
 mod stops;
+mod turns;
+mod words;
 mod zeros;
 
 use crate::format::STANDARD;
-use crate::{
-    Error, FromLexicalWithOptions, NumberFormat, NumberFormatBuilder, Options, Result, options,
-};
+use crate::options::{LARGE_NUMBERS, SMALL_NUMBERS};
+use crate::{Error, FromLexicalWithOptions, NumberFormat, NumberFormatBuilder, Options, Result};
 use std::fmt::Debug;
 use std::process::Abort;
 
@@ -95,7 +100,7 @@ fn is_complete<T>(rt: &impl Abort, format: &NumberFormat, text: &[u8], expected:
 where
     T: FromLexicalWithOptions<Options = Options> + Debug,
 {
-    for options in [options::SMALL_NUMBERS, options::LARGE_NUMBERS] {
+    for options in [SMALL_NUMBERS, LARGE_NUMBERS] {
         let answer = T::from_lexical_with_options(text, format, &options);
         assert_eq!(rt;
             answer,
@@ -111,7 +116,7 @@ fn is_partial<T>(rt: &impl Abort, format: &NumberFormat, text: &[u8], expected: 
 where
     T: FromLexicalWithOptions<Options = Options> + Debug,
 {
-    for options in [options::SMALL_NUMBERS, options::LARGE_NUMBERS] {
+    for options in [SMALL_NUMBERS, LARGE_NUMBERS] {
         let answer = T::from_lexical_partial_with_options(text, format, &options);
         assert_eq!(rt;
             answer,

@@ -1,5 +1,5 @@
--- Comparisons of a type's values are those of the numbers that they stand for. An unsigned type's values are ℕ,
--- and a signed type's are ℤ.
+-- Comparisons of a type's values are those of the numbers that they stand for. An unsigned type's values
+-- are natural numbers, and a signed type's are integers.
 use Rattle.std.specs.Prelude.{◌≡◌, ◌↔◌, ◌==◌, ℕ, pos, Some, IsTrue}
 use Rattle.std.specs.Ordering.{int_cmp, int_eq, nat_cmp}
 use Rattle.std.proofs.Common.{ap, arith}

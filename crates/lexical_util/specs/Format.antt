@@ -1,4 +1,4 @@
--- Formats, as contracts see them.
+-- Formats, as contracts see them: the records of their fields.
 use Rattle.std.specs.Prelude.{ℕ, Bool, true, false, Option, None}
 
 -- What a format says of the texts that it admits.
@@ -18,6 +18,7 @@ pub record Format : Type 0 where
   pub integer_internal_digit_separator : Bool
   pub integer_trailing_digit_separator : Bool
   pub integer_consecutive_digit_separator : Bool
+  pub literal_prefixes : Bool
 
 -- radix 10, and a digit is required
 abbrev pub standard : Format
@@ -37,8 +38,13 @@ standard = record {
   integer_internal_digit_separator = false;
   integer_trailing_digit_separator = false;
   integer_consecutive_digit_separator = false;
+  literal_prefixes = false;
 }
 
 -- the integers of JSON: no plus, and no zero in front of another digit
 abbrev pub json : Format
-json = record standard { required_integer_digits = true; no_positive_mantissa_sign = true; no_integer_leading_zeros = true }
+json = record standard {
+  required_integer_digits = true;
+  no_positive_mantissa_sign = true;
+  no_integer_leading_zeros = true;
+}

@@ -32,7 +32,8 @@ checked type number = if is_number type number then Some number else None
 
 -- the number times the scale, plus the summand, or minus it where the numeral is negative
 abbrev pub mul_add : Bool → ℤ → ℤ → ℤ → ℤ
-mul_add negative number scale add = if negative then (number *ℤ scale) -ℤ add else (number *ℤ scale) +ℤ add
+mul_add negative number scale add =
+    if negative then (number *ℤ scale) -ℤ add else (number *ℤ scale) +ℤ add
 
 -- at most 0 where the numeral is negative, and at least 0 elsewhere
 abbrev pub HasSign : Bool → ℤ → Type 0
@@ -48,10 +49,12 @@ pub data IsWidth : ℕ → Type 0 where
   w64 : IsWidth 64
   w128 : IsWidth 128
 
--- how many digits of the radix are joined with no test: two a byte for a radix up to 16, less one where the type
--- is signed, and one a byte for a greater one
+-- how many digits of the radix are joined with no test: two a byte for a radix up to 16, less one where
+-- the type is signed, and one a byte for a greater radix
 abbrev pub overflow_digits : IntegerType → ℕ → ℕ
-overflow_digits type radix = if nat_le radix 16 then (2 * (type.bits / 8)) - (if type.is_signed then 1 else 0) else type.bits / 8
+overflow_digits type radix =
+    if nat_le radix 16 then (2 * (type.bits / 8)) - (if type.is_signed then 1 else 0)
+    else type.bits / 8
 
 -- every number of so many digits of the radix is one of the type, and its negative too where the type is signed
 pub record HasRoom (type : IntegerType) (radix count : ℕ) : Type 0 where

@@ -6,7 +6,7 @@
 
 ghost use Rattle.std.specs.Prelude.{◌≡◌, ◌↔◌, ◌||◌, IsTrue, None, is_some};
 ghost use Rattle.lexical_util.specs.Format.{json, standard};
-ghost use Rattle.lexical_util.specs.Validity.{fault};
+ghost use Rattle.lexical_util.specs.Validity.{fault, has_unfit_literals};
 
 mod builder;
 mod validity;
@@ -14,13 +14,13 @@ mod validity;
 use crate::error::Error;
 pub use builder::NumberFormatBuilder;
 use std::marker::Model;
-use validity::{are_alike, is_unfit};
+use validity::{are_alike, is_unfit, is_unfit_beside_literals};
 
 /// What a text of an integer may look like: its radix, its punctuation, and what is required or
 /// forbidden.
 ///
-/// Two formats are equal where all their fields are. Contracts see a format as the record of its
-/// fields.
+/// Any values of the fields make a format. Whether it is valid is another question, which
+/// [`NumberFormat::error`] answers. Two formats are equal where all their fields are.
 #[derive(Debug, Copy, Clone, PartialEq, Eq)]
 pub struct NumberFormat {
     mantissa_radix: u8,
@@ -35,6 +35,7 @@ pub struct NumberFormat {
     integer_internal_digit_separator: bool,
     integer_trailing_digit_separator: bool,
     integer_consecutive_digit_separator: bool,
+    literal_prefixes: bool,
     // These stand last because the derived equality is proved in this order alone.
     digit_separator: Option<u8>,
     base_prefix: Option<u8>,
@@ -62,6 +63,7 @@ impl Model for NumberFormat {
       integer_internal_digit_separator = a.integer_internal_digit_separator;
       integer_trailing_digit_separator = a.integer_trailing_digit_separator;
       integer_consecutive_digit_separator = a.integer_consecutive_digit_separator;
+      literal_prefixes = a.literal_prefixes;
     } };
 
     ghost inverse = { λ a. record {
@@ -80,6 +82,7 @@ impl Model for NumberFormat {
       integer_internal_digit_separator = a.integer_internal_digit_separator;
       integer_trailing_digit_separator = a.integer_trailing_digit_separator;
       integer_consecutive_digit_separator = a.integer_consecutive_digit_separator;
+      literal_prefixes = a.literal_prefixes;
     } };
 }
 
@@ -100,6 +103,7 @@ pub const STANDARD: NumberFormat = NumberFormat {
     integer_internal_digit_separator: false,
     integer_trailing_digit_separator: false,
     integer_consecutive_digit_separator: false,
+    literal_prefixes: false,
 };
 
 /// Integers as JSON writes them (RFC 8259, section 6): [`STANDARD`] without a plus, and without a zero
@@ -135,7 +139,7 @@ impl NumberFormat {
         self.mantissa_radix()
     }
 
-    /// The byte that may stand between digits and counts for nothing there, as `_` in `1_000`.
+    /// The byte that may stand among the digits and counts for nothing, as `_` in `1_000`.
     ///
     /// It is matched exactly, also where it is a letter. The four `integer_` flags say where it may
     /// stand; with none of them it may stand nowhere, and without a separator they have no effect.
@@ -146,7 +150,8 @@ impl NumberFormat {
         self.digit_separator
     }
 
-    /// The letter of the prefix: `x` lets a text begin with `0x`, directly after the sign.
+    /// The byte that makes a prefix with a `0` before it: with `x` a text may begin with `0x`, directly
+    /// after the sign.
     ///
     /// A text may leave the prefix out. It doesn't change the radix.
     #[inline(always)]
@@ -174,7 +179,8 @@ impl NumberFormat {
         self.base_prefix.is_some()
     }
 
-    /// Whether the prefix's letter is matched exactly: `x` then doesn't match `X`.
+    /// Whether the prefix is matched exactly, so that `0X` is none where `x` is set. Else ASCII case
+    /// doesn't matter.
     #[inline(always)]
     pub fn case_sensitive_base_prefix(&self) -> bool
         ensures { result ≡ self.now.case_sensitive_base_prefix }
@@ -182,7 +188,8 @@ impl NumberFormat {
         self.case_sensitive_base_prefix
     }
 
-    /// Whether the suffix is matched exactly: `h` then doesn't match `H`.
+    /// Whether the suffix is matched exactly, so that `H` is none where `h` is set. Else ASCII case
+    /// doesn't matter.
     #[inline(always)]
     pub fn case_sensitive_base_suffix(&self) -> bool
         ensures { result ≡ self.now.case_sensitive_base_suffix }
@@ -190,7 +197,7 @@ impl NumberFormat {
         self.case_sensitive_base_suffix
     }
 
-    /// Whether digits are required in the integer part. An integer has no other part.
+    /// Whether digits are required in the integer part, which is all that an integer has.
     #[inline(always)]
     pub fn required_integer_digits(&self) -> bool
         ensures { result ≡ self.now.required_integer_digits }
@@ -198,7 +205,7 @@ impl NumberFormat {
         self.required_integer_digits
     }
 
-    /// Whether digits are required at all, as [`STANDARD`] does.
+    /// Whether digits are required, as in [`STANDARD`].
     #[inline(always)]
     pub fn required_mantissa_digits(&self) -> bool
         ensures { result ≡ self.now.required_mantissa_digits }
@@ -206,8 +213,8 @@ impl NumberFormat {
         self.required_mantissa_digits
     }
 
-    /// Whether a text without digits is refused (`Error::Empty`): either of `required_integer_digits`
-    /// and `required_mantissa_digits` is set.
+    /// Whether a text without digits is refused (`Error::Empty`), since `required_integer_digits` or
+    /// `required_mantissa_digits` is set.
     #[inline(always)]
     pub fn required_digits(&self) -> bool
         ensures { result ≡ (self.now.required_integer_digits || self.now.required_mantissa_digits) }
@@ -242,7 +249,7 @@ impl NumberFormat {
         self.no_integer_leading_zeros
     }
 
-    /// Whether separators may stand before the first digit: `_12`.
+    /// Whether separators may stand before the first digit, as in `_12`, or where there is none.
     #[inline(always)]
     pub fn integer_leading_digit_separator(&self) -> bool
         ensures { result ≡ self.now.integer_leading_digit_separator }
@@ -250,7 +257,7 @@ impl NumberFormat {
         self.integer_leading_digit_separator
     }
 
-    /// Whether separators may stand between two digits: `1_2`.
+    /// Whether separators may stand between two digits, as in `1_2`.
     #[inline(always)]
     pub fn integer_internal_digit_separator(&self) -> bool
         ensures { result ≡ self.now.integer_internal_digit_separator }
@@ -258,7 +265,7 @@ impl NumberFormat {
         self.integer_internal_digit_separator
     }
 
-    /// Whether separators may stand behind the last digit: `12_`.
+    /// Whether separators may stand behind the last digit, as in `12_`, or where there is none.
     #[inline(always)]
     pub fn integer_trailing_digit_separator(&self) -> bool
         ensures { result ≡ self.now.integer_trailing_digit_separator }
@@ -266,13 +273,23 @@ impl NumberFormat {
         self.integer_trailing_digit_separator
     }
 
-    /// Whether separators may stand next to one another: `1__2`. Where this isn't set, two in a row
-    /// may stand nowhere, whatever the other three flags are.
+    /// Whether separators may stand next to one another, as in `1__2`. Where this isn't set, two in a
+    /// row may stand nowhere, whatever the other three flags are.
     #[inline(always)]
     pub fn integer_consecutive_digit_separator(&self) -> bool
         ensures { result ≡ self.now.integer_consecutive_digit_separator }
     {
         self.integer_consecutive_digit_separator
+    }
+
+    /// Whether the text may choose its radix: a `0x`, `0o` or `0b` directly after the sign is a prefix, and makes the
+    /// radix in force 16, 8 or 2. Either letter case is matched, unless `case_sensitive_base_prefix` is set: then the
+    /// small letters alone. Without such a prefix the radix is 10.
+    #[inline(always)]
+    pub fn literal_prefixes(&self) -> bool
+        ensures { result ≡ self.now.literal_prefixes }
+    {
+        self.literal_prefixes
     }
 
     /// The first rule that the format breaks, and `None` where it is valid.
@@ -284,6 +301,8 @@ impl NumberFormat {
     /// 4. A suffix is such a byte; else `InvalidBaseSuffix`.
     /// 5. No two of the three are alike, that is the same byte or the same letter in two cases; else
     ///    `InvalidPunctuation`.
+    /// 6. Where literal prefixes are asked for, the radix is 10, the format has no prefix of its own, and separator and
+    ///    suffix are neither digits of radix 16 nor `x`, `o` or `b`, in either case; else `InvalidLiteralPrefixes`.
     ///
     /// The first rule is that of the Rust crate `lexical-util`; the others, and which fault each has,
     /// are this crate's own.
@@ -305,9 +324,24 @@ impl NumberFormat {
             || are_alike(self.base_prefix, self.base_suffix)
         {
             Some(Error::InvalidPunctuation)
+        } else if self.has_unfit_literals() {
+            Some(Error::InvalidLiteralPrefixes)
         } else {
             None
         }
+    }
+
+    // Whether literal prefixes are asked for where they can't be told apart.
+    #[inline(always)]
+    fn has_unfit_literals(&self) -> bool
+        ensures { result ≡ has_unfit_literals self.now }
+    {
+        let are_asked_for = self.literal_prefixes;
+        are_asked_for
+            && (self.mantissa_radix != 10
+                || self.has_base_prefix()
+                || is_unfit_beside_literals(self.digit_separator)
+                || is_unfit_beside_literals(self.base_suffix))
     }
 
     /// Whether the format breaks no rule, so that `error` answers `None`.

@@ -4,7 +4,8 @@ ghost use Rattle.std.specs.Prelude.{◌≡◌, ◌↔◌, ◌≤ℤ◌, ℕ, ℤ
 ghost use Rattle.std.specs.Option.{option_map};
 ghost use Rattle.std.specs.Ordering.{int_cmp};
 ghost use Rattle.lexical_util.specs.Digit.{IsRadix};
-ghost use Rattle.lexical_util.specs.Number.{HasRoom, HasSign, IsNumber, IsWidth, checked, integer_type, mul_add, overflow_digits};
+ghost use Rattle.lexical_util.specs.Number.{HasRoom, HasSign, IsNumber, IsWidth};
+ghost use Rattle.lexical_util.specs.Number.{checked, integer_type, mul_add, overflow_digits};
 
 mod impls;
 
@@ -51,7 +52,8 @@ pub trait Integer: Copy + Eq + Ord {
         requires scale { pos 1 ≤ℤ number scale }
         requires add { pos 0 ≤ℤ number add }
         requires sign { HasSign negative (number self) }
-        requires fits { IsNumber (integer_type BITS IS_SIGNED) (mul_add negative (number self) (number scale) (number add)) }
+        requires fits { IsNumber (integer_type BITS IS_SIGNED)
+            (mul_add negative (number self) (number scale) (number add)) }
         ensures { number result ≡ mul_add negative (number self) (number scale) (number add) };
 
     /// `mul_add` where its result is a number of the type, and `None` elsewhere.
@@ -62,7 +64,8 @@ pub trait Integer: Copy + Eq + Ord {
         requires scale { pos 1 ≤ℤ number scale }
         requires add { pos 0 ≤ℤ number add }
         requires sign { HasSign negative (number self) }
-        ensures { option_map number result ≡ checked (integer_type BITS IS_SIGNED) (mul_add negative (number self) (number scale) (number add)) };
+        ensures { option_map number result ≡ checked (integer_type BITS IS_SIGNED)
+            (mul_add negative (number self) (number scale) (number add)) };
 
     /// How many digits of the radix may be joined by `mul_add` with no test, since no numeral of so
     /// many digits leaves the type, with a minus neither where the type is signed.

@@ -47,7 +47,7 @@ module _ {X : Type 0} (p : X → Bool) where
   at_first x xs none passes =
       let k : behind xs ≡ length xs = full_is (behind xs) (length xs) none in
       let e : behind (x ∷ xs) ≡ length xs =
-        behind-cons x xs ∙ ap (λ b. cond b (length xs + cond (not (p x)) 1 0) (behind xs)) none ∙ ap (λ b. length xs + cond (not b) 1 0) passes ∙ omega arith in
+      behind-cons x xs ∙ ap (λ b. cond b (length xs + cond (not (p x)) 1 0) (behind xs)) none ∙ ap (λ b. length xs + cond (not b) 1 0) passes ∙ omega arith in
       (not_full (behind (x ∷ xs)) (suc (length xs)) (omega (arith, e)), drop_none xs (behind xs) (length xs) k, drop_first x xs (behind (x ∷ xs)) (length xs) e)
 
   -- none passes
@@ -56,7 +56,7 @@ module _ {X : Type 0} (p : X → Bool) where
   at_none x xs none fails =
       let k : behind xs ≡ length xs = full_is (behind xs) (length xs) none in
       let e : behind (x ∷ xs) ≡ suc (length xs) =
-        behind-cons x xs ∙ ap (λ b. cond b (length xs + cond (not (p x)) 1 0) (behind xs)) none ∙ ap (λ b. length xs + cond (not b) 1 0) fails ∙ omega arith in
+      behind-cons x xs ∙ ap (λ b. cond b (length xs + cond (not (p x)) 1 0) (behind xs)) none ∙ ap (λ b. length xs + cond (not b) 1 0) fails ∙ omega arith in
       (full (behind (x ∷ xs)) (suc (length xs)) e, drop_none xs (behind xs) (length xs) k, drop_none (x ∷ xs) (behind (x ∷ xs)) (suc (length xs)) e)
 
   -- one behind the first passes
@@ -64,5 +64,5 @@ module _ {X : Type 0} (p : X → Bool) where
   at_rest x xs some =
       let k : behind xs < length xs = not_full_is (behind xs) (length xs) (suffix_len-le-length (λ y. not (p y)) xs) some in
       let e : behind (x ∷ xs) ≡ behind xs =
-        behind-cons x xs ∙ ap (λ b. cond b (length xs + cond (not (p x)) 1 0) (behind xs)) some in
+      behind-cons x xs ∙ ap (λ b. cond b (length xs + cond (not (p x)) 1 0) (behind xs)) some in
       (not_full (behind (x ∷ xs)) (suc (length xs)) (omega (arith, e, k)), ap (λ m. drop (suc (length xs) - m) (x ∷ xs)) e ∙ drop_more x xs (behind xs) (length xs) k)

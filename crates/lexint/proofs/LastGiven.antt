@@ -105,12 +105,12 @@ module _ {A : Type 0} (value : Settings → A) (given : Change → Option A) (by
   first_line s line lines true true none resets =
       let (more, rest, all) = at_first is_reset line lines none resets in
       let v : value (settings_after s line) ≡ value standard_settings =
-        after_line s line ∙ ap (λ x. cond x (value standard_settings) (last_of (value s) (given_by (line ∷ [])))) resets in
+      after_line s line ∙ ap (λ x. cond x (value standard_settings) (last_of (value s) (given_by (line ∷ [])))) resets in
       claim_is (settings_after s line) lines lines true none rest ∙ ap (λ x. last_of x (given_by lines)) v ∙ sym (claim_is s (line ∷ lines) lines false more all)
   first_line s line lines true false none other =
       let (more, rest, all) = at_none is_reset line lines none other in
       let v : value (settings_after s line) ≡ last_of (value s) (given_by (line ∷ [])) =
-        after_line s line ∙ ap (λ x. cond x (value standard_settings) (last_of (value s) (given_by (line ∷ [])))) other in
+      after_line s line ∙ ap (λ x. cond x (value standard_settings) (last_of (value s) (given_by (line ∷ [])))) other in
       claim_is (settings_after s line) lines lines true none rest ∙ ap (λ x. last_of x (given_by lines)) v
       ∙ sym (one_more (value s) (change_made (command_in line)) (filter_map (λ l. change_made (command_in l)) lines))
       ∙ sym (claim_is s (line ∷ lines) (line ∷ lines) true more all)

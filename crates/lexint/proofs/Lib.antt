@@ -2,6 +2,7 @@ pub mod LineSteps
 pub mod NumeralSteps
 pub mod Pieces
 pub mod AfterLast
+pub mod AnswerLines
 pub mod FieldChanges
 pub mod LastGiven
 pub mod Sending

@@ -4,18 +4,19 @@ use Rattle.std.specs.List.{AllByRecursion}
 use Rattle.std.specs.Int.Digits.{digits_of, number_from_digits, AllBelowBase}
 use lib.IntN.{ℤ}
 
--- the digits of n in radix 10 as text, the highest first, and `0` alone for 0
+-- the digits of a number in radix 10 as text, the highest first, and `0` alone for 0; the byte of `0`
+-- is 48
 abbrev pub numeral : ℕ → List ℕ
 numeral n = if n == 0 then 48 ∷ [] else map (λ d. 48 + d) (digits_of 10 n)
+
+-- the same of a whole number: `-` before its size where it is negative
+abbrev pub signed_numeral : ℤ → List ℕ
+signed_numeral (pos n) = numeral n
+signed_numeral (negsuc n) = 45 ∷ numeral (suc n)
 
 -- a whole number from its sign and its size
 abbrev pub signed : Bool → ℕ → ℤ
 signed is_negative size = if is_negative then neg_ℤ (pos size) else pos size
-
--- the same with `-` before the size of a negative number
-abbrev pub signed_numeral : ℤ → List ℕ
-signed_numeral (pos n) = numeral n
-signed_numeral (negsuc n) = 45 ∷ numeral (suc n)
 
 -- the digits that a text writes
 abbrev pub digits_in : List ℕ → List ℕ
@@ -26,4 +27,5 @@ pub record IsShortest (text : List ℕ) (n : ℕ) : Type 0 where
   pub some : 0 < length text
   pub digits : AllByRecursion (λ c. (48 ≤ c) × (c < 58)) text
   pub value : number_from_digits 10 (digits_in text) ≡ n
-  pub least : (ds : List ℕ) → AllBelowBase 10 ds → number_from_digits 10 ds ≡ n → 0 < length ds → length text ≤ length ds
+  pub least : (ds : List ℕ) → AllBelowBase 10 ds → number_from_digits 10 ds ≡ n → 0 < length ds
+      → length text ≤ length ds

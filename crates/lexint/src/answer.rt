@@ -16,7 +16,8 @@ use crate::{numeral, parse};
 use lexical_parse_integer::{Error, Result as Parse};
 use std::io::Write;
 
-/// Writes a line's answer and a line feed, and sets what the line sets.
+/// Writes a line's answer and a line feed, and sets what the line sets. A line that asks for
+/// nothing is answered by `bad line`, and changes nothing.
 #[tactic(auto, unfolding(crate::specs::Output::answer_of, crate::specs::Output::settings_after))]
 pub fn answer<W: Write>(
     line: &[u8],
@@ -36,7 +37,7 @@ pub fn answer<W: Write>(
     Ok(())
 }
 
-// Writes the answer to a command.
+// Writes the answer to a command, and `bad line` where there is none.
 fn tell<W: Write>(
     command: Option<Command<'_>>,
     settings: &Settings,
@@ -64,9 +65,9 @@ fn obey(command: Option<Command<'_>>, settings: &mut Settings)
     ensures { settings.new ≡ command_effect settings.old (option_map seen_command command.entry) }
 {
     match command {
-        Some(Command::Change(change)) => settings.make(change),
+        Some(Command::Change(change)) => settings.apply(change),
         Some(Command::Reset) => *settings = Settings::standard(),
-        None | Some(Command::Complete(..)) | Some(Command::Partial(..)) => {}
+        _ => {}
     }
 }
 
@@ -181,5 +182,6 @@ fn fault_name(fault: Error) -> &'static str
         Error::InvalidBasePrefix => "InvalidBasePrefix",
         Error::InvalidBaseSuffix => "InvalidBaseSuffix",
         Error::InvalidPunctuation => "InvalidPunctuation",
+        Error::InvalidLiteralPrefixes => "InvalidLiteralPrefixes",
     }
 }

@@ -1,13 +1,22 @@
 //! What the definitions of the program's output come to.
 
 ghost use Rattle.std.specs.Prelude.{◌≡◌, ℕ, List};
+ghost use Rattle.std.specs.List.{scan};
 ghost use Rattle.lexint.specs.Given.{IsAnsweredInTurn, LeavesLastGiven};
 ghost use Rattle.lexint.specs.Lines.{lines, pieces, without_empty_last};
 ghost use Rattle.lexint.specs.Numeral.{numeral, IsShortest};
+ghost use Rattle.lexint.specs.Output.{answer_of, output, settings_after};
+ghost use Rattle.lexint.specs.Settings.{standard_settings};
 
 /// The lines are the pieces between the line feeds, without the last where that is empty.
 pub fn lines_are_pieces()
     ensures { (bytes : List ℕ) → lines bytes ≡ without_empty_last (pieces bytes) }
+{}
+
+/// The lines of the output are the answers to the lines of the input, one for each and in order.
+pub fn output_is_a_line_for_each_line()
+    ensures { (input : List ℕ) → lines (output input)
+        ≡ scan settings_after answer_of standard_settings (lines input) }
 {}
 
 /// A numeral is the shortest text of digits that writes its number.
@@ -19,6 +28,7 @@ pub fn numeral_is_shortest()
 /// field has the value that the last accepted `f` line after the last `r` line gave it, or the
 /// standard one where there is none.
 pub fn fields_hold_what_was_last_given()
-    ensures answered { (before : List (List ℕ)) → (line : List ℕ) → (after : List (List ℕ)) → IsAnsweredInTurn before line after }
+    ensures answered { (before : List (List ℕ)) → (line : List ℕ) → (after : List (List ℕ))
+        → IsAnsweredInTurn before line after }
     ensures left { (lines : List (List ℕ)) → LeavesLastGiven lines }
 {}

@@ -1,5 +1,6 @@
-// Numbers as text, in a fixed array.
-ghost use Rattle.std.specs.Prelude.{◌≡◌, ◌≤◌, ◌<◌, ◌+◌, ◌-◌, ◌/◌, ◌%◌, ◌∷◌, drop};
+//! Numbers as text, in a fixed array.
+
+ghost use Rattle.std.specs.Prelude.{◌≡◌, ◌≤◌, ◌<◌, ◌+◌, ◌-◌, ◌/◌, ◌%◌, ◌^◌, ◌∷◌, ◌++◌, drop};
 ghost use Rattle.lexint.specs.Numeral.{numeral, signed_numeral};
 
 use crate::number::Number;
@@ -7,36 +8,49 @@ use crate::number::Number;
 /// The room that the longest numeral takes.
 pub const MOST: usize = 40;
 
-/// Writes the numeral so that it ends where the array does, and answers where it starts. Below
-/// 2^64 it takes two digits a division.
+/// Writes the numeral so that it ends where the array does, and answers where it starts.
 pub fn write_numeral(n: u128, place: &mut [u8; MOST]) -> usize
     ensures within { result ≤ 40 }
     ensures room { 1 ≤ result }
     ensures written { drop result place.new ≡ numeral n }
 {
-    let mut left = n;
-    let mut at = MOST;
-    while left > u64::MAX as u128 {
-        at -= 1;
-        place[at] = b'0' + (left % 10) as u8;
-        left /= 10;
+    let mut rest = n;
+    let mut start = MOST;
+    while rest > u64::MAX as u128 {
+        start -= 1;
+        place[start] = b'0' + (rest % 10) as u8;
+        rest /= 10;
     }
-    let mut few = left as u64;
-    while few >= 100 {
-        put_pair((few % 100) as u8, place, at);
-        few /= 100;
-        at -= 2;
-    }
-    if few >= 10 {
-        put_pair(few as u8, place, at);
-        return at - 2;
-    }
-    at -= 1;
-    place[at] = b'0' + few as u8;
-    at
+    write_front(rest as u64, place, start)
 }
 
-/// Writes two digits in front of a place.
+// Writes the numeral in front of a place, two digits a division, and answers where it starts.
+#[inline(always)]
+fn write_front(n: u64, place: &mut [u8; MOST], end: usize) -> usize
+    requires low { 2 ≤ end }
+    requires high { end ≤ 40 }
+    requires room { n < 10 ^ (end - 1) }
+    ensures within { result ≤ 40 }
+    ensures room { 1 ≤ result }
+    ensures written { drop result place.new ≡ numeral n ++ drop end place.old }
+{
+    let mut rest = n;
+    let mut start = end;
+    while rest >= 100 {
+        put_pair((rest % 100) as u8, place, start);
+        rest /= 100;
+        start -= 2;
+    }
+    if rest >= 10 {
+        put_pair(rest as u8, place, start);
+        return start - 2;
+    }
+    start -= 1;
+    place[start] = b'0' + rest as u8;
+    start
+}
+
+// Writes two digits in front of a place.
 #[inline(always)]
 fn put_pair(pair: u8, place: &mut [u8; MOST], end: usize)
     requires small { pair < 100 }

@@ -19,9 +19,12 @@ trait Parsed: FromLexicalWithOptions<Options = Options> {
         ensures { result ≡ Self.number self };
 }
 
-// The number that the whole text stands for as one of type `T`.
+// The number that the whole text stands for as one of type `T`. Each type has one copy of the
+// parser in here, rather than one in each arm of a `match`.
+#[inline(never)]
 fn complete_as<T: Parsed>(text: &[u8], settings: &Settings) -> Result<Number>
-    ensures { result ≡ complete_if_valid settings.now.format (integer_type T.BITS T.IS_SIGNED) text.now }
+    ensures { result ≡ complete_if_valid settings.now.format (integer_type T.BITS T.IS_SIGNED)
+        text.now }
 {
     let value = T::from_lexical_with_options(text, &settings.format(), settings.options())?;
     Ok(value.to_number())
@@ -29,8 +32,10 @@ fn complete_as<T: Parsed>(text: &[u8], settings: &Settings) -> Result<Number>
 
 // The number that the front of the text stands for as one of type `T`, and the place at which
 // reading stopped.
+#[inline(never)]
 fn partial_as<T: Parsed>(text: &[u8], settings: &Settings) -> Result<(Number, usize)>
-    ensures { result ≡ partial_if_valid settings.now.format (integer_type T.BITS T.IS_SIGNED) text.now }
+    ensures { result ≡ partial_if_valid settings.now.format (integer_type T.BITS T.IS_SIGNED)
+        text.now }
 {
     let (value, stop) = T::from_lexical_partial_with_options(
         text,

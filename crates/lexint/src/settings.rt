@@ -48,8 +48,9 @@ impl Settings {
         &self.options
     }
 
-    /// Sets a field to its new value, and no other.
-    pub fn make(&mut self, change: Change)
+    /// Sets a field to its new value, and changes no other. No value is refused: the format may
+    /// become invalid.
+    pub fn apply(&mut self, change: Change)
         ensures { self.new ≡ changed change self.old }
     {
         let format = self.format;
@@ -90,5 +91,6 @@ fn with_flag(flag: Flag, value: bool, format: NumberFormatBuilder) -> NumberForm
         Flag::IntegerInternalDigitSeparator => format.integer_internal_digit_separator(value),
         Flag::IntegerTrailingDigitSeparator => format.integer_trailing_digit_separator(value),
         Flag::IntegerConsecutiveDigitSeparator => format.integer_consecutive_digit_separator(value),
+        Flag::LiteralPrefixes => format.literal_prefixes(value),
     }
 }

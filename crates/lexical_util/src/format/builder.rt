@@ -86,8 +86,8 @@ impl NumberFormatBuilder {
         self
     }
 
-    /// Sets the letter of the prefix: with `Some(b'x')` a text may begin with `0x`, directly after
-    /// the sign. The radix stays as it is.
+    /// Sets the prefix: with `Some(b'x')` a text may begin with `0x`, directly after the sign. The
+    /// radix stays as it is.
     #[inline]
     pub fn base_prefix(mut self, value: Option<u8>) -> Self
         ensures { result ≡ record self { base_prefix = value } }
@@ -105,7 +105,7 @@ impl NumberFormatBuilder {
         self
     }
 
-    /// Sets whether the prefix's letter is matched exactly, or else but for ASCII case.
+    /// Sets whether the prefix is matched exactly. With `false` ASCII case doesn't matter.
     #[inline]
     pub fn case_sensitive_base_prefix(mut self, value: bool) -> Self
         ensures { result ≡ record self { case_sensitive_base_prefix = value } }
@@ -114,7 +114,7 @@ impl NumberFormatBuilder {
         self
     }
 
-    /// Sets whether the suffix is matched exactly, or else but for ASCII case.
+    /// Sets whether the suffix is matched exactly. With `false` ASCII case doesn't matter.
     #[inline]
     pub fn case_sensitive_base_suffix(mut self, value: bool) -> Self
         ensures { result ≡ record self { case_sensitive_base_suffix = value } }
@@ -123,7 +123,7 @@ impl NumberFormatBuilder {
         self
     }
 
-    /// Sets whether digits are required in the integer part. They are required where this or
+    /// Sets whether digits are required in the integer part. They are where this or
     /// `required_mantissa_digits` is set, so setting this one to `false` may not be enough.
     #[inline]
     pub fn required_integer_digits(mut self, value: bool) -> Self
@@ -133,8 +133,8 @@ impl NumberFormatBuilder {
         self
     }
 
-    /// Sets whether digits are required at all. They are required where this or
-    /// `required_integer_digits` is set, so setting this one to `false` may not be enough.
+    /// Sets whether digits are required. They are where this or `required_integer_digits` is set, so
+    /// setting this one to `false` may not be enough.
     #[inline]
     pub fn required_mantissa_digits(mut self, value: bool) -> Self
         ensures { result ≡ record self { required_mantissa_digits = value } }
@@ -143,11 +143,14 @@ impl NumberFormatBuilder {
         self
     }
 
-    /// Sets `required_integer_digits` and `required_mantissa_digits` to one value: with `false` a text
-    /// without digits is 0.
+    /// Sets `required_integer_digits` and `required_mantissa_digits` to one value. With `false` a text
+    /// without digits is 0, unless it ends with its prefix.
     #[inline]
     pub fn required_digits(self, value: bool) -> Self
-        ensures { result ≡ record self { required_integer_digits = value; required_mantissa_digits = value } }
+        ensures { result ≡ record self {
+          required_integer_digits = value;
+          required_mantissa_digits = value;
+        } }
     {
         self.required_integer_digits(value)
             .required_mantissa_digits(value)
@@ -180,7 +183,7 @@ impl NumberFormatBuilder {
         self
     }
 
-    /// Sets `integer_leading_digit_separator`: the integer part is all that an integer has.
+    /// Sets `integer_leading_digit_separator`, since an integer has no part but the integer part.
     #[inline]
     pub fn leading_digit_separator(self, value: bool) -> Self
         ensures { result ≡ record self { integer_leading_digit_separator = value } }
@@ -212,7 +215,7 @@ impl NumberFormatBuilder {
         self.integer_consecutive_digit_separator(value)
     }
 
-    /// Sets whether separators may stand before the first digit: `_12`.
+    /// Sets whether separators may stand before the first digit, as in `_12`, or where there is none.
     #[inline]
     pub fn integer_leading_digit_separator(mut self, value: bool) -> Self
         ensures { result ≡ record self { integer_leading_digit_separator = value } }
@@ -221,7 +224,7 @@ impl NumberFormatBuilder {
         self
     }
 
-    /// Sets whether separators may stand between two digits: `1_2`.
+    /// Sets whether separators may stand between two digits, as in `1_2`.
     #[inline]
     pub fn integer_internal_digit_separator(mut self, value: bool) -> Self
         ensures { result ≡ record self { integer_internal_digit_separator = value } }
@@ -230,7 +233,7 @@ impl NumberFormatBuilder {
         self
     }
 
-    /// Sets whether separators may stand behind the last digit: `12_`.
+    /// Sets whether separators may stand behind the last digit, as in `12_`, or where there is none.
     #[inline]
     pub fn integer_trailing_digit_separator(mut self, value: bool) -> Self
         ensures { result ≡ record self { integer_trailing_digit_separator = value } }
@@ -239,12 +242,21 @@ impl NumberFormatBuilder {
         self
     }
 
-    /// Sets whether separators may stand next to one another: `1__2`.
+    /// Sets whether separators may stand next to one another, as in `1__2`.
     #[inline]
     pub fn integer_consecutive_digit_separator(mut self, value: bool) -> Self
         ensures { result ≡ record self { integer_consecutive_digit_separator = value } }
     {
         self.format.integer_consecutive_digit_separator = value;
+        self
+    }
+
+    /// Sets whether the text may choose its radix by `0x`, `0o` or `0b`.
+    #[inline]
+    pub fn literal_prefixes(mut self, value: bool) -> Self
+        ensures { result ≡ record self { literal_prefixes = value } }
+    {
+        self.format.literal_prefixes = value;
         self
     }
 

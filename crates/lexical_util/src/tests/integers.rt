@@ -55,7 +55,8 @@ fn reaches_end<T: Integer + Debug>(rt: &impl Abort, front: T, digit: u32, negati
     requires digit { IsNumber (integer_type T.BITS T.IS_SIGNED) (pos digit) }
     requires next { IsNumber (integer_type T.BITS T.IS_SIGNED) (pos (digit + 1)) }
     requires sign { HasSign negative (T.number front) }
-    requires fits { IsNumber (integer_type T.BITS T.IS_SIGNED) (mul_add negative (T.number front) (pos 10) (pos digit)) }
+    requires fits { IsNumber (integer_type T.BITS T.IS_SIGNED)
+        (mul_add negative (T.number front) (pos 10) (pos digit)) }
 {
     let ten = T::from_u32(10);
     let last = T::from_u32(digit);

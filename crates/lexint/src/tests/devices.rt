@@ -112,6 +112,7 @@ impl FixedWriter {
         }
     }
 
+    /// The bytes that it took.
     pub fn held(&self) -> &[u8] {
         &self.held[..self.len]
     }
@@ -150,6 +151,7 @@ pub struct CountingWriter {
 }
 
 impl CountingWriter {
+    /// One that has counted nothing.
     pub fn new(good: usize) -> CountingWriter {
         CountingWriter {
             writes: 0,

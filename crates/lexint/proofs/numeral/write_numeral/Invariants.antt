@@ -3,27 +3,14 @@ use Rattle.lexint.specs.Numeral.{numeral}
 use Rattle.lexint.proofs.numeral.write_numeral.Given as goal
 
 -- the digits written so far end the numeral, and there is room for the others
-abbrev pub invariant-loop-left : goal.invariant-loop-left
-invariant-loop-left l = record {
-  within : l.at ≤ 40;
-  some : 2 ≤ l.at;
+abbrev pub invariant-loop-rest : goal.invariant-loop-rest
+invariant-loop-rest l = record {
+  within : l.start ≤ 40;
+  some : 2 ≤ l.start;
   size : length l.place ≡ 40;
-  room : l.left < 10 ^ (l.at - 1);
-  written : numeral l.n ≡ numeral l.left ++ drop l.at l.place;
+  room : l.rest < 10 ^ (l.start - 1);
+  written : numeral l.n ≡ numeral l.rest ++ drop l.start l.place;
 }
 
-abbrev pub decreases-loop-left : goal.decreases-loop-left
-decreases-loop-left l = l.left
-
--- the same
-abbrev pub invariant-loop-few : goal.invariant-loop-few
-invariant-loop-few l = record {
-  within : l.at ≤ 40;
-  some : 2 ≤ l.at;
-  size : length l.place ≡ 40;
-  room : l.few < 10 ^ (l.at - 1);
-  written : numeral l.n ≡ numeral l.few ++ drop l.at l.place;
-}
-
-abbrev pub decreases-loop-few : goal.decreases-loop-few
-decreases-loop-few l = l.few
+abbrev pub decreases-loop-rest : goal.decreases-loop-rest
+decreases-loop-rest l = l.rest

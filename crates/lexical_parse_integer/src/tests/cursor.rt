@@ -1,0 +1,178 @@
+// A cursor's calls, on texts that have every part of a numeral, and on long ones.
+use super::{complete_with, partial_with};
+use crate::cursor::Cursor;
+use crate::format::STANDARD;
+use crate::{Error, NumberFormat, NumberFormatBuilder, Result};
+use std::process::Abort;
+use std::test::Fail;
+
+fn with_all_parts() -> NumberFormat {
+    NumberFormatBuilder::new()
+        .digit_separator(Some(b'_'))
+        .integer_internal_digit_separator(true)
+        .base_prefix(Some(b'x'))
+        .base_suffix(Some(b'h'))
+        .build_unchecked()
+}
+
+// Where a cursor stands, where its region starts, how many digits it read, and whether it is closed.
+fn state(c: &Cursor<'_>) -> (usize, usize, usize, bool) {
+    (c.cursor(), c.start(), c.digits(), c.is_closed())
+}
+
+#[test]
+fn a_new_cursor_shows_its_text(rt: HostRuntime) {
+    let format = with_all_parts();
+    assert!(rt; format.is_valid());
+    let c = Cursor::new(b"+0x1_23h.", &format);
+    assert_eq!(rt; state(&c), (0, 0, 0, false));
+    assert_eq!(rt; c.buffer_length(), 9);
+    assert!(rt; !c.is_buffer_empty());
+    assert!(rt; Cursor::new(b"", &format).is_buffer_empty());
+    assert_eq!(rt; c.first(), Some(b'+'));
+    assert_eq!(rt; c.radix(), 10);
+    assert_eq!(rt; c.format(), format);
+    assert!(rt; !c.is_contiguous());
+    assert!(rt; Cursor::new(b"", &STANDARD).is_contiguous());
+}
+
+#[test]
+fn a_cursor_reads_part_by_part(rt: HostRuntime) {
+    let format = with_all_parts();
+    assert!(rt; format.is_valid());
+    let mut c = Cursor::new(b"+0x1_23h.", &format);
+    c.step_sign();
+    assert_eq!(rt; state(&c), (1, 1, 0, false));
+    assert!(rt; c.read_prefix());
+    assert_eq!(rt; state(&c), (3, 3, 0, false));
+    assert_eq!(rt; c.next_digit(), Some(1));
+    assert_eq!(rt; state(&c), (4, 3, 1, false));
+    assert_eq!(rt; c.first(), Some(b'_'));
+    assert_eq!(rt; c.next_digit(), Some(2));
+    assert_eq!(rt; state(&c), (6, 3, 2, false));
+    assert!(rt; !c.read_suffix());
+    assert_eq!(rt; c.next_digit(), Some(3));
+    assert_eq!(rt; c.next_digit(), None);
+    assert_eq!(rt; state(&c), (7, 3, 3, false));
+    assert!(rt; c.read_suffix());
+    assert_eq!(rt; state(&c), (8, 3, 3, true));
+    assert_eq!(rt; c.first(), Some(b'.'));
+}
+
+#[test]
+fn a_cursor_takes_four_bytes_at_once(rt: HostRuntime) {
+    let mut c = Cursor::new(b"12345", &STANDARD);
+    assert_eq!(rt; c.peek_word(4), Some(&b"1234"[..]));
+    assert_eq!(rt; c.peek_word(8), None);
+    c.take_digits(4);
+    assert_eq!(rt; state(&c), (4, 0, 4, false));
+    assert_eq!(rt; c.next_digit(), Some(5));
+    assert!(rt; c.is_buffer_empty());
+}
+
+// The text's first eight bytes. The cursor that lent them is gone when it returns.
+fn first_word<'a>(text: &'a [u8]) -> Option<&'a [u8]> {
+    let c = Cursor::new(text, &STANDARD);
+    c.peek_word(8)
+}
+
+#[test]
+fn a_word_outlives_the_cursor(rt: HostRuntime) {
+    let text = *b"12345678, 9";
+    assert_eq!(rt; first_word(&text), Some(&b"12345678"[..]));
+}
+
+// ---- long texts: each run of separators is looked over as a whole, and not once for each of its bytes
+
+const MANY: usize = 100_000;
+
+// Formats with a separator that may stand between digits, before them, behind them, or in all these places.
+fn modes(consecutive: bool) -> [NumberFormat; 4] {
+    let separated = NumberFormatBuilder::new()
+        .digit_separator(Some(b'_'))
+        .integer_consecutive_digit_separator(consecutive);
+    let internal = separated.integer_internal_digit_separator(true);
+    let leading = separated.integer_leading_digit_separator(true);
+    let trailing = separated.integer_trailing_digit_separator(true);
+    let all = internal
+        .integer_leading_digit_separator(true)
+        .integer_trailing_digit_separator(true);
+    [internal, leading, trailing, all].map(|builder| builder.build_unchecked())
+}
+
+// What the complete parser answers, by what the partial one does.
+fn whole(front: Result<(i64, usize)>) -> Result<i64> {
+    match front {
+        Ok((value, MANY)) => Ok(value),
+        Ok((_, place)) => Err(Error::InvalidDigit(place)),
+        Err(Error::Empty(MANY)) => Err(Error::Empty(MANY)),
+        Err(Error::Empty(place)) => Err(Error::InvalidDigit(place)),
+        Err(fault) => Err(fault),
+    }
+}
+
+// Both parsers' answers to a text, in each mode.
+fn answers(rt: &impl Abort, text: &[u8], consecutive: bool, fronts: [Result<(i64, usize)>; 4]) {
+    for (format, front) in modes(consecutive).iter().zip(fronts) {
+        partial_with::<i64>(rt, format, &[(text, front)]);
+        complete_with::<i64>(rt, format, &[(text, whole(front))]);
+    }
+}
+
+#[test]
+fn many_separators_before_a_digit(rt: HostRuntime) -> std::result::Result<(), Fail> {
+    let mut text = vec![in rt.alloc(); b'_'; MANY]?;
+    text[MANY - 1] = b'0';
+    let none = Err(Error::Empty(0));
+    let all = Ok((0, MANY));
+    answers(&rt, &text, false, [none, none, none, none]);
+    answers(&rt, &text, true, [none, all, none, all]);
+    Ok(())
+}
+
+#[test]
+fn many_separators_behind_a_digit(rt: HostRuntime) -> std::result::Result<(), Fail> {
+    let mut text = vec![in rt.alloc(); b'_'; MANY]?;
+    text[0] = b'0';
+    let one = Ok((0, 1));
+    let all = Ok((0, MANY));
+    answers(&rt, &text, false, [one, one, one, one]);
+    answers(&rt, &text, true, [one, one, all, all]);
+    Ok(())
+}
+
+#[test]
+fn many_separators_between_two_digits(rt: HostRuntime) -> std::result::Result<(), Fail> {
+    let mut text = vec![in rt.alloc(); b'_'; MANY]?;
+    text[0] = b'0';
+    text[MANY - 1] = b'0';
+    let one = Ok((0, 1));
+    let all = Ok((0, MANY));
+    answers(&rt, &text, false, [one, one, one, one]);
+    answers(&rt, &text, true, [all, one, one, all]);
+    Ok(())
+}
+
+#[test]
+fn many_separators_alone(rt: HostRuntime) -> std::result::Result<(), Fail> {
+    let text = vec![in rt.alloc(); b'_'; MANY]?;
+    let none = Err(Error::Empty(0));
+    let all = Err(Error::Empty(MANY));
+    answers(&rt, &text, false, [none, none, none, none]);
+    answers(&rt, &text, true, [none, all, all, all]);
+    Ok(())
+}
+
+// Digits and separators by turns: each run is one separator long.
+#[test]
+fn many_digits_with_separators_between(rt: HostRuntime) -> std::result::Result<(), Fail> {
+    let mut text = vec![in rt.alloc(); b'_'; MANY]?;
+    for digit in text.iter_mut().step_by(2) {
+        *digit = b'0';
+    }
+    let fronts = [Ok((0, MANY - 1)), Ok((0, 1)), Ok((0, 1)), Ok((0, MANY))];
+    for consecutive in [false, true] {
+        answers(&rt, &text, consecutive, fronts);
+    }
+    Ok(())
+}

@@ -1,0 +1,25 @@
+use Rattle.std.proofs.Common.{arith, rules}
+use Rattle.lexint.proofs.NumeralSteps.{numeral_last, numeral_pair, numeral_pair_last, room_pair}
+use Rattle.lexint.proofs.numeral.write_front.Goals as goal
+
+pub loop-rest-preserved : goal.loop-rest-preserved
+loop-rest-preserved c =
+    let l = c.loop-rest in
+    let (room, some) = room_pair l.rest l.start l.invariant.room (omega arith) in
+    record {
+      within = omega arith;
+      some = omega arith;
+      size = search rules;
+      room = room;
+      written = numeral_pair _ l.rest l.start l.place c.put_pair.new.place (omega arith) l.invariant.written c.put_pair.ensures;
+    }
+
+pub returns-then-rest-ge10-clause-written : goal.returns-then-rest-ge10-clause-written
+returns-then-rest-ge10-clause-written c =
+    let l = c.loop-rest in
+    numeral_pair_last _ l.rest l.start l.place c.put_pair-then-rest-ge10.new.place (omega arith) (omega arith) l.invariant.written c.put_pair-then-rest-ge10.ensures
+
+pub returns-clause-written : goal.returns-clause-written
+returns-clause-written c =
+    let l = c.loop-rest in
+    numeral_last _ l.rest l.start l.place (omega arith) (omega arith) (omega arith) l.invariant.written
