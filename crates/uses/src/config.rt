@@ -1,4 +1,7 @@
 //! Values of a configuration file: `64_000`, or `0x1F_FF` in radix 16.
+//!
+//! Each notation has a format of its own, so that a fault says in which one the text was read. A
+//! single format with `literal_prefixes` would read both, and `0o17` and `0b11` too.
 
 ghost use Rattle.std.specs.Prelude.{◌≡◌, pos};
 ghost use Rattle.lexical_parse_integer.specs.Answer.{seen};
