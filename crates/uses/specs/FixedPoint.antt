@@ -72,7 +72,7 @@ fraction_behind digits end text =
 abbrev pub units_of : ℕ → List ℕ → ℤ → ℤ → ℕ → Answer
 units_of digits text whole fraction end =
     let units = mul_add (is_negative text) whole (pos (10 ^ digits)) fraction in
-    ok_or (option_map (λ number. (number, end)) (checked (integer_type 64 true) units)) OutOfRange
+    ok_or (option_map (λ number. (number, end)) (checked (integer_type 64 true) units)) (OutOfRange end)
 
 -- the fixed-point number that a text begins with, and the place behind it
 abbrev pub fixed_point_in : ℕ → List ℕ → Answer

@@ -26,8 +26,8 @@ pub enum FixedPointError {
     Fraction { start: usize, error: Error },
     /// The fraction has more digits than asked for. The place is that of the first one too many.
     TooManyDigits(usize),
-    /// Whole part and fraction are read, and the number leaves `i64`.
-    OutOfRange,
+    /// The number in front of this place is read, and leaves `i64` in units.
+    OutOfRange(usize),
 }
 
 /// Digits alone, with no sign.
@@ -139,6 +139,6 @@ pub fn fixed_point(text: &[u8], digits: usize) -> Result<(i64, usize), FixedPoin
     let (whole, end) = whole_part(text)?;
     let (fraction, end) = fraction_behind(text, end, digits)?;
     let units = joined(is_negative(text), whole, fraction, digits);
-    let units = units.ok_or(FixedPointError::OutOfRange)?;
+    let units = units.ok_or(FixedPointError::OutOfRange(end))?;
     Ok((units, end))
 }

@@ -39,8 +39,8 @@ fn broken_prices_say_where(rt: HostRuntime) {
             FixedPointError::Whole(Error::Overflow(18)),
         ),
         (b"12.505", FixedPointError::TooManyDigits(5)),
-        (b"92233720368547758.08", FixedPointError::OutOfRange),
-        (b"-92233720368547759", FixedPointError::OutOfRange),
+        (b"92233720368547758.08", FixedPointError::OutOfRange(20)),
+        (b"-92233720368547759 EUR", FixedPointError::OutOfRange(18)),
     ] {
         assert_eq!(rt; fixed_point(text, 2), Err(want), "{text:?}");
     }
