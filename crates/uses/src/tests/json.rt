@@ -1,5 +1,28 @@
+ghost use Rattle.std.specs.Prelude.{◌≡◌, ◌<◌, Some, length};
+ghost use Rattle.uses.specs.Json.{settled_at};
+
 use crate::json::{NumberError, Part, integer_part};
 use lexical_parse_integer::Error;
+
+// A reader that cuts its buffer behind the place of a final answer, and asks again.
+fn before_and_after_cut(
+    read: &[u8],
+    place: usize,
+) -> (Result<Part, NumberError>, Result<Part, NumberError>)
+    requires { place < length read.now }
+    ensures { settled_at result.0 ≡ Some place → result.1 ≡ result.0 }
+{
+    (integer_part(read), integer_part(&read[..place + 1]))
+}
+
+#[test]
+fn a_cut_behind_the_place_changes_nothing(rt: HostRuntime) {
+    let whole = Ok(Part::Whole {
+        value: -1204,
+        end: 5,
+    });
+    assert_eq!(rt; before_and_after_cut(b"-1204.50,", 5), (whole, whole));
+}
 
 #[test]
 fn a_number_comes_piece_by_piece(rt: HostRuntime) {
