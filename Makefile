@@ -23,6 +23,7 @@ $(PROGRAM): $(SOURCES)
 
 test:
 	@python3 tools/rows.py --check
+	@tools/lanes.sh
 	@$(RT) ci
 
 install: $(PROGRAM)

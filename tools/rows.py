@@ -40,6 +40,7 @@ FLAGS = {
     "no-plus": "no_positive_mantissa_sign",
     "sign-required": "required_mantissa_sign",
     "no-leading-zeros": "no_integer_leading_zeros",
+    "literal-prefixes": "literal_prefixes",
 }
 BYTES = {"separator": "digit_separator", "prefix": "base_prefix", "suffix": "base_suffix"}
 STANDARD, JSON = (), ("json",)
@@ -50,6 +51,7 @@ OF_TEXTS = [
 ]
 OF_FORMATS = [
     "InvalidMantissaRadix", "InvalidDigitSeparator", "InvalidBasePrefix", "InvalidBaseSuffix", "InvalidPunctuation",
+    "InvalidLiteralPrefixes",
 ]
 
 
@@ -218,7 +220,7 @@ WORDS = [
     ("Rattle.lexical_util.specs.Format", ["standard", "json"]),
     ("Rattle.lexical_util.specs.Number", ["IntegerType", "integer_type"]),
     ("Rattle.lexical_util.specs.Validity", ["fault"]),
-    (CRATE_WORDS + "Affixes", "is_affix matches numeral_stop prefix_at suffix_at".split()),
+    (CRATE_WORDS + "Affixes", "is_affix literal_radix marked_radix matches numeral_stop prefix_radix suffix_at".split()),
     (CRATE_WORDS + "Grammar", "complete complete_if_valid partial partial_if_valid range_fault".split()),
     (CRATE_WORDS + "Head", ["head_of", "sign"]),
     (CRATE_WORDS + "Numeral", ["numeral"]),
@@ -227,7 +229,7 @@ WORDS = [
 ]
 # the definitions that the theorem of a parse opens
 OPENED = ("complete partial numeral head_of sign range_fault begin_of digit_at are_same separator_at flag_for "
-          "run_passes belongs end_of digits_between matches is_affix prefix_at suffix_at numeral_stop")
+          "run_passes belongs end_of digits_between matches is_affix literal_radix marked_radix prefix_radix suffix_at numeral_stop")
 
 
 def antt_value(name, value):

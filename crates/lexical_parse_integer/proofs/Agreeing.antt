@@ -1,5 +1,5 @@
 -- Texts with the same first bytes.
-use Rattle.std.proofs.Common.{◌≡◌, ℕ, zero, suc, ◌+◌, ◌<◌, ◌≤◌, Bool, true, false, ◌&&◌, List, [], ◌∷◌, length, refl, sym, ap, ◌∙◌, arith, Some, None, inl, inr, option_and_then}
+use Rattle.std.proofs.Common.{◌≡◌, ℕ, zero, suc, ◌+◌, ◌<◌, ◌≤◌, Bool, true, false, List, [], ◌∷◌, length, refl, sym, ap, ◌∙◌, arith, Some, None, inl, inr, option_and_then, cond}
 use Rattle.std.proofs.lemmas.Bool.{cases_lt}
 use Rattle.std.proofs.lemmas.Bool.Decides.{nat_tests}
 use Rattle.std.proofs.lemmas.Option.{slice_get_past, slice_get-get_or}
@@ -8,7 +8,7 @@ use Rattle.std.specs.Option.{unwrap_or}
 use Rattle.lexical_util.specs.Digit.{digit}
 use Rattle.lexical_util.specs.Format.{Format}
 use Rattle.lexical_util.specs.Number.{IntegerType}
-use Rattle.lexical_parse_integer.specs.Affixes.{is_affix, prefix_at, suffix_at}
+use Rattle.lexical_parse_integer.specs.Affixes.{is_affix, marked_radix, prefix_radix, suffix_at}
 use Rattle.lexical_parse_integer.specs.Head.{sign, sign_by}
 use Rattle.lexical_parse_integer.specs.Laws.{SameFront}
 use Rattle.lexical_parse_integer.specs.Runs.{are_same, digit_at}
@@ -57,13 +57,13 @@ is_zero None h = cc
 is_zero (Some c) h = let e : c ≡ 48 = grind (arith, nat_tests) in ap Some e
 
 -- a prefix hangs on the byte at its place, and where that is a zero on the next one
-pub agree_prefix : (f : Format) (n k : ℕ) (text other : List ℕ) → Agree n text other → k < n → (slice_get text k ≡ Some 48 → k + 1 < n) → prefix_at f text k ≡ prefix_at f other k
-unfolding prefix_at
+pub agree_prefix : (f : Format) (n k : ℕ) (text other : List ℕ) → Agree n text other → k < n → (slice_get text k ≡ Some 48 → k + 1 < n) → prefix_radix f text k ≡ prefix_radix f other k
+unfolding prefix_radix
 agree_prefix f n k text other same l deep = by_zero (are_same (Some 48) (slice_get text k)) refl
   where
     by_zero : (b : Bool) → are_same (Some 48) (slice_get text k) ≡ b →
-        (are_same (Some 48) (slice_get text k) && is_affix f.case_sensitive_base_prefix f.base_prefix (slice_get text (k + 1)))
-        ≡ (are_same (Some 48) (slice_get other k) && is_affix f.case_sensitive_base_prefix f.base_prefix (slice_get other (k + 1)))
+        cond (are_same (Some 48) (slice_get text k)) (marked_radix f (slice_get text (k + 1))) None
+        ≡ cond (are_same (Some 48) (slice_get other k)) (marked_radix f (slice_get other (k + 1))) None
     by_zero true e =
         let next = same (k + 1) (deep (is_zero (slice_get text k) e)) in
         let here = same k l in

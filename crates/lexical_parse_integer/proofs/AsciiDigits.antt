@@ -6,7 +6,6 @@ use Rattle.std.proofs.lemmas.Bool.{lt-ltb}
 use Rattle.std.proofs.lemmas.Bool.Decides.{nat_tests}
 use Rattle.std.proofs.lemmas.List.{length-map}
 use Rattle.lexical_util.specs.Digit.{below, digit, digit_value}
-use Rattle.lexical_parse_integer.specs.Value.{positional_value}
 use Rattle.lexical_parse_integer.specs.Words.{AreDigits, word_value}
 
 -- a byte from `0` to before the radix

@@ -7,7 +7,7 @@ use Rattle.std.specs.Prelude.{◌==◌, nat_lt, is_some, slice_index}
 use Rattle.std.specs.Option.{option_map}
 use Rattle.lexical_util.specs.declared.error.Error.{Error}
 use Rattle.lexical_util.specs.declared.error.Error.TheVariants.{InvalidDigit, Empty, MissingSign, InvalidPositiveSign, InvalidLeadingZeros}
-use Rattle.lexical_parse_integer.specs.Affixes.{numeral_stop, prefix_at, suffix_at}
+use Rattle.lexical_parse_integer.specs.Affixes.{numeral_stop, prefix_radix, suffix_at}
 use Rattle.lexical_parse_integer.specs.Grammar.{after_head, common_faults, complete, complete_faults, fault_if, first_fault_or, first_outside, lacks_digits, partial, partial_faults, range_error, range_fault}
 use Rattle.lexical_parse_integer.specs.Head.{Head, head_after, head_behind, head_of, no_sign, sign}
 use Rattle.lexical_parse_integer.specs.Laws.{completed}
@@ -16,7 +16,7 @@ use Rattle.lexical_parse_integer.specs.Runs.{end_of, places}
 use Rattle.lexical_util.specs.Format.{Format}
 use Rattle.lexical_util.specs.Number.{IntegerType}
 use Rattle.lexical_parse_integer.proofs.NumeralLemmas.{IsStop-end_of}
-use Rattle.lexical_parse_integer.proofs.CursorLemmas.{suffix_at_within, prefix_at_within}
+use Rattle.lexical_parse_integer.proofs.CursorLemmas.{suffix_at_within, prefix_within}
 
 apart_eqb : (a b : ℕ) → a ≢ b → (a == b) ≡ false
 apart_eqb a b apart = elim (eqb_tells a b) [ inl w ↦ absurd (apart w.1) | inr w ↦ w.0 ]
@@ -100,9 +100,9 @@ sign_fault f t (c ∷ cs) e h = by_tests (c == 43) f.no_positive_mantissa_sign (
 below : (a b : ℕ) → a ≤ b → (a < b) ⊎ (a ≡ b)
 below a b low = elim (cases_lt a b) [ inl l ↦ inl l | inr l ↦ inr (omega arith) ]
 
-pub head_within : (f : Format) (text : List ℕ) (s : Bool × ℕ) (p : Bool) → s.1 ≤ length text → prefix_at f text s.1 ≡ p → (head_behind f s p).start ≤ length text
-head_within f text s false low e = omega arith
-head_within f text s true low e = let two = prefix_at_within f text s.1 e in omega arith
+pub head_within : (f : Format) (text : List ℕ) (s : Bool × ℕ) (p : Option ℕ) → s.1 ≤ length text → prefix_radix f text s.1 ≡ p → (head_behind f s p).start ≤ length text
+head_within f text s None low e = low
+head_within f text s (Some r) low e = let two = prefix_within f text s.1 r e in omega arith
 
 -- each answer of the complete parser is that of the partial one, completed
 pub complete_is_completed : (f : Format) (t : IntegerType) (text : List ℕ) → complete f t text ≡ completed (length text) (partial f t text)
@@ -113,7 +113,7 @@ complete_is_completed f t text = behind (sign f t text) refl
         after_head (head_after f text r) (λ h. let x = numeral f text h.start h.radix in first_fault_or (common_faults f t text h x ++ complete_faults f text x) (numeral_value h.is_minus x))
         ≡ completed (length text) (after_head (head_after f text r) (λ h. let x = numeral f text h.start h.radix in first_fault_or (common_faults f t text h x ++ partial_faults f text x) (numeral_value h.is_minus x, x.stop)))
     behind (Ok s) e =
-        let h : Head = head_behind f s (prefix_at f text s.1) in
+        let h : Head = head_behind f s (prefix_radix f text s.1) in
         let x : Numeral = numeral f text h.start h.radix in
         let low : h.start ≤ length text = head_within f text s _ (sign_within f t text s e) refl in
         all_cases (length text) x.stop _ _ _ (lacks_digits f x) (is_some f.digit_separator) h.is_minus (first_outside t h.is_minus x) (λ k. slice_index x.places k) (numeral_value h.is_minus x) (below x.stop (length text) (numeral_within f text h.start h.radix low))

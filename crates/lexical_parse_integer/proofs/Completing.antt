@@ -4,10 +4,10 @@ use Rattle.std.proofs.lemmas.Bool.{lt-ltb, le-ltb, cases_lt}
 use Rattle.std.proofs.Math.IntN.{ℤ}
 use Rattle.std.specs.Prelude.{nat_lt}
 use Rattle.lexical_util.specs.declared.error.Error.{Error}
-use Rattle.lexical_util.specs.declared.error.Error.TheVariants.{Overflow, Underflow, InvalidDigit, Empty, MissingSign, InvalidPositiveSign, InvalidLeadingZeros, InvalidMantissaRadix, InvalidDigitSeparator, InvalidBasePrefix, InvalidBaseSuffix, InvalidPunctuation}
+use Rattle.lexical_util.specs.declared.error.Error.TheVariants.{Overflow, Underflow, InvalidDigit, Empty, MissingSign, InvalidPositiveSign, InvalidLeadingZeros, InvalidMantissaRadix, InvalidDigitSeparator, InvalidBasePrefix, InvalidBaseSuffix, InvalidPunctuation, InvalidLiteralPrefixes}
 use Rattle.lexical_util.specs.Format.{Format}
 use Rattle.lexical_util.specs.Number.{IntegerType}
-use Rattle.lexical_parse_integer.specs.Affixes.{prefix_at}
+use Rattle.lexical_parse_integer.specs.Affixes.{prefix_radix}
 use Rattle.lexical_parse_integer.specs.Grammar.{after_head, common_faults, complete, first_fault_or, partial, partial_faults}
 use Rattle.lexical_parse_integer.specs.Head.{Head, head_after, head_behind, head_of, sign}
 use Rattle.lexical_parse_integer.specs.Laws.{Completes, completed, is_empty}
@@ -28,7 +28,7 @@ partial_within f t text v k = behind (sign f t text) refl
     behind : (r : Result (Bool × ℕ) Error) → sign f t text ≡ r →
         after_head {A = ℤ × ℕ} (head_after f text r) (λ h. let x = numeral f text h.start h.radix in first_fault_or (common_faults f t text h x ++ partial_faults f text x) (numeral_value h.is_minus x, x.stop)) ≡ Ok (v, k) → k ≤ length text
     behind (Ok s) e told =
-        let h : Head = head_behind f s (prefix_at f text s.1) in
+        let h : Head = head_behind f s (prefix_radix f text s.1) in
         let x : Numeral = numeral f text h.start h.radix in
         let low : h.start ≤ length text = head_within f text s _ (sign_within f t text s e) refl in
         let within : x.stop ≤ length text = numeral_within f text h.start h.radix low in
@@ -70,6 +70,7 @@ completed_ok n (Err e) v within h = absurd (no_value e h)
     no_value InvalidBasePrefix g = cc
     no_value InvalidBaseSuffix g = cc
     no_value InvalidPunctuation g = cc
+    no_value InvalidLiteralPrefixes g = cc
 
 completed_fault : (n : ℕ) (e : Error) → is_empty e ≡ false → completed n (Err e) ≡ Err e
 completed_fault n (Empty i) h = cc
@@ -84,6 +85,7 @@ completed_fault n InvalidDigitSeparator h = refl
 completed_fault n InvalidBasePrefix h = refl
 completed_fault n InvalidBaseSuffix h = refl
 completed_fault n InvalidPunctuation h = refl
+completed_fault n InvalidLiteralPrefixes h = refl
 
 completes_from : (n : ℕ) (whole : Result ℤ Error) (front : Result (ℤ × ℕ) Error) → whole ≡ completed n front → ((v : ℤ) (k : ℕ) → front ≡ Ok (v, k) → k ≤ n) → Completes n whole front
 completes_from n whole front is within = record {

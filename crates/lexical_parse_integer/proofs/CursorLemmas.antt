@@ -1,16 +1,17 @@
 -- What keeps a cursor sound.
-use Rattle.std.proofs.Common.{◌≡◌, ℕ, ◌+◌, ◌-◌, ◌≤◌, ◌<◌, Bool, true, false, List, [], ◌∷◌, length, length-append, ◌&&◌, ltb, Option, Some, None, is_some, IsNone, option_and_then, slice_get, refl, sym, ◌∙◌, ap, arith, inl, inr}
+use Rattle.std.proofs.Common.{◌≡◌, ℕ, ◌+◌, ◌-◌, ◌≤◌, ◌<◌, Bool, true, false, List, [], ◌∷◌, length, length-append, ◌&&◌, ltb, Option, Some, None, is_some, IsNone, option_and_then, slice_get, refl, sym, ◌∙◌, ap, arith, inl, inr, cond}
 use Rattle.std.proofs.lemmas.Bool.{false≢true, cases_lt}
 use Rattle.std.proofs.lemmas.Bool.Decides.{nat_tests}
 use Rattle.std.proofs.lemmas.Option.{slice_get_past}
-use Rattle.lexical_parse_integer.specs.Affixes.{is_affix, matches, numeral_stop, prefix_at, suffix_at}
+use Rattle.lexical_parse_integer.specs.Affixes.{is_affix, literal_radix, marked_radix, matches, numeral_stop, prefix_radix, suffix_at}
 use Rattle.lexical_parse_integer.specs.CursorView.{CursorView, IsSound, IsSuffixNoDigit, IsSuffixNoSeparator, numeral_end}
 use Rattle.lexical_parse_integer.specs.Runs.{are_same, belongs, digit_at, digits_between, end_of, places, separator_at}
 use Rattle.lexical_parse_integer.specs.Seeking.{Finds, IsSeparatorNoDigit}
 use Rattle.lexical_util.specs.Digit.{digit}
 use Rattle.lexical_util.specs.Format.{Format}
+use Rattle.lexical_util.specs.Validity.{fault}
 use Rattle.lexical_parse_integer.specs.declared.seek.Found.TheVariants.{Digit, End}
-use Rattle.lexical_parse_integer.proofs.FitLemmas.{IsFit}
+use Rattle.lexical_parse_integer.proofs.FitLemmas.{fits, fits_prefix}
 use Rattle.lexical_parse_integer.proofs.Places.{true_or_false}
 use Rattle.lexical_parse_integer.proofs.NumeralLemmas.{IsStop-end_of, is_end, belongs_other, reaches, digit_at_within, digit_at_past}
 use Rattle.lexical_parse_integer.proofs.Counts.{digits_between_digit, digits_between_none, digits_between_to, length-digits_between, length-digits_between_all}
@@ -64,6 +65,7 @@ IsSound-digit v turns place value s open_now one_more found =
     let back : place + 1 - 1 ≡ place = omega arith in
     let plain = digit_no_separator v.format v.radix v.bytes place value s.separator found.3 in
     record {
+      valid = s.valid;
       radix = s.radix;
       separator = s.separator;
       suffix_digit = s.suffix_digit;
@@ -87,6 +89,7 @@ IsSound-end v place s open_now found =
     let low : v.position ≤ place = omega (arith, o.before_end, found.0) in
     let skipped = ap length (digits_between_to v.radix v.bytes v.start v.position place s.after_start low found.1) in
     record {
+      valid = s.valid;
       radix = s.radix;
       separator = s.separator;
       suffix_digit = s.suffix_digit;
@@ -122,6 +125,7 @@ IsSound-word v turns n s open_now contiguous some one_more all =
     let last : v.position + n - 1 < length v.bytes = some_within v.radix v.bytes (v.position + n - 1) (all (v.position + n - 1) (omega arith) (omega arith)) in
     let count = length-digits_between_all v.radix v.bytes v.start v.position n s.after_start all in
     record {
+      valid = s.valid;
       radix = s.radix;
       separator = s.separator;
       suffix_digit = s.suffix_digit;
@@ -139,11 +143,13 @@ IsSound-word v turns n s open_now contiguous some one_more all =
     }
 
 -- a fresh cursor
-pub IsSound-new : (b : List ℕ) (f : Format) (turns : ℕ) → IsFit f → turns ≡ 0 → IsSound (record { bytes = b; format = f; radix = f.mantissa_radix; start = 0; position = 0; digits = 0; closed = false; turns = turns })
-IsSound-new b f turns fit none =
+pub IsSound-new : (b : List ℕ) (f : Format) (turns : ℕ) → IsNone (fault f) → turns ≡ 0 → IsSound (record { bytes = b; format = f; radix = f.mantissa_radix; start = 0; position = 0; digits = 0; closed = false; turns = turns })
+IsSound-new b f turns valid none =
+    let fit = fits f valid in
     let stop = IsStop-end_of f f.mantissa_radix b 0 (omega arith) in
     record {
-      radix = fit.radix;
+      valid = valid;
+      radix = fit.is_radix;
       separator = separator_no_digit f f.mantissa_radix b fit.separator;
       suffix_digit = suffix_no_digit f f.mantissa_radix b fit.suffix_digit;
       suffix_separator = suffix_no_separator f b fit.suffix_separator;
@@ -166,6 +172,7 @@ IsSound-sign v s front some =
           let none : v.digits ≡ 0 = omega (arith, o.digits, length-digits_between v.radix v.bytes v.start v.position) in
           let stop = IsStop-end_of v.format v.radix v.bytes 1 (omega arith) in
           record {
+            valid = s.valid;
             radix = s.radix;
             separator = s.separator;
             suffix_digit = s.suffix_digit;
@@ -204,25 +211,52 @@ pub suffix_at_within : (f : Format) (b : List ℕ) (k : ℕ) → suffix_at f b k
 unfolding suffix_at
 suffix_at_within f b k t = mark_within f.case_sensitive_base_suffix f.base_suffix b k t
 
-pub prefix_at_within : (f : Format) (b : List ℕ) (k : ℕ) → prefix_at f b k ≡ true → k + 1 < length b
-unfolding prefix_at
-prefix_at_within f b k t = mark_within f.case_sensitive_base_prefix f.base_prefix b (k + 1) (and-right (are_same (Some 48) (slice_get b k)) _ t)
+letter_within : (sensitive : Bool) (b : List ℕ) (k r : ℕ) → literal_radix sensitive (slice_get b k) ≡ Some r → k < length b
+unfolding literal_radix
+letter_within sensitive b k r e = by_letter (is_affix sensitive (Some 120) (slice_get b k)) (is_affix sensitive (Some 111) (slice_get b k)) (is_affix sensitive (Some 98) (slice_get b k)) refl refl refl e
+  where
+    by_letter : (x o c : Bool) → is_affix sensitive (Some 120) (slice_get b k) ≡ x → is_affix sensitive (Some 111) (slice_get b k) ≡ o → is_affix sensitive (Some 98) (slice_get b k) ≡ c
+        → cond x (Some 16) (cond o (Some 8) (cond c (Some 2) None)) ≡ Some r → k < length b
+    by_letter true o c t u v h = mark_within sensitive (Some 120) b k t
+    by_letter false true c t u v h = mark_within sensitive (Some 111) b k u
+    by_letter false false true t u v h = mark_within sensitive (Some 98) b k v
+    by_letter false false false t u v h = cc
+
+marked_within : (f : Format) (b : List ℕ) (k r : ℕ) → marked_radix f (slice_get b k) ≡ Some r → k < length b
+unfolding marked_radix
+marked_within f b k r e = by_own (is_affix f.case_sensitive_base_prefix f.base_prefix (slice_get b k)) f.literal_prefixes refl e
+  where
+    by_own : (own asked : Bool) → is_affix f.case_sensitive_base_prefix f.base_prefix (slice_get b k) ≡ own
+        → cond own (Some f.mantissa_radix) (cond asked (literal_radix f.case_sensitive_base_prefix (slice_get b k)) None) ≡ Some r → k < length b
+    by_own true asked t h = mark_within f.case_sensitive_base_prefix f.base_prefix b k t
+    by_own false true t h = letter_within f.case_sensitive_base_prefix b k r h
+    by_own false false t h = cc
+
+pub prefix_within : (f : Format) (b : List ℕ) (k r : ℕ) → prefix_radix f b k ≡ Some r → k + 1 < length b
+unfolding prefix_radix
+prefix_within f b k r e = by_zero (are_same (Some 48) (slice_get b k)) e
+  where
+    by_zero : (zero : Bool) → cond zero (marked_radix f (slice_get b (k + 1))) None ≡ Some r → k + 1 < length b
+    by_zero true h = marked_within f b (k + 1) r h
+    by_zero false h = cc
 
 -- behind a prefix
-pub IsSound-prefix : (v : CursorView) → IsSound v → v.digits ≡ 0 → prefix_at v.format v.bytes v.position ≡ true → IsSound (record v { start = v.position + 2; position = v.position + 2 })
-IsSound-prefix v s none here =
-    let inside = prefix_at_within v.format v.bytes v.position here in
-    let stop = IsStop-end_of v.format v.radix v.bytes (v.position + 2) (omega arith) in
+pub IsSound-prefix : (v : CursorView) (r : ℕ) → IsSound v → v.digits ≡ 0 → prefix_radix v.format v.bytes v.position ≡ Some r → IsSound (record v { radix = r; start = v.position + 2; position = v.position + 2 })
+IsSound-prefix v r s none here =
+    let inside = prefix_within v.format v.bytes v.position r here in
+    let fit = fits_prefix v.format v.bytes v.position r s.valid here in
+    let stop = IsStop-end_of v.format r v.bytes (v.position + 2) (omega arith) in
     record {
-      radix = s.radix;
-      separator = s.separator;
-      suffix_digit = s.suffix_digit;
+      valid = s.valid;
+      radix = fit.is_radix;
+      separator = separator_no_digit v.format r v.bytes fit.separator;
+      suffix_digit = suffix_no_digit v.format r v.bytes fit.suffix_digit;
       suffix_separator = s.suffix_separator;
       in_force = λ h. absurd (omega arith);
       after_start = omega arith;
       within = omega arith;
       turns = s.turns;
-      while_open = λ _. record { before_end = stop.low; digits = none ∙ sym (ap length (digits_between_none v.radix v.bytes (v.position + 2))); at_run_start = λ h _. absurd (omega arith) };
+      while_open = λ _. record { before_end = stop.low; digits = none ∙ sym (ap length (digits_between_none r v.bytes (v.position + 2))); at_run_start = λ h _. absurd (omega arith) };
       once_closed = λ t. absurd (omega (arith, (s.once_closed t).some_digit));
     }
 
@@ -246,6 +280,7 @@ IsSound-suffix v s open_now some suffix =
     let all = rw at_end at o.digits in
     let there = rw at_end at suffix in
     record {
+      valid = s.valid;
       radix = s.radix;
       separator = s.separator;
       suffix_digit = s.suffix_digit;

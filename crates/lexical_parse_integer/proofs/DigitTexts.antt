@@ -1,6 +1,6 @@
 -- Texts under the standard format in some radix: what a text of digits alone behind a sign is read as, and what
 -- a text that is read consists of.
-use Rattle.std.proofs.Common.{◌≡◌, ℕ, zero, suc, ◌+◌, ◌-◌, ◌<◌, ◌≤◌, Bool, true, false, not, cond, List, [], ◌∷◌, ◌++◌, length, take, refl, sym, ap, ◌∙◌, arith, Option, Some, None, Ok, Err, Result}
+use Rattle.std.proofs.Common.{slice_get, ◌≡◌, ℕ, zero, suc, ◌+◌, ◌-◌, ◌<◌, ◌≤◌, Bool, true, false, not, cond, List, [], ◌∷◌, ◌++◌, length, take, refl, sym, ap, ◌∙◌, arith, Option, Some, None, Ok, Err, Result}
 use Rattle.std.proofs.Math.IntN.{ℤ}
 use Rattle.std.proofs.Math.Bool.{and-false}
 use Rattle.std.proofs.lemmas.Bool.{le-ltb, ltb-false, ne_eqb}
@@ -13,12 +13,12 @@ use Rattle.lexical_util.specs.declared.error.Error.{Error}
 use Rattle.lexical_util.specs.declared.error.Error.TheVariants.{InvalidDigit, Empty}
 use Rattle.lexical_util.specs.Format.{Format}
 use Rattle.lexical_util.specs.Number.{IntegerType, is_number}
-use Rattle.lexical_parse_integer.specs.Affixes.{is_affix, prefix_at, suffix_at}
+use Rattle.lexical_parse_integer.specs.Affixes.{is_affix, marked_radix, prefix_radix, suffix_at}
 use Rattle.lexical_parse_integer.specs.Grammar.{common_faults, complete, complete_faults, fault_if, first_fault_or, first_outside, lacks_digits, prefix_fault, range_error, range_fault, zero_fault}
-use Rattle.lexical_parse_integer.specs.Head.{Head, head_of, sign}
+use Rattle.lexical_parse_integer.specs.Head.{Head, head_of, sign, head_behind}
 use Rattle.lexical_parse_integer.specs.Laws.{with_radix}
 use Rattle.lexical_parse_integer.specs.Numeral.{Numeral, digit_count, front_value, numeral_value}
-use Rattle.lexical_parse_integer.specs.Runs.{digit_at}
+use Rattle.lexical_parse_integer.specs.Runs.{are_same, digit_at}
 use Rattle.lexical_parse_integer.specs.Value.{positional_value, signed}
 use Rattle.lexical_parse_integer.proofs.Completed.{sign_within}
 use Rattle.lexical_parse_integer.proofs.Fronts.{fitting_fault}
@@ -40,11 +40,14 @@ unfolding complete
 complete_row f t text h count none head low ends = rw (head, numeral_in_a_row f text h.start h.radix count none low ends) refl
 
 -- without a prefix the head is the sign
-head_is : (f : Format) (t : IntegerType) (text : List ℕ) (s : Bool × ℕ) → f.base_prefix ≡ None → sign f t text ≡ Ok s → head_of f t text ≡ Ok (record { is_minus = s.0; is_prefixed = false; start = s.1; radix = f.mantissa_radix })
-unfolding head_of prefix_at is_affix
-head_is f t text s none signed =
-    let same : s.1 + 0 ≡ s.1 = omega arith in
-    rw (signed, none, and-false, same) refl
+head_is : (f : Format) (t : IntegerType) (text : List ℕ) (s : Bool × ℕ) → f.base_prefix ≡ None → f.literal_prefixes ≡ false → sign f t text ≡ Ok s → head_of f t text ≡ Ok (record { is_minus = s.0; is_prefixed = false; start = s.1; radix = f.mantissa_radix })
+unfolding head_of prefix_radix marked_radix is_affix
+head_is f t text s none unasked signed =
+    rw (signed, none, unasked) (by_zero (are_same (Some 48) (slice_get text s.1)))
+  where
+    by_zero : (zero : Bool) → ◌≡◌ {A = Result Head Error} (Ok (head_behind f s (cond zero None None))) (Ok (record { is_minus = s.0; is_prefixed = false; start = s.1; radix = f.mantissa_radix }))
+    by_zero true = refl
+    by_zero false = refl
 
 -- without a suffix reading stops at the end
 stop_plain : (f : Format) (text : List ℕ) (start r count : ℕ) → f.base_suffix ≡ None → (row_numeral f text start r count).stop ≡ start + count
@@ -73,7 +76,7 @@ digits_read r t text s positive sign_is some all fits =
     let over : nat_lt x.stop (length text) ≡ false = le-ltb x.stop (length text) (omega arith) in
     let digits_there : (digit_count x == 0) ≡ false = ne_eqb (digit_count x) 0 (λ e. omega arith) in
     let answer : complete_by f t text h x ≡ Ok (numeral_value s.0 x) = rw (no_range, over, digits_there) refl in
-    complete_row f t text h n refl (head_is f t text s refl sign_is) (omega arith) ends ∙ answer ∙ ap (λ (z : ℤ). Ok z) value
+    complete_row f t text h n refl (head_is f t text s refl refl sign_is) (omega arith) ends ∙ answer ∙ ap (λ (z : ℤ). Ok z) value
 
 -- ---- what a value tells of the text
 
@@ -148,7 +151,7 @@ whole_told r t text v read = by_sign (sign (with_radix r) t text) refl
         let x : Numeral = row_numeral f text s.1 r n in
         let within : s.1 ≤ length text = sign_within f t text s sign_is in
         let ends : EndsRow r text s.1 (s.1 + n) = row_ends f r text s.1 refl within in
-        let whole = complete_row f t text h n refl (head_is f t text s refl sign_is) within ends in
+        let whole = complete_row f t text h n refl (head_is f t text s refl refl sign_is) within ends in
         let by : complete_by f t text h x ≡ Ok v = sym whole ∙ read in
         let told : (range_fault t s.0 x ≡ None) × (fault_if (nat_lt x.stop (length text)) (InvalidDigit x.stop) ≡ None) × (fault_if (lacks_digits f x) (Empty (length text)) ≡ None) × (numeral_value s.0 x ≡ v) = five_ok (prefix_fault text h) (zero_fault f false x) (range_fault t s.0 x) (fault_if (nat_lt x.stop (length text)) (InvalidDigit x.stop)) (fault_if (lacks_digits f x) (Empty (length text))) (numeral_value s.0 x) v by in
         let over : length text ≤ x.stop = ltb-false x.stop (length text) (no_fault_if (nat_lt x.stop (length text)) (InvalidDigit x.stop) told.1) in

@@ -9,6 +9,10 @@ pub mod First
 pub mod FitLemmas
 pub mod Fronts
 pub mod InARow
+pub mod LaneJoins
+pub mod LaneMasks
+pub mod LaneValues
+pub mod LanesLent
 pub mod LawExamples
 pub mod LawLemmas
 pub mod Lists
@@ -28,7 +32,6 @@ pub mod Untested
 pub mod Whole
 pub mod WordBytes
 pub mod WordDigits
-pub mod WordLent
 pub mod WordReading
 pub mod WordTurns
 pub mod WordValues

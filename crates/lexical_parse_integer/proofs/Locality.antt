@@ -1,5 +1,5 @@
 -- Locality: an answer that is settled at a place is that of each text with the same bytes up to and with it.
-use Rattle.std.proofs.Common.{◌≡◌, ◌≢◌, ℕ, suc, ◌+◌, ◌<◌, ◌≤◌, Bool, true, false, not, ◌&&◌, List, [], ◌∷◌, length, get_or, take, refl, sym, ap, subst, ◌∙◌, arith, Some, None, IsNone, is_some, Ok, Err, Result, inl, inr}
+use Rattle.std.proofs.Common.{◌≡◌, ◌≢◌, ℕ, suc, ◌+◌, ◌<◌, ◌≤◌, Bool, false, not, ◌&&◌, List, [], ◌∷◌, length, get_or, take, refl, sym, ap, subst, ◌∙◌, arith, Some, None, IsNone, is_some, Ok, Err, Result, inl, inr, Option}
 use Rattle.std.proofs.Math.IntN.{ℤ}
 use Rattle.std.proofs.Math.Bool.{and-false}
 use Rattle.std.proofs.lemmas.Bool.{ne_eqb, and_cases, leb-false}
@@ -10,7 +10,7 @@ use Rattle.lexical_util.specs.Format.{Format}
 use Rattle.lexical_util.specs.Number.{IntegerType, is_number}
 use Rattle.lexical_util.specs.Validity.{fault}
 use Rattle.lexical_parse_integer.specs.Answer.{placed, seen}
-use Rattle.lexical_parse_integer.specs.Affixes.{prefix_at}
+use Rattle.lexical_parse_integer.specs.Affixes.{prefix_radix}
 use Rattle.lexical_parse_integer.specs.Grammar.{first_outside, partial, range_error, range_fault}
 use Rattle.lexical_parse_integer.specs.Head.{Head, head_behind, head_of, sign}
 use Rattle.lexical_parse_integer.specs.Laws.{IsLocal, IsSettledAt, SameFront}
@@ -19,7 +19,7 @@ use Rattle.lexical_parse_integer.specs.Value.{positional_value, signed}
 use Rattle.lexical_parse_integer.proofs.Agreeing.{Agree, agree, agree_digit, agree_inside, agree_prefix, agree_row, agree_sign, agree_suffix}
 use Rattle.lexical_parse_integer.proofs.Completed.{head_within, sign_within}
 use Rattle.lexical_parse_integer.proofs.CursorLemmas.{none_from_IsNone}
-use Rattle.lexical_parse_integer.proofs.FitLemmas.{fits}
+use Rattle.lexical_parse_integer.proofs.FitLemmas.{fits, fits_prefix}
 use Rattle.lexical_parse_integer.proofs.InARow.{EndsRow, has_digit, row_count, row_ends}
 use Rattle.lexical_parse_integer.proofs.Lists.{find_place}
 use Rattle.lexical_parse_integer.proofs.Places.{below_stop}
@@ -129,15 +129,19 @@ module _ (f : Format) (t : IntegerType) (text other : List ℕ) (k : ℕ) (h : H
       same_fault count w.0 ends w.1 w.2 w.3 w.4 (far.deep (omega (arith, told.0))) head
 
 -- where an answer is settled, the sign stands before; a zero behind it too
-sign_reach : (f : Format) (text : List ℕ) (s : Bool × ℕ) (p : Bool) (count k : ℕ) → 2 ≤ f.mantissa_radix → (let h = head_behind f s p in EndsRow h.radix text h.start (h.start + count)) → (let h = head_behind f s p in IsReach h.radix text h.start count k) → (s.1 ≤ k) × (slice_get text s.1 ≡ Some 48 → s.1 + 1 ≤ k)
-sign_reach f text s true count k radix ends far = let low = far.low in (omega arith, λ byte. omega arith)
-sign_reach f text s false count k radix ends far =
+sign_reach : (f : Format) (text : List ℕ) (s : Bool × ℕ) (p : Option ℕ) (count k : ℕ) → 2 ≤ (head_behind f s p).radix → (let h = head_behind f s p in EndsRow h.radix text h.start (h.start + count)) → (let h = head_behind f s p in IsReach h.radix text h.start count k) → (s.1 ≤ k) × (slice_get text s.1 ≡ Some 48 → s.1 + 1 ≤ k)
+sign_reach f text s (Some r) count k radix ends far = let low = far.low in (omega arith, λ byte. omega arith)
+sign_reach f text s None count k radix ends far =
     let low = far.low in
-    let same : s.1 + 0 ≡ s.1 = omega arith in
-    (omega arith, λ byte. let first = zero_counts f.mantissa_radix text (s.1 + 0) count radix (ap (slice_get text) same ∙ byte) ends in let deep = far.deep first.0 first.1 in omega arith)
+    (omega arith, λ byte. let first = zero_counts f.mantissa_radix text s.1 count radix byte ends in let deep = far.deep first.0 first.1 in omega arith)
 
-local_by : (f : Format) (t : IntegerType) → f.digit_separator ≡ None → 2 ≤ f.mantissa_radix → IsLocal f t
-local_by f t none radix text other k settled front = by_sign (sign f t text) refl
+-- each radix in force is at least 2
+radix_least : (f : Format) (text : List ℕ) (s : Bool × ℕ) (p : Option ℕ) → IsNone (fault f) → prefix_radix f text s.1 ≡ p → 2 ≤ (head_behind f s p).radix
+radix_least f text s None valid e = (fits f valid).is_radix.low
+radix_least f text s (Some r) valid e = (fits_prefix f text s.1 r valid e).is_radix.low
+
+local_by : (f : Format) (t : IntegerType) → f.digit_separator ≡ None → IsNone (fault f) → IsLocal f t
+local_by f t none valid text other k settled front = by_sign (sign f t text) refl
   where
     same : Agree (k + 1) text other
     same = agree (k + 1) text other front
@@ -148,7 +152,7 @@ local_by f t none radix text other k settled front = by_sign (sign f t text) ref
     by_sign : (r : Result (Bool × ℕ) Error) → sign f t text ≡ r → partial f t other ≡ partial f t text
     by_sign (Err e) faulty = sign_fault_parts f t other e (sign_same ∙ faulty) ∙ sym (sign_fault_parts f t text e faulty)
     by_sign (Ok s) signed =
-        let p : Bool = prefix_at f text s.1 in
+        let p : Option ℕ = prefix_radix f text s.1 in
         let h : Head = head_behind f s p in
         let low : h.start ≤ length text = head_within f text s p (sign_within f t text s signed) refl in
         let count : ℕ = row_count f h.radix text h.start in
@@ -156,13 +160,13 @@ local_by f t none radix text other k settled front = by_sign (sign f t text) ref
         let whole = partial_row f t text h count none (head_behind_sign f t text s signed) low ends in
         let settles : SettlesRow f t text h (head_row f text h count) k = settled_row f t text h (head_row f text h count) k (subst (λ (a : Result (ℤ × ℕ) Error). IsSettledAt (length text) k a) whole settled) in
         let far : IsReach h.radix text h.start count k = reach f t text h count k ends settles in
-        let behind = sign_reach f text s p count k radix ends far in
+        let behind = sign_reach f text s p count k (radix_least f text s p valid refl) ends far in
         let prefix = agree_prefix f (k + 1) s.1 text other same (omega (arith, behind.0)) (λ byte. let deep = behind.1 byte in omega arith) in
-        let head : head_of f t other ≡ Ok h = head_behind_sign f t other s (sign_same ∙ signed) ∙ ap (λ (q : Bool). Ok (head_behind f s q)) (sym prefix) in
+        let head : head_of f t other ≡ Ok h = head_behind_sign f t other s (sign_same ∙ signed) ∙ ap (λ (q : Option ℕ). Ok (head_behind f s q)) (sym prefix) in
         same_answer f t text other k h none same count ends settles far head ∙ sym whole
 
 pub is_local : (f : Format) (t : IntegerType) → IsNone (fault f) → IsNone f.digit_separator → IsLocal f t
-is_local f t valid none = local_by f t (none_from_IsNone f.digit_separator none) (fits f valid).radix.low
+is_local f t valid none = local_by f t (none_from_IsNone f.digit_separator none) valid
 
 -- the law, at two answers that calls gave
 pub answers_local : {X : Type 0} → (view : X → ℤ) → IsInjective view → (f : Format) (t : IntegerType) (text other : List ℕ) (first second : Result (X × ℕ) Error) → IsNone (fault f) → seen (placed view) first ≡ partial f t text → seen (placed view) second ≡ partial f t other → IsNone f.digit_separator →

@@ -13,7 +13,7 @@ use Rattle.lexical_util.specs.declared.error.Error.TheVariants.{Empty, InvalidLe
 use Rattle.lexical_util.specs.Digit.{digit}
 use Rattle.lexical_util.specs.Format.{Format}
 use Rattle.lexical_util.specs.Number.{IntegerType, is_number}
-use Rattle.lexical_parse_integer.specs.Affixes.{prefix_at, suffix_at}
+use Rattle.lexical_parse_integer.specs.Affixes.{prefix_radix, suffix_at}
 use Rattle.lexical_parse_integer.specs.Grammar.{common_faults, fault_if, first_fault_or, first_outside, lacks_digits, partial, partial_faults, range_error, range_fault}
 use Rattle.lexical_parse_integer.specs.Head.{Head, head_behind, head_of, sign}
 use Rattle.lexical_parse_integer.specs.Laws.{IsSettledAt}
@@ -36,7 +36,7 @@ pub partial_row : (f : Format) (t : IntegerType) (text : List ℕ) (h : Head) (c
 unfolding partial
 partial_row f t text h count none head low ends = rw (head, numeral_in_a_row f text h.start h.radix count none low ends) refl
 
-pub head_behind_sign : (f : Format) (t : IntegerType) (text : List ℕ) (s : Bool × ℕ) → sign f t text ≡ Ok s → head_of f t text ≡ Ok (head_behind f s (prefix_at f text s.1))
+pub head_behind_sign : (f : Format) (t : IntegerType) (text : List ℕ) (s : Bool × ℕ) → sign f t text ≡ Ok s → head_of f t text ≡ Ok (head_behind f s (prefix_radix f text s.1))
 unfolding head_of
 head_behind_sign f t text s signed = rw signed refl
 

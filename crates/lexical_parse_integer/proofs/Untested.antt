@@ -3,7 +3,7 @@ use Rattle.std.proofs.Common.{◌≡◌, ℕ, ◌+◌, ◌<◌, ◌≤◌, Bool,
 use Rattle.std.specs.Prelude.{ℤ, pos}
 use Rattle.lexical_util.specs.Number.{HasRoom, IsNumber, integer_type, is_number, mul_add}
 use Rattle.lexical_parse_integer.specs.CursorView.{CursorView, IsSound, TakesDigit, numeral_of}
-use Rattle.lexical_parse_integer.specs.Numeral.{digit_count, front_value}
+use Rattle.lexical_parse_integer.specs.Numeral.{front_value}
 use Rattle.lexical_parse_integer.specs.Reading.{GoesOn, Reads}
 use Rattle.lexical_parse_integer.proofs.Fronts.{front_value-next}
 use Rattle.lexical_parse_integer.proofs.Turning.{digit_below, digit_taken, numeral_radix, reads_next}

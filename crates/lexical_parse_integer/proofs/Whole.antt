@@ -6,8 +6,8 @@ use Rattle.std.proofs.lemmas.Bool.{lt-ltb, le-ltb, cases_lt, false≢true}
 use Rattle.std.proofs.lemmas.Bool.Decides.{eqb_tells}
 use Rattle.lexical_util.specs.declared.error.Error.{Error}
 use Rattle.lexical_util.specs.declared.error.Error.TheVariants.{InvalidDigit, Empty, MissingSign, InvalidPositiveSign}
-use Rattle.lexical_parse_integer.specs.Affixes.{numeral_stop, prefix_at}
-use Rattle.lexical_parse_integer.specs.CursorView.{CursorView, IsSound, numeral_end, numeral_of}
+use Rattle.lexical_parse_integer.specs.Affixes.{numeral_stop, prefix_radix}
+use Rattle.lexical_parse_integer.specs.CursorView.{CursorView, behind_prefix, IsSound, numeral_end, numeral_of}
 use Rattle.lexical_parse_integer.specs.Grammar.{complete, digits_required, first_fault_or, partial, prefix_fault, range_fault, zero_fault}
 use Rattle.lexical_parse_integer.specs.Head.{Head, head_of, no_sign, sign}
 use Rattle.lexical_parse_integer.specs.Numeral.{Numeral, digit_count, numeral, numeral_value}
@@ -98,22 +98,22 @@ unfolding head_of
 head_fault f t text e h = rw h refl
 
 -- behind the sign, and behind the prefix
-pub at_head : (t : IntegerType) (u v w : CursorView) (minus p : Bool) → IsFresh u → sign u.format t u.bytes ≡ Ok (minus, v.position) → v ≡ record u { start = v.position; position = v.position } → p ≡ prefix_at v.format v.bytes v.position → w ≡ cond p (record v { start = v.position + 2; position = v.position + 2 }) v → IsAtHead u.format t u.bytes minus p w
+pub at_head : (t : IntegerType) (u v w : CursorView) (minus p : Bool) → IsFresh u → sign u.format t u.bytes ≡ Ok (minus, v.position) → v ≡ record u { start = v.position; position = v.position } → p ≡ is_some (prefix_radix v.format v.bytes v.position) → w ≡ behind_prefix v (prefix_radix v.format v.bytes v.position) → IsAtHead u.format t u.bytes minus p w
 unfolding head_of
 at_head t u v w minus p fresh signed moved prefixed after =
     let bytes : v.bytes ≡ u.bytes = ap (λ (z : CursorView). z.bytes) moved in
     let format : v.format ≡ u.format = ap (λ (z : CursorView). z.format) moved in
     let radix : v.radix ≡ u.format.mantissa_radix = ap (λ (z : CursorView). z.radix) moved ∙ fresh.in_force in
     let start : v.start ≡ v.position = ap (λ (z : CursorView). z.start) moved in
-    let prefixed' : prefix_at u.format u.bytes v.position ≡ p = ap (λ f. prefix_at f u.bytes v.position) (sym format) ∙ ap (λ b. prefix_at v.format b v.position) (sym bytes) ∙ sym prefixed in
+    let same : prefix_radix v.format v.bytes v.position ≡ prefix_radix u.format u.bytes v.position = ap (λ f. prefix_radix f v.bytes v.position) format ∙ ap (λ b. prefix_radix u.format b v.position) bytes in
     let closed : v.closed ≡ false = ap (λ (z : CursorView). z.closed) moved ∙ fresh.closed in
     let digits : v.digits ≡ 0 = ap (λ (z : CursorView). z.digits) moved ∙ fresh.no_digit in
     let turns : v.turns ≡ 0 = ap (λ (z : CursorView). z.turns) moved ∙ fresh.no_turn in
-    by_prefix p prefixed' after bytes format radix start closed digits turns
+    by_prefix (prefix_radix u.format u.bytes v.position) p refl (prefixed ∙ ap is_some same) (after ∙ ap (behind_prefix v) same) bytes format radix start closed digits turns
   where
-    by_prefix : (q : Bool) → prefix_at u.format u.bytes v.position ≡ q → w ≡ cond q (record v { start = v.position + 2; position = v.position + 2 }) v → v.bytes ≡ u.bytes → v.format ≡ u.format → v.radix ≡ u.format.mantissa_radix → v.start ≡ v.position → v.closed ≡ false → v.digits ≡ 0 → v.turns ≡ 0 → IsAtHead u.format t u.bytes minus q w
-    by_prefix true h e bytes format radix start closed digits turns = rw e (record {
-      head_is = rw (signed, h, radix) refl;
+    by_prefix : (found : Option ℕ) (q : Bool) → prefix_radix u.format u.bytes v.position ≡ found → q ≡ is_some found → w ≡ behind_prefix v found → v.bytes ≡ u.bytes → v.format ≡ u.format → v.radix ≡ u.format.mantissa_radix → v.start ≡ v.position → v.closed ≡ false → v.digits ≡ 0 → v.turns ≡ 0 → IsAtHead u.format t u.bytes minus q w
+    by_prefix (Some r) q h is e bytes format radix start closed digits turns = rw (is, e) (record {
+      head_is = rw (signed, h) refl;
       bytes = bytes;
       format = format;
       at_start = refl;
@@ -122,18 +122,16 @@ at_head t u v w minus p fresh signed moved prefixed after =
       no_turn = turns;
       minus = λ m. minus_signed t u minus v.position m signed;
     })
-    by_prefix false h e bytes format radix start closed digits turns =
-        let none : v.position + 0 ≡ v.position = omega arith in
-        rw e (record {
-          head_is = rw (signed, h, radix, none, start) refl;
-          bytes = bytes;
-          format = format;
-          at_start = sym start;
-          closed = closed;
-          no_digit = digits;
-          no_turn = turns;
-          minus = λ m. minus_signed t u minus v.position m signed;
-        })
+    by_prefix None q h is e bytes format radix start closed digits turns = rw (is, e) (record {
+      head_is = rw (signed, h, radix, start) refl;
+      bytes = bytes;
+      format = format;
+      at_start = sym start;
+      closed = closed;
+      no_digit = digits;
+      no_turn = turns;
+      minus = λ m. minus_signed t u minus v.position m signed;
+    })
 
 -- ---- faults of both parsers
 

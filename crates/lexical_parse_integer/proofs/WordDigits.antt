@@ -1,16 +1,15 @@
 -- Words of digits.
-use Rattle.std.proofs.Common.{◌≡◌, ℕ, zero, suc, ◌+◌, ◌-◌, ◌*◌, ◌^◌, ◌≤◌, ◌<◌, Bool, true, false, List, [], ◌∷◌, length, get_or, take, drop, is_some, Some, None, refl, sym, ap, ◌∙◌, subst, arith}
-use Rattle.std.specs.Prelude.{pos, slice_get, slice_range, option_and_then, IsSome, nat_lt}
+use Rattle.std.proofs.Common.{◌≡◌, ℕ, zero, suc, ◌+◌, ◌-◌, ◌*◌, ◌^◌, ◌≤◌, ◌<◌, Bool, true, false, List, [], ◌∷◌, length, get_or, take, drop, is_some, Some, None, sym, ap, ◌∙◌, subst, arith}
+use Rattle.std.specs.Prelude.{pos, slice_get, slice_range, option_and_then, IsSome}
 use Rattle.std.proofs.Math.Nat.{pow-zero, pow-suc, mul-le-mul_right, pow-le-pow_left}
 use Rattle.std.proofs.Math.Seq.{take-length}
 use Rattle.std.proofs.lemmas.Bool.{lt-ltb, false≢true}
-use Rattle.std.proofs.lemmas.Bool.Decides.{nat_tests}
 use Rattle.std.proofs.lemmas.List.{get_or-take, get_or-drop, length-drop, length-take-le}
 use Rattle.std.proofs.lemmas.Option.{slice_get-get_or}
 use Rattle.lexical_parse_integer.specs.Runs.{digit_at}
 use Rattle.lexical_parse_integer.specs.Words.{AreDigits, word_value}
 use Rattle.lexical_parse_integer.proofs.AsciiDigits.{AreAsciiDigits, IsAsciiDigit, ascii_from_digits, ascii_value, ascii_value_is, digit_from, digit_to, digits_from_ascii}
-use Rattle.lexical_util.specs.Digit.{below, digit, digit_value}
+use Rattle.lexical_util.specs.Digit.{digit}
 use Rattle.lexical_util.specs.Number.{IsNumber, IsWidth, integer_type}
 use Rattle.lexical_util.specs.Number.IsWidth.{w8, w16, w32, w64, w128}
 use Rattle.lexical_parse_integer.proofs.NumeralLemmas.{digit_at_past}

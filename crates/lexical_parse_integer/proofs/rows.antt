@@ -4,6 +4,7 @@ pub mod Affixes
 pub mod Ends
 pub mod Flags
 pub mod Formats
+pub mod Literals
 pub mod Radixes
 pub mod Separators
 pub mod Signs

@@ -14,11 +14,25 @@ is_affix is_case_sensitive (Some affix) (Some byte) = matches is_case_sensitive 
 is_affix is_case_sensitive (Some affix) None = false
 is_affix is_case_sensitive None byte = false
 
--- whether a zero stands at a place, and the prefix directly behind it
-unfoldable pub prefix_at : Format → List ℕ → ℕ → Bool
-prefix_at format text place =
-    are_same (Some 48) (slice_get text place)
-    && is_affix format.case_sensitive_base_prefix format.base_prefix (slice_get text (place + 1))
+-- the radix that the letter of a literal prefix puts in force: 16 for `x`, 8 for `o` and 2 for `b`
+unfoldable pub literal_radix : Bool → Option ℕ → Option ℕ
+literal_radix is_case_sensitive byte =
+    if is_affix is_case_sensitive (Some 120) byte then Some 16
+    else (if is_affix is_case_sensitive (Some 111) byte then Some 8
+    else (if is_affix is_case_sensitive (Some 98) byte then Some 2
+    else None))
+
+-- the radix in force behind a zero and a byte, where the two are a prefix: the format's own leaves its radix
+unfoldable pub marked_radix : Format → Option ℕ → Option ℕ
+marked_radix format byte =
+    if is_affix format.case_sensitive_base_prefix format.base_prefix byte then Some format.mantissa_radix
+    else (if format.literal_prefixes then literal_radix format.case_sensitive_base_prefix byte
+    else None)
+
+-- the radix in force behind the prefix at a place, where one stands there: a zero, and the byte directly behind it
+unfoldable pub prefix_radix : Format → List ℕ → ℕ → Option ℕ
+prefix_radix format text place =
+    if are_same (Some 48) (slice_get text place) then marked_radix format (slice_get text (place + 1)) else None
 
 -- whether the suffix stands at a place
 unfoldable pub suffix_at : Format → List ℕ → ℕ → Bool

@@ -1,7 +1,8 @@
 -- What contracts see of a cursor, and what its calls do.
-use Rattle.std.specs.Prelude.{◌≡◌, ℕ, ◌+◌, ◌≤◌, ◌<◌, Bool, true, false, List, length, ◌&&◌, nat_lt, Some, None, IsSome}
+use Rattle.std.specs.Prelude.{◌≡◌, ℕ, ◌+◌, ◌≤◌, ◌<◌, Bool, true, false, List, length, ◌&&◌, nat_lt, Option, Some, None, IsNone, IsSome}
 use Rattle.lexical_util.specs.Digit.{IsRadix}
 use Rattle.lexical_util.specs.Format.{Format}
+use Rattle.lexical_util.specs.Validity.{fault}
 use Rattle.lexical_parse_integer.specs.Affixes.{suffix_at, numeral_stop}
 use Rattle.lexical_parse_integer.specs.Numeral.{Numeral, numeral}
 use Rattle.lexical_parse_integer.specs.Runs.{digit_at, separator_at, end_of, places, digits_between}
@@ -54,6 +55,7 @@ pub record IsClosed (cursor : CursorView) : Type 0 where
 
 -- what is true of each cursor
 pub record IsSound (cursor : CursorView) : Type 0 where
+  pub valid : IsNone (fault cursor.format)
   pub radix : IsRadix cursor.radix
   pub separator : IsSeparatorNoDigit cursor.format cursor.radix cursor.bytes
   pub suffix_digit : IsSuffixNoDigit cursor.format cursor.radix cursor.bytes
@@ -67,6 +69,11 @@ pub record IsSound (cursor : CursorView) : Type 0 where
   pub once_closed : cursor.closed ≡ true → IsClosed cursor
 
 -- ---- what its calls do
+
+-- a cursor behind a prefix that puts a radix in force, and as it is where there is none
+abbrev pub behind_prefix : CursorView → Option ℕ → CursorView
+behind_prefix cursor None = cursor
+behind_prefix cursor (Some radix) = record cursor { radix = radix; start = cursor.position + 2; position = cursor.position + 2 }
 
 -- the next digit is taken, with its value
 pub record TakesDigit (old new : CursorView) (value : ℕ) : Type 0 where

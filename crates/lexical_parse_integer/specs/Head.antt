@@ -4,7 +4,7 @@ use Rattle.lexical_util.specs.declared.error.Error.{Error}
 use Rattle.lexical_util.specs.declared.error.Error.TheVariants.{MissingSign, InvalidPositiveSign}
 use Rattle.lexical_util.specs.Format.{Format}
 use Rattle.lexical_util.specs.Number.{IntegerType}
-use Rattle.lexical_parse_integer.specs.Affixes.{prefix_at}
+use Rattle.lexical_parse_integer.specs.Affixes.{prefix_radix}
 
 -- what a text without a sign gives
 abbrev pub no_sign : Format → Result (Bool × ℕ) Error
@@ -28,18 +28,24 @@ pub record Head : Type 0 where
   pub start : ℕ
   pub radix : ℕ
 
--- the head of a text with this sign, which a prefix follows or not
-abbrev pub head_behind : Format → Bool × ℕ → Bool → Head
-head_behind format sign_read is_prefixed = record {
+-- the head of a text with this sign, and with a prefix that puts a radix in force, or none
+abbrev pub head_behind : Format → Bool × ℕ → Option ℕ → Head
+head_behind format sign_read None = record {
   is_minus = sign_read.0;
-  is_prefixed = is_prefixed;
-  start = sign_read.1 + (if is_prefixed then 2 else 0);
+  is_prefixed = false;
+  start = sign_read.1;
   radix = format.mantissa_radix;
+}
+head_behind format sign_read (Some radix) = record {
+  is_minus = sign_read.0;
+  is_prefixed = true;
+  start = sign_read.1 + 2;
+  radix = radix;
 }
 
 -- the head of a text by what its sign is
 abbrev pub head_after : Format → List ℕ → Result (Bool × ℕ) Error → Result Head Error
-head_after format text (Ok sign_read) = Ok (head_behind format sign_read (prefix_at format text sign_read.1))
+head_after format text (Ok sign_read) = Ok (head_behind format sign_read (prefix_radix format text sign_read.1))
 head_after format text (Err e) = Err e
 
 -- what stands before the numeral of a text, or the fault of its sign

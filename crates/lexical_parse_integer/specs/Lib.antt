@@ -3,6 +3,7 @@ pub mod Answer
 pub mod CursorView
 pub mod Grammar
 pub mod Head
+pub mod Lanes
 pub mod Laws
 pub mod Numeral
 pub mod OptionsView

@@ -1,6 +1,6 @@
 // Prefix and suffix at a place of a text.
 ghost use Rattle.std.specs.Prelude.{◌≡◌};
-ghost use Rattle.lexical_parse_integer.specs.Affixes.{is_affix, matches, prefix_at, suffix_at};
+ghost use Rattle.lexical_parse_integer.specs.Affixes.{is_affix, literal_radix, marked_radix, matches, prefix_radix, suffix_at};
 
 use lexical_util::format::NumberFormat;
 
@@ -40,17 +40,51 @@ pub(crate) fn suffix_at(bytes: &[u8], format: &NumberFormat, place: usize) -> bo
     )
 }
 
-// Whether a zero stands at a place, and the prefix directly behind it.
+// The radix that the letter of a literal prefix puts in force.
 #[inline(always)]
-#[tactic(auto, unfolding(crate::specs::Affixes::prefix_at, crate::specs::Runs::are_same))]
-pub(crate) fn prefix_at(bytes: &[u8], format: &NumberFormat, place: usize) -> bool
-    ensures { result ≡ prefix_at format.now bytes.now place }
+#[tactic(auto, unfolding(crate::specs::Affixes::literal_radix))]
+fn literal_radix(is_case_sensitive: bool, byte: Option<u8>) -> Option<u32>
+    ensures { result ≡ literal_radix is_case_sensitive byte }
 {
-    place < bytes.len()
-        && bytes[place] == b'0'
-        && is_affix(
-            format.case_sensitive_base_prefix(),
-            format.base_prefix(),
-            bytes.get(place + 1).copied(),
-        )
+    if is_affix(is_case_sensitive, Some(b'x'), byte) {
+        Some(16)
+    } else if is_affix(is_case_sensitive, Some(b'o'), byte) {
+        Some(8)
+    } else if is_affix(is_case_sensitive, Some(b'b'), byte) {
+        Some(2)
+    } else {
+        None
+    }
+}
+
+// The radix in force behind a zero and a byte, where the two are a prefix.
+#[inline(always)]
+#[tactic(auto, unfolding(crate::specs::Affixes::marked_radix))]
+fn marked_radix(format: &NumberFormat, byte: Option<u8>) -> Option<u32>
+    ensures { result ≡ marked_radix format.now byte }
+{
+    if is_affix(
+        format.case_sensitive_base_prefix(),
+        format.base_prefix(),
+        byte,
+    ) {
+        Some(format.mantissa_radix())
+    } else if format.literal_prefixes() {
+        literal_radix(format.case_sensitive_base_prefix(), byte)
+    } else {
+        None
+    }
+}
+
+// The radix in force behind the prefix at a place, where one stands there.
+#[inline(always)]
+#[tactic(auto, unfolding(crate::specs::Affixes::prefix_radix, crate::specs::Runs::are_same))]
+pub(crate) fn prefix_radix(bytes: &[u8], format: &NumberFormat, place: usize) -> Option<u32>
+    ensures { result ≡ prefix_radix format.now bytes.now place }
+{
+    if place < bytes.len() && bytes[place] == b'0' {
+        marked_radix(format, bytes.get(place + 1).copied())
+    } else {
+        None
+    }
 }

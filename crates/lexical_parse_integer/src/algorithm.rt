@@ -12,6 +12,7 @@ ghost use Rattle.lexical_parse_integer.specs.Turns.{AsksWords, HasFewTurns};
 
 mod digits;
 mod head;
+mod lanes;
 mod multi;
 mod numeral;
 mod words;

@@ -8,12 +8,12 @@
 //! Contracts see a cursor as a record: the text, the format, the radix in force, where the numeral's region starts,
 //! the position, how many digits were read, whether the suffix was read, and how many turns that took. A turn is one
 //! digit taken alone, or one word of four or eight digits taken at once; their count takes no byte at run time.
-ghost use Rattle.std.specs.Prelude.{◌≡◌, ◌+◌, ◌<◌, ◌≤◌, ◌↔◌, ◌⊎◌, IsTrue, IsNone, MatchOption, Some, false, true, if◌then◌else◌, length, slice_get, slice_range};
+ghost use Rattle.std.specs.Prelude.{◌≡◌, ◌+◌, ◌<◌, ◌≤◌, ◌↔◌, ◌⊎◌, IsTrue, IsNone, MatchOption, Some, false, true, if◌then◌else◌, is_some, length, slice_get, slice_range};
 ghost use Rattle.lexical_util.specs.Validity.{fault};
-ghost use Rattle.lexical_parse_integer.specs.Affixes.{numeral_stop, prefix_at};
-ghost use Rattle.lexical_parse_integer.specs.CursorView.{AreDigitsAhead, IsSound, ReachesEnd, TakesDigit, closes, numeral_end};
+ghost use Rattle.lexical_parse_integer.specs.Affixes.{numeral_stop, prefix_radix};
+ghost use Rattle.lexical_parse_integer.specs.CursorView.{AreDigitsAhead, IsSound, ReachesEnd, TakesDigit, behind_prefix, closes, numeral_end};
 
-use crate::affixes::{prefix_at, suffix_at};
+use crate::affixes::{prefix_radix, suffix_at};
 use crate::seek::{Found, seek};
 use crate::turns::Turns;
 use lexical_util::format::NumberFormat;
@@ -194,15 +194,18 @@ impl<'a> Cursor<'a> {
         requires front { self.old.position ≤ 1 }
         requires at_start { self.old.position ≡ self.old.start }
         requires no_digit { self.old.digits ≡ 0 }
-        ensures answer { result ≡ prefix_at self.old.format self.old.bytes self.old.position }
-        ensures after { self.new ≡ (if result then record self.old { start = self.old.position + 2; position = self.old.position + 2 } else self.old) }
+        ensures answer { result ≡ is_some (prefix_radix self.old.format self.old.bytes self.old.position) }
+        ensures after { self.new ≡ behind_prefix self.old (prefix_radix self.old.format self.old.bytes self.old.position) }
     {
-        if !prefix_at(self.bytes, &self.format, self.position) {
-            return false;
+        match prefix_radix(self.bytes, &self.format, self.position) {
+            None => false,
+            Some(radix) => {
+                self.radix = radix;
+                self.position += 2;
+                self.start = self.position;
+                true
+            }
         }
-        self.position += 2;
-        self.start = self.position;
-        true
     }
 
     /// Takes the next digit of the numeral, behind separators that pass, and answers its value; `None` where no

@@ -58,7 +58,6 @@ pub fn complete_and_partial<T: Integer>(
 ///
 /// Under the standard format `12 x` and `12 345` both give `Ok((12, 2))` as `u64`, and `2567` and
 /// `256abc` both give `Overflow(2)` as `u8`.
-#[tactic(auto, using(crate::proofs::Locality::answers_local))]
 pub fn local<T: Integer>(
     bytes: &[u8],
     other: &[u8],

@@ -4,6 +4,7 @@ mod cursor;
 mod ends;
 mod flags;
 mod formats;
+mod literals;
 mod long;
 mod options;
 mod parsers;

@@ -1,21 +1,22 @@
 -- What a format's validity says of its radix, and of the bytes that separator, prefix and suffix match. A byte
 -- matches a mark where it is the same but for ASCII case, and so in particular where it is the mark.
 use Rattle.std.proofs.Common.{◌≡◌, ◌∙◌, ℕ, Bool, true, false, not, is_some, leb, Option, Some, None, if◌then◌else◌, refl, sym, ap, arith}
-use Rattle.std.specs.Prelude.{◌==◌, ◌≢◌}
-use Rattle.std.proofs.lemmas.Bool.{eq-eqb, false≢true, or_parts}
+use Rattle.std.specs.Prelude.{◌==◌, ◌≢◌, ◌≤◌, nat_lt}
+use Rattle.std.proofs.lemmas.Bool.{eq-eqb, false≢true, ltb-false, ltb-true, or_parts}
 use Rattle.std.proofs.lemmas.Bool.Decides.{nat_tests}
 use Rattle.lexical_util.specs.declared.error.Error.{Error}
 use Rattle.lexical_util.specs.Digit.{IsRadix, below, digit, digit_value, is_between}
 use Rattle.lexical_util.specs.Format.{Format}
-use Rattle.lexical_util.specs.Validity.{are_alike, fault, has_alike, is_unfit, is_unfit_byte, lower}
+use Rattle.lexical_util.specs.Validity.{are_alike, fault, has_alike, has_unfit_literals, is_unfit, is_unfit_beside_literals, is_unfit_byte, lower}
 
--- the tests that the five rules make all fail
+-- the tests that the six rules make all fail
 record PassesRules (format : Format) : Type 0 where
   radix : not (is_between 2 36 format.mantissa_radix) ≡ false
   separator : is_unfit format.mantissa_radix format.digit_separator ≡ false
   prefix : is_unfit format.mantissa_radix format.base_prefix ≡ false
   suffix : is_unfit format.mantissa_radix format.base_suffix ≡ false
   apart : has_alike format ≡ false
+  literals : has_unfit_literals format ≡ false
 
 -- a test that a fault hangs on fails where there is no fault
 test_fails : (test : Bool) (error : Error) (rest : Option Error) → (if test then Some error else rest) ≡ None → (test ≡ false) × (rest ≡ None)
@@ -28,12 +29,14 @@ passes_rules format valid =
     let past_separator = test_fails _ _ _ past_radix.1 in
     let past_prefix = test_fails _ _ _ past_separator.1 in
     let past_suffix = test_fails _ _ _ past_prefix.1 in
+    let past_alike = test_fails _ _ _ past_suffix.1 in
     record {
       radix = past_radix.0;
       separator = past_separator.0;
       prefix = past_prefix.0;
       suffix = past_suffix.0;
-      apart = (test_fails _ _ _ past_suffix.1).0;
+      apart = past_alike.0;
+      literals = (test_fails _ _ _ past_alike.1).0;
     }
 
 -- letter case doesn't matter to a digit
@@ -99,3 +102,46 @@ suffix_no_separator format suffix byte valid is_set alike =
     let rest = (or_parts (are_alike format.digit_separator format.base_prefix) _ (passes_rules format valid).apart).1 in
     let apart = (or_parts (are_alike format.digit_separator format.base_suffix) _ rest).0 in
     not_alike _ _ suffix byte apart is_set alike
+
+-- ---- literal prefixes
+
+-- a digit of a radix up to 16 is one of 16
+digit_below_16 : (radix byte : ℕ) → radix ≤ 16 → digit byte 16 ≡ None → digit byte radix ≡ None
+digit_below_16 radix byte small none = by_value (digit_value byte) none
+  where
+    by_value : (value : Option ℕ) → below 16 value ≡ None → below radix value ≡ None
+    by_value None h = refl
+    by_value (Some value) h = by_tests (nat_lt value 16) (nat_lt value radix) refl refl h
+      where
+        by_tests : (wide narrow : Bool) → nat_lt value 16 ≡ wide → nat_lt value radix ≡ narrow → (if wide then Some value else None) ≡ None
+            → (if narrow then Some value else None) ≡ None
+        by_tests true narrow w n e = cc
+        by_tests false true w n e = let less = ltb-true value radix n in let more = ltb-false value 16 w in absurd (omega arith)
+        by_tests false false w n e = refl
+
+fit_beside_literals : (set : Option ℕ) (mark byte : ℕ) → is_unfit_beside_literals set ≡ false → set ≡ Some mark → lower byte ≡ lower mark → digit byte 16 ≡ None
+fit_beside_literals set mark byte fit is_set alike =
+    let fit' = rw is_set at fit in
+    digit-alike 16 byte mark alike ∙ none_from_is_some _ (or_parts (is_some (digit mark 16)) _ fit').0
+
+-- the separator and the suffix beside literal prefixes
+literals_fit : (format : Format) → fault format ≡ None → format.literal_prefixes ≡ true
+    → (is_unfit_beside_literals format.digit_separator ≡ false) × (is_unfit_beside_literals format.base_suffix ≡ false)
+literals_fit format valid asked =
+    let all : has_unfit_literals format ≡ false = (passes_rules format valid).literals in
+    let rules = rw asked at all in
+    let past_radix = (or_parts (not (format.mantissa_radix == 10)) _ rules).1 in
+    let past_prefix = (or_parts (is_some format.base_prefix) _ past_radix).1 in
+    or_parts (is_unfit_beside_literals format.digit_separator) _ past_prefix
+
+-- what matches the separator is no digit of a radix that a literal prefix puts in force
+pub separator_no_literal_digit : (format : Format) (separator byte radix : ℕ) → fault format ≡ None → format.literal_prefixes ≡ true → radix ≤ 16
+    → format.digit_separator ≡ Some separator → lower byte ≡ lower separator → digit byte radix ≡ None
+separator_no_literal_digit format separator byte radix valid asked small is_set alike =
+    digit_below_16 radix byte small (fit_beside_literals _ separator byte (literals_fit format valid asked).0 is_set alike)
+
+-- what matches the suffix is none either
+pub suffix_no_literal_digit : (format : Format) (suffix byte radix : ℕ) → fault format ≡ None → format.literal_prefixes ≡ true → radix ≤ 16
+    → format.base_suffix ≡ Some suffix → lower byte ≡ lower suffix → digit byte radix ≡ None
+suffix_no_literal_digit format suffix byte radix valid asked small is_set alike =
+    digit_below_16 radix byte small (fit_beside_literals _ suffix byte (literals_fit format valid asked).1 is_set alike)

@@ -1,9 +1,9 @@
 -- Which formats are valid, and which fault an invalid one has.
-use Rattle.std.specs.Prelude.{◌==◌, ◌+◌, ℕ, Bool, false, ◌||◌, not, Option, Some, None, is_some, if◌then◌else◌, nat_le}
+use Rattle.std.specs.Prelude.{◌==◌, ◌+◌, ℕ, Bool, false, ◌||◌, ◌&&◌, not, Option, Some, None, is_some, if◌then◌else◌, nat_le}
 use Rattle.lexical_util.specs.Digit.{digit, is_between}
 use Rattle.lexical_util.specs.Format.{Format}
 use Rattle.lexical_util.specs.declared.error.Error.{Error}
-use Rattle.lexical_util.specs.declared.error.Error.TheVariants.{InvalidMantissaRadix, InvalidDigitSeparator, InvalidBasePrefix, InvalidBaseSuffix, InvalidPunctuation}
+use Rattle.lexical_util.specs.declared.error.Error.TheVariants.{InvalidMantissaRadix, InvalidDigitSeparator, InvalidBasePrefix, InvalidBaseSuffix, InvalidPunctuation, InvalidLiteralPrefixes}
 
 -- a byte that can't be punctuation: it is not ASCII, or it is `+`, `-` or a digit of the radix
 abbrev pub is_unfit_byte : ℕ → ℕ → Bool
@@ -32,7 +32,25 @@ has_alike format =
     || (are_alike format.digit_separator format.base_suffix
     || are_alike format.base_prefix format.base_suffix)
 
--- the first of the five rules that the format breaks, by its fault; none where the format is valid
+-- the byte is the letter of a literal prefix: `x`, `o` or `b`, in either case
+abbrev pub is_literal_letter : ℕ → Bool
+is_literal_letter byte = (lower byte == 120) || ((lower byte == 111) || (lower byte == 98))
+
+-- a separator or suffix is set, and to a digit of radix 16 or the letter of a literal prefix
+abbrev pub is_unfit_beside_literals : Option ℕ → Bool
+is_unfit_beside_literals None = false
+is_unfit_beside_literals (Some byte) = is_some (digit byte 16) || is_literal_letter byte
+
+-- literal prefixes are asked for beside another radix than 10, a prefix of the format's own, or an unfit separator
+-- or suffix
+abbrev pub has_unfit_literals : Format → Bool
+has_unfit_literals format =
+    format.literal_prefixes
+    && (not (format.mantissa_radix == 10)
+    || (is_some format.base_prefix
+    || (is_unfit_beside_literals format.digit_separator || is_unfit_beside_literals format.base_suffix)))
+
+-- the first of the six rules that the format breaks, by its fault; none where the format is valid
 abbrev pub fault : Format → Option Error
 fault format =
     if not (is_between 2 36 format.mantissa_radix) then Some InvalidMantissaRadix
@@ -40,4 +58,5 @@ fault format =
     else (if is_unfit format.mantissa_radix format.base_prefix then Some InvalidBasePrefix
     else (if is_unfit format.mantissa_radix format.base_suffix then Some InvalidBaseSuffix
     else (if has_alike format then Some InvalidPunctuation
-    else None))))
+    else (if has_unfit_literals format then Some InvalidLiteralPrefixes
+    else None)))))

@@ -6,7 +6,7 @@
 
 ghost use Rattle.std.specs.Prelude.{◌≡◌, ◌↔◌, ◌||◌, IsTrue, None, is_some};
 ghost use Rattle.lexical_util.specs.Format.{json, standard};
-ghost use Rattle.lexical_util.specs.Validity.{fault};
+ghost use Rattle.lexical_util.specs.Validity.{fault, has_unfit_literals};
 
 mod builder;
 mod validity;
@@ -14,7 +14,7 @@ mod validity;
 use crate::error::Error;
 pub use builder::NumberFormatBuilder;
 use std::marker::Model;
-use validity::{are_alike, is_unfit};
+use validity::{are_alike, is_unfit, is_unfit_beside_literals};
 
 /// What a text of an integer may look like: its radix, its punctuation, and what is required or
 /// forbidden.
@@ -35,6 +35,7 @@ pub struct NumberFormat {
     integer_internal_digit_separator: bool,
     integer_trailing_digit_separator: bool,
     integer_consecutive_digit_separator: bool,
+    literal_prefixes: bool,
     // These stand last because the derived equality is proved in this order alone.
     digit_separator: Option<u8>,
     base_prefix: Option<u8>,
@@ -62,6 +63,7 @@ impl Model for NumberFormat {
       integer_internal_digit_separator = a.integer_internal_digit_separator;
       integer_trailing_digit_separator = a.integer_trailing_digit_separator;
       integer_consecutive_digit_separator = a.integer_consecutive_digit_separator;
+      literal_prefixes = a.literal_prefixes;
     } };
 
     ghost inverse = { λ a. record {
@@ -80,6 +82,7 @@ impl Model for NumberFormat {
       integer_internal_digit_separator = a.integer_internal_digit_separator;
       integer_trailing_digit_separator = a.integer_trailing_digit_separator;
       integer_consecutive_digit_separator = a.integer_consecutive_digit_separator;
+      literal_prefixes = a.literal_prefixes;
     } };
 }
 
@@ -100,6 +103,7 @@ pub const STANDARD: NumberFormat = NumberFormat {
     integer_internal_digit_separator: false,
     integer_trailing_digit_separator: false,
     integer_consecutive_digit_separator: false,
+    literal_prefixes: false,
 };
 
 /// Integers as JSON writes them (RFC 8259, section 6): [`STANDARD`] without a plus, and without a zero
@@ -278,6 +282,16 @@ impl NumberFormat {
         self.integer_consecutive_digit_separator
     }
 
+    /// Whether the text may choose its radix: a `0x`, `0o` or `0b` directly after the sign is a prefix, and makes the
+    /// radix in force 16, 8 or 2. Either letter case is matched, unless `case_sensitive_base_prefix` is set: then the
+    /// small letters alone. Without such a prefix the radix is 10.
+    #[inline(always)]
+    pub fn literal_prefixes(&self) -> bool
+        ensures { result ≡ self.now.literal_prefixes }
+    {
+        self.literal_prefixes
+    }
+
     /// The first rule that the format breaks, and `None` where it is valid.
     ///
     /// 1. The radix is from 2 to 36; else `InvalidMantissaRadix`.
@@ -287,6 +301,8 @@ impl NumberFormat {
     /// 4. A suffix is such a byte; else `InvalidBaseSuffix`.
     /// 5. No two of the three are alike, that is the same byte or the same letter in two cases; else
     ///    `InvalidPunctuation`.
+    /// 6. Where literal prefixes are asked for, the radix is 10, the format has no prefix of its own, and separator and
+    ///    suffix are neither digits of radix 16 nor `x`, `o` or `b`, in either case; else `InvalidLiteralPrefixes`.
     ///
     /// The first rule is that of the Rust crate `lexical-util`; the others, and which fault each has,
     /// are this crate's own.
@@ -308,9 +324,24 @@ impl NumberFormat {
             || are_alike(self.base_prefix, self.base_suffix)
         {
             Some(Error::InvalidPunctuation)
+        } else if self.has_unfit_literals() {
+            Some(Error::InvalidLiteralPrefixes)
         } else {
             None
         }
+    }
+
+    // Whether literal prefixes are asked for where they can't be told apart.
+    #[inline(always)]
+    fn has_unfit_literals(&self) -> bool
+        ensures { result ≡ has_unfit_literals self.now }
+    {
+        let are_asked_for = self.literal_prefixes;
+        are_asked_for
+            && (self.mantissa_radix != 10
+                || self.has_base_prefix()
+                || is_unfit_beside_literals(self.digit_separator)
+                || is_unfit_beside_literals(self.base_suffix))
     }
 
     /// Whether the format breaks no rule, so that `error` answers `None`.

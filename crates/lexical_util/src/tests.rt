@@ -52,8 +52,8 @@ fn digits_of_a_radix(rt: HostRuntime) -> Result<(), Fail> {
     Ok(())
 }
 
-// Which of the twelve tests hold, in the order of the variants.
-fn tests_of(fault: &Error) -> [bool; 12] {
+// Which of the thirteen tests hold, in the order of the variants.
+fn tests_of(fault: &Error) -> [bool; 13] {
     [
         fault.is_overflow(),
         fault.is_underflow(),
@@ -67,6 +67,7 @@ fn tests_of(fault: &Error) -> [bool; 12] {
         fault.is_invalid_base_prefix(),
         fault.is_invalid_base_suffix(),
         fault.is_invalid_punctuation(),
+        fault.is_invalid_literal_prefixes(),
     ]
 }
 
@@ -85,6 +86,7 @@ fn faults_and_their_places(rt: HostRuntime) -> Result<(), Fail> {
         (Error::InvalidBasePrefix, None, 9),
         (Error::InvalidBaseSuffix, None, 10),
         (Error::InvalidPunctuation, None, 11),
+        (Error::InvalidLiteralPrefixes, None, 12),
     ] {
         assert_eq!(rt; fault.index(), place, "{fault:?}");
         for (i, holds) in tests_of(&fault).iter().enumerate() {

@@ -51,7 +51,8 @@ type_of Isize = integer_type 64 true
 
 -- ---- lines
 
--- What a line asks for: a complete or a partial parse of a text, a change of the settings, or the standard ones.
+-- What a line asks for: a complete or a partial parse of a text, a change of the settings, or the
+-- standard ones.
 pub data Command : Type 0 where
   parse_complete : TypeName → List ℕ → Command
   parse_partial : TypeName → List ℕ → Command
@@ -68,23 +69,31 @@ parts text = option_map (λ end. (take end text, drop (end + 1) text)) (position
 
 -- the integer type that a text names, and what stands behind the name and a space
 abbrev pub typed_in : List ℕ → Option (TypeName × List ℕ)
-typed_in text = option_and_then (λ cut. option_map (λ type. (type, cut.1)) (type_named cut.0)) (parts text)
+typed_in text =
+    option_and_then (λ (name, rest). option_map (λ type. (type, rest)) (type_named name)) (parts text)
+
+-- a parse of that text as that type
+abbrev pub parse_in : (TypeName → List ℕ → Command) → List ℕ → Option Command
+parse_in parse text = option_map (λ (type, rest). parse type rest) (typed_in text)
 
 -- the change of the field that a text names, to the value that stands behind the name and a space
 abbrev pub change_named : List ℕ → Option Change
-change_named text = option_and_then (λ cut. option_and_then (λ field. change_in field cut.1) (field_named cut.0)) (parts text)
+change_named text =
+    option_and_then (λ (name, value).
+    option_and_then (λ field. change_in field value) (field_named name)) (parts text)
 
 -- what a letter and the text behind it and a space ask for
 abbrev pub command_of : List ℕ × List ℕ → Option Command
-command_of cut =
-    if bytes_eq cut.0 (codes "c") then option_map (λ typed. parse_complete typed.0 typed.1) (typed_in cut.1)
-    else (if bytes_eq cut.0 (codes "p") then option_map (λ typed. parse_partial typed.0 typed.1) (typed_in cut.1)
-    else (if bytes_eq cut.0 (codes "f") then option_map change (change_named cut.1)
+command_of (letter, text) =
+    if bytes_eq letter (codes "c") then parse_in parse_complete text
+    else (if bytes_eq letter (codes "p") then parse_in parse_partial text
+    else (if bytes_eq letter (codes "f") then option_map change (change_named text)
     else None))
 
 -- what a line asks for, where it is one of the kinds of line
 abbrev pub command_in : List ℕ → Option Command
-command_in line = if bytes_eq line (codes "r") then Some reset else option_and_then command_of (parts line)
+command_in line =
+    if bytes_eq line (codes "r") then Some reset else option_and_then command_of (parts line)
 
 -- ---- the program's commands
 

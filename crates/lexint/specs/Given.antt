@@ -1,4 +1,5 @@
--- What the settings come to: each field has the value that the last accepted `f` line after the last `r` line gave it.
+-- What the settings come to: each field has the value that the last accepted `f` line after the last
+-- `r` line gave it.
 use Rattle.std.specs.Prelude.{◌≡◌, ℕ, Bool, true, List, [], ◌∷◌, ◌++◌, codes, Option, None, Some, ◌||◌, fold, if◌then◌else◌}
 use Rattle.std.specs.List.{after_last, filter_map}
 use Rattle.std.specs.Str.{bytes_eq}
@@ -10,7 +11,7 @@ use Rattle.lexint.specs.Settings.{Settings, standard_settings}
 use Rattle.lexint.specs.declared.field.Mark.{Mark}
 use Rattle.lexint.specs.declared.field.Mark.TheVariants.{DigitSeparator, BasePrefix, BaseSuffix}
 use Rattle.lexint.specs.declared.field.Flag.{Flag}
-use Rattle.lexint.specs.declared.field.Flag.TheVariants.{CaseSensitiveBasePrefix, CaseSensitiveBaseSuffix, RequiredIntegerDigits, RequiredMantissaDigits, NoPositiveMantissaSign, RequiredMantissaSign, NoIntegerLeadingZeros, IntegerLeadingDigitSeparator, IntegerInternalDigitSeparator, IntegerTrailingDigitSeparator, IntegerConsecutiveDigitSeparator}
+use Rattle.lexint.specs.declared.field.Flag.TheVariants.{CaseSensitiveBasePrefix, CaseSensitiveBaseSuffix, RequiredIntegerDigits, RequiredMantissaDigits, NoPositiveMantissaSign, RequiredMantissaSign, NoIntegerLeadingZeros, IntegerLeadingDigitSeparator, IntegerInternalDigitSeparator, IntegerTrailingDigitSeparator, IntegerConsecutiveDigitSeparator, LiteralPrefixes}
 use Rattle.lexint.specs.declared.field.Change.{Change}
 use Rattle.lexint.specs.declared.field.Change.TheVariants as set
 
@@ -35,6 +36,7 @@ flag_value IntegerLeadingDigitSeparator format = format.integer_leading_digit_se
 flag_value IntegerInternalDigitSeparator format = format.integer_internal_digit_separator
 flag_value IntegerTrailingDigitSeparator format = format.integer_trailing_digit_separator
 flag_value IntegerConsecutiveDigitSeparator format = format.integer_consecutive_digit_separator
+flag_value LiteralPrefixes format = format.literal_prefixes
 
 -- ---- what a change gives a field
 
@@ -48,7 +50,8 @@ radix_given (set.NoMultiDigit value) = None
 
 -- the value that a change gives a mark
 abbrev pub mark_given : Mark → Change → Option (Option ℕ)
-mark_given mark (set.Mark other value) = if bytes_eq (mark_name mark) (mark_name other) then Some value else None
+mark_given mark (set.Mark other value) =
+    if bytes_eq (mark_name mark) (mark_name other) then Some value else None
 mark_given mark (set.MantissaRadix value) = None
 mark_given mark (set.Flag flag value) = None
 mark_given mark (set.RequiredDigits value) = None
@@ -57,11 +60,13 @@ mark_given mark (set.NoMultiDigit value) = None
 -- whether `required_digits` sets a flag
 abbrev pub is_required_digits : Flag → Bool
 is_required_digits flag =
-    bytes_eq (flag_name flag) (codes "required_integer_digits") || bytes_eq (flag_name flag) (codes "required_mantissa_digits")
+    bytes_eq (flag_name flag) (codes "required_integer_digits")
+    || bytes_eq (flag_name flag) (codes "required_mantissa_digits")
 
 -- the value that a change gives a flag
 abbrev pub flag_given : Flag → Change → Option Bool
-flag_given flag (set.Flag other value) = if bytes_eq (flag_name flag) (flag_name other) then Some value else None
+flag_given flag (set.Flag other value) =
+    if bytes_eq (flag_name flag) (flag_name other) then Some value else None
 flag_given flag (set.RequiredDigits value) = if is_required_digits flag then Some value else None
 flag_given flag (set.MantissaRadix value) = None
 flag_given flag (set.Mark mark value) = None
@@ -91,19 +96,25 @@ is_reset line = bytes_eq line (codes "r")
 
 -- the changes that the accepted `f` lines after the last `r` line make, in order
 abbrev pub changes_since_reset : List (List ℕ) → List Change
-changes_since_reset lines = filter_map (λ line. change_made (command_in line)) (after_last is_reset lines)
+changes_since_reset lines =
+    filter_map (λ line. change_made (command_in line)) (after_last is_reset lines)
 
 -- the last of a value and those behind it
 abbrev pub last_of : {A : Type 0} → A → List A → A
 last_of value [] = value
 last_of value (next ∷ more) = last_of next more
 
--- each field has the value that the last of the changes to it gave, and where there is none the standard one
+-- each field has the value that the last of the changes to it gave, and where there is none the
+-- standard one
 pub record HoldsLastGiven (changes : List Change) (settings : Settings) : Type 0 where
-  pub radix : settings.format.mantissa_radix ≡ last_of standard.mantissa_radix (filter_map radix_given changes)
-  pub mark : (mark : Mark) → mark_value mark settings.format ≡ last_of (mark_value mark standard) (filter_map (mark_given mark) changes)
-  pub flag : (flag : Flag) → flag_value flag settings.format ≡ last_of (flag_value flag standard) (filter_map (flag_given flag) changes)
-  pub no_multi_digit : settings.no_multi_digit ≡ last_of true (filter_map no_multi_digit_given changes)
+  pub radix : settings.format.mantissa_radix
+      ≡ last_of standard.mantissa_radix (filter_map radix_given changes)
+  pub mark : (mark : Mark) → mark_value mark settings.format
+      ≡ last_of (mark_value mark standard) (filter_map (mark_given mark) changes)
+  pub flag : (flag : Flag) → flag_value flag settings.format
+      ≡ last_of (flag_value flag standard) (filter_map (flag_given flag) changes)
+  pub no_multi_digit : settings.no_multi_digit
+      ≡ last_of true (filter_map no_multi_digit_given changes)
 
 -- the settings that lines leave, which the line behind them is answered under
 abbrev pub settings_left : List (List ℕ) → Settings
@@ -117,4 +128,6 @@ LeavesLastGiven lines = HoldsLastGiven (changes_since_reset lines) (settings_lef
 abbrev pub IsAnsweredInTurn : List (List ℕ) → List ℕ → List (List ℕ) → Type 0
 IsAnsweredInTurn before line after =
     answers standard_settings (before ++ line ∷ after)
-    ≡ answers standard_settings before ++ (answer_of (settings_left before) line ++ 10 ∷ [] ++ answers (settings_left (before ++ line ∷ [])) after)
+    ≡ answers standard_settings before
+    ++ (answer_of (settings_left before) line ++ 10 ∷ []
+    ++ answers (settings_left (before ++ line ∷ [])) after)

@@ -4,7 +4,8 @@ use Rattle.std.specs.List.{AllByRecursion}
 use Rattle.std.specs.Int.Digits.{digits_of, number_from_digits, AllBelowBase}
 use lib.IntN.{ℤ}
 
--- the digits of a number in radix 10 as text, the highest first, and `0` alone for 0. The byte of `0` is 48
+-- the digits of a number in radix 10 as text, the highest first, and `0` alone for 0; the byte of `0`
+-- is 48
 abbrev pub numeral : ℕ → List ℕ
 numeral n = if n == 0 then 48 ∷ [] else map (λ d. 48 + d) (digits_of 10 n)
 
@@ -26,4 +27,5 @@ pub record IsShortest (text : List ℕ) (n : ℕ) : Type 0 where
   pub some : 0 < length text
   pub digits : AllByRecursion (λ c. (48 ≤ c) × (c < 58)) text
   pub value : number_from_digits 10 (digits_in text) ≡ n
-  pub least : (ds : List ℕ) → AllBelowBase 10 ds → number_from_digits 10 ds ≡ n → 0 < length ds → length text ≤ length ds
+  pub least : (ds : List ℕ) → AllBelowBase 10 ds → number_from_digits 10 ds ≡ n → 0 < length ds
+      → length text ≤ length ds

@@ -3,7 +3,7 @@ use Rattle.std.specs.Prelude.{ℕ, List, [], ◌∷◌, ◌++◌, codes, Result,
 use lib.IntN.{ℤ}
 use Rattle.lexical_parse_integer.specs.Grammar.{complete_if_valid, partial_if_valid}
 use Rattle.lexical_util.specs.declared.error.Error.{Error}
-use Rattle.lexical_util.specs.declared.error.Error.TheVariants.{Overflow, Underflow, InvalidDigit, Empty, MissingSign, InvalidPositiveSign, InvalidLeadingZeros, InvalidMantissaRadix, InvalidDigitSeparator, InvalidBasePrefix, InvalidBaseSuffix, InvalidPunctuation}
+use Rattle.lexical_util.specs.declared.error.Error.TheVariants.{Overflow, Underflow, InvalidDigit, Empty, MissingSign, InvalidPositiveSign, InvalidLeadingZeros, InvalidMantissaRadix, InvalidDigitSeparator, InvalidBasePrefix, InvalidBaseSuffix, InvalidPunctuation, InvalidLiteralPrefixes}
 use Rattle.lexical_util.specs.Faults.{place_of}
 use Rattle.lexint.specs.Change.{changed}
 use Rattle.lexint.specs.Command.{Command, command_in, parse_complete, parse_partial, change, reset, type_of}
@@ -27,6 +27,7 @@ fault_name InvalidDigitSeparator = codes "InvalidDigitSeparator"
 fault_name InvalidBasePrefix = codes "InvalidBasePrefix"
 fault_name InvalidBaseSuffix = codes "InvalidBaseSuffix"
 fault_name InvalidPunctuation = codes "InvalidPunctuation"
+fault_name InvalidLiteralPrefixes = codes "InvalidLiteralPrefixes"
 
 -- a space and a place, where there is one
 abbrev pub place_text : Option ℕ → List ℕ
@@ -52,8 +53,10 @@ partial_text (Err fault) = fault_text fault
 -- the answer to a command under the settings, and `bad line` where there is none
 abbrev pub command_answer : Settings → Option Command → List ℕ
 command_answer settings None = codes "bad line"
-command_answer settings (Some (parse_complete type text)) = complete_text (complete_if_valid settings.format (type_of type) text)
-command_answer settings (Some (parse_partial type text)) = partial_text (partial_if_valid settings.format (type_of type) text)
+command_answer settings (Some (parse_complete type text)) =
+    complete_text (complete_if_valid settings.format (type_of type) text)
+command_answer settings (Some (parse_partial type text)) =
+    partial_text (partial_if_valid settings.format (type_of type) text)
 command_answer settings (Some (change asked)) = codes "ok"
 command_answer settings (Some reset) = codes "ok"
 
@@ -75,10 +78,12 @@ settings_after settings line = command_effect settings (command_in line)
 
 -- ---- output
 
--- for each line its answer and a line feed, joined in order, each under the settings that the lines before it leave
+-- for each line its answer and a line feed, joined in order, each under the settings that the lines
+-- before it leave
 abbrev pub answers : Settings → List (List ℕ) → List ℕ
 answers settings [] = []
-answers settings (line ∷ more) = answer_of settings line ++ 10 ∷ [] ++ answers (settings_after settings line) more
+answers settings (line ∷ more) =
+    answer_of settings line ++ 10 ∷ [] ++ answers (settings_after settings line) more
 
 -- what the program writes for an input
 abbrev pub output : List ℕ → List ℕ

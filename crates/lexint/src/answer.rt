@@ -182,5 +182,6 @@ fn fault_name(fault: Error) -> &'static str
         Error::InvalidBasePrefix => "InvalidBasePrefix",
         Error::InvalidBaseSuffix => "InvalidBaseSuffix",
         Error::InvalidPunctuation => "InvalidPunctuation",
+        Error::InvalidLiteralPrefixes => "InvalidLiteralPrefixes",
     }
 }

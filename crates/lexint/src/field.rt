@@ -28,6 +28,7 @@ pub enum Flag {
     IntegerInternalDigitSeparator,
     IntegerTrailingDigitSeparator,
     IntegerConsecutiveDigitSeparator,
+    LiteralPrefixes,
 }
 
 /// What an `f` line can set.
@@ -82,12 +83,13 @@ impl Flag {
             Flag::IntegerInternalDigitSeparator => "integer_internal_digit_separator",
             Flag::IntegerTrailingDigitSeparator => "integer_trailing_digit_separator",
             Flag::IntegerConsecutiveDigitSeparator => "integer_consecutive_digit_separator",
+            Flag::LiteralPrefixes => "literal_prefixes",
         }
     }
 }
 
 /// Every field.
-const FIELDS: [Field; 17] = [
+const FIELDS: [Field; 18] = [
     Field::MantissaRadix,
     Field::Mark(Mark::DigitSeparator),
     Field::Mark(Mark::BasePrefix),
@@ -104,6 +106,7 @@ const FIELDS: [Field; 17] = [
     Field::Flag(Flag::IntegerInternalDigitSeparator),
     Field::Flag(Flag::IntegerTrailingDigitSeparator),
     Field::Flag(Flag::IntegerConsecutiveDigitSeparator),
+    Field::Flag(Flag::LiteralPrefixes),
     Field::NoMultiDigit,
 ];
 

@@ -15,7 +15,8 @@ pub fn lines_are_pieces()
 
 /// The lines of the output are the answers to the lines of the input, one for each and in order.
 pub fn output_is_a_line_for_each_line()
-    ensures { (input : List ℕ) → lines (output input) ≡ scan settings_after answer_of standard_settings (lines input) }
+    ensures { (input : List ℕ) → lines (output input)
+        ≡ scan settings_after answer_of standard_settings (lines input) }
 {}
 
 /// A numeral is the shortest text of digits that writes its number.
@@ -27,6 +28,7 @@ pub fn numeral_is_shortest()
 /// field has the value that the last accepted `f` line after the last `r` line gave it, or the
 /// standard one where there is none.
 pub fn fields_hold_what_was_last_given()
-    ensures answered { (before : List (List ℕ)) → (line : List ℕ) → (after : List (List ℕ)) → IsAnsweredInTurn before line after }
+    ensures answered { (before : List (List ℕ)) → (line : List ℕ) → (after : List (List ℕ))
+        → IsAnsweredInTurn before line after }
     ensures left { (lines : List (List ℕ)) → LeavesLastGiven lines }
 {}

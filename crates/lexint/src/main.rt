@@ -17,14 +17,16 @@ mod settings;
 #[cfg(test)]
 mod tests;
 
-use fault::RunError;
+pub use fault::RunError;
+pub use program::{run, run_from};
 use std::process::ExitCode;
 
-/// Runs over standard input and output. A fault is told on standard error, and the status is then 2.
+/// Runs over standard input and output, and ends with status 0. At a fault its message goes to
+/// standard error, and the status is 2.
 fn main(rt: HostRuntime) -> ExitCode {
     let mut input = rt.stdin();
     let mut out = rt.stdout();
-    match program::run_from(rt.alloc(), &mut input, &mut out) {
+    match run_from(rt.alloc(), &mut input, &mut out) {
         Ok(()) => ExitCode::SUCCESS,
         Err(fault) => {
             let text = fault.message();

@@ -21,7 +21,8 @@ const CHUNK: usize = 65536;
 
 /// Writes the answer lines of the input. Its one fault is `Write`, and it takes no memory.
 pub fn run<W: Write>(input: &[u8], out: &mut W) -> Result<(), RunError>
-    ensures ok { OnOk result (Appends (W.contents out.old) (W.contents out.new) (output input.now)) }
+    ensures ok { OnOk result (Appends (W.contents out.old) (W.contents out.new)
+        (output input.now)) }
     ensures fault { IsOkUnless result RunError.Write }
 {
     let mut batch = Batch::new();
@@ -74,8 +75,10 @@ pub fn run_with<R: Read, W: Write, B: Buffer>(
     ensures ok { OnOk result (IfSome (R.remaining input.old) (λ all.
         Appends (W.contents out.old) (W.contents out.new) (output all))) }
     ensures end { OnOk result (IsAtEnd (R.remaining input.new)) }
-    ensures read { IsErrOf result RunError.Read → Keeps (W.contents out.old) (W.contents out.new) }
-    ensures memory { IsErrOf result RunError.Memory → Keeps (W.contents out.old) (W.contents out.new) }
+    ensures read { IsErrOf result RunError.Read
+        → Keeps (W.contents out.old) (W.contents out.new) }
+    ensures memory { IsErrOf result RunError.Memory
+        → Keeps (W.contents out.old) (W.contents out.new) }
 {
     let mut buffer = buffer;
     read_all(input, &mut buffer)?;
@@ -100,8 +103,10 @@ pub fn run_from<R: Read, W: Write>(
     ensures ok { OnOk result (IfSome (R.remaining input.old) (λ all.
         Appends (W.contents out.old) (W.contents out.new) (output all))) }
     ensures end { OnOk result (IsAtEnd (R.remaining input.new)) }
-    ensures read { IsErrOf result RunError.Read → Keeps (W.contents out.old) (W.contents out.new) }
-    ensures memory { IsErrOf result RunError.Memory → Keeps (W.contents out.old) (W.contents out.new) }
+    ensures read { IsErrOf result RunError.Read
+        → Keeps (W.contents out.old) (W.contents out.new) }
+    ensures memory { IsErrOf result RunError.Memory
+        → Keeps (W.contents out.old) (W.contents out.new) }
 {
     run_with(Vec::new(alloc), input, out)
 }

@@ -2,11 +2,11 @@
 -- Written by tools/rows.py from tools/rows.txt: make rows writes it anew.
 use Rattle.std.specs.Prelude.{◌≡◌, codes, Some, None, true, false, Err}
 use Rattle.std.proofs.Common.{refl}
-use Rattle.lexical_util.specs.declared.error.Error.TheVariants.{InvalidMantissaRadix, InvalidDigitSeparator, InvalidBasePrefix, InvalidBaseSuffix, InvalidPunctuation}
+use Rattle.lexical_util.specs.declared.error.Error.TheVariants.{InvalidMantissaRadix, InvalidDigitSeparator, InvalidBasePrefix, InvalidBaseSuffix, InvalidPunctuation, InvalidLiteralPrefixes}
 use Rattle.lexical_util.specs.Format.{standard, json}
 use Rattle.lexical_util.specs.Number.{IntegerType, integer_type}
 use Rattle.lexical_util.specs.Validity.{fault}
-use Rattle.lexical_parse_integer.specs.Affixes.{is_affix, matches, numeral_stop, prefix_at, suffix_at}
+use Rattle.lexical_parse_integer.specs.Affixes.{is_affix, literal_radix, marked_radix, matches, numeral_stop, prefix_radix, suffix_at}
 use Rattle.lexical_parse_integer.specs.Grammar.{complete, complete_if_valid, partial, partial_if_valid, range_fault}
 use Rattle.lexical_parse_integer.specs.Head.{head_of, sign}
 use Rattle.lexical_parse_integer.specs.Numeral.{numeral}
@@ -42,11 +42,11 @@ broken_radix_7 : fault (record standard { mantissa_radix = 1; base_prefix = Some
 broken_radix_7 = refl
 
 broken_radix_8 : complete_if_valid (record standard { mantissa_radix = 1 }) u8 (codes "0") ≡ Err InvalidMantissaRadix
-unfolding complete partial numeral head_of sign range_fault begin_of digit_at are_same separator_at flag_for run_passes belongs end_of digits_between matches is_affix prefix_at suffix_at numeral_stop
+unfolding complete partial numeral head_of sign range_fault begin_of digit_at are_same separator_at flag_for run_passes belongs end_of digits_between matches is_affix literal_radix marked_radix prefix_radix suffix_at numeral_stop
 broken_radix_8 = refl
 
 broken_radix_9 : partial_if_valid (record standard { mantissa_radix = 1 }) u8 (codes "0") ≡ Err InvalidMantissaRadix
-unfolding complete partial numeral head_of sign range_fault begin_of digit_at are_same separator_at flag_for run_passes belongs end_of digits_between matches is_affix prefix_at suffix_at numeral_stop
+unfolding complete partial numeral head_of sign range_fault begin_of digit_at are_same separator_at flag_for run_passes belongs end_of digits_between matches is_affix literal_radix marked_radix prefix_radix suffix_at numeral_stop
 broken_radix_9 = refl
 
 -- ---- a separator is ASCII, no sign, and no digit of the radix
@@ -112,6 +112,53 @@ broken_punctuation_3 = refl
 broken_punctuation_4 : fault (record standard { base_prefix = Some 120; base_suffix = Some 88; case_sensitive_base_prefix = true; case_sensitive_base_suffix = true }) ≡ Some InvalidPunctuation
 broken_punctuation_4 = refl
 
+-- ---- literal prefixes ask for radix 10, no prefix of the format's own, and for a separator and a suffix that can't be taken for a part of them
+
+broken_literals_1 : fault (record standard { literal_prefixes = true; mantissa_radix = 16 }) ≡ Some InvalidLiteralPrefixes
+broken_literals_1 = refl
+
+broken_literals_2 : fault (record standard { literal_prefixes = true; mantissa_radix = 2 }) ≡ Some InvalidLiteralPrefixes
+broken_literals_2 = refl
+
+broken_literals_3 : fault (record standard { literal_prefixes = true; base_prefix = Some 100 }) ≡ Some InvalidLiteralPrefixes
+broken_literals_3 = refl
+
+broken_literals_4 : fault (record standard { literal_prefixes = true; base_suffix = Some 102 }) ≡ Some InvalidLiteralPrefixes
+broken_literals_4 = refl
+
+broken_literals_5 : fault (record standard { literal_prefixes = true; base_suffix = Some 70 }) ≡ Some InvalidLiteralPrefixes
+broken_literals_5 = refl
+
+broken_literals_6 : fault (record standard { literal_prefixes = true; base_suffix = Some 88 }) ≡ Some InvalidLiteralPrefixes
+broken_literals_6 = refl
+
+broken_literals_7 : fault (record standard { literal_prefixes = true; base_suffix = Some 111 }) ≡ Some InvalidLiteralPrefixes
+broken_literals_7 = refl
+
+broken_literals_8 : fault (record standard { literal_prefixes = true; base_suffix = Some 79 }) ≡ Some InvalidLiteralPrefixes
+broken_literals_8 = refl
+
+broken_literals_9 : fault (record standard { literal_prefixes = true; base_suffix = Some 98 }) ≡ Some InvalidLiteralPrefixes
+broken_literals_9 = refl
+
+broken_literals_10 : fault (record standard { literal_prefixes = true; digit_separator = Some 97 }) ≡ Some InvalidLiteralPrefixes
+broken_literals_10 = refl
+
+broken_literals_11 : fault (record standard { literal_prefixes = true; digit_separator = Some 88 }) ≡ Some InvalidLiteralPrefixes
+broken_literals_11 = refl
+
+broken_literals_12 : fault (record standard { literal_prefixes = true; base_prefix = Some 120; base_suffix = Some 88 }) ≡ Some InvalidPunctuation
+broken_literals_12 = refl
+
+broken_literals_13 : fault (record standard { literal_prefixes = true; digit_separator = Some 95; base_suffix = Some 117 }) ≡ None
+broken_literals_13 = refl
+
+broken_literals_14 : fault (record standard { literal_prefixes = true }) ≡ None
+broken_literals_14 = refl
+
+broken_literals_15 : fault (record standard { literal_prefixes = true; digit_separator = Some 103; base_suffix = Some 121 }) ≡ None
+broken_literals_15 = refl
+
 -- ---- formats that break no rule
 
 valid_1 : fault standard ≡ None
@@ -142,41 +189,41 @@ valid_8 = refl
 -- ---- an invalid format is refused before any byte is judged
 
 refused_formats_1 : complete_if_valid (record standard { mantissa_radix = 37; base_prefix = Some 43 }) u8 (codes "256") ≡ Err InvalidMantissaRadix
-unfolding complete partial numeral head_of sign range_fault begin_of digit_at are_same separator_at flag_for run_passes belongs end_of digits_between matches is_affix prefix_at suffix_at numeral_stop
+unfolding complete partial numeral head_of sign range_fault begin_of digit_at are_same separator_at flag_for run_passes belongs end_of digits_between matches is_affix literal_radix marked_radix prefix_radix suffix_at numeral_stop
 refused_formats_1 = refl
 
 refused_formats_2 : partial_if_valid (record standard { mantissa_radix = 37; base_prefix = Some 43 }) u8 (codes "256") ≡ Err InvalidMantissaRadix
-unfolding complete partial numeral head_of sign range_fault begin_of digit_at are_same separator_at flag_for run_passes belongs end_of digits_between matches is_affix prefix_at suffix_at numeral_stop
+unfolding complete partial numeral head_of sign range_fault begin_of digit_at are_same separator_at flag_for run_passes belongs end_of digits_between matches is_affix literal_radix marked_radix prefix_radix suffix_at numeral_stop
 refused_formats_2 = refl
 
 refused_formats_3 : complete_if_valid (record standard { digit_separator = Some 43; base_prefix = Some 48 }) u8 (codes "+") ≡ Err InvalidDigitSeparator
-unfolding complete partial numeral head_of sign range_fault begin_of digit_at are_same separator_at flag_for run_passes belongs end_of digits_between matches is_affix prefix_at suffix_at numeral_stop
+unfolding complete partial numeral head_of sign range_fault begin_of digit_at are_same separator_at flag_for run_passes belongs end_of digits_between matches is_affix literal_radix marked_radix prefix_radix suffix_at numeral_stop
 refused_formats_3 = refl
 
 refused_formats_4 : partial_if_valid (record standard { digit_separator = Some 43; base_prefix = Some 48 }) u8 (codes "+") ≡ Err InvalidDigitSeparator
-unfolding complete partial numeral head_of sign range_fault begin_of digit_at are_same separator_at flag_for run_passes belongs end_of digits_between matches is_affix prefix_at suffix_at numeral_stop
+unfolding complete partial numeral head_of sign range_fault begin_of digit_at are_same separator_at flag_for run_passes belongs end_of digits_between matches is_affix literal_radix marked_radix prefix_radix suffix_at numeral_stop
 refused_formats_4 = refl
 
 refused_formats_5 : complete_if_valid (record standard { base_prefix = Some 45; base_suffix = Some 57; no_positive_mantissa_sign = true }) i32 (codes "+1") ≡ Err InvalidBasePrefix
-unfolding complete partial numeral head_of sign range_fault begin_of digit_at are_same separator_at flag_for run_passes belongs end_of digits_between matches is_affix prefix_at suffix_at numeral_stop
+unfolding complete partial numeral head_of sign range_fault begin_of digit_at are_same separator_at flag_for run_passes belongs end_of digits_between matches is_affix literal_radix marked_radix prefix_radix suffix_at numeral_stop
 refused_formats_5 = refl
 
 refused_formats_6 : partial_if_valid (record standard { base_prefix = Some 45; base_suffix = Some 57; no_positive_mantissa_sign = true }) i32 (codes "+1") ≡ Err InvalidBasePrefix
-unfolding complete partial numeral head_of sign range_fault begin_of digit_at are_same separator_at flag_for run_passes belongs end_of digits_between matches is_affix prefix_at suffix_at numeral_stop
+unfolding complete partial numeral head_of sign range_fault begin_of digit_at are_same separator_at flag_for run_passes belongs end_of digits_between matches is_affix literal_radix marked_radix prefix_radix suffix_at numeral_stop
 refused_formats_6 = refl
 
 refused_formats_7 : complete_if_valid (record standard { base_suffix = Some 57; digit_separator = Some 95; base_prefix = Some 95; required_mantissa_sign = true }) i32 (codes "1") ≡ Err InvalidBaseSuffix
-unfolding complete partial numeral head_of sign range_fault begin_of digit_at are_same separator_at flag_for run_passes belongs end_of digits_between matches is_affix prefix_at suffix_at numeral_stop
+unfolding complete partial numeral head_of sign range_fault begin_of digit_at are_same separator_at flag_for run_passes belongs end_of digits_between matches is_affix literal_radix marked_radix prefix_radix suffix_at numeral_stop
 refused_formats_7 = refl
 
 refused_formats_8 : partial_if_valid (record standard { base_suffix = Some 57; digit_separator = Some 95; base_prefix = Some 95; required_mantissa_sign = true }) i32 (codes "1") ≡ Err InvalidBaseSuffix
-unfolding complete partial numeral head_of sign range_fault begin_of digit_at are_same separator_at flag_for run_passes belongs end_of digits_between matches is_affix prefix_at suffix_at numeral_stop
+unfolding complete partial numeral head_of sign range_fault begin_of digit_at are_same separator_at flag_for run_passes belongs end_of digits_between matches is_affix literal_radix marked_radix prefix_radix suffix_at numeral_stop
 refused_formats_8 = refl
 
 refused_formats_9 : complete_if_valid (record standard { base_prefix = Some 120; base_suffix = Some 88 }) i32 (codes "0x") ≡ Err InvalidPunctuation
-unfolding complete partial numeral head_of sign range_fault begin_of digit_at are_same separator_at flag_for run_passes belongs end_of digits_between matches is_affix prefix_at suffix_at numeral_stop
+unfolding complete partial numeral head_of sign range_fault begin_of digit_at are_same separator_at flag_for run_passes belongs end_of digits_between matches is_affix literal_radix marked_radix prefix_radix suffix_at numeral_stop
 refused_formats_9 = refl
 
 refused_formats_10 : partial_if_valid (record standard { base_prefix = Some 120; base_suffix = Some 88 }) i32 (codes "0x") ≡ Err InvalidPunctuation
-unfolding complete partial numeral head_of sign range_fault begin_of digit_at are_same separator_at flag_for run_passes belongs end_of digits_between matches is_affix prefix_at suffix_at numeral_stop
+unfolding complete partial numeral head_of sign range_fault begin_of digit_at are_same separator_at flag_for run_passes belongs end_of digits_between matches is_affix literal_radix marked_radix prefix_radix suffix_at numeral_stop
 refused_formats_10 = refl

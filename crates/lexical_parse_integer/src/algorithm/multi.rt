@@ -7,7 +7,7 @@ ghost use Rattle.lexical_parse_integer.specs.Reading.{GoesOn, Reads};
 ghost use Rattle.lexical_parse_integer.specs.Turns.{word_length};
 ghost use Rattle.lexical_parse_integer.specs.Words.{word_value};
 
-use crate::algorithm::words::{value_of_4digits, value_of_8digits};
+use crate::algorithm::lanes::{value_of_4lanes, value_of_8lanes};
 use crate::cursor::Cursor;
 use lexical_util::num::Integer;
 
@@ -28,7 +28,7 @@ pub fn try_parse_4digits<T: Integer>(c: &mut Cursor<'_>) -> Option<T>
         Some(bytes) => bytes,
         None => return None,
     };
-    match value_of_4digits(bytes, c.radix()) {
+    match value_of_4lanes(bytes, c.radix()) {
         Some(value) => {
             c.take_digits(4);
             Some(T::from_u32(value))
@@ -54,10 +54,10 @@ pub fn try_parse_8digits<T: Integer>(c: &mut Cursor<'_>) -> Option<T>
         Some(bytes) => bytes,
         None => return None,
     };
-    match value_of_8digits(bytes, c.radix()) {
+    match value_of_8lanes(bytes, c.radix()) {
         Some(value) => {
             c.take_digits(8);
-            Some(T::from_u32(value as u32))
+            Some(T::from_u32(value))
         }
         None => None,
     }

@@ -1,6 +1,6 @@
 // Words of ASCII digits: four or eight bytes that are judged and read at once. The lowest byte stands first
 // in the text, and is worth the most.
-ghost use Rattle.std.specs.Prelude.{◌≡◌, ◌≤◌, ◌↔◌, IfSome, IsSome, IsTrue, length, slice_range};
+ghost use Rattle.std.specs.Prelude.{◌≡◌, ◌≤◌, ◌↔◌, IsTrue};
 ghost use Rattle.lexical_parse_integer.specs.Words.{AreDigits, word_bytes, word_value};
 
 /// Whether each of the four bytes of `v` is a digit of the radix.
@@ -61,40 +61,4 @@ pub fn parse_8digits(v: u64, radix: u32) -> u64
     let first = (pairs & mask).wrapping_mul(mul1);
     let second = ((pairs >> 16) & mask).wrapping_mul(mul2);
     first.wrapping_add(second) >> 32
-}
-
-// The number that the first four bytes write, where they are digits.
-#[inline(always)]
-pub(crate) fn value_of_4digits(bytes: &[u8], radix: u32) -> Option<u32>
-    requires least { 2 ≤ radix }
-    requires greatest { radix ≤ 10 }
-    requires within { 4 ≤ length bytes.now }
-    ensures value { IfSome result (λ n. n ≡ word_value radix (slice_range bytes.now 0 4)) }
-    ensures digits { IsSome result ↔ AreDigits radix (slice_range bytes.now 0 4) }
-{
-    let t = &bytes[..4];
-    let word = u32::from_le_bytes([t[0], t[1], t[2], t[3]]);
-    if is_4digits(word, radix) {
-        Some(parse_4digits(word, radix))
-    } else {
-        None
-    }
-}
-
-// The number that the first eight bytes write, where they are digits.
-#[inline(always)]
-pub(crate) fn value_of_8digits(bytes: &[u8], radix: u32) -> Option<u64>
-    requires least { 2 ≤ radix }
-    requires greatest { radix ≤ 10 }
-    requires within { 8 ≤ length bytes.now }
-    ensures value { IfSome result (λ n. n ≡ word_value radix (slice_range bytes.now 0 8)) }
-    ensures digits { IsSome result ↔ AreDigits radix (slice_range bytes.now 0 8) }
-{
-    let t = &bytes[..8];
-    let word = u64::from_le_bytes([t[0], t[1], t[2], t[3], t[4], t[5], t[6], t[7]]);
-    if is_8digits(word, radix) {
-        Some(parse_8digits(word, radix))
-    } else {
-        None
-    }
 }

@@ -125,6 +125,74 @@ fn broken_punctuation(rt: HostRuntime) {
     );
 }
 
+// Literal prefixes ask for radix 10, no prefix of the format's own, and for a separator and a suffix that can't be taken for a part of them.
+#[test]
+fn broken_literals(rt: HostRuntime) {
+    are_refused(
+        &rt,
+        Error::InvalidLiteralPrefixes,
+        &[
+            NumberFormatBuilder::new()
+                .literal_prefixes(true)
+                .mantissa_radix(16),
+            NumberFormatBuilder::new()
+                .literal_prefixes(true)
+                .mantissa_radix(2),
+            NumberFormatBuilder::new()
+                .literal_prefixes(true)
+                .base_prefix(Some(b'd')),
+            NumberFormatBuilder::new()
+                .literal_prefixes(true)
+                .base_suffix(Some(b'f')),
+            NumberFormatBuilder::new()
+                .literal_prefixes(true)
+                .base_suffix(Some(b'F')),
+            NumberFormatBuilder::new()
+                .literal_prefixes(true)
+                .base_suffix(Some(b'X')),
+            NumberFormatBuilder::new()
+                .literal_prefixes(true)
+                .base_suffix(Some(b'o')),
+            NumberFormatBuilder::new()
+                .literal_prefixes(true)
+                .base_suffix(Some(b'O')),
+            NumberFormatBuilder::new()
+                .literal_prefixes(true)
+                .base_suffix(Some(b'b')),
+            NumberFormatBuilder::new()
+                .literal_prefixes(true)
+                .digit_separator(Some(b'a')),
+            NumberFormatBuilder::new()
+                .literal_prefixes(true)
+                .digit_separator(Some(b'X')),
+        ],
+    );
+    are_refused(
+        &rt,
+        Error::InvalidPunctuation,
+        &[
+            NumberFormatBuilder::new()
+                .literal_prefixes(true)
+                .base_prefix(Some(b'x'))
+                .base_suffix(Some(b'X')),
+        ],
+    );
+    are_valid(
+        &rt,
+        &[
+            NumberFormatBuilder::new()
+                .literal_prefixes(true)
+                .digit_separator(Some(b'_'))
+                .base_suffix(Some(b'u')),
+            NumberFormatBuilder::new().literal_prefixes(true),
+            NumberFormatBuilder::new()
+                .literal_prefixes(true)
+                .digit_separator(Some(b'g'))
+                .base_suffix(Some(b'y')),
+        ],
+    );
+}
+
 // Formats that break no rule.
 #[test]
 fn valid(rt: HostRuntime) {

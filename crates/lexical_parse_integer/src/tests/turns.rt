@@ -110,6 +110,21 @@ fn eight_zeros() -> (Result<u64>, Cursor<'static>)
     (answer, c)
 }
 
+// Of sixty-four digits of radix 2, which the text chooses, sixteen are two words.
+fn sixty_four_binary() -> (Result<u64>, Cursor<'static>)
+    ensures { result.1.turns ≤ 50 }
+{
+    let format = NumberFormatBuilder::new()
+        .literal_prefixes(true)
+        .build_unchecked();
+    let mut c = Cursor::new(
+        b"0b1111111111111111111111111111111111111111111111111111111111111111",
+        &format,
+    );
+    let answer = algorithm_complete_on::<u64>(&mut c, &LARGE_NUMBERS);
+    (answer, c)
+}
+
 // Without words an answer takes a turn for each digit, for every type.
 fn sixteen_one_by_one() -> (Result<u64>, Cursor<'static>)
     ensures { OnOk result.0 (result.1.turns ≡ 16) }
@@ -132,6 +147,7 @@ fn whole_texts_in_few_turns(rt: HostRuntime) {
     assert_eq!(rt; eight_of_u32().0, Ok(12_345_678));
     assert_eq!(rt; nine_of_i32().0, Ok(123_456_789));
     assert_eq!(rt; seven_of_u64().0, Ok(1_234_567));
+    assert_eq!(rt; sixty_four_binary().0, Ok(u64::MAX));
     assert_eq!(rt; sixteen_of_u64().0, Ok(1_234_567_812_345_678));
     assert_eq!(rt; twenty_of_u64().0, Ok(12_345_678_901_234_567_890));
     assert_eq!(rt; sixteen_of_i64().0, Ok(1_234_567_812_345_678));

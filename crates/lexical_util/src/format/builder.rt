@@ -251,6 +251,15 @@ impl NumberFormatBuilder {
         self
     }
 
+    /// Sets whether the text may choose its radix by `0x`, `0o` or `0b`.
+    #[inline]
+    pub fn literal_prefixes(mut self, value: bool) -> Self
+        ensures { result ≡ record self { literal_prefixes = value } }
+    {
+        self.format.literal_prefixes = value;
+        self
+    }
+
     /// Whether the format is valid as it is so far (`NumberFormat::error` has the rules).
     #[inline]
     pub fn is_valid(&self) -> bool

@@ -2,7 +2,7 @@
 
 ghost use Rattle.std.specs.Prelude.{◌≡◌};
 ghost use Rattle.lexical_util.specs.Digit.{IsRadix};
-ghost use Rattle.lexical_util.specs.Validity.{are_alike, is_unfit};
+ghost use Rattle.lexical_util.specs.Validity.{are_alike, is_literal_letter, is_unfit, is_unfit_beside_literals};
 
 use crate::digit::char_is_digit;
 
@@ -28,5 +28,25 @@ pub(super) fn are_alike(mark: Option<u8>, other: Option<u8>) -> bool
     match (mark, other) {
         (Some(mark), Some(other)) => mark.eq_ignore_ascii_case(&other),
         _ => false,
+    }
+}
+
+// Whether the byte is the letter of a literal prefix, in either case.
+#[inline(always)]
+fn is_literal_letter(byte: u8) -> bool
+    ensures { result ≡ is_literal_letter byte }
+{
+    let letter = byte.to_ascii_lowercase();
+    letter == b'x' || letter == b'o' || letter == b'b'
+}
+
+// Whether a separator or suffix is set to a byte that literal prefixes need.
+#[inline(always)]
+pub(super) fn is_unfit_beside_literals(mark: Option<u8>) -> bool
+    ensures { result ≡ is_unfit_beside_literals mark }
+{
+    match mark {
+        None => false,
+        Some(byte) => char_is_digit(byte, 16) || is_literal_letter(byte),
     }
 }

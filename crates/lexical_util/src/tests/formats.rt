@@ -5,7 +5,7 @@ use crate::format::{JSON, NumberFormat, NumberFormatBuilder, STANDARD};
 use std::test::Fail;
 
 // The flags of a format, in the order of the setters below.
-fn flags_of(format: &NumberFormat) -> [bool; 11] {
+fn flags_of(format: &NumberFormat) -> [bool; 12] {
     [
         format.case_sensitive_base_prefix(),
         format.case_sensitive_base_suffix(),
@@ -18,13 +18,14 @@ fn flags_of(format: &NumberFormat) -> [bool; 11] {
         format.integer_internal_digit_separator(),
         format.integer_trailing_digit_separator(),
         format.integer_consecutive_digit_separator(),
+        format.literal_prefixes(),
     ]
 }
 
 #[test]
 fn each_flag_alone(rt: HostRuntime) -> Result<(), Fail> {
     let bare = NumberFormatBuilder::new().required_digits(false);
-    assert_eq!(rt; flags_of(&bare.build_strict()), [false; 11]);
+    assert_eq!(rt; flags_of(&bare.build_strict()), [false; 12]);
     assert!(rt; !bare.build_strict().required_digits());
     for (i, builder) in [
         bare.case_sensitive_base_prefix(true),
@@ -38,11 +39,12 @@ fn each_flag_alone(rt: HostRuntime) -> Result<(), Fail> {
         bare.integer_internal_digit_separator(true),
         bare.integer_trailing_digit_separator(true),
         bare.integer_consecutive_digit_separator(true),
+        bare.literal_prefixes(true),
     ]
     .iter()
     .enumerate()
     {
-        let mut want = [false; 11];
+        let mut want = [false; 12];
         want[i] = true;
         let format = builder.build_unchecked();
         assert_eq!(rt; flags_of(&format), want, "flag {i}");
@@ -92,7 +94,7 @@ fn other_setters(rt: HostRuntime) {
 #[test]
 fn ready_made_formats(rt: HostRuntime) {
     let digits_required = [
-        false, false, false, true, false, false, false, false, false, false, false,
+        false, false, false, true, false, false, false, false, false, false, false, false,
     ];
     for (format, radix) in [
         (STANDARD, 10),
@@ -193,6 +195,39 @@ fn first_broken_rule(rt: HostRuntime) -> Result<(), Fail> {
         ] {
             assert_eq!(rt; builder.build_unchecked().error(), want, "{builder:?}");
         }
+    }
+    Ok(())
+}
+
+#[test]
+fn literal_prefixes_beside_other_fields(rt: HostRuntime) -> Result<(), Fail> {
+    let literals = Some(Error::InvalidLiteralPrefixes);
+    for (builder, want) in [
+        (marked(10, None, None, None), None),
+        (marked(10, Some(b'_'), None, Some(b'u')), None),
+        (marked(10, Some(b'g'), None, Some(b'y')), None),
+        (marked(16, None, None, None), literals),
+        (marked(10, None, Some(b'd'), None), literals),
+        (marked(10, None, None, Some(b'f')), literals),
+        (marked(10, None, None, Some(b'F')), literals),
+        (marked(10, None, None, Some(b'X')), literals),
+        (marked(10, None, None, Some(b'o')), literals),
+        (marked(10, None, None, Some(b'O')), literals),
+        (marked(10, None, None, Some(b'b')), literals),
+        (marked(10, Some(b'a'), None, None), literals),
+        (marked(10, Some(b'X'), None, None), literals),
+        (
+            marked(10, None, Some(b'x'), Some(b'X')),
+            Some(Error::InvalidPunctuation),
+        ),
+        (
+            marked(37, None, Some(b'd'), None),
+            Some(Error::InvalidMantissaRadix),
+        ),
+    ] {
+        let builder = builder.literal_prefixes(true);
+        assert_eq!(rt; builder.build_unchecked().error(), want, "{builder:?}");
+        assert_eq!(rt; builder.is_valid(), want.is_none(), "{builder:?}");
     }
     Ok(())
 }

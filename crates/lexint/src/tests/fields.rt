@@ -87,6 +87,10 @@ fn each_field_is_in_force(rt: HostRuntime) -> Result<(), Fail> {
             "f digit_separator _\nf integer_trailing_digit_separator true\nf integer_consecutive_digit_separator true\np i64 1__\n",
             "ok\nok\nok\nok 1 3\n",
         ),
+        (
+            "f literal_prefixes true\np u64 0x1F;\nc u32 0b101\nc u8 0o400\nr\nc u32 0x1F\n",
+            "ok\nok 31 4\nok 5\nerr Overflow 4\nok\nerr InvalidDigit 1\n",
+        ),
     ] {
         let out = written(rt.alloc(), input.as_bytes())?;
         assert_eq!(rt; out.as_slice(), want.as_bytes(), "{input:?}");
@@ -113,6 +117,10 @@ fn faults_of_formats_have_no_place(rt: HostRuntime) -> Result<(), Fail> {
         (
             "f base_prefix x\nf base_suffix X\np u8 \n",
             "ok\nok\nerr InvalidPunctuation\n",
+        ),
+        (
+            "f literal_prefixes true\nf base_prefix d\nc u8 1\n",
+            "ok\nok\nerr InvalidLiteralPrefixes\n",
         ),
     ] {
         let out = written(rt.alloc(), input.as_bytes())?;

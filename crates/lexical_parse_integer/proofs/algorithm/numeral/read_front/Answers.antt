@@ -1,4 +1,4 @@
-use Rattle.std.proofs.Common.{◌≡◌, ◌∙◌, ◌≤◌, ap, arith}
+use Rattle.std.proofs.Common.{◌≡◌, ◌∙◌, ap, arith}
 use Rattle.lexical_util.specs.Number.{integer_type, overflow_digits}
 use Rattle.lexical_parse_integer.specs.CursorView.{numeral_of}
 use Rattle.lexical_parse_integer.specs.Numeral.{digit_count}

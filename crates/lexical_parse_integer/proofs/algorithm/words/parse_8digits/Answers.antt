@@ -1,4 +1,4 @@
-use Rattle.std.proofs.Common.{◌∙◌, ◌-◌, ◌*◌, ◌≤◌, arith}
+use Rattle.std.proofs.Common.{◌∙◌, ◌-◌, ◌≤◌, arith}
 use Rattle.std.proofs.lemmas.Nat.{mul-le}
 use Rattle.lexical_parse_integer.specs.Words.{word_bytes}
 use Rattle.lexical_parse_integer.proofs.AsciiDigits.{ascii_from_digits, ascii_value_is}

@@ -1,0 +1,77 @@
+-- Digits joined in pairs have the value that they had.
+use Rattle.std.proofs.Common.{◌≡◌, ℕ, suc, ◌+◌, ◌-◌, ◌*◌, ◌^◌, ◌<◌, ◌≤◌, List, [], ◌∷◌, length, get_or, refl, ap, sym, ◌∙◌, arith}
+use Rattle.std.proofs.Math.Nat.{pow-suc, mul-le-mul_right}
+use native.Mathlib.Numerals.{unary_clauses}
+use Rattle.std.specs.Int.Digits.{number_from_digits_after}
+use Rattle.std.specs.Simd.Lanes.{Each1}
+use Rattle.lexical_parse_integer.specs.Lanes.{joined}
+use Rattle.lexical_parse_integer.specs.Value.{positional_value}
+
+-- the sum by places, read from the left
+pub from_left : (r acc : ℕ) (ds : List ℕ) → acc * r ^ length ds + positional_value r ds ≡ number_from_digits_after r acc ds
+from_left r acc [] = simp unary_clauses (omega arith)
+from_left r acc (d ∷ ds) =
+    let step : acc * r ^ suc (length ds) ≡ acc * r * r ^ length ds = rw pow-suc (omega arith) in
+    let ih : (acc * r + d) * r ^ length ds + positional_value r ds ≡ number_from_digits_after r (acc * r + d) ds = from_left r (acc * r + d) ds in
+    rw step (omega (arith, ih))
+
+pub same_joined : (r acc n : ℕ) (ds : List ℕ) → length ds ≡ n + n → number_from_digits_after r acc ds ≡ number_from_digits_after (r * r) acc (joined r ds)
+same_joined r acc n [] e = refl
+same_joined r acc n (a ∷ []) e = absurd (omega arith)
+same_joined r acc n (a ∷ b ∷ ds) e =
+    let same : (acc * r + a) * r + b ≡ acc * (r * r) + (a * r + b) = omega arith in
+    rw same (same_joined r (acc * (r * r) + (a * r + b)) (n - 1) ds (omega arith))
+
+pub length-joined : (r n : ℕ) (ds : List ℕ) → length ds ≡ n + n → length (joined r ds) ≡ n
+length-joined r n [] e = omega arith
+length-joined r n (a ∷ []) e = absurd (omega arith)
+length-joined r n (a ∷ b ∷ ds) e = let ih : length (joined r ds) ≡ n - 1 = length-joined r (n - 1) ds (omega arith) in omega arith
+
+pair_below : (r a b : ℕ) → a < r → b < r → a * r + b < r * r
+pair_below r a b la lb = let m : suc a * r ≤ r * r = mul-le-mul_right r la in omega arith
+
+pub joined_below : (r : ℕ) (ds : List ℕ) → Each1 (λ d. d < r) ds → Each1 (λ p. p < r * r) (joined r ds)
+joined_below r [] all = tt
+joined_below r (a ∷ []) all = tt
+joined_below r (a ∷ b ∷ ds) all = (pair_below r a b all.0 all.1.0, joined_below r ds all.1.1)
+
+-- the three joins of eight digits
+pub joined_thrice : (r v : ℕ) (ds : List ℕ) → length ds ≡ 8 → v ∷ [] ≡ joined (r * r * (r * r)) (joined (r * r) (joined r ds)) → v ≡ positional_value r ds
+joined_thrice r v ds long e =
+    let one = same_joined r 0 4 ds long in
+    let l1 : length (joined r ds) ≡ 4 = length-joined r 4 ds long in
+    let two = same_joined (r * r) 0 2 (joined r ds) l1 in
+    let l2 : length (joined (r * r) (joined r ds)) ≡ 2 = length-joined (r * r) 2 (joined r ds) l1 in
+    let three = same_joined (r * r * (r * r)) 0 1 (joined (r * r) (joined r ds)) l2 in
+    let all : number_from_digits_after (r * r * (r * r) * (r * r * (r * r))) 0 (v ∷ []) ≡ 0 * r ^ length ds + positional_value r ds =
+    sym (from_left r 0 ds ∙ one ∙ two ∙ three ∙ ap (λ l. number_from_digits_after (r * r * (r * r) * (r * r * (r * r))) 0 l) (sym e)) in
+    omega (arith, all)
+
+-- the two joins of four digits
+pub joined_twice : (r v : ℕ) (ds : List ℕ) → length ds ≡ 4 → v ∷ [] ≡ joined (r * r) (joined r ds) → v ≡ positional_value r ds
+joined_twice r v ds long e =
+    let one = same_joined r 0 2 ds long in
+    let l1 : length (joined r ds) ≡ 2 = length-joined r 2 ds long in
+    let two = same_joined (r * r) 0 1 (joined r ds) l1 in
+    let all : number_from_digits_after (r * r * (r * r)) 0 (v ∷ []) ≡ 0 * r ^ length ds + positional_value r ds =
+    sym (from_left r 0 ds ∙ one ∙ two ∙ ap (λ l. number_from_digits_after (r * r * (r * r)) 0 l) (sym e)) in
+    omega (arith, all)
+
+pub two_lanes : (s : ℕ) (fs : List ℕ) → length fs ≡ 2 → joined s fs ≡ (get_or fs 0 0 * s + get_or fs 1 0) ∷ []
+two_lanes s [] e = absurd (omega arith)
+two_lanes s (a ∷ []) e = absurd (omega arith)
+two_lanes s (a ∷ b ∷ []) e = refl
+two_lanes s (a ∷ b ∷ c ∷ more) e = absurd (omega arith)
+
+pub four_lanes : (s : ℕ) (ps : List ℕ) → length ps ≡ 4 → joined s ps ≡ (get_or ps 0 0 * s + get_or ps 1 0) ∷ (get_or ps 2 0 * s + get_or ps 3 0) ∷ []
+four_lanes s [] e = absurd (omega arith)
+four_lanes s (a ∷ []) e = absurd (omega arith)
+four_lanes s (a ∷ b ∷ ps) e = ap (λ l. (a * s + b) ∷ l) (two_lanes s ps (omega arith))
+
+pub eight_lanes : (s : ℕ) (ds : List ℕ) → length ds ≡ 8
+    → joined s ds ≡ (get_or ds 0 0 * s + get_or ds 1 0) ∷ (get_or ds 2 0 * s + get_or ds 3 0) ∷ (get_or ds 4 0 * s + get_or ds 5 0) ∷ (get_or ds 6 0 * s + get_or ds 7 0) ∷ []
+eight_lanes s [] e = absurd (omega arith)
+eight_lanes s (a ∷ []) e = absurd (omega arith)
+eight_lanes s (a ∷ b ∷ []) e = absurd (omega arith)
+eight_lanes s (a ∷ b ∷ c ∷ []) e = absurd (omega arith)
+eight_lanes s (a ∷ b ∷ c ∷ d ∷ ds) e = ap (λ l. (a * s + b) ∷ (c * s + d) ∷ l) (four_lanes s ds (omega arith))
