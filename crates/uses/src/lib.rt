@@ -1,0 +1,12 @@
+//! Proved callers of the integer parser, each a file of its own.
+#![tactic(auto)]
+
+pub mod config;
+mod digits;
+pub mod fixed_point;
+pub mod fixed_width;
+pub mod json;
+pub mod ledger;
+mod narrow;
+#[cfg(test)]
+mod tests;

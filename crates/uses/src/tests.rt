@@ -1,0 +1,5 @@
+mod config;
+mod fixed_point;
+mod fixed_width;
+mod json;
+mod ledger;

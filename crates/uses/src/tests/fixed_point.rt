@@ -1,0 +1,61 @@
+use crate::fixed_point::{FixedPointError, fixed_point};
+use lexical_parse_integer::Error;
+
+#[test]
+fn prices_are_read_in_cents(rt: HostRuntime) {
+    for (text, units, end) in [
+        (b"12.5".as_slice(), 1250, 4),
+        (b"12", 1200, 2),
+        (b"12.05 EUR", 1205, 5),
+        (b"-0.05", -5, 5),
+        (b"+7.00;", 700, 5),
+        (b"-3x", -300, 2),
+        (b"92233720368547758.07", 9223372036854775807, 20),
+        (b"-92233720368547758.08", -9223372036854775808, 21),
+    ] {
+        assert_eq!(rt; fixed_point(text, 2), Ok((units, end)), "{text:?}");
+    }
+}
+
+#[test]
+fn other_numbers_of_digits_are_read(rt: HostRuntime) {
+    assert_eq!(rt; fixed_point(b"5", 0), Ok((5, 1)));
+    assert_eq!(rt; fixed_point(b"0.0001", 4), Ok((1, 6)));
+    assert_eq!(rt;
+        fixed_point(b"-9.223372036854775808", 18),
+        Ok((-9223372036854775808, 21))
+    );
+}
+
+#[test]
+fn broken_prices_say_where(rt: HostRuntime) {
+    for (text, want) in [
+        (b"".as_slice(), FixedPointError::Whole(Error::Empty(0))),
+        (b"EUR", FixedPointError::Whole(Error::InvalidDigit(0))),
+        (b".5", FixedPointError::Whole(Error::InvalidDigit(0))),
+        (b"-.5", FixedPointError::Whole(Error::InvalidDigit(1))),
+        (
+            b"9223372036854775808",
+            FixedPointError::Whole(Error::Overflow(18)),
+        ),
+        (b"12.505", FixedPointError::TooManyDigits(5)),
+        (b"92233720368547758.08", FixedPointError::OutOfRange),
+        (b"-92233720368547759", FixedPointError::OutOfRange),
+    ] {
+        assert_eq!(rt; fixed_point(text, 2), Err(want), "{text:?}");
+    }
+}
+
+#[test]
+fn broken_fractions_say_where(rt: HostRuntime) {
+    for (text, error) in [
+        (b"12.".as_slice(), Error::Empty(0)),
+        (b"12. EUR", Error::InvalidDigit(0)),
+        (b"12.-5", Error::InvalidDigit(0)),
+        (b"12.+5", Error::InvalidPositiveSign(0)),
+        (b"12.18446744073709551616", Error::Overflow(19)),
+    ] {
+        let want = FixedPointError::Fraction { start: 3, error };
+        assert_eq!(rt; fixed_point(text, 2), Err(want), "{text:?}");
+    }
+}

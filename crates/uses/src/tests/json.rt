@@ -1,0 +1,65 @@
+use crate::json::{NumberError, Part, integer_part};
+use lexical_parse_integer::Error;
+
+#[test]
+fn a_number_comes_piece_by_piece(rt: HostRuntime) {
+    let text = b"-1204.50,";
+    for read in 0..6 {
+        assert_eq!(rt;
+            integer_part(&text[..read]),
+            Ok(Part::Unfinished),
+            "after {read} bytes"
+        );
+    }
+    for read in 6..10 {
+        let whole = Part::Whole {
+            value: -1204,
+            end: 5,
+        };
+        assert_eq!(rt;
+            integer_part(&text[..read]),
+            Ok(whole),
+            "after {read} bytes"
+        );
+    }
+}
+
+#[test]
+fn a_number_ends_where_json_goes_on(rt: HostRuntime) {
+    for (text, value, end) in [
+        (b"1234 }, {\"Key\"".as_slice(), 1234, 4),
+        (b"0]", 0, 1),
+        (b"6e4", 6, 1),
+        (b"-9223372036854775808,", -9223372036854775808, 20),
+    ] {
+        assert_eq!(rt;
+            integer_part(text),
+            Ok(Part::Whole { value, end }),
+            "{text:?}"
+        );
+    }
+}
+
+#[test]
+fn broken_numbers_say_where(rt: HostRuntime) {
+    for (text, want) in [
+        (b"null".as_slice(), NumberError::NoDigit(0)),
+        (b"-x", NumberError::NoDigit(1)),
+        (b".5", NumberError::NoDigit(0)),
+        (
+            b"9223372036854775808",
+            NumberError::OutOfRange(Error::Overflow(18)),
+        ),
+        (
+            b"-92233720368547758099",
+            NumberError::OutOfRange(Error::Underflow(19)),
+        ),
+        (b"+1", NumberError::Malformed(Error::InvalidPositiveSign(0))),
+        (
+            b"-012",
+            NumberError::Malformed(Error::InvalidLeadingZeros(1)),
+        ),
+    ] {
+        assert_eq!(rt; integer_part(text), Err(want), "{text:?}");
+    }
+}

@@ -1,0 +1,82 @@
+use crate::ledger::{Entry, LedgerError, LineError, total};
+use lexical_parse_integer::Error;
+
+#[test]
+fn a_line_has_a_name_and_an_amount(rt: HostRuntime) {
+    for (line, name, cents) in [
+        (b"salary 250000".as_slice(), b"salary".as_slice(), 250000),
+        (b"rent\t-85000", b"rent", -85000),
+        (b"refund +1999", b"refund", 1999),
+        (b"caf\xc3\xa9 -0350", b"caf\xc3\xa9", -350),
+    ] {
+        assert_eq!(rt; Entry::of(line), Ok(Entry { name, cents }), "{line:?}");
+    }
+}
+
+#[test]
+fn a_broken_line_says_where(rt: HostRuntime) {
+    for (line, want) in [
+        (b"salary".as_slice(), LineError::NoAmount),
+        (
+            b"rent -85x00",
+            LineError::Amount {
+                start: 5,
+                error: Error::InvalidDigit(3),
+            },
+        ),
+        (
+            b"rent\t",
+            LineError::Amount {
+                start: 5,
+                error: Error::Empty(0),
+            },
+        ),
+        (
+            b"a 9223372036854775808",
+            LineError::Amount {
+                start: 2,
+                error: Error::Overflow(18),
+            },
+        ),
+    ] {
+        assert_eq!(rt; Entry::of(line), Err(want), "{line:?}");
+    }
+}
+
+#[test]
+fn a_total_is_that_of_all_lines(rt: HostRuntime) {
+    assert_eq!(rt; total(""), Ok(0));
+    assert_eq!(rt;
+        total("salary 250000\nrent\t-85000\n\nrefund +1999\r\n"),
+        Ok(166999)
+    );
+
+    // An amount makes up for what the others exceed.
+    assert_eq!(rt;
+        total("a 9223372036854775807\nb 1\nc -2"),
+        Ok(9223372036854775806)
+    );
+}
+
+#[test]
+fn a_broken_ledger_says_where(rt: HostRuntime) {
+    let error = LineError::Amount {
+        start: 5,
+        error: Error::InvalidDigit(3),
+    };
+    assert_eq!(rt;
+        total("salary 250000\n\nrent -85x00\nrefund\n"),
+        Err(LedgerError::Line { line: 2, error })
+    );
+    assert_eq!(rt;
+        total("a 9223372036854775807\nb 1\n"),
+        Err(LedgerError::OutOfRange)
+    );
+    assert_eq!(rt;
+        total("a -9223372036854775808\nb -1\nc\n"),
+        Err(LedgerError::Line {
+            line: 2,
+            error: LineError::NoAmount
+        })
+    );
+}
