@@ -1,5 +1,6 @@
 // What no clause says: that the definitions are those of worked texts, and that the calls answer so when they run.
 mod affixes;
+mod caller;
 mod cursor;
 mod ends;
 mod flags;

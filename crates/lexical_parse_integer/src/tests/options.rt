@@ -1,6 +1,11 @@
-// Options and their builder: what is set is what is got, and the laws of the derives at examples.
-use crate::options::{self, LARGE_NUMBERS, SMALL_NUMBERS, STANDARD};
-use crate::{Options, OptionsBuilder, ParseOptions};
+// Options and their builder: what is set is what is got, and the laws of the derives.
+ghost use Rattle.std.specs.Prelude.{◌≡◌, ◌↔◌, IsTrue, Ok, Some, false, true};
+ghost use Rattle.std.specs.declared.cmp.Ordering.TheVariants.{Equal};
+
+use crate::options::{LARGE_NUMBERS, SMALL_NUMBERS, STANDARD};
+use crate::{FromLexicalWithOptions, Options, OptionsBuilder, ParseOptions, format};
+use std::alloc::AllocError;
+use std::cmp::Ordering;
 use std::test::Fail;
 
 #[test]
@@ -52,23 +57,97 @@ fn setters_of_options(rt: HostRuntime) {
 
 #[test]
 fn ready_made_options(rt: HostRuntime) {
-    assert!(rt; options::STANDARD.get_no_multi_digit());
+    assert!(rt; STANDARD.get_no_multi_digit());
     assert!(rt; SMALL_NUMBERS.get_no_multi_digit());
     assert!(rt; !LARGE_NUMBERS.get_no_multi_digit());
 }
 
-#[test]
-fn equality_and_order_are_those_of_the_field(rt: HostRuntime) {
-    assert_eq!(rt; STANDARD, SMALL_NUMBERS);
-    assert_ne!(rt; LARGE_NUMBERS, SMALL_NUMBERS);
-    assert!(rt; LARGE_NUMBERS < SMALL_NUMBERS);
-    assert_ne!(rt; LARGE_NUMBERS.rebuild(), OptionsBuilder::new());
-    assert!(rt; LARGE_NUMBERS.rebuild() < OptionsBuilder::new());
+// ---- the derives: the clauses are the laws, and the calls below only run them
+
+fn are_equal(options: &Options, other: &Options) -> bool
+    ensures { IsTrue result ↔ (options.now ≡ other.now) }
+{
+    options == other
+}
+
+// False stands before true.
+fn is_less(options: &Options, other: &Options) -> bool
+    ensures { IsTrue result ↔ ((options.now.no_multi_digit ≡ false) × (other.now.no_multi_digit ≡ true)) }
+{
+    options < other
+}
+
+// Equality and both orders agree.
+fn compared(options: &Options, other: &Options) -> (Ordering, Option<Ordering>)
+    ensures total { result.1 ≡ Some result.0 }
+    ensures equal { (result.0 ≡ Equal) ↔ (options.now ≡ other.now) }
+{
+    (options.cmp(other), options.partial_cmp(other))
+}
+
+fn cloned(options: &Options) -> std::result::Result<Options, AllocError>
+    ensures { result ≡ Ok options.now }
+{
+    options.clone()
+}
+
+fn are_equal_builders(builder: &OptionsBuilder, other: &OptionsBuilder) -> bool
+    ensures { IsTrue result ↔ (builder.now ≡ other.now) }
+{
+    builder == other
+}
+
+fn is_less_builder(builder: &OptionsBuilder, other: &OptionsBuilder) -> bool
+    ensures { IsTrue result ↔ ((builder.now.no_multi_digit ≡ false) × (other.now.no_multi_digit ≡ true)) }
+{
+    builder < other
+}
+
+fn compared_builders(
+    builder: &OptionsBuilder,
+    other: &OptionsBuilder,
+) -> (Ordering, Option<Ordering>)
+    ensures total { result.1 ≡ Some result.0 }
+    ensures equal { (result.0 ≡ Equal) ↔ (builder.now ≡ other.now) }
+{
+    (builder.cmp(other), builder.partial_cmp(other))
+}
+
+fn cloned_builder(builder: &OptionsBuilder) -> std::result::Result<OptionsBuilder, AllocError>
+    ensures { result ≡ Ok builder.now }
+{
+    builder.clone()
 }
 
 #[test]
-fn clones_are_equal(rt: HostRuntime) -> std::result::Result<(), Fail> {
-    assert_eq!(rt; LARGE_NUMBERS.clone()?, LARGE_NUMBERS);
-    assert_eq!(rt; LARGE_NUMBERS.rebuild().clone()?, LARGE_NUMBERS.rebuild());
+fn options_compare_by_their_field(rt: HostRuntime) -> std::result::Result<(), Fail> {
+    assert!(rt; are_equal(&STANDARD, &SMALL_NUMBERS));
+    assert!(rt; !are_equal(&LARGE_NUMBERS, &SMALL_NUMBERS));
+    assert!(rt; is_less(&LARGE_NUMBERS, &SMALL_NUMBERS));
+    assert!(rt; !is_less(&SMALL_NUMBERS, &LARGE_NUMBERS));
+    let less = (Ordering::Less, Some(Ordering::Less));
+    assert_eq!(rt; compared(&LARGE_NUMBERS, &SMALL_NUMBERS), less);
+    assert_eq!(rt; cloned(&LARGE_NUMBERS)?, LARGE_NUMBERS);
     Ok(())
+}
+
+#[test]
+fn builders_compare_by_their_field(rt: HostRuntime) -> std::result::Result<(), Fail> {
+    let new = OptionsBuilder::new();
+    let large = LARGE_NUMBERS.rebuild();
+    assert!(rt; are_equal_builders(&new, &Options::builder()));
+    assert!(rt; !are_equal_builders(&large, &new));
+    assert!(rt; is_less_builder(&large, &new));
+    assert!(rt; !is_less_builder(&new, &large));
+    let less = (Ordering::Less, Some(Ordering::Less));
+    assert_eq!(rt; compared_builders(&large, &new), less);
+    assert_eq!(rt; cloned_builder(&large)?, large);
+    Ok(())
+}
+
+#[test]
+fn options_of_a_builder_serve_a_parse(rt: HostRuntime) {
+    let options = Options::builder().no_multi_digit(true).build_strict();
+    let answer = u64::from_lexical_with_options(b"1234", &format::STANDARD, &options);
+    assert_eq!(rt; answer, Ok(1234));
 }

@@ -1,10 +1,9 @@
 // The caller that CALLING.md shows, proved and run.
 
-ghost use Rattle.std.specs.Prelude.{◌≡◌, ◌≤ℤ◌, None, false, pos};
+ghost use Rattle.std.specs.Prelude.{◌≡◌, ◌≤ℤ◌, false, pos};
 ghost use Rattle.std.specs.Option.{option_and_then, option_map};
-ghost use Rattle.lexical_util.specs.Digit.{digit};
+ghost use Rattle.lexical_util.specs.Digit.{IsRadix, digit};
 ghost use Rattle.lexical_util.specs.Number.{checked, integer_type, mul_add};
-ghost use Rattle.lexical_util.specs.Validity.{fault};
 
 use crate::digit::char_to_digit;
 use crate::format::{NumberFormat, NumberFormatBuilder};
@@ -13,7 +12,7 @@ use crate::num::Integer;
 /// The number with the digit `byte` behind it, and `None` where the byte is no digit of the format's
 /// radix or the new number is none of the type.
 pub fn pushed<T: Integer>(number: T, byte: u8, format: &NumberFormat) -> Option<T>
-    requires valid { fault format.now ≡ None }
+    requires radix { IsRadix format.now.mantissa_radix }
     requires not_negative { pos 0 ≤ℤ T.number number }
     ensures { option_map T.number result ≡ option_and_then
         (λ value. checked (integer_type T.BITS T.IS_SIGNED)

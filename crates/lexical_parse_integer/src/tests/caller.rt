@@ -1,0 +1,54 @@
+// The callers that CALLING.md shows, proved and run.
+
+ghost use Rattle.std.specs.Prelude.{◌≡◌, ◌<◌, false, drop, Err, IfErr, IfNone, IfOk, IfSome, Ok, pos, Some, ℕ};
+ghost use Rattle.lexical_parse_integer.specs.Answer.{seen};
+ghost use Rattle.lexical_parse_integer.specs.Grammar.{complete, partial};
+ghost use Rattle.lexical_util.specs.Format.{standard};
+ghost use Rattle.lexical_util.specs.Number.{integer_type};
+
+use crate::{Error, FromLexical, FromLexicalWithOptions, NumberFormatBuilder, Result, options};
+
+/// A field that has to be a port: a number from 1 to 65535, and nothing else.
+pub fn port(field: &[u8]) -> Option<u16>
+    ensures value { IfSome result (λ port. complete standard (integer_type 16 false) field.now ≡ Ok (pos port)) }
+    ensures some { IfSome result (λ port. 0 < port) }
+    ensures none { IfNone result (IfOk (complete standard (integer_type 16 false) field.now) (λ value. value ≡ pos 0)) }
+{
+    let port = u16::from_lexical(field).ok()?;
+    if port > 0 { Some(port) } else { None }
+}
+
+/// The number at a line's front, and the rest of the line.
+#[tactic(auto, using(crate::proofs::Completing::partial_within))]
+pub fn number_and_rest(line: &[u8]) -> Result<(u32, &[u8])>
+    ensures found { IfOk result (λ found. (place : ℕ)
+        × (partial standard (integer_type 32 false) line.now ≡ Ok (pos found.0, place))
+        × (found.1.now ≡ drop place line.now)) }
+    ensures fault { IfErr result (λ e. partial standard (integer_type 32 false) line.now ≡ Err e) }
+{
+    let (number, place) = u32::from_lexical_partial(line)?;
+    Ok((number, &line[place..]))
+}
+
+/// An address in radix 16, with `0x` in front or without it: `0x1F` or `1f`.
+pub fn address(text: &[u8]) -> Result<u32>
+    ensures { seen (λ address. pos address) result
+        ≡ complete (record standard { mantissa_radix = 16; base_prefix = Some 120 }) (integer_type 32 false) text.now }
+{
+    let format = NumberFormatBuilder::new()
+        .mantissa_radix(16)
+        .base_prefix(Some(b'x'))
+        .build_strict();
+    u32::from_lexical_with_options(text, &format, &options::STANDARD)
+}
+
+#[test]
+fn callers(rt: HostRuntime) {
+    assert_eq!(rt; port(b"8080"), Some(8080));
+    assert_eq!(rt; port(b"0"), None);
+    assert_eq!(rt; port(b"65536"), None);
+    assert_eq!(rt; number_and_rest(b"12 x"), Ok((12, b" x".as_slice())));
+    assert_eq!(rt; number_and_rest(b""), Err(Error::Empty(0)));
+    assert_eq!(rt; address(b"0x1F"), Ok(31));
+    assert_eq!(rt; address(b"1f"), Ok(31));
+}
