@@ -129,9 +129,9 @@ fn fraction_behind(text: &[u8], end: usize, digits: usize) -> Result<(i128, usiz
 /// digits, and the place behind it. There may be at most 18 such digits: `i64` has no higher power
 /// of ten.
 ///
-/// A text may have fewer fraction digits, or no point at all. With two digits `12.5 EUR` is 1250 and the place 4, `-0.05` is -5, and `12` is 1200.
-/// `12.505` gives `TooManyDigits(5)`, and `12. EUR` gives
-/// `Fraction { start: 3, error: InvalidDigit(0) }`.
+/// A text may have fewer fraction digits, or no point at all. With two digits `12.5 EUR` is 1250 and
+/// the place 4, `-0.05` is -5, and `12` is 1200. `12.505` gives `TooManyDigits(5)`, and `12. EUR`
+/// gives `Fraction { start: 3, error: InvalidDigit(0) }`.
 pub fn fixed_point(text: &[u8], digits: usize) -> Result<(i64, usize), FixedPointError>
     requires { digits ≤ 18 }
     ensures { result ≡ fixed_point_in digits text.now }
