@@ -187,7 +187,8 @@ impl<'a> Cursor<'a> {
 
     /// Steps over the prefix where it stands at the position, and answers whether it does; else the cursor stays.
     ///
-    /// The prefix is a `0` and the format's prefix byte directly behind it; the region starts behind them. The
+    /// The prefix is a `0` and the format's prefix byte directly behind it. Where the format has literal prefixes,
+    /// `0x`, `0o` and `0b` are prefixes too, and put 16, 8 or 2 in force. The region starts behind the prefix. The
     /// position has to be where the region starts, at most 1, and no digit may have been read.
     #[inline(always)]
     pub fn read_prefix(&mut self) -> bool

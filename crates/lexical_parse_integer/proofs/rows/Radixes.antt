@@ -44,25 +44,30 @@ five_digits_3 : partial (record standard { mantissa_radix = 8 }) u32 (codes "123
 unfolding complete partial numeral head_of sign range_fault begin_of digit_at are_same separator_at flag_for run_passes belongs end_of digits_between matches is_affix literal_radix marked_radix prefix_radix suffix_at numeral_stop
 five_digits_3 = refl
 
-five_digits_4 : partial (record standard { mantissa_radix = 10 }) u32 (codes "12345") ≡ Ok (pos 12345, 5)
+-- 9 is no digit of radix 9, so that no word of four is taken
+five_digits_4 : partial (record standard { mantissa_radix = 9 }) u32 (codes "1239") ≡ Ok (pos 102, 3)
 unfolding complete partial numeral head_of sign range_fault begin_of digit_at are_same separator_at flag_for run_passes belongs end_of digits_between matches is_affix literal_radix marked_radix prefix_radix suffix_at numeral_stop
 five_digits_4 = refl
 
-five_digits_5 : partial (record standard { mantissa_radix = 12 }) u32 (codes "12345") ≡ Ok (pos 24677, 5)
+five_digits_5 : partial (record standard { mantissa_radix = 10 }) u32 (codes "12345") ≡ Ok (pos 12345, 5)
 unfolding complete partial numeral head_of sign range_fault begin_of digit_at are_same separator_at flag_for run_passes belongs end_of digits_between matches is_affix literal_radix marked_radix prefix_radix suffix_at numeral_stop
 five_digits_5 = refl
 
-five_digits_6 : partial (record standard { mantissa_radix = 16 }) u32 (codes "12345") ≡ Ok (pos 74565, 5)
+five_digits_6 : partial (record standard { mantissa_radix = 12 }) u32 (codes "12345") ≡ Ok (pos 24677, 5)
 unfolding complete partial numeral head_of sign range_fault begin_of digit_at are_same separator_at flag_for run_passes belongs end_of digits_between matches is_affix literal_radix marked_radix prefix_radix suffix_at numeral_stop
 five_digits_6 = refl
 
-five_digits_7 : partial (record standard { mantissa_radix = 24 }) u32 (codes "12345") ≡ Ok (pos 361253, 5)
+five_digits_7 : partial (record standard { mantissa_radix = 16 }) u32 (codes "12345") ≡ Ok (pos 74565, 5)
 unfolding complete partial numeral head_of sign range_fault begin_of digit_at are_same separator_at flag_for run_passes belongs end_of digits_between matches is_affix literal_radix marked_radix prefix_radix suffix_at numeral_stop
 five_digits_7 = refl
 
-five_digits_8 : partial (record standard { mantissa_radix = 32 }) u32 (codes "12345") ≡ Ok (pos 1117317, 5)
+five_digits_8 : partial (record standard { mantissa_radix = 24 }) u32 (codes "12345") ≡ Ok (pos 361253, 5)
 unfolding complete partial numeral head_of sign range_fault begin_of digit_at are_same separator_at flag_for run_passes belongs end_of digits_between matches is_affix literal_radix marked_radix prefix_radix suffix_at numeral_stop
 five_digits_8 = refl
+
+five_digits_9 : partial (record standard { mantissa_radix = 32 }) u32 (codes "12345") ≡ Ok (pos 1117317, 5)
+unfolding complete partial numeral head_of sign range_fault begin_of digit_at are_same separator_at flag_for run_passes belongs end_of digits_between matches is_affix literal_radix marked_radix prefix_radix suffix_at numeral_stop
+five_digits_9 = refl
 
 -- ---- one value in every radix
 

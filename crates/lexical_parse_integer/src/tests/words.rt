@@ -2,6 +2,7 @@
 // In a word the lowest byte comes first in the text: 0x31323334 is the text `4321`.
 ghost use Rattle.std.specs.Prelude.{◌≤◌};
 
+use crate::NumberFormatBuilder;
 use crate::algorithm::{
     is_4digits, is_8digits, parse_4digits, parse_8digits, try_parse_4digits, try_parse_8digits,
 };
@@ -125,4 +126,12 @@ fn cursors_take_eight_digits(rt: HostRuntime) {
     for (text, word, place) in rows {
         assert_eq!(rt; taken_8(text), (word, place), "{}", text.escape_ascii());
     }
+}
+
+#[test]
+fn nine_is_no_digit_of_radix_nine(rt: HostRuntime) {
+    let format = NumberFormatBuilder::new().mantissa_radix(9).build_strict();
+    let mut c = Cursor::new(b"1239", &format);
+    assert_eq!(rt; try_parse_4digits::<u32>(&mut c), None);
+    assert_eq!(rt; c.cursor(), 0);
 }

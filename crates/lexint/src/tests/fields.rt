@@ -26,6 +26,10 @@ fn settings_last_until_they_change(rt: HostRuntime) -> Result<(), Fail> {
             "f mantissa_radix 37\nc u9 1\nc u8 1\np u8 \nr\nc u8 1\n",
             "ok\nbad line\nerr InvalidMantissaRadix\nerr InvalidMantissaRadix\nok\nok 1\n",
         ),
+        (
+            "f literal_prefixes true\np u64 0x1F;\nf base_prefix d\nc u8 1\n",
+            "ok\nok 31 4\nok\nerr InvalidLiteralPrefixes\n",
+        ),
     ] {
         let out = written(rt.alloc(), input.as_bytes())?;
         assert_eq!(rt; out.as_slice(), want.as_bytes(), "{input:?}");
