@@ -236,78 +236,86 @@ suffix_4 : complete (record standard { base_suffix = Some 104 }) i32 (codes "12"
 unfolding complete partial numeral head_of sign range_fault begin_of digit_at are_same separator_at flag_for run_passes belongs end_of digits_between matches is_affix literal_radix marked_radix prefix_radix suffix_at numeral_stop
 suffix_4 = refl
 
-suffix_5 : complete (record standard { base_suffix = Some 104 }) i32 (codes "12h") ≡ Ok (pos 12)
+suffix_5 : complete (record standard { base_suffix = Some 104 }) i32 (codes "0h") ≡ Ok (pos 0)
 unfolding complete partial numeral head_of sign range_fault begin_of digit_at are_same separator_at flag_for run_passes belongs end_of digits_between matches is_affix literal_radix marked_radix prefix_radix suffix_at numeral_stop
 suffix_5 = refl
 
-suffix_6 : complete (record standard { base_suffix = Some 104 }) i32 (codes "12H") ≡ Ok (pos 12)
+suffix_6 : complete (record standard { base_suffix = Some 104 }) i32 (codes "00h") ≡ Ok (pos 0)
 unfolding complete partial numeral head_of sign range_fault begin_of digit_at are_same separator_at flag_for run_passes belongs end_of digits_between matches is_affix literal_radix marked_radix prefix_radix suffix_at numeral_stop
 suffix_6 = refl
 
-suffix_7 : complete (record standard { base_suffix = Some 104 }) i32 (codes "012h") ≡ Ok (pos 12)
+suffix_7 : complete (record standard { base_suffix = Some 104 }) i32 (codes "12h") ≡ Ok (pos 12)
 unfolding complete partial numeral head_of sign range_fault begin_of digit_at are_same separator_at flag_for run_passes belongs end_of digits_between matches is_affix literal_radix marked_radix prefix_radix suffix_at numeral_stop
 suffix_7 = refl
 
-suffix_8 : complete (record standard { base_suffix = Some 104 }) i32 (codes "-12h") ≡ Ok (minus 12)
+suffix_8 : complete (record standard { base_suffix = Some 104 }) i32 (codes "12H") ≡ Ok (pos 12)
 unfolding complete partial numeral head_of sign range_fault begin_of digit_at are_same separator_at flag_for run_passes belongs end_of digits_between matches is_affix literal_radix marked_radix prefix_radix suffix_at numeral_stop
 suffix_8 = refl
 
-suffix_9 : complete (record standard { base_suffix = Some 104 }) i32 (codes "-012") ≡ Ok (minus 12)
+suffix_9 : complete (record standard { base_suffix = Some 104 }) i32 (codes "012h") ≡ Ok (pos 12)
 unfolding complete partial numeral head_of sign range_fault begin_of digit_at are_same separator_at flag_for run_passes belongs end_of digits_between matches is_affix literal_radix marked_radix prefix_radix suffix_at numeral_stop
 suffix_9 = refl
 
-suffix_10 : complete (record standard { base_suffix = Some 104 }) i32 (codes "1hh") ≡ Err (InvalidDigit 2)
+suffix_10 : complete (record standard { base_suffix = Some 104 }) i32 (codes "-12h") ≡ Ok (minus 12)
 unfolding complete partial numeral head_of sign range_fault begin_of digit_at are_same separator_at flag_for run_passes belongs end_of digits_between matches is_affix literal_radix marked_radix prefix_radix suffix_at numeral_stop
 suffix_10 = refl
 
-suffix_11 : complete (record standard { base_suffix = Some 104 }) i32 (codes "12 x") ≡ Err (InvalidDigit 2)
+suffix_11 : complete (record standard { base_suffix = Some 104 }) i32 (codes "-012") ≡ Ok (minus 12)
 unfolding complete partial numeral head_of sign range_fault begin_of digit_at are_same separator_at flag_for run_passes belongs end_of digits_between matches is_affix literal_radix marked_radix prefix_radix suffix_at numeral_stop
 suffix_11 = refl
 
-suffix_12 : complete (record standard { base_suffix = Some 104 }) i32 (codes "0x12") ≡ Err (InvalidDigit 1)
+suffix_12 : complete (record standard { base_suffix = Some 104 }) i32 (codes "1hh") ≡ Err (InvalidDigit 2)
 unfolding complete partial numeral head_of sign range_fault begin_of digit_at are_same separator_at flag_for run_passes belongs end_of digits_between matches is_affix literal_radix marked_radix prefix_radix suffix_at numeral_stop
 suffix_12 = refl
 
-suffix_13 : complete (record standard { base_suffix = Some 104 }) i32 (codes "0x-12") ≡ Err (InvalidDigit 1)
+suffix_13 : complete (record standard { base_suffix = Some 104 }) i32 (codes "12 x") ≡ Err (InvalidDigit 2)
 unfolding complete partial numeral head_of sign range_fault begin_of digit_at are_same separator_at flag_for run_passes belongs end_of digits_between matches is_affix literal_radix marked_radix prefix_radix suffix_at numeral_stop
 suffix_13 = refl
 
-suffix_14 : complete (record standard { base_suffix = Some 104 }) i32 (codes "-0x012h") ≡ Err (InvalidDigit 2)
+suffix_14 : complete (record standard { base_suffix = Some 104 }) i32 (codes "0x12") ≡ Err (InvalidDigit 1)
 unfolding complete partial numeral head_of sign range_fault begin_of digit_at are_same separator_at flag_for run_passes belongs end_of digits_between matches is_affix literal_radix marked_radix prefix_radix suffix_at numeral_stop
 suffix_14 = refl
 
-suffix_15 : complete (record standard { base_suffix = Some 104 }) i32 (codes "-0x012h ") ≡ Err (InvalidDigit 2)
+suffix_15 : complete (record standard { base_suffix = Some 104 }) i32 (codes "0x-12") ≡ Err (InvalidDigit 1)
 unfolding complete partial numeral head_of sign range_fault begin_of digit_at are_same separator_at flag_for run_passes belongs end_of digits_between matches is_affix literal_radix marked_radix prefix_radix suffix_at numeral_stop
 suffix_15 = refl
 
-suffix_16 : partial (record standard { base_suffix = Some 104 }) i32 (codes "-0x012h") ≡ Ok (pos 0, 2)
+suffix_16 : complete (record standard { base_suffix = Some 104 }) i32 (codes "-0x012h") ≡ Err (InvalidDigit 2)
 unfolding complete partial numeral head_of sign range_fault begin_of digit_at are_same separator_at flag_for run_passes belongs end_of digits_between matches is_affix literal_radix marked_radix prefix_radix suffix_at numeral_stop
 suffix_16 = refl
 
-suffix_17 : partial (record standard { base_suffix = Some 104 }) i32 (codes "-0x012h ") ≡ Ok (pos 0, 2)
+suffix_17 : complete (record standard { base_suffix = Some 104 }) i32 (codes "-0x012h ") ≡ Err (InvalidDigit 2)
 unfolding complete partial numeral head_of sign range_fault begin_of digit_at are_same separator_at flag_for run_passes belongs end_of digits_between matches is_affix literal_radix marked_radix prefix_radix suffix_at numeral_stop
 suffix_17 = refl
 
-suffix_18 : partial (record standard { base_suffix = Some 104 }) i32 (codes "12hx") ≡ Ok (pos 12, 3)
+suffix_18 : partial (record standard { base_suffix = Some 104 }) i32 (codes "-0x012h") ≡ Ok (pos 0, 2)
 unfolding complete partial numeral head_of sign range_fault begin_of digit_at are_same separator_at flag_for run_passes belongs end_of digits_between matches is_affix literal_radix marked_radix prefix_radix suffix_at numeral_stop
 suffix_18 = refl
 
-suffix_19 : partial (record standard { base_suffix = Some 104 }) i8 (codes "1hx") ≡ Ok (pos 1, 2)
+suffix_19 : partial (record standard { base_suffix = Some 104 }) i32 (codes "-0x012h ") ≡ Ok (pos 0, 2)
 unfolding complete partial numeral head_of sign range_fault begin_of digit_at are_same separator_at flag_for run_passes belongs end_of digits_between matches is_affix literal_radix marked_radix prefix_radix suffix_at numeral_stop
 suffix_19 = refl
 
--- no digit before it
-suffix_20 : partial (record standard { base_suffix = Some 104 }) i32 (codes "h") ≡ Ok (pos 0, 0)
+suffix_20 : partial (record standard { base_suffix = Some 104 }) i32 (codes "12hx") ≡ Ok (pos 12, 3)
 unfolding complete partial numeral head_of sign range_fault begin_of digit_at are_same separator_at flag_for run_passes belongs end_of digits_between matches is_affix literal_radix marked_radix prefix_radix suffix_at numeral_stop
 suffix_20 = refl
 
-suffix_21 : complete (record standard { base_suffix = Some 104 }) u8 (codes "256h") ≡ Err (Overflow 2)
+suffix_21 : partial (record standard { base_suffix = Some 104 }) i8 (codes "1hx") ≡ Ok (pos 1, 2)
 unfolding complete partial numeral head_of sign range_fault begin_of digit_at are_same separator_at flag_for run_passes belongs end_of digits_between matches is_affix literal_radix marked_radix prefix_radix suffix_at numeral_stop
 suffix_21 = refl
 
-suffix_22 : complete (record standard { base_suffix = Some 104 }) u8 (codes "-1h") ≡ Err (InvalidDigit 0)
+-- no digit before it
+suffix_22 : partial (record standard { base_suffix = Some 104 }) i32 (codes "h") ≡ Ok (pos 0, 0)
 unfolding complete partial numeral head_of sign range_fault begin_of digit_at are_same separator_at flag_for run_passes belongs end_of digits_between matches is_affix literal_radix marked_radix prefix_radix suffix_at numeral_stop
 suffix_22 = refl
+
+suffix_23 : complete (record standard { base_suffix = Some 104 }) u8 (codes "256h") ≡ Err (Overflow 2)
+unfolding complete partial numeral head_of sign range_fault begin_of digit_at are_same separator_at flag_for run_passes belongs end_of digits_between matches is_affix literal_radix marked_radix prefix_radix suffix_at numeral_stop
+suffix_23 = refl
+
+suffix_24 : complete (record standard { base_suffix = Some 104 }) u8 (codes "-1h") ≡ Err (InvalidDigit 0)
+unfolding complete partial numeral head_of sign range_fault begin_of digit_at are_same separator_at flag_for run_passes belongs end_of digits_between matches is_affix literal_radix marked_radix prefix_radix suffix_at numeral_stop
+suffix_24 = refl
 
 -- ---- the suffix in its case alone
 

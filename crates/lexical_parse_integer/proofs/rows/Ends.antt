@@ -367,37 +367,41 @@ just_outside_16 = refl
 
 -- ---- a fault of the range stands at the digit that leaves the type, whatever follows it
 
-later_bytes_1 : complete standard u8 (codes "2566x") ≡ Err (Overflow 2)
+later_bytes_1 : complete standard u8 (codes "2566") ≡ Err (Overflow 2)
 unfolding complete partial numeral head_of sign range_fault begin_of digit_at are_same separator_at flag_for run_passes belongs end_of digits_between matches is_affix literal_radix marked_radix prefix_radix suffix_at numeral_stop
 later_bytes_1 = refl
 
-later_bytes_2 : complete standard u8 (codes "0999") ≡ Err (Overflow 3)
+later_bytes_2 : complete standard u8 (codes "2566x") ≡ Err (Overflow 2)
 unfolding complete partial numeral head_of sign range_fault begin_of digit_at are_same separator_at flag_for run_passes belongs end_of digits_between matches is_affix literal_radix marked_radix prefix_radix suffix_at numeral_stop
 later_bytes_2 = refl
 
-later_bytes_3 : partial standard u8 (codes "2567") ≡ Err (Overflow 2)
+later_bytes_3 : complete standard u8 (codes "0999") ≡ Err (Overflow 3)
 unfolding complete partial numeral head_of sign range_fault begin_of digit_at are_same separator_at flag_for run_passes belongs end_of digits_between matches is_affix literal_radix marked_radix prefix_radix suffix_at numeral_stop
 later_bytes_3 = refl
 
-later_bytes_4 : partial standard u8 (codes "256abc") ≡ Err (Overflow 2)
+later_bytes_4 : partial standard u8 (codes "2567") ≡ Err (Overflow 2)
 unfolding complete partial numeral head_of sign range_fault begin_of digit_at are_same separator_at flag_for run_passes belongs end_of digits_between matches is_affix literal_radix marked_radix prefix_radix suffix_at numeral_stop
 later_bytes_4 = refl
 
-later_bytes_5 : partial standard u64 (codes "18446744073709551616") ≡ Err (Overflow 19)
+later_bytes_5 : partial standard u8 (codes "256abc") ≡ Err (Overflow 2)
 unfolding complete partial numeral head_of sign range_fault begin_of digit_at are_same separator_at flag_for run_passes belongs end_of digits_between matches is_affix literal_radix marked_radix prefix_radix suffix_at numeral_stop
 later_bytes_5 = refl
 
-later_bytes_6 : partial standard u64 (codes "18446744073709551616 }, {\"Key\", \"Value\"}}") ≡ Err (Overflow 19)
+later_bytes_6 : partial standard u64 (codes "18446744073709551616") ≡ Err (Overflow 19)
 unfolding complete partial numeral head_of sign range_fault begin_of digit_at are_same separator_at flag_for run_passes belongs end_of digits_between matches is_affix literal_radix marked_radix prefix_radix suffix_at numeral_stop
 later_bytes_6 = refl
 
-later_bytes_7 : complete standard i64 (codes "406260572150672006000066000000060060007667760000000000000000000") ≡ Err (Overflow 19)
+later_bytes_7 : partial standard u64 (codes "18446744073709551616 }, {\"Key\", \"Value\"}}") ≡ Err (Overflow 19)
 unfolding complete partial numeral head_of sign range_fault begin_of digit_at are_same separator_at flag_for run_passes belongs end_of digits_between matches is_affix literal_radix marked_radix prefix_radix suffix_at numeral_stop
 later_bytes_7 = refl
 
-later_bytes_8 : complete standard i64 (codes "406260572150672006000066000000060060007667760000000000000000000+00000006766767766666767665670000000000000000000000666") ≡ Err (Overflow 19)
+later_bytes_8 : complete standard i64 (codes "406260572150672006000066000000060060007667760000000000000000000") ≡ Err (Overflow 19)
 unfolding complete partial numeral head_of sign range_fault begin_of digit_at are_same separator_at flag_for run_passes belongs end_of digits_between matches is_affix literal_radix marked_radix prefix_radix suffix_at numeral_stop
 later_bytes_8 = refl
+
+later_bytes_9 : complete standard i64 (codes "406260572150672006000066000000060060007667760000000000000000000+00000006766767766666767665670000000000000000000000666") ≡ Err (Overflow 19)
+unfolding complete partial numeral head_of sign range_fault begin_of digit_at are_same separator_at flag_for run_passes belongs end_of digits_between matches is_affix literal_radix marked_radix prefix_radix suffix_at numeral_stop
+later_bytes_9 = refl
 
 -- ---- each beginning of a text that leaves the type at its last byte
 

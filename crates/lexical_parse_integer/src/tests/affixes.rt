@@ -173,6 +173,8 @@ fn suffix(rt: HostRuntime) {
             (b"-h", Err(Error::InvalidDigit(1))),
             (b"-1h", Ok(-1)),
             (b"12", Ok(12)),
+            (b"0h", Ok(0)),
+            (b"00h", Ok(0)),
             (b"12h", Ok(12)),
             (b"12H", Ok(12)),
             (b"012h", Ok(12)),

@@ -228,6 +228,7 @@ fn later_bytes(rt: HostRuntime) {
     complete::<u8>(
         &rt,
         &[
+            (b"2566", Err(Error::Overflow(2))),
             (b"2566x", Err(Error::Overflow(2))),
             (b"0999", Err(Error::Overflow(3))),
         ],
