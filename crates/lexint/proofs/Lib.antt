@@ -6,3 +6,5 @@ pub mod AnswerLines
 pub mod FieldChanges
 pub mod LastGiven
 pub mod Sending
+pub mod TokenLists
+pub mod TokenSteps

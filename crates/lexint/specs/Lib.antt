@@ -8,3 +8,4 @@ pub mod Lines
 pub mod Numeral
 pub mod Output
 pub mod Settings
+pub mod Tokens
