@@ -7,4 +7,5 @@ pub mod FieldChanges
 pub mod LastGiven
 pub mod Sending
 pub mod TokenLists
+pub mod TokenRows
 pub mod TokenSteps

@@ -1,10 +1,10 @@
 -- Where the tokens of a source stand.
-use Rattle.std.proofs.Common.{◌≡◌, ℕ, zero, suc, ◌+◌, ◌-◌, ◌<◌, ◌≤◌, ◌⊎◌, Bool, true, false, cond, List, [], ◌∷◌, length, take, drop, get_or, slice_index, slice_range, All, refl, ap, subst, sym, ◌∙◌, arith, inl, inr, length-drop}
+use Rattle.std.proofs.Common.{◌≡◌, ℕ, zero, suc, ◌+◌, ◌-◌, ◌<◌, ◌≤◌, ◌⊎◌, Bool, true, false, cond, List, [], ◌∷◌, length, take, drop, get_or, slice_index, All, refl, ap, subst, sym, ◌∙◌, arith, inl, inr, length-drop}
 use Rattle.std.proofs.lemmas.Bool.{cases_lt}
 use Rattle.std.proofs.lemmas.List.{drop_all, drop_more}
 use Rattle.std.proofs.lemmas.List.Elements.{All-cons, All-nil}
 use Rattle.lexint.proofs.TokenSteps.{FrontEnds, front_size}
-use Rattle.lexint.specs.Tokens.{AreSkipped, BeginsNext, FollowInTurn, IsPartOf, TokenView, front_of, is_skipped, token_at, tokens, tokens_from}
+use Rattle.lexint.specs.Tokens.{AreSkipped, FollowInTurn, IsPartOf, TokenView, front_of, is_skipped, token_at, tokens, tokens_from}
 
 -- ---- how many
 

@@ -1,4 +1,4 @@
-use Rattle.std.proofs.Common.{◌≡◌, ◌∷◌, ◌+◌, ℕ, List, length, ap, ap₂, sym, ◌∙◌, arith, rules}
+use Rattle.std.proofs.Common.{◌∷◌, ◌+◌, ℕ, List, length, ap, ap₂, sym, ◌∙◌, rules}
 use Rattle.lexint.proofs.TokenSteps.{FrontEnds, found_size, next-none, next-some}
 use Rattle.lexint.specs.Tokens.{TokenView, tokens_from}
 use Rattle.lexint.proofs.literals.TokensIterator.next.Goals as goal
