@@ -35,8 +35,10 @@ is_at source p b bs e = by_place (cases_lt p (length source))
   where
     first_is : (x y : ℕ) (xs ys : List ℕ) → x ∷ xs ≡ y ∷ ys → y ≡ x
     first_is x y xs ys same = cc
+
     more_are : (x y : ℕ) (xs ys : List ℕ) → x ∷ xs ≡ y ∷ ys → xs ≡ ys
     more_are x y xs ys same = cc
+
     by_place : (p < length source) ⊎ (length source ≤ p) → IsAt source p b bs
     by_place (inl lt) =
         let same = e ∙ drop_more source p 0 lt in
@@ -60,15 +62,18 @@ one_before source p [] skipped follow = λ k low high. from_here source p k (len
       | inl lt ↦ rest k (omega arith) high
       | inr ge ↦ let same : p ≡ k = omega arith in subst (λ i. is_skipped (slice_index source i) ≡ true) same skipped
     ]
-one_before source p (t ∷ ts) skipped follow = (record {
-  behind = omega (arith, follow.0.behind);
-  between = λ k low high. elim (cases_lt p k) [
-    | inl lt ↦ follow.0.between k (omega arith) high
-    | inr ge ↦ let same : p ≡ k = omega arith in subst (λ i. is_skipped (slice_index source i) ≡ true) same skipped
-  ];
-  here = follow.0.here;
-  token_is = follow.0.token_is;
-}, follow.1)
+one_before source p (t ∷ ts) skipped follow = (
+  record {
+    behind = omega (arith, follow.0.behind);
+    between = λ k low high. elim (cases_lt p k) [
+      | inl lt ↦ follow.0.between k (omega arith) high
+      | inr ge ↦ let same : p ≡ k = omega arith in subst (λ i. is_skipped (slice_index source i) ≡ true) same skipped
+    ];
+    here = follow.0.here;
+    token_is = follow.0.token_is;
+  },
+  follow.1,
+)
 
 follow_from : FrontEnds → (source : List ℕ) (p k : ℕ) (bs : List ℕ) → bs ≡ drop p source → k ≤ length bs → FollowInTurn source (p + k) (tokens_from p k bs)
 follow_from ends source p k [] e low = λ i from to. let none : 0 ≡ length source - p = ap length e ∙ length-drop p source in absurd (omega (arith, none))
@@ -90,15 +95,19 @@ follow_from ends source p zero (b ∷ bs) e low =
   where
     n : ℕ
     n = (front_of (b ∷ bs)).1
+
     by_test : (t : Bool) → is_skipped (slice_index source p) ≡ t → FollowInTurn source (p + 1) (tokens_from (p + 1) 0 bs) → FollowInTurn source (p + n) (tokens_from (p + 1) (n - 1) bs)
         → FollowInTurn source p (cond t (tokens_from (p + 1) 0 bs) (token_at p (b ∷ bs) ∷ tokens_from (p + 1) (n - 1) bs))
     by_test true skipped rest token = one_before source p (tokens_from (p + 1) 0 bs) skipped rest
-    by_test false skipped rest token = (record {
-      behind = omega arith;
-      between = λ k low high. absurd (omega arith);
-      here = skipped;
-      token_is = ap (token_at p) e;
-    }, token)
+    by_test false skipped rest token = (
+      record {
+        behind = omega arith;
+        between = λ k low high. absurd (omega arith);
+        here = skipped;
+        token_is = ap (token_at p) e;
+      },
+      token,
+    )
 
 pub tokens_in_turn : FrontEnds → (source : List ℕ) → FollowInTurn source 0 (tokens source)
 tokens_in_turn ends source = follow_from ends source 0 0 source refl (omega arith)
@@ -126,6 +135,7 @@ parts_from ends source p zero (b ∷ bs) e =
   where
     n : ℕ
     n = (front_of (b ∷ bs)).1
+
     by_test : (t : Bool) → All (IsPartOf source) (tokens_from (p + 1) 0 bs) → All (IsPartOf source) (tokens_from (p + 1) (n - 1) bs)
         → All (IsPartOf source) (cond t (tokens_from (p + 1) 0 bs) (token_at p (b ∷ bs) ∷ tokens_from (p + 1) (n - 1) bs))
     by_test true rest token = rest

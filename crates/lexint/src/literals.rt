@@ -1,4 +1,14 @@
 //! The numbers, words and other bytes that a source is made of.
+//!
+//! | A token that begins with | is | and reaches |
+//! |---|---|---|
+//! | `0` to `9`, where a number can be read | a number | as far as that is read |
+//! | `0` to `9`, where none can | a fault | over all ASCII letters, `0` to `9` and `_` that follow |
+//! | an ASCII letter or `_` | a word | over all ASCII letters, `0` to `9` and `_` that follow |
+//! | any other byte | a byte | over itself |
+//!
+//! Spaces, tabs, line feeds and carriage returns between tokens are skipped. A sign is a byte of its
+//! own: `-5` is two tokens.
 
 ghost use Rattle.std.specs.Prelude.{◌≡◌, ◌+◌, ◌<◌, ◌≤◌, ◌^◌, true, Some, List, All, length, slice_get, slice_index};
 ghost use Rattle.std.specs.Char.{is_ascii_digit};
@@ -12,33 +22,37 @@ use lexical_parse_integer::{Error, NumberFormat, NumberFormatBuilder, options};
 use std::marker::Model;
 
 /// What a token is.
+///
+/// `12_3` is `Number(123)`, `x1` is `Word`, `+` is `Byte`, and `0xg` is `Fault(Error::Empty(2))`.
 #[derive(Debug, PartialEq, Eq, Drop)]
 pub enum Kind {
-    /// A number, by its value.
+    /// A number, by its value: decimal, or behind `0x`, `0o` or `0b`, as [`literal_format`] has it.
     Number(u128),
-    /// A letter or `_`, and the letters, digits and `_` that follow.
+    /// An ASCII letter or `_`, and the ASCII letters, digits and `_` that follow.
     Word,
     /// Any other byte.
     Byte,
-    /// What begins with a digit and is no number, by its fault, whose place counts from the
-    /// token's start.
+    /// What begins with a digit and is no number of `u128`: `Overflow` where it is too great, and
+    /// `Empty` where no digit stands behind `0x`, `0o` or `0b`. Its place counts the bytes from the
+    /// token's start, from 0.
     Fault(Error),
 }
 
-/// A part of a source.
+/// A part of a source. Places count the source's bytes from 0.
 #[derive(Debug, PartialEq, Eq, Drop)]
 pub struct Token<'a> {
     /// What it is.
     pub kind: Kind,
-    /// The place of its first byte in the source.
+    /// The place of its first byte.
     pub start: usize,
-    /// The place behind its last byte.
+    /// The place behind its last byte, which is greater than `start`.
     pub stop: usize,
-    /// Its bytes.
+    /// Its bytes, lent as long as the source is.
     pub text: &'a [u8],
 }
 
-/// The format of the numbers in a source.
+/// The format of the numbers in a source: the standard one, with any number of `_` between two
+/// digits, and with `0x`, `0o` and `0b`. `1_000` and `0xF_F` are numbers under it.
 pub fn literal_format() -> NumberFormat
     ensures { result ≡ literals }
 {
@@ -51,6 +65,7 @@ pub fn literal_format() -> NumberFormat
 }
 
 // Whether a byte is skipped between tokens.
+#[inline(always)]
 fn is_skipped(byte: u8) -> bool
     ensures { result ≡ is_skipped byte }
 {
@@ -58,6 +73,7 @@ fn is_skipped(byte: u8) -> bool
 }
 
 // Whether a byte is one of a word.
+#[inline(always)]
 fn is_word_byte(byte: u8) -> bool
     ensures { result ≡ is_word_byte byte }
 {
@@ -104,7 +120,11 @@ fn front(first: u8, text: &[u8]) -> (Kind, usize)
     }
 }
 
-/// The tokens of a source, in order.
+/// The tokens of a source, in order. It is an iterator, and contracts see it as the list of the
+/// tokens that are still to come.
+///
+/// It takes no memory. The time for a source grows as its length does: each byte is looked at a
+/// constant number of times.
 #[derive(Drop)]
 pub struct Tokens<'a> {
     rest: &'a [u8],
@@ -120,7 +140,12 @@ impl<'a> Model for Tokens<'a> {
 }
 
 impl<'a> Tokens<'a> {
-    /// The tokens of a source.
+    /// The tokens of a source. `x1 = 0x1F` has a word from 0 to 2, a byte from 3 to 4, and the
+    /// number 31 from 5 to 9.
+    ///
+    /// Each begins at the least place behind the one before it that isn't skipped, and is what the
+    /// source begins with there (`order`); none is empty, and its bytes are those of the source
+    /// (`parts`); there are no more than the source has bytes (`count`).
     pub fn new(source: &'a [u8]) -> Tokens<'a>
         ensures tokens { result ≡ tokens source.now }
         ensures order { FollowInTurn source.now 0 (tokens source.now) }
@@ -142,6 +167,7 @@ impl<'a> Iterator for Tokens<'a> {
 
     ghost remaining = { item_count (λ left. left) };
 
+    /// The next token, and `None` where only skipped bytes are left, now and at each later call.
     fn next(&mut self) -> Option<Token<'a>> {
         front_end();
         let (skipped, rest) = self.rest.split_at(skipped_length(self.rest));

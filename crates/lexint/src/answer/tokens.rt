@@ -16,11 +16,7 @@ use lexical_parse_integer::Error;
 use std::io::Write;
 
 /// Writes a line for each token of the source, and then `end`.
-pub fn put_tokens<W: Write>(
-    source: &[u8],
-    batch: &mut Batch,
-    out: &mut W,
-) -> Result<(), RunError>
+pub fn put_tokens<W: Write>(source: &[u8], batch: &mut Batch, out: &mut W) -> Result<(), RunError>
     ensures ok { OnOk result (Gathers (W.contents out.old) batch.old (W.contents out.new) batch.new
         (tokens_text (tokens source.now))) }
     ensures fault { IsOkUnless result RunError.Write }

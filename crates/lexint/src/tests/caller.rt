@@ -48,7 +48,10 @@ fn callers(rt: HostRuntime) -> Result<(), Fail> {
     let source = b"x1 = 0x1F + 12_3; 0x";
     assert_eq!(rt; token_count(source), 7);
     assert_eq!(rt; number_count(source), 2);
-    assert_eq!(rt; starts(rt.alloc(), source)?.as_slice(), [0, 3, 5, 10, 12, 16, 18].as_slice());
+    assert_eq!(rt;
+        starts(rt.alloc(), source)?.as_slice(),
+        [0, 3, 5, 10, 12, 16, 18].as_slice()
+    );
     assert_eq!(rt; first_fault(source), Some(18));
     assert_eq!(rt; first_fault(b"12 x"), None);
     Ok(())

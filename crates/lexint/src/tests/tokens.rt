@@ -78,10 +78,7 @@ fn faults_go_over_the_bytes_of_a_word(rt: HostRuntime) {
     has_tokens(
         &rt,
         b"  0xg_9Z+",
-        &[
-            (Kind::Fault(Error::Empty(2)), 2, 8),
-            (Kind::Byte, 8, 9),
-        ],
+        &[(Kind::Fault(Error::Empty(2)), 2, 8), (Kind::Byte, 8, 9)],
     );
     has_tokens(
         &rt,
@@ -94,16 +91,8 @@ fn faults_go_over_the_bytes_of_a_word(rt: HostRuntime) {
 fn any_other_byte_is_a_token(rt: HostRuntime) {
     has_tokens(&rt, b"-5", &[(Kind::Byte, 0, 1), (Kind::Number(5), 1, 2)]);
     has_tokens(&rt, b"+1", &[(Kind::Byte, 0, 1), (Kind::Number(1), 1, 2)]);
-    has_tokens(
-        &rt,
-        b"\xc3\xa9",
-        &[(Kind::Byte, 0, 1), (Kind::Byte, 1, 2)],
-    );
-    has_tokens(
-        &rt,
-        b"\x0b\x0c",
-        &[(Kind::Byte, 0, 1), (Kind::Byte, 1, 2)],
-    );
+    has_tokens(&rt, b"\xc3\xa9", &[(Kind::Byte, 0, 1), (Kind::Byte, 1, 2)]);
+    has_tokens(&rt, b"\x0b\x0c", &[(Kind::Byte, 0, 1), (Kind::Byte, 1, 2)]);
     for byte in 128..=255u8 {
         has_tokens(&rt, &[byte], &[(Kind::Byte, 0, 1)]);
     }

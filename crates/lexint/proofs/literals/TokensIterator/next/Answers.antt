@@ -22,7 +22,7 @@ returns-clause-steps c =
     c.skipped_length.ensures.value c.split_at.ensures.front_len c.split_at.ensures.back c.in_ok-first.ensures.value c.front-kind.ensures in
     let start = t.place + length c.split_at.result.0.now in
     let P : List ℕ → List ℕ → List TokenView = λ text behind.
-        record { kind = c.front-kind.result.0; start = start; stop = start + c.front-kind.result.1; text = text } ∷ tokens_from (start + c.front-kind.result.1) 0 behind in
+    record { kind = c.front-kind.result.0; start = start; stop = start + c.front-kind.result.1; text = text } ∷ tokens_from (start + c.front-kind.result.1) 0 behind in
     sym c.self.view_is ∙ step ∙ sym (ap₂ P c.split_at-2.ensures.front c.split_at-2.ensures.back)
 
 pub returns-clause-goes : goal.returns-clause-goes
