@@ -32,7 +32,6 @@ pub mod Untested
 pub mod Whole
 pub mod WordBytes
 pub mod WordDigits
-pub mod WordReading
 pub mod WordTurns
 pub mod WordValues
 pub mod Zeros
