@@ -21,6 +21,7 @@ pub mod NumeralLemmas
 pub mod Numerals
 pub mod Places
 pub mod Progress
+pub mod RangeFaults
 pub mod SeenLemmas
 pub mod SettledRows
 pub mod ShorterFronts

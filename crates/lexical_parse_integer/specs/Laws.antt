@@ -1,5 +1,6 @@
 -- What the definitions of the grammar come to, and the laws of the parsers' answers.
 use Rattle.std.specs.Prelude.{◌≡◌, ◌↔◌, ℕ, suc, ◌+◌, ◌≤◌, ◌<◌, Bool, true, false, List, ◌∷◌, ◌++◌, length, take, map, replicate, nat_lt, if◌then◌else◌, ℤ, pos, negsuc, Some, IsSome, Result, Ok, Err}
+use Rattle.std.specs.Bool.{⊤}
 use Rattle.lexical_util.specs.declared.error.Error.{Error}
 use Rattle.lexical_util.specs.declared.error.Error.TheVariants.{Empty, InvalidDigit, Overflow, Underflow}
 use Rattle.lexical_util.specs.Digit.{digit}
@@ -55,6 +56,15 @@ pub record Completes (size : ℕ) (whole : Result ℤ Error) (front : Result (�
   pub empty : front ≡ Err (Empty size) → whole ≡ Err (Empty size)
   -- a byte stands where they are missing
   pub empty_left : (place : ℕ) → front ≡ Err (Empty place) → place < size → whole ≡ Err (InvalidDigit place)
+
+-- ---- range faults
+
+-- a value that leaves its type does so at a place within a text of this size
+abbrev pub LeavesWithin : {A : Type 0} → ℕ → Result A Error → Type 0
+LeavesWithin size (Ok found) = ⊤
+LeavesWithin size (Err (Overflow place)) = place < size
+LeavesWithin size (Err (Underflow place)) = place < size
+LeavesWithin size (Err error) = ⊤
 
 -- ---- locality
 
