@@ -6,7 +6,7 @@ use crate::{Error, NumberFormat, NumberFormatBuilder, Result};
 use std::process::Abort;
 use std::test::Fail;
 
-// A sign, a prefix, digits with separators between them, and a suffix.
+/// A sign, a prefix, digits with separators between them, and a suffix.
 pub fn with_all_parts() -> NumberFormat {
     NumberFormatBuilder::new()
         .digit_separator(Some(b'_'))
