@@ -75,7 +75,7 @@ sign_within f t (c ∷ cs) s signed = by_tests (c == 43) f.no_positive_mantissa_
     by_tests false b false e = no_sign_within f s _ e
 
 -- a sign's fault is one of two
-IsSignFault : Error → Type 0
+unfoldable pub IsSignFault : Error → Type 0
 IsSignFault e = (e ≡ MissingSign 0) ⊎ (e ≡ InvalidPositiveSign 0)
 
 no_sign_fault : (f : Format) (e : Error) → no_sign f ≡ Err e → IsSignFault e
@@ -86,7 +86,7 @@ no_sign_fault f e = by_test f.required_mantissa_sign
     by_test true h = inl (cc)
     by_test false h = cc
 
-sign_fault : (f : Format) (t : IntegerType) (text : List ℕ) (e : Error) → sign f t text ≡ Err e → IsSignFault e
+pub sign_fault : (f : Format) (t : IntegerType) (text : List ℕ) (e : Error) → sign f t text ≡ Err e → IsSignFault e
 unfolding sign IsSignFault
 sign_fault f t [] e h = no_sign_fault f e h
 sign_fault f t (c ∷ cs) e h = by_tests (c == 43) f.no_positive_mantissa_sign ((c == 45) && t.is_signed) h

@@ -196,10 +196,6 @@ word_fits v n s open_now some all =
     let last : v.position + n - 1 < length v.bytes = some_within v.radix v.bytes (v.position + n - 1) (all (v.position + n - 1) (omega arith) (omega arith)) in
     omega (arith, digits_bound v s open_now)
 
-and-right : (x y : Bool) → (x && y) ≡ true → y ≡ true
-and-right true y t = t
-and-right false y t = absurd (false≢true t)
-
 mark_within : (sensitive : Bool) (mark : Option ℕ) (b : List ℕ) (k : ℕ) → is_affix sensitive mark (slice_get b k) ≡ true → k < length b
 mark_within sensitive mark b k t =
     elim (cases_lt k (length b)) [

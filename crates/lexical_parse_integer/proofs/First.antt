@@ -134,13 +134,6 @@ module _ (v w : CursorView) (d : ℕ) (s : IsSound v) (open_now : v.closed ≡ f
   go : GoesOn v w
   go = goes_on_digit v v w d (goes_on_none v s open_now) k sw
 
-  pub lone_zero : (p : Bool) → false ≡ nat_lt w.digits (digit_count (numeral_of w)) → zero_fault v.format p (numeral_of v) ≡ None
-  lone_zero p no_more =
-      let digits : w.digits ≡ v.digits + 1 = ap (λ (z : CursorView). z.digits) k.after in
-      let same : digit_count (numeral_of w) ≡ digit_count (numeral_of v) = ap digit_count (same_numeral v w go) in
-      let few : digit_count (numeral_of w) ≤ w.digits = grind (arith, nat_tests) in
-      few_no_fault v.format p (numeral_of v) (omega arith)
-
   pub leading_zeros : (p : Bool) (place : ℕ) → d ≡ 0 → v.format.no_integer_leading_zeros ≡ true → p ≡ false → place + 1 ≡ w.position → true ≡ nat_lt w.digits (digit_count (numeral_of w)) → zero_fault v.format p (numeral_of v) ≡ Some (InvalidLeadingZeros place)
   leading_zeros p place zero flag no_prefix at more =
       let digits : w.digits ≡ v.digits + 1 = ap (λ (z : CursorView). z.digits) k.after in

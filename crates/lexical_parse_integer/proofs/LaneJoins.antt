@@ -1,5 +1,5 @@
 -- Digits joined in pairs have the value that they had.
-use Rattle.std.proofs.Common.{◌≡◌, ℕ, suc, ◌+◌, ◌-◌, ◌*◌, ◌^◌, ◌<◌, ◌≤◌, List, [], ◌∷◌, length, get_or, refl, ap, sym, ◌∙◌, arith}
+use Rattle.std.proofs.Common.{◌≡◌, ℕ, suc, ◌+◌, ◌-◌, ◌*◌, ◌^◌, ◌<◌, ◌≤◌, List, [], ◌∷◌, length, refl, ap, sym, ◌∙◌, arith}
 use Rattle.std.proofs.Math.Nat.{pow-suc, mul-le-mul_right}
 use native.Mathlib.Numerals.{unary_clauses}
 use Rattle.std.specs.Int.Digits.{number_from_digits_after}
@@ -56,22 +56,3 @@ joined_twice r v ds long e =
     let all : number_from_digits_after (r * r * (r * r)) 0 (v ∷ []) ≡ 0 * r ^ length ds + positional_value r ds =
     sym (from_left r 0 ds ∙ one ∙ two ∙ ap (λ l. number_from_digits_after (r * r * (r * r)) 0 l) (sym e)) in
     omega (arith, all)
-
-pub two_lanes : (s : ℕ) (fs : List ℕ) → length fs ≡ 2 → joined s fs ≡ (get_or fs 0 0 * s + get_or fs 1 0) ∷ []
-two_lanes s [] e = absurd (omega arith)
-two_lanes s (a ∷ []) e = absurd (omega arith)
-two_lanes s (a ∷ b ∷ []) e = refl
-two_lanes s (a ∷ b ∷ c ∷ more) e = absurd (omega arith)
-
-pub four_lanes : (s : ℕ) (ps : List ℕ) → length ps ≡ 4 → joined s ps ≡ (get_or ps 0 0 * s + get_or ps 1 0) ∷ (get_or ps 2 0 * s + get_or ps 3 0) ∷ []
-four_lanes s [] e = absurd (omega arith)
-four_lanes s (a ∷ []) e = absurd (omega arith)
-four_lanes s (a ∷ b ∷ ps) e = ap (λ l. (a * s + b) ∷ l) (two_lanes s ps (omega arith))
-
-pub eight_lanes : (s : ℕ) (ds : List ℕ) → length ds ≡ 8
-    → joined s ds ≡ (get_or ds 0 0 * s + get_or ds 1 0) ∷ (get_or ds 2 0 * s + get_or ds 3 0) ∷ (get_or ds 4 0 * s + get_or ds 5 0) ∷ (get_or ds 6 0 * s + get_or ds 7 0) ∷ []
-eight_lanes s [] e = absurd (omega arith)
-eight_lanes s (a ∷ []) e = absurd (omega arith)
-eight_lanes s (a ∷ b ∷ []) e = absurd (omega arith)
-eight_lanes s (a ∷ b ∷ c ∷ []) e = absurd (omega arith)
-eight_lanes s (a ∷ b ∷ c ∷ d ∷ ds) e = ap (λ l. (a * s + b) ∷ (c * s + d) ∷ l) (four_lanes s ds (omega arith))

@@ -39,6 +39,15 @@ two_end : (end_of internal 10 (49 ∷ 95 ∷ 95 ∷ 50 ∷ []) 0 ≡ 1) × (end_
 unfolding end_of belongs run_passes flag_for begin_of digit_at separator_at are_same
 two_end = (refl, refl)
 
+-- ---- range faults: the last digit of `256` leaves `u8`, within the text; a fault of missing digits may stand at its end
+last_digit_leaves : (partial standard u8 (50 ∷ 53 ∷ 54 ∷ []) ≡ Err (Overflow 2)) × (complete standard u8 (50 ∷ 53 ∷ 54 ∷ []) ≡ Err (Overflow 2))
+unfolding partial complete numeral numeral_stop head_of sign prefix_radix marked_radix literal_radix suffix_at is_affix range_fault end_of belongs digits_between digit_at separator_at are_same
+last_digit_leaves = (refl, refl)
+
+missing_at_end : partial standard u8 [] ≡ Err (Empty 0)
+unfolding partial numeral numeral_stop head_of sign prefix_radix marked_radix literal_radix suffix_at is_affix range_fault end_of belongs digits_between digit_at separator_at are_same
+missing_at_end = refl
+
 -- ---- complete and partial: each of the sentences has a text
 
 -- `12`

@@ -8,8 +8,8 @@ use Rattle.lexical_util.specs.Format.{Format}
 use Rattle.lexical_parse_integer.proofs.Places.{HoldsBetween, IsStop-stop_of, below_stop, begin_of_if, true_or_false}
 use Rattle.lexical_parse_integer.proofs.NumeralLemmas.{IsStop-end_of, separator_at_within, run_below}
 
-pub greatest_end_lem : (f : Format) (r : ℕ) (b : List ℕ) (j : ℕ) → j ≤ length b → IsGreatestEnd f r b j
-greatest_end_lem f r b j h =
+pub greatest_end_is : (f : Format) (r : ℕ) (b : List ℕ) (j : ℕ) → j ≤ length b → IsGreatestEnd f r b j
+greatest_end_is f r b j h =
     let s = IsStop-end_of f r b j h in
     record {
       from = s.low;
@@ -52,8 +52,8 @@ IsBegin-begin_of p j (suc k) h =
           ]
     ]
 
-pub longest_run_lem : (f : Format) (b : List ℕ) (j k : ℕ) → j ≤ k → separator_at f b k ≡ true → IsLongestRun f b j k
-longest_run_lem f b j k low here =
+pub longest_run_is : (f : Format) (b : List ℕ) (j k : ℕ) → j ≤ k → separator_at f b k ≡ true → IsLongestRun f b j k
+longest_run_is f b j k low here =
     let sep : ℕ → Bool = separator_at f b in
     let inside = separator_at_within f b k here in
     let s = IsStop-stop_of sep k (length b) (omega arith) in

@@ -22,6 +22,7 @@ pub mod NumeralLemmas
 pub mod Numerals
 pub mod Places
 pub mod Progress
+pub mod RangeFaults
 pub mod SeenLemmas
 pub mod SettledRows
 pub mod ShorterFronts
@@ -33,7 +34,6 @@ pub mod Untested
 pub mod Whole
 pub mod WordBytes
 pub mod WordDigits
-pub mod WordReading
 pub mod WordTurns
 pub mod WordValues
 pub mod Zeros

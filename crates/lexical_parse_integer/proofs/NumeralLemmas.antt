@@ -7,7 +7,7 @@ use Rattle.lexical_parse_integer.specs.Seeking.{Finds, HasNoDigit, IsAtRunStart,
 use Rattle.lexical_util.specs.Digit.{digit}
 use Rattle.lexical_util.specs.Format.{Format}
 use Rattle.lexical_parse_integer.specs.declared.seek.Found.TheVariants.{Digit, End}
-use Rattle.lexical_parse_integer.proofs.Places.{HoldsBetween, IsStop, IsStop-stop_of, IsStop-unique, stop_of_lem, below_stop, HoldsBetween-joined, begin_of_lem}
+use Rattle.lexical_parse_integer.proofs.Places.{HoldsBetween, IsStop, IsStop-stop_of, IsStop-unique, stop_of_is, below_stop, HoldsBetween-joined, begin_of_is}
 
 pub digit_at_past : (r : ℕ) (b : List ℕ) (k : ℕ) → length b ≤ k → digit_at r b k ≡ None
 unfolding digit_at
@@ -83,12 +83,12 @@ module _ (f : Format) (r : ℕ) (b : List ℕ) (j : ℕ) where
       below_stop (belongs f r b j) j (length b) (end_of f r b j) q (IsStop-end_of (omega arith)) within (λ k l h. holds k (omega arith) h)
 
   -- a run that begins at p is the run of each of its places
-  pub passes_lem : (p q k : ℕ) → j ≤ p → p ≤ length b → IsAtRunStart f b j p → IsStop (separator_at f b) p (length b) q → p ≤ k → k < q → passes f r b j k ≡ run_passes f r b j p q
-  passes_lem p q k low within edge s from to =
+  pub passes_is : (p q k : ℕ) → j ≤ p → p ≤ length b → IsAtRunStart f b j p → IsStop (separator_at f b) p (length b) q → p ≤ k → k < q → passes f r b j k ≡ run_passes f r b j p q
+  passes_is p q k low within edge s from to =
       let e₁ : run_begin f b j k ≡ p =
-      begin_of_lem (separator_at f b) j p k low from (λ m l h. s.holds m l (omega arith)) (λ h. edge h (s.holds p (omega arith) (omega arith))) in
+      begin_of_is (separator_at f b) j p k low from (λ m l h. s.holds m l (omega arith)) (λ h. edge h (s.holds p (omega arith) (omega arith))) in
       let e₂ : run_stop f b k ≡ q =
-      stop_of_lem (separator_at f b) k (length b) q (omega (arith, s.high)) (record { low = omega arith; high = s.high; holds = λ m l h. s.holds m (omega arith) h; fails = s.fails }) in
+      stop_of_is (separator_at f b) k (length b) q (omega (arith, s.high)) (record { low = omega arith; high = s.high; holds = λ m l h. s.holds m (omega arith) h; fails = s.fails }) in
       rw (e₁, e₂) refl
 
   module _ (p : ℕ) (low : j ≤ p) (reached : p ≤ end_of f r b j) (within : p ≤ length b) where
@@ -111,7 +111,7 @@ module _ (f : Format) (r : ℕ) (b : List ℕ) (j : ℕ) where
 
       pub ends_refused : run_passes f r b j p q ≡ false → Finds f r b j p (End p)
       ends_refused v =
-          let e : passes f r b j p ≡ false = passes_lem p q p low within edge run (omega arith) p_below_q ∙ v in
+          let e : passes f r b j p ≡ false = passes_is p q p low within edge run (omega arith) p_below_q ∙ v in
           (is_end p p low reached (omega arith) within none_here (λ h. belongs_refused p first (plain p first) e), no_digit_here, edge)
 
       no_digit_in_run : HasNoDigit r b p q
@@ -120,7 +120,7 @@ module _ (f : Format) (r : ℕ) (b : List ℕ) (j : ℕ) where
       run_belongs : run_passes f r b j p q ≡ true → HoldsBetween (belongs f r b j) p q
       run_belongs v k l h =
           let s : separator_at f b k ≡ true = run.holds k l h in
-          belongs_separator k s (plain k s) (passes_lem p q k low within edge run l h ∙ v)
+          belongs_separator k s (plain k s) (passes_is p q k low within edge run l h ∙ v)
 
       pub finds_behind : run_passes f r b j p q ≡ true → (v : ℕ) → digit_at r b q ≡ Some v → Finds f r b j p (Digit q v)
       finds_behind pass v e =

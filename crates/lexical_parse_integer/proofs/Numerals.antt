@@ -34,13 +34,13 @@ pub record GoesOnWith (text : List ℕ) (start : ℕ) (bytes : List ℕ) : Type 
   pub size : length text ≡ start + length bytes
 
 -- each byte is a digit, with these values
-abbrev pub AreDigits : ℕ → List ℕ → List ℕ → Type 0
-AreDigits r bytes ds = map (λ byte. digit byte r) bytes ≡ map Some ds
+abbrev pub HaveDigits : ℕ → List ℕ → List ℕ → Type 0
+HaveDigits r bytes ds = map (λ byte. digit byte r) bytes ≡ map Some ds
 
-pub digits_size : (r : ℕ) (bytes ds : List ℕ) → AreDigits r bytes ds → length bytes ≡ length ds
+pub digits_size : (r : ℕ) (bytes ds : List ℕ) → HaveDigits r bytes ds → length bytes ≡ length ds
 digits_size r bytes ds all = sym (length-map bytes (λ byte. digit byte r)) ∙ ap length all ∙ length-map ds Some
 
-digit_there : (r : ℕ) (bytes ds : List ℕ) (k : ℕ) → AreDigits r bytes ds → k < length ds → option_and_then (λ byte. digit byte r) (slice_get bytes k) ≡ Some (get_or ds k 0)
+digit_there : (r : ℕ) (bytes ds : List ℕ) (k : ℕ) → HaveDigits r bytes ds → k < length ds → option_and_then (λ byte. digit byte r) (slice_get bytes k) ≡ Some (get_or ds k 0)
 digit_there r [] [] k all l = absurd (omega arith)
 digit_there r [] (d ∷ ds) k all l = cc
 digit_there r (c ∷ cs) [] k all l = cc
@@ -49,7 +49,7 @@ digit_there r (c ∷ cs) (d ∷ ds) (suc k) all l =
     let more : map (λ byte. digit byte r) cs ≡ map Some ds = cc in
     digit_there r cs ds k more (omega arith)
 
-digit_at_there : (r : ℕ) (text bytes ds : List ℕ) (start k : ℕ) → GoesOnWith text start bytes → AreDigits r bytes ds → k < length ds → digit_at r text (start + k) ≡ Some (get_or ds k 0)
+digit_at_there : (r : ℕ) (text bytes ds : List ℕ) (start k : ℕ) → GoesOnWith text start bytes → HaveDigits r bytes ds → k < length ds → digit_at r text (start + k) ≡ Some (get_or ds k 0)
 unfolding digit_at
 digit_at_there r text bytes ds start k on all l = ap (option_and_then (λ byte. digit byte r)) (on.at k) ∙ digit_there r bytes ds k all l
 
@@ -61,14 +61,14 @@ row_is r text (d ∷ ds) start at =
     let rest : row r text (start + 1) (length ds) ≡ ds = row_is r text ds (start + 1) (λ k l. ap (digit_at r text) (let e : start + 1 + k ≡ start + suc k = omega arith in e) ∙ at (suc k) (omega arith)) in
     rw here (ap (λ es. d ∷ es) rest)
 
-pub all_there : (r : ℕ) (text bytes ds : List ℕ) (start : ℕ) → GoesOnWith text start bytes → AreDigits r bytes ds → HoldsBetween (has_digit r text) start (length text)
+pub all_there : (r : ℕ) (text bytes ds : List ℕ) (start : ℕ) → GoesOnWith text start bytes → HaveDigits r bytes ds → HoldsBetween (has_digit r text) start (length text)
 all_there r text bytes ds start on all k low high =
     let size = digits_size r bytes ds all in
     let at = digit_at_there r text bytes ds start (k - start) on all (omega (arith, on.size)) in
     let same : start + (k - start) ≡ k = omega arith in
     ap is_some (ap (digit_at r text) (sym same) ∙ at)
 
-pub rest_is : (r : ℕ) (text bytes ds : List ℕ) (start : ℕ) → GoesOnWith text start bytes → AreDigits r bytes ds → rest_value r text start ≡ positional_value r ds
+pub rest_is : (r : ℕ) (text bytes ds : List ℕ) (start : ℕ) → GoesOnWith text start bytes → HaveDigits r bytes ds → rest_value r text start ≡ positional_value r ds
 rest_is r text bytes ds start on all =
     let size = digits_size r bytes ds all in
     let count : length text - start ≡ length ds = omega (arith, on.size) in
@@ -101,7 +101,7 @@ sign_of_minus r t cs is_signed = rw is_signed refl
 
 -- ---- the law
 
-first_digit : (r c : ℕ) (cs ds : List ℕ) → AreDigits r (c ∷ cs) ds → (d : ℕ) × (digit c r ≡ Some d)
+first_digit : (r c : ℕ) (cs ds : List ℕ) → HaveDigits r (c ∷ cs) ds → (d : ℕ) × (digit c r ≡ Some d)
 first_digit r c cs [] all = cc
 first_digit r c cs (d ∷ ds) all = (d, cc)
 
@@ -150,7 +150,7 @@ digit_char_digit r d low small =
     let yes : nat_lt d r ≡ true = lt-ltb d r low in
     ap (below r) (digit_char_value d (omega arith)) ∙ rw yes refl
 
-chars_digits : (r : ℕ) (ds : List ℕ) → r ≤ 36 → AllBelowBase r ds → AreDigits r (map digit_char ds) ds
+chars_digits : (r : ℕ) (ds : List ℕ) → r ≤ 36 → AllBelowBase r ds → HaveDigits r (map digit_char ds) ds
 chars_digits r [] small all = refl
 chars_digits r (d ∷ ds) small all =
     let here = digit_char_digit r d all.0 small in
@@ -177,7 +177,7 @@ digit_below r (Some v) d e = by_test (nat_lt v r) refl e
     by_test true t h = let l = ltb-true v r t in let same : v ≡ d = cc in omega arith
     by_test false t h = cc
 
-all_below : (r : ℕ) (bytes ds : List ℕ) → AreDigits r bytes ds → AllBelowBase r ds
+all_below : (r : ℕ) (bytes ds : List ℕ) → HaveDigits r bytes ds → AllBelowBase r ds
 all_below r [] [] all = tt
 all_below r [] (d ∷ ds) all = cc
 all_below r (c ∷ cs) [] all = cc
@@ -249,11 +249,11 @@ first_some r c zero is other = absurd (other (zero_digit r c (digit_value c) ref
 first_some r c (suc d) is other = omega arith
 
 -- a text whose first byte isn't `0` is worth at least a power of the radix
-no_zero_high : (r n c : ℕ) (cs ds : List ℕ) → AreDigits r (c ∷ cs) ds → positional_value r ds ≡ n → c ≢ 48 → r ^ length cs ≤ n
+no_zero_high : (r n c : ℕ) (cs ds : List ℕ) → HaveDigits r (c ∷ cs) ds → positional_value r ds ≡ n → c ≢ 48 → r ^ length cs ≤ n
 no_zero_high r n c cs [] all worth other = cc
 no_zero_high r n c cs (d ∷ ds) all worth other =
     let here : digit c r ≡ Some d = cc in
-    let more : AreDigits r cs ds = cc in
+    let more : HaveDigits r cs ds = cc in
     let size : r ^ length cs ≡ r ^ length ds = ap (λ k. r ^ k) (digits_size r cs ds more) in
     let high = positional_value-low r d ds (first_some r c d here other) in
     omega arith
@@ -279,7 +279,7 @@ shortest_if r n text low writes first = record { writes = writes; shortest = λ 
 char_digit : (c : ℕ) → char_value c < 10 → digit c 10 ≡ Some (char_value c)
 char_digit c low = grind (arith, nat_tests)
 
-printed_digits : (cs : List ℕ) → AllDigits 10 cs → AreDigits 10 cs (map char_value cs)
+printed_digits : (cs : List ℕ) → AllDigits 10 cs → HaveDigits 10 cs (map char_value cs)
 printed_digits [] all = refl
 printed_digits (c ∷ cs) all =
     let here = char_digit c all.0 in

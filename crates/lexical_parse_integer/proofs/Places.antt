@@ -55,8 +55,8 @@ IsStop-unique p from to s t a b =
       ]
     ]
 
-pub stop_of_lem : (p : ℕ → Bool) (from to stop : ℕ) → from ≤ to → IsStop p from to stop → stop_of p from to ≡ stop
-stop_of_lem p from to stop h s = IsStop-unique p from to _ stop (IsStop-stop_of p from to h) s
+pub stop_of_is : (p : ℕ → Bool) (from to stop : ℕ) → from ≤ to → IsStop p from to stop → stop_of p from to ≡ stop
+stop_of_is p from to stop h s = IsStop-unique p from to _ stop (IsStop-stop_of p from to h) s
 
 -- what holds on to a place reaches no farther than the stop
 pub below_stop : (p : ℕ → Bool) (from to stop q : ℕ) → IsStop p from to stop → q ≤ to → HoldsBetween p stop q → q ≤ stop
@@ -104,15 +104,15 @@ begin_of_if p j k v e =
     ]
 
 -- a stretch that begins at `from` has that place as its begin at each of its places
-pub begin_of_lem : (p : ℕ → Bool) (j from k : ℕ) → j ≤ from → from ≤ k → HoldsBetween p from k → (j < from → p (from - 1) ≡ false) → begin_of p j k ≡ from
+pub begin_of_is : (p : ℕ → Bool) (j from k : ℕ) → j ≤ from → from ≤ k → HoldsBetween p from k → (j < from → p (from - 1) ≡ false) → begin_of p j k ≡ from
 unfolding begin_of
-begin_of_lem p j from zero low high holds edge = omega arith
-begin_of_lem p j from (suc k) low high holds edge =
+begin_of_is p j from zero low high holds edge = omega arith
+begin_of_is p j from (suc k) low high holds edge =
     elim (cases_lt from (suc k)) [
       | inl lt ↦
           let here : p k ≡ true = holds k (omega arith) (omega arith) in
           let both : (leb j k && p k) ≡ true = rw here (let le : j ≤ k = omega arith in grind (arith, nat_tests)) in
-          begin_of_if p j k true both ∙ begin_of_lem p j from k low (omega arith) (λ m l h. holds m l (omega arith)) edge
+          begin_of_if p j k true both ∙ begin_of_is p j from k low (omega arith) (λ m l h. holds m l (omega arith)) edge
       | inr ge ↦
           let e : from ≡ suc k = omega arith in
           elim (cases_lt k j) [

@@ -5,9 +5,8 @@ use Rattle.lexical_parse_integer.specs.Grammar.{range_error, range_fault}
 use Rattle.lexical_parse_integer.specs.Numeral.{Numeral, digit_count, front_value, numeral_value}
 use Rattle.lexical_parse_integer.specs.Reading.{FrontsFit, Reads}
 use Rattle.lexical_parse_integer.specs.Value.{signed}
-use Rattle.lexical_util.specs.Number.{HasSign, IntegerType, is_number, mul_add}
+use Rattle.lexical_util.specs.Number.{IntegerType, is_number, mul_add}
 use Rattle.lexical_parse_integer.proofs.Fronts.{front_value-next, fitting_fault, leaving_fault}
-use Rattle.std.proofs.lemmas.Int.{ints}
 
 pub reads_none : (t : IntegerType) (b : Bool) (x : Numeral) (value : ℤ) → value ≡ pos 0 → Reads t b x 0 value
 reads_none t b x value e = record {
@@ -19,13 +18,6 @@ reads_none t b x value e = record {
     signed_zero : (b : Bool) → pos 0 ≡ signed b 0
     signed_zero true = refl
     signed_zero false = refl
-
-signed_side : (b : Bool) (n : ℕ) → HasSign b (signed b n)
-signed_side true n = omega (arith, ints)
-signed_side false n = omega (arith, ints)
-
-pub reads_side : (t : IntegerType) (b : Bool) (x : Numeral) (m : ℕ) (value : ℤ) → Reads t b x m value → HasSign b value
-reads_side t b x m value r = rw (r.front) (signed_side b _)
 
 -- one digit more
 pub reads_more : (t : IntegerType) (b : Bool) (x : Numeral) (m d : ℕ) (value next : ℤ) → Reads t b x m value → m < digit_count x → get_or x.digits m 0 ≡ d → next ≡ mul_add b value (pos x.radix) (pos d) → is_number t next ≡ true → Reads t b x (m + 1) next

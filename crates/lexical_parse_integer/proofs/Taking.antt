@@ -82,17 +82,6 @@ goes_on_digit u v w value g t s =
       sound = s;
     }
 
-pub goes_on_end : (u v w : CursorView) → GoesOn u v → ReachesEnd v w → IsSound w → GoesOn u w
-goes_on_end u v w g t s =
-    record {
-      bytes = ap (λ (z : CursorView). z.bytes) t.after ∙ g.bytes;
-      format = ap (λ (z : CursorView). z.format) t.after ∙ g.format;
-      radix = ap (λ (z : CursorView). z.radix) t.after ∙ g.radix;
-      start = ap (λ (z : CursorView). z.start) t.after ∙ g.start;
-      closed = ap (λ (z : CursorView). z.closed) t.after ∙ g.closed;
-      sound = s;
-    }
-
 -- the numeral stays the same
 pub same_numeral : (u v : CursorView) → GoesOn u v → numeral_of v ≡ numeral_of u
 same_numeral u v g =

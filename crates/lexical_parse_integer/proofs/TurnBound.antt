@@ -1,15 +1,7 @@
 -- The bound on the turns.
-use Rattle.std.proofs.Common.{◌≡◌, ℕ, ◌+◌, ◌-◌, ◌*◌, ◌≤◌, ◌<◌, Bool, true, false, cond, List, Err, min, refl, sym, ap, subst, arith, inl, inr, ◌⊎◌, ◌∙◌}
+use Rattle.std.proofs.Common.{◌≡◌, ℕ, ◌+◌, ◌-◌, ◌*◌, ◌≤◌, ◌<◌, Bool, true, false, cond, min, refl, sym, ap, subst, arith, inl, inr, ◌⊎◌, ◌∙◌}
 use Rattle.std.specs.Prelude.{◌/◌, nat_le}
-use Rattle.lexical_util.specs.declared.error.Error.{Error}
-use Rattle.lexical_util.specs.Format.{Format}
-use Rattle.lexical_util.specs.Number.{IntegerType, overflow_digits}
-use Rattle.lexical_parse_integer.specs.CursorView.{CursorView, numeral_of}
-use Rattle.lexical_parse_integer.specs.Head.{head_of}
-use Rattle.lexical_parse_integer.specs.Numeral.{Numeral, digit_count}
-use Rattle.lexical_parse_integer.specs.Reading.{IsAtHead}
-use Rattle.lexical_parse_integer.specs.Turns.{HasFewTurns, turns_bound, word_length}
-use Rattle.lexical_parse_integer.proofs.Whole.{same_text}
+use Rattle.lexical_parse_integer.specs.Turns.{turns_bound, word_length}
 
 -- a word has eight digits or four
 word_cases : (bits : ℕ) → (word_length bits ≡ 8) ⊎ (word_length bits ≡ 4)
@@ -89,20 +81,6 @@ few_turns bits o q d₀ t₀ d₁ t₁ s =
       | inl e ↦ subst (λ w. t₁ + (q - d₁) ≤ turns_bound w o q) (sym e) (few_turns_8 o q d₀ t₀ d₁ t₁ (subst (λ w. TakesWords w o q d₀ t₀ d₁ t₁) e s))
       | inr e ↦ subst (λ w. t₁ + (q - d₁) ≤ turns_bound w o q) (sym e) (few_turns_4 o q d₀ t₀ d₁ t₁ (subst (λ w. TakesWords w o q d₀ t₀ d₁ t₁) e s))
     ]
-
-one_turn_of : (w o q t : ℕ) → (w ≡ 8) ⊎ (w ≡ 4) → t ≤ 1 → t ≤ q → t ≤ turns_bound w o q
-one_turn_of w o q t (inl e) one low = subst (λ w. t ≤ turns_bound w o q) (sym e) (omega arith)
-one_turn_of w o q t (inr e) one low = subst (λ w. t ≤ turns_bound w o q) (sym e) (omega arith)
-
-pub one_turn : (bits o q t : ℕ) → t ≤ 1 → t ≤ q → t ≤ turns_bound (word_length bits) o q
-one_turn bits o q t one low = one_turn_of (word_length bits) o q t (word_cases bits) one low
-
-pub few_at_head : (f : Format) (t : IntegerType) (text : List ℕ) (minus p : Bool) (v : CursorView) (turns : ℕ) → IsAtHead f t text minus p v → (v.radix ≤ 10 → turns ≤ turns_bound (word_length t.bits) (overflow_digits t v.radix) (digit_count (numeral_of v))) → HasFewTurns f t text turns
-few_at_head f t text minus p v turns at few =
-    rw at.head_is (λ ten. subst (λ (x : Numeral). turns ≤ turns_bound (word_length t.bits) (overflow_digits t v.radix) (digit_count x)) (sym (same_text f t text minus p v at)) (few ten))
-
-pub few_at_fault : (f : Format) (t : IntegerType) (text : List ℕ) (e : Error) (turns : ℕ) → head_of f t text ≡ Err e → turns ≡ 0 → HasFewTurns f t text turns
-few_at_fault f t text e turns fault none = rw fault none
 
 -- digits that take a turn each leave the bound as it is
 pub still_few : (bound q d₁ t₁ d₂ t₂ : ℕ) → t₁ + (q - d₁) ≤ bound → t₂ + d₁ ≡ t₁ + d₂ → d₁ ≤ q → d₂ ≤ q → t₂ + (q - d₂) ≤ bound

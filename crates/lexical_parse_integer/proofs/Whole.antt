@@ -1,9 +1,8 @@
 -- The answers of the two parsers, from what was read.
-use Rattle.std.proofs.Common.{◌≡◌, ◌≢◌, ℕ, ◌+◌, ◌≤◌, ◌<◌, Bool, false, true, cond, ◌&&◌, ◌||◌, List, [], ◌∷◌, length, is_some, Option, Some, None, Ok, Err, Result, refl, sym, ap, ◌∙◌, arith, inl, inr, ◌⊎◌}
+use Rattle.std.proofs.Common.{◌≡◌, ℕ, ◌+◌, ◌≤◌, ◌<◌, Bool, false, true, cond, ◌&&◌, ◌||◌, List, [], ◌∷◌, length, is_some, Option, Some, None, Ok, Err, Result, refl, sym, ap, ◌∙◌, arith, inl, inr, ◌⊎◌}
 use Rattle.std.specs.Prelude.{◌↔◌, IsTrue, ℤ, nat_lt, ◌==◌}
 use Rattle.std.specs.Option.{option_or}
 use Rattle.std.proofs.lemmas.Bool.{lt-ltb, le-ltb, cases_lt, false≢true}
-use Rattle.std.proofs.lemmas.Bool.Decides.{eqb_tells}
 use Rattle.lexical_util.specs.declared.error.Error.{Error}
 use Rattle.lexical_util.specs.declared.error.Error.TheVariants.{InvalidDigit, Empty, MissingSign, InvalidPositiveSign}
 use Rattle.lexical_parse_integer.specs.Affixes.{numeral_stop, prefix_radix}
@@ -11,7 +10,7 @@ use Rattle.lexical_parse_integer.specs.CursorView.{CursorView, behind_prefix, Is
 use Rattle.lexical_parse_integer.specs.Grammar.{complete, digits_required, first_fault_or, partial, prefix_fault, range_fault, zero_fault}
 use Rattle.lexical_parse_integer.specs.Head.{Head, head_of, no_sign, sign}
 use Rattle.lexical_parse_integer.specs.Numeral.{Numeral, digit_count, numeral, numeral_value}
-use Rattle.lexical_parse_integer.specs.Reading.{GoesOn, IsAtHead, IsRead, StandsAtStop}
+use Rattle.lexical_parse_integer.specs.Reading.{GoesOn, IsAtHead, IsRead}
 use Rattle.lexical_util.specs.Format.{Format}
 use Rattle.lexical_util.specs.Number.{IntegerType}
 use Rattle.lexical_parse_integer.proofs.CursorLemmas.{digits_bound}
@@ -237,13 +236,7 @@ is_read f t text minus p b v₁ v₂ v₃ v₄ value at goes g₁ no_zeros g₂ 
       all_digits = digits ∙ all ∙ ap digit_count second;
     }
 
-pub stands : (f : Format) (t : IntegerType) (text : List ℕ) (value : ℤ) (v : CursorView) → IsRead f t text value v → StandsAtStop f t text v
-stands f t text value v r = record { head = r.head; head_is = r.head_is; at_stop = r.at_stop; all_digits = r.all_digits }
-
 -- ---- the answers
-
-apart_eqb : (a b : ℕ) → a ≢ b → (a == b) ≡ false
-apart_eqb a b apart = elim (eqb_tells a b) [ inl w ↦ absurd (apart w.1) | inr w ↦ w.0 ]
 
 lacks_is : (f : Format) (t : IntegerType) (text : List ℕ) (value : ℤ) (v : CursorView) (b : Bool) → (r : IsRead f t text value v) → b ≡ (digits_required v.format && (v.digits == 0)) → (digits_required f && (digit_count (numeral f text r.head.start r.head.radix) == 0)) ≡ b
 lacks_is f t text value v b r e = ap (λ n. digits_required f && (n == 0)) (sym r.all_digits) ∙ ap (λ g. digits_required g && (v.digits == 0)) (sym r.format) ∙ sym e

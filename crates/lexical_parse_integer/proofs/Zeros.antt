@@ -18,7 +18,7 @@ use Rattle.lexical_parse_integer.specs.Seeking.{HasNoDigit}
 use Rattle.lexical_parse_integer.specs.Value.{positional_value, signed}
 use Rattle.lexical_parse_integer.proofs.DigitTexts.{digits_read, rest_value, whole_told}
 use Rattle.lexical_parse_integer.proofs.InARow.{has_digit}
-use Rattle.lexical_parse_integer.proofs.Numerals.{AreDigits, GoesOnWith, all_there, rest_is, sign_of_digit}
+use Rattle.lexical_parse_integer.proofs.Numerals.{HaveDigits, GoesOnWith, all_there, rest_is, sign_of_digit}
 use Rattle.lexical_parse_integer.proofs.Places.{HoldsBetween}
 use Rattle.lexical_parse_integer.proofs.SeenLemmas.{IsInjective, seen_ok_same}
 
@@ -38,7 +38,7 @@ some_is : (o : Option ℕ) → is_some o ≡ true → o ≡ Some (unwrap_or o 0)
 some_is None h = cc
 some_is (Some d) h = refl
 
-are_digits : (bytes : List ℕ) → ((k : ℕ) → k < length bytes → is_some (option_and_then (λ byte. digit byte 10) (slice_get bytes k)) ≡ true) → AreDigits 10 bytes (byte_values bytes)
+are_digits : (bytes : List ℕ) → ((k : ℕ) → k < length bytes → is_some (option_and_then (λ byte. digit byte 10) (slice_get bytes k)) ≡ true) → HaveDigits 10 bytes (byte_values bytes)
 unfolding byte_values
 are_digits [] all = refl
 are_digits (c ∷ cs) all =
@@ -47,14 +47,14 @@ are_digits (c ∷ cs) all =
     cc
 
 -- the bytes behind a front, where digits alone stand there
-rest_digits : (text bytes : List ℕ) (start : ℕ) → GoesOnWith text start bytes → HoldsBetween (has_digit 10 text) start (length text) → AreDigits 10 bytes (byte_values bytes)
+rest_digits : (text bytes : List ℕ) (start : ℕ) → GoesOnWith text start bytes → HoldsBetween (has_digit 10 text) start (length text) → HaveDigits 10 bytes (byte_values bytes)
 unfolding digit_at
 rest_digits text bytes start on all =
     are_digits bytes (λ k l. ap (λ o. is_some (option_and_then (λ byte. digit byte 10) o)) (sym (on.at k)) ∙ all (start + k) (omega arith) (omega (arith, on.size)))
 
 -- ---- zeros
 
-zeros_digits : (n : ℕ) (bytes ds : List ℕ) → AreDigits 10 bytes ds → AreDigits 10 (replicate n 48 ++ bytes) (replicate n 0 ++ ds)
+zeros_digits : (n : ℕ) (bytes ds : List ℕ) → HaveDigits 10 bytes ds → HaveDigits 10 (replicate n 48 ++ bytes) (replicate n 0 ++ ds)
 zeros_digits zero bytes ds all = all
 zeros_digits (suc n) bytes ds all = ap (λ (os : List (Option ℕ)). Some 0 ∷ os) (zeros_digits n bytes ds all)
 
@@ -67,8 +67,8 @@ padded_read : (t : IntegerType) (text padded bytes : List ℕ) (s : Bool × ℕ)
     HoldsBetween (has_digit 10 text) s.1 (length text) → is_number t (signed s.0 (rest_value 10 text s.1)) ≡ true → complete standard t padded ≡ Ok (signed s.0 (rest_value 10 text s.1))
 padded_read t text padded bytes s n sign_is on on' some all fits =
     let ds : List ℕ = byte_values bytes in
-    let digits : AreDigits 10 bytes ds = rest_digits text bytes s.1 on all in
-    let more : AreDigits 10 (replicate n 48 ++ bytes) (replicate n 0 ++ ds) = zeros_digits n bytes ds digits in
+    let digits : HaveDigits 10 bytes ds = rest_digits text bytes s.1 on all in
+    let more : HaveDigits 10 (replicate n 48 ++ bytes) (replicate n 0 ++ ds) = zeros_digits n bytes ds digits in
     let value : rest_value 10 padded s.1 ≡ rest_value 10 text s.1 = rest_is 10 padded (replicate n 48 ++ bytes) (replicate n 0 ++ ds) s.1 on' more ∙ zeros_value n ds ∙ sym (rest_is 10 text bytes ds s.1 on digits) in
     let size = length-append (replicate n 48) bytes in
     digits_read 10 t padded s (omega arith) sign_is (omega (arith, on.size, on'.size)) (all_there 10 padded (replicate n 48 ++ bytes) (replicate n 0 ++ ds) s.1 on' more) (ap (λ (m : ℕ). is_number t (signed s.0 m)) value ∙ fits)

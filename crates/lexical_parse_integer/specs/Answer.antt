@@ -3,8 +3,8 @@ use Rattle.std.specs.Prelude.{ℕ, Result, Ok, Err}
 
 -- an answer, with its value as view shows it
 abbrev pub seen : {X Y E : Type 0} → (X → Y) → Result X E → Result Y E
-seen view (Ok x) = Ok (view x)
-seen view (Err e) = Err e
+seen view (Ok value) = Ok (view value)
+seen view (Err error) = Err error
 
 -- a value and a place, with the value as view shows it
 abbrev pub placed : {X Y : Type 0} → (X → Y) → X × ℕ → Y × ℕ

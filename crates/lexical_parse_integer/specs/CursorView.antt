@@ -26,7 +26,7 @@ pub record CursorView : Type 0 where
 abbrev pub numeral_of : CursorView → Numeral
 numeral_of cursor = numeral cursor.format cursor.bytes cursor.start cursor.radix
 
--- where it ends
+-- where the numeral in the cursor's region ends
 abbrev pub numeral_end : CursorView → ℕ
 numeral_end cursor = end_of cursor.format cursor.radix cursor.bytes cursor.start
 

@@ -15,29 +15,29 @@ use Rattle.lexical_parse_integer.specs.Numeral.{Numeral, numeral, digit_count, f
 
 -- a fault, where something is wrong
 abbrev pub fault_if : Bool → Error → Option Error
-fault_if is_wrong e = if is_wrong then Some e else None
+fault_if is_wrong error = if is_wrong then Some error else None
 
 -- the text ends behind its prefix
 abbrev pub prefix_fault : List ℕ → Head → Option Error
 prefix_fault text head = fault_if (head.is_prefixed && (head.start == length text)) (Empty (length text))
 
--- the numeral has leading zeros, and the format forbids them
+-- the numeral has two digits or more, of which the first is 0, and no prefix, and the format forbids that
 abbrev pub zero_fault : Format → Bool → Numeral → Option Error
-zero_fault format is_prefixed x =
-    fault_if (((format.no_integer_leading_zeros && not is_prefixed) && nat_le 2 (digit_count x)) && (slice_index x.digits 0 == 0))
-    (InvalidLeadingZeros (slice_index x.places 0))
+zero_fault format is_prefixed numeral =
+    fault_if (((format.no_integer_leading_zeros && not is_prefixed) && nat_le 2 (digit_count numeral)) && (slice_index numeral.digits 0 == 0))
+    (InvalidLeadingZeros (slice_index numeral.places 0))
 
 -- the fault of a value that leaves the type at a place
 abbrev pub range_error : Bool → ℕ → Error
 range_error is_minus place = if is_minus then Underflow place else Overflow place
 
--- the first digit such that the digits up to and with it have a value outside the type
+-- the first digit, by its index, such that the digits up to and with it have a value outside the type
 abbrev pub first_outside : IntegerType → Bool → Numeral → Option ℕ
-first_outside type is_minus x = find (λ k. not (is_number type (front_value is_minus x (k + 1)))) (range_with_len 0 (digit_count x))
+first_outside type is_minus numeral = find (λ index. not (is_number type (front_value is_minus numeral (index + 1)))) (range_with_len 0 (digit_count numeral))
 
--- the value leaves the type at that digit
+-- the value leaves the type: the fault stands at that digit's place
 unfoldable pub range_fault : IntegerType → Bool → Numeral → Option Error
-range_fault type is_minus x = option_map (λ k. range_error is_minus (slice_index x.places k)) (first_outside type is_minus x)
+range_fault type is_minus numeral = option_map (λ index. range_error is_minus (slice_index numeral.places index)) (first_outside type is_minus numeral)
 
 -- whether the format asks for a digit
 abbrev pub digits_required : Format → Bool
@@ -45,55 +45,55 @@ digits_required format = format.required_integer_digits || format.required_manti
 
 -- whether the numeral has no digit where the format asks for one
 abbrev pub lacks_digits : Format → Numeral → Bool
-lacks_digits format x = digits_required format && (digit_count x == 0)
+lacks_digits format numeral = digits_required format && (digit_count numeral == 0)
 
 -- the first of the faults, or the value where there is none
 abbrev pub first_fault_or : {A : Type 0} → List (Option Error) → A → Result A Error
 first_fault_or [] value = Ok value
 first_fault_or (None ∷ faults) value = first_fault_or faults value
-first_fault_or (Some e ∷ faults) value = Err e
+first_fault_or (Some error ∷ faults) value = Err error
 
 -- ---- the two parsers
 
 -- the faults that both parsers have, in their order
 abbrev pub common_faults : Format → IntegerType → List ℕ → Head → Numeral → List (Option Error)
-common_faults format type text head x =
-    prefix_fault text head ∷ zero_fault format head.is_prefixed x ∷ range_fault type head.is_minus x ∷ []
+common_faults format type text head numeral =
+    prefix_fault text head ∷ zero_fault format head.is_prefixed numeral ∷ range_fault type head.is_minus numeral ∷ []
 
 -- those that the complete parser has after them
 abbrev pub complete_faults : Format → List ℕ → Numeral → List (Option Error)
-complete_faults format text x =
-    fault_if (nat_lt x.stop (length text)) (InvalidDigit x.stop)
-    ∷ fault_if (lacks_digits format x) (Empty (length text)) ∷ []
+complete_faults format text numeral =
+    fault_if (nat_lt numeral.stop (length text)) (InvalidDigit numeral.stop)
+    ∷ fault_if (lacks_digits format numeral) (Empty (length text)) ∷ []
 
 -- those that the partial parser has after them
 abbrev pub partial_faults : Format → List ℕ → Numeral → List (Option Error)
-partial_faults format text x =
-    fault_if (lacks_digits format x && (is_some format.digit_separator || (x.stop == length text))) (Empty x.stop) ∷ []
+partial_faults format text numeral =
+    fault_if (lacks_digits format numeral && (is_some format.digit_separator || (numeral.stop == length text))) (Empty numeral.stop) ∷ []
 
 -- an answer by the head of a text, or the fault of its sign
 abbrev pub after_head : {A : Type 0} → Result Head Error → (Head → Result A Error) → Result A Error
 after_head (Ok head) answer = answer head
-after_head (Err e) answer = Err e
+after_head (Err error) answer = Err error
 
 -- what the whole text stands for
 unfoldable pub complete : Format → IntegerType → List ℕ → Result ℤ Error
 complete format type text = after_head (head_of format type text) (λ head.
-    let x = numeral format text head.start head.radix in
-    first_fault_or (common_faults format type text head x ++ complete_faults format text x) (numeral_value head.is_minus x))
+    let numeral = numeral format text head.start head.radix in
+    first_fault_or (common_faults format type text head numeral ++ complete_faults format text numeral) (numeral_value head.is_minus numeral))
 
 -- what the front of the text stands for, and the place at which reading stops
 unfoldable pub partial : Format → IntegerType → List ℕ → Result (ℤ × ℕ) Error
 partial format type text = after_head (head_of format type text) (λ head.
-    let x = numeral format text head.start head.radix in
-    first_fault_or (common_faults format type text head x ++ partial_faults format text x) (numeral_value head.is_minus x, x.stop))
+    let numeral = numeral format text head.start head.radix in
+    first_fault_or (common_faults format type text head numeral ++ partial_faults format text numeral) (numeral_value head.is_minus numeral, numeral.stop))
 
 -- ---- formats that may be invalid
 
 -- an answer where the format is valid, and else the fault of its first broken rule
 abbrev pub if_valid : {A : Type 0} → Option Error → Result A Error → Result A Error
 if_valid None answer = answer
-if_valid (Some e) answer = Err e
+if_valid (Some error) answer = Err error
 
 -- what the whole text stands for, where the format is valid
 abbrev pub complete_if_valid : Format → IntegerType → List ℕ → Result ℤ Error

@@ -46,7 +46,7 @@ head_behind format sign_read (Some radix) = record {
 -- the head of a text by what its sign is
 abbrev pub head_after : Format → List ℕ → Result (Bool × ℕ) Error → Result Head Error
 head_after format text (Ok sign_read) = Ok (head_behind format sign_read (prefix_radix format text sign_read.1))
-head_after format text (Err e) = Err e
+head_after format text (Err error) = Err error
 
 -- what stands before the numeral of a text, or the fault of its sign
 unfoldable pub head_of : Format → IntegerType → List ℕ → Result Head Error

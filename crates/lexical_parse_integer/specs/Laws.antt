@@ -1,5 +1,6 @@
 -- What the definitions of the grammar come to, and the laws of the parsers' answers.
 use Rattle.std.specs.Prelude.{◌≡◌, ◌↔◌, ℕ, suc, ◌+◌, ◌≤◌, ◌<◌, Bool, true, false, List, ◌∷◌, ◌++◌, length, take, map, replicate, nat_lt, if◌then◌else◌, ℤ, pos, negsuc, Some, IsSome, Result, Ok, Err}
+use Rattle.std.specs.Bool.{⊤}
 use Rattle.lexical_util.specs.declared.error.Error.{Error}
 use Rattle.lexical_util.specs.declared.error.Error.TheVariants.{Empty, InvalidDigit, Overflow, Underflow}
 use Rattle.lexical_util.specs.Digit.{digit}
@@ -26,9 +27,9 @@ pub record IsLongestRun (format : Format) (text : List ℕ) (start place : ℕ) 
   pub holds_first : run_begin format text start place ≤ place
   pub holds_last : place < run_stop format text place
   pub within : run_stop format text place ≤ length text
-  pub separators : (k : ℕ) → run_begin format text start place ≤ k → k < run_stop format text place → separator_at format text k ≡ true
-  pub longest_before : (begin : ℕ) → start ≤ begin → begin ≤ place → ((k : ℕ) → begin ≤ k → k < place → separator_at format text k ≡ true) → run_begin format text start place ≤ begin
-  pub longest_behind : (stop : ℕ) → place < stop → stop ≤ length text → ((k : ℕ) → place ≤ k → k < stop → separator_at format text k ≡ true) → stop ≤ run_stop format text place
+  pub separators : (at : ℕ) → run_begin format text start place ≤ at → at < run_stop format text place → separator_at format text at ≡ true
+  pub longest_before : (begin : ℕ) → start ≤ begin → begin ≤ place → ((at : ℕ) → begin ≤ at → at < place → separator_at format text at ≡ true) → run_begin format text start place ≤ begin
+  pub longest_behind : (stop : ℕ) → place < stop → stop ≤ length text → ((at : ℕ) → place ≤ at → at < stop → separator_at format text at ≡ true) → stop ≤ run_stop format text place
 
 -- ---- complete and partial
 
@@ -36,12 +37,12 @@ pub record IsLongestRun (format : Format) (text : List ℕ) (start place : ℕ) 
 abbrev pub completed : ℕ → Result (ℤ × ℕ) Error → Result ℤ Error
 completed size (Ok found) = if nat_lt found.1 size then Err (InvalidDigit found.1) else Ok found.0
 completed size (Err (Empty place)) = if nat_lt place size then Err (InvalidDigit place) else Err (Empty place)
-completed size (Err e) = Err e
+completed size (Err error) = Err error
 
 -- whether a fault is that digits are missing
 abbrev pub is_empty : Error → Bool
 is_empty (Empty place) = true
-is_empty e = false
+is_empty error = false
 
 -- What the whole of a text of this size stands for, by what its front does.
 pub record Completes (size : ℕ) (whole : Result ℤ Error) (front : Result (ℤ × ℕ) Error) : Type 0 where
@@ -50,11 +51,20 @@ pub record Completes (size : ℕ) (whole : Result ℤ Error) (front : Result (�
   -- a byte behind the front is an invalid digit
   pub left : (value : ℤ) (place : ℕ) → front ≡ Ok (value, place) → place < size → whole ≡ Err (InvalidDigit place)
   -- a fault is the same, unless it is that digits are missing
-  pub fault : (e : Error) → front ≡ Err e → is_empty e ≡ false → whole ≡ Err e
+  pub fault : (error : Error) → front ≡ Err error → is_empty error ≡ false → whole ≡ Err error
   -- digits are missing at the end
   pub empty : front ≡ Err (Empty size) → whole ≡ Err (Empty size)
   -- a byte stands where they are missing
   pub empty_left : (place : ℕ) → front ≡ Err (Empty place) → place < size → whole ≡ Err (InvalidDigit place)
+
+-- ---- range faults
+
+-- a value that leaves its type does so at a place within a text of this size
+abbrev pub LeavesWithin : {A : Type 0} → ℕ → Result A Error → Type 0
+LeavesWithin size (Ok found) = ⊤
+LeavesWithin size (Err (Overflow place)) = place < size
+LeavesWithin size (Err (Underflow place)) = place < size
+LeavesWithin size (Err error) = ⊤
 
 -- ---- locality
 
@@ -64,7 +74,7 @@ abbrev pub IsSettledAt : ℕ → ℕ → Result (ℤ × ℕ) Error → Type 0
 IsSettledAt size place (Ok found) = (found.1 ≡ place) × (place < size)
 IsSettledAt size place (Err (Overflow at)) = at ≡ place
 IsSettledAt size place (Err (Underflow at)) = at ≡ place
-IsSettledAt size place (Err e) = ⊥
+IsSettledAt size place (Err error) = ⊥
 
 -- two texts have the same first bytes, so many
 abbrev pub SameFront : ℕ → List ℕ → List ℕ → Type 0

@@ -29,14 +29,14 @@ numeral format text start radix = record {
   stop = numeral_stop format radix text start;
 }
 
--- how many digits it has
+-- how many digits a numeral has
 abbrev pub digit_count : Numeral → ℕ
-digit_count x = length x.digits
+digit_count numeral = length numeral.digits
 
--- the value of its first digits, so many, with the sign
+-- the value of a numeral's first digits, so many, with the sign
 abbrev pub front_value : Bool → Numeral → ℕ → ℤ
-front_value is_minus x count = signed is_minus (positional_value x.radix (take count x.digits))
+front_value is_minus numeral count = signed is_minus (positional_value numeral.radix (take count numeral.digits))
 
--- the value of all its digits, with the sign
+-- the value of all digits of a numeral, with the sign
 abbrev pub numeral_value : Bool → Numeral → ℤ
-numeral_value is_minus x = front_value is_minus x (digit_count x)
+numeral_value is_minus numeral = front_value is_minus numeral (digit_count numeral)

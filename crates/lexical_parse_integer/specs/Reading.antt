@@ -9,13 +9,13 @@ use Rattle.lexical_parse_integer.specs.Numeral.{Numeral, numeral, digit_count, f
 
 -- the values of the first fronts, so many, are numbers of the type
 abbrev pub FrontsFit : IntegerType → Bool → Numeral → ℕ → Type 0
-FrontsFit type is_minus x count = (k : ℕ) → k < count → is_number type (front_value is_minus x (k + 1)) ≡ true
+FrontsFit type is_minus numeral count = (index : ℕ) → index < count → is_number type (front_value is_minus numeral (index + 1)) ≡ true
 
 -- a value is that of the first digits, so many, and each front so far is a number of the type
-pub record Reads (type : IntegerType) (is_minus : Bool) (x : Numeral) (read : ℕ) (value : ℤ) : Type 0 where
-  pub count : read ≤ digit_count x
-  pub front : value ≡ front_value is_minus x read
-  pub fit : FrontsFit type is_minus x read
+pub record Reads (type : IntegerType) (is_minus : Bool) (numeral : Numeral) (read : ℕ) (value : ℤ) : Type 0 where
+  pub count : read ≤ digit_count numeral
+  pub front : value ≡ front_value is_minus numeral read
+  pub fit : FrontsFit type is_minus numeral read
 
 -- a cursor has gone on in its numeral
 pub record GoesOn (old new : CursorView) : Type 0 where

@@ -14,13 +14,13 @@ word_length bits = if nat_le 64 bits then 8 else 4
 abbrev pub turns_bound : ℕ → ℕ → ℕ → ℕ
 turns_bound word room digits = min digits room / word + min digits room % word + (digits - min digits room)
 
--- few turns for a text: none at a sign's fault
+-- few turns for a text: no more than the bound, for a radix in force of at most 10, and none at a sign's fault
 abbrev pub HasFewTurns : Format → IntegerType → List ℕ → ℕ → Type 0
 HasFewTurns format type text turns = MatchResult (head_of format type text)
     (λ head. head.radix ≤ 10 → turns ≤ turns_bound (word_length type.bits) (overflow_digits type head.radix) (digit_count (numeral format text head.start head.radix)))
     (λ e. turns ≡ 0)
 
--- words are to be taken
+-- words are asked for: options and format admit them, and the type is wide enough
 pub record AsksWords (bits : ℕ) (no_multi_digit : Bool) (format : Format) : Type 0 where
   pub multi : no_multi_digit ≡ false
   pub wide : 32 ≤ bits

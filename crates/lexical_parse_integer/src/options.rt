@@ -1,5 +1,5 @@
 //! Options of the parser: what it is told of its input.
-ghost use Rattle.std.specs.Prelude.{◌≡◌, true, false, IfOk, Ok, IsTrue};
+ghost use Rattle.std.specs.Prelude.{◌≡◌, true, false, Ok, IsTrue};
 
 use lexical_util::options::ParseOptions;
 use lexical_util::result::Result;

@@ -1,10 +1,9 @@
 -- How many digits of a radix a type has room for, and which numbers every type has.
 use Rattle.std.specs.Prelude.{◌≡◌, ◌≤◌, ◌<◌, ◌-◌, ◌*◌, ◌/◌, ◌^◌, ◌&&◌, ℕ, Bool, true, false, if◌then◌else◌, nat_lt, neg_ℤ, pos}
-use Rattle.std.proofs.Common.{◌∙◌, ap, arith, inl, inr, lit≤, suc, zero}
+use Rattle.std.proofs.Common.{◌∙◌, ap, arith, lit≤, suc, zero}
 use Rattle.std.proofs.Math.Nat.{le_trans, one-le-pow, pow-le-pow_left}
-use Rattle.std.proofs.lemmas.Bool.{cases_lt, lt-ltb}
-use Rattle.lexical_util.specs.Digit.{IsRadix}
-use Rattle.lexical_util.specs.Number.{HasRoom, IntegerType, IsNumber, IsWidth, integer_type, is_number, number_limit, overflow_digits}
+use Rattle.std.proofs.lemmas.Bool.{lt-ltb}
+use Rattle.lexical_util.specs.Number.{HasRoom, IntegerType, IsNumber, IsWidth, integer_type, is_number, number_limit}
 use Rattle.lexical_util.specs.Number.IsWidth.{w8, w16, w32, w64, w128}
 
 -- two digits a byte, less one where the type is signed, of a radix up to 16
@@ -58,14 +57,6 @@ small_has_room bits signed radix count width two small e = room_below (integer_t
 pub large_has_room : (bits : ℕ) (signed : Bool) (radix count : ℕ) → IsWidth bits → 2 ≤ radix → radix ≤ 36
     → count ≡ bits / 8 → HasRoom (integer_type bits signed) radix count
 large_has_room bits signed radix count width two high e = room_below (integer_type bits signed) radix count two (rw e (large_room signed width radix high))
-
--- every type has room for the digits that are joined with no test
-pub has_room : (bits : ℕ) (signed : Bool) (radix : ℕ) → IsWidth bits → IsRadix radix
-    → HasRoom (integer_type bits signed) radix (overflow_digits (integer_type bits signed) radix)
-has_room bits signed radix width is_radix = elim (cases_lt 16 radix) [
-  | inl large ↦ large_has_room bits signed radix _ width is_radix.low is_radix.high (grind arith)
-  | inr small ↦ small_has_room bits signed radix _ width is_radix.low small (grind arith)
-]
 
 -- every type has the numbers up to 127
 pub small_is_number : (bits : ℕ) (signed : Bool) (n : ℕ) → IsWidth bits → n ≤ 127 → IsNumber (integer_type bits signed) (pos n)

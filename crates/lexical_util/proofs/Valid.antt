@@ -78,22 +78,10 @@ pub separator_no_digit : (format : Format) (separator byte : ℕ) → fault form
     → lower byte ≡ lower separator → digit byte format.mantissa_radix ≡ None
 separator_no_digit format separator byte valid is_set alike = fit_no_digit _ _ separator byte (passes_rules format valid).separator is_set alike
 
--- what matches the prefix is no digit
-pub prefix_no_digit : (format : Format) (prefix byte : ℕ) → fault format ≡ None → format.base_prefix ≡ Some prefix
-    → lower byte ≡ lower prefix → digit byte format.mantissa_radix ≡ None
-prefix_no_digit format prefix byte valid is_set alike = fit_no_digit _ _ prefix byte (passes_rules format valid).prefix is_set alike
-
 -- what matches the suffix is no digit
 pub suffix_no_digit : (format : Format) (suffix byte : ℕ) → fault format ≡ None → format.base_suffix ≡ Some suffix
     → lower byte ≡ lower suffix → digit byte format.mantissa_radix ≡ None
 suffix_no_digit format suffix byte valid is_set alike = fit_no_digit _ _ suffix byte (passes_rules format valid).suffix is_set alike
-
--- what matches the prefix is not the separator
-pub prefix_no_separator : (format : Format) (prefix byte : ℕ) → fault format ≡ None → format.base_prefix ≡ Some prefix
-    → lower byte ≡ lower prefix → format.digit_separator ≢ Some byte
-prefix_no_separator format prefix byte valid is_set alike =
-    let apart = (or_parts (are_alike format.digit_separator format.base_prefix) _ (passes_rules format valid).apart).0 in
-    not_alike _ _ prefix byte apart is_set alike
 
 -- what matches the suffix is not the separator
 pub suffix_no_separator : (format : Format) (suffix byte : ℕ) → fault format ≡ None → format.base_suffix ≡ Some suffix

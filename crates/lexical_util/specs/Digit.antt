@@ -6,7 +6,7 @@ pub record IsRadix (radix : ℕ) : Type 0 where
   pub low : 2 ≤ radix
   pub high : radix ≤ 36
 
--- the byte is one from low to high
+-- whether a byte, or another number, is from low to high, with both
 abbrev pub is_between : ℕ → ℕ → ℕ → Bool
 is_between low high byte = nat_le low byte && nat_le byte high
 

@@ -1,7 +1,7 @@
 -- Formats, as contracts see them: the records of their fields.
 use Rattle.std.specs.Prelude.{ℕ, Bool, true, false, Option, None}
 
--- What a format says of the texts that it admits.
+-- What a format says of the texts that it admits. `NumberFormat` has a getter for each field, which says what it does.
 pub record Format : Type 0 where
   pub mantissa_radix : ℕ
   pub digit_separator : Option ℕ
@@ -41,7 +41,7 @@ standard = record {
   literal_prefixes = false;
 }
 
--- the integers of JSON: no plus, and no zero in front of another digit
+-- the integers of JSON: a digit is required, no plus is read, and no zero stands in front of another digit
 abbrev pub json : Format
 json = record standard {
   required_integer_digits = true;

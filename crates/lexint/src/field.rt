@@ -2,7 +2,7 @@
 
 ghost use Rattle.std.specs.Prelude.{◌≡◌};
 ghost use Rattle.std.specs.Str.{bytes_eq};
-ghost use Rattle.lexint.specs.Field.{change_in, field_name, field_named, flag_name, mark_in, mark_name, only_byte, radix_in, truth_in};
+ghost use Rattle.lexint.specs.Field.{change_in, field_name, field_named, flag_name, mark_in, mark_name, radix_in, truth_in};
 
 use lexical_parse_integer::FromLexical;
 

@@ -2,12 +2,14 @@
 use Rattle.std.proofs.Common.{◌≡◌, ◌∙◌, ℕ, zero, suc, ◌+◌, ◌-◌, ◌<◌, true, List, [], ◌∷◌, length, refl, sym, ap, subst, add-one, arith, Ok, Some}
 use Rattle.std.proofs.Math.IntN.{ℤ}
 use Rattle.std.proofs.lemmas.Bool.{lt-ltb}
-use Rattle.std.specs.Prelude.{◌&&◌, nat_lt, slice_get}
+use Rattle.std.specs.Prelude.{◌&&◌, is_some, nat_lt, option_and_then, slice_get}
+use Rattle.lexical_util.specs.Digit.{digit}
 use Rattle.lexical_util.specs.Format.{json}
 use Rattle.lexical_util.specs.Number.{integer_type}
 use Rattle.lexical_parse_integer.specs.Grammar.{partial}
+use Rattle.lexical_parse_integer.specs.Runs.{digit_at}
 use Rattle.lexical_parse_integer.specs.Laws.{IsLocal, IsSettledAt, SameFront}
-use Rattle.uses.specs.Digits.{digit_before, is_decimal}
+use Rattle.uses.specs.Digits.{digit_before}
 use Rattle.uses.specs.Json.{IsFinal}
 
 -- texts with the same first bytes have the same byte at each place among them
@@ -27,8 +29,9 @@ same_inside zero (x ∷ xs) (y ∷ ys) same inside = omega arith
 same_inside (suc n) (x ∷ xs) (y ∷ ys) same inside = let rest = same_inside n xs ys (cc) (omega arith) in omega arith
 
 same_digit : (text other : List ℕ) (place : ℕ) → SameFront (suc place) text other → digit_before other place ≡ digit_before text place
+unfolding digit_at
 same_digit text other place same =
-    ap (λ byte. nat_lt 0 place && is_decimal byte) (same_byte (suc place) (place - 1) text other same (omega arith))
+    ap (λ byte. nat_lt 0 place && is_some (option_and_then (λ c. digit c 10) byte)) (same_byte (suc place) (place - 1) text other same (omega arith))
 
 -- a front that ends before the text does
 pub final_behind : (text : List ℕ) (value : ℤ) (end : ℕ) → IsLocal json (integer_type 64 true) → partial json (integer_type 64 true) text ≡ Ok (value, end) → end < length text → IsFinal (end + 1) text

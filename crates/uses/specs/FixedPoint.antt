@@ -1,11 +1,12 @@
 -- Decimal numbers with so many fraction digits, in units of the last one.
-use Rattle.std.specs.Prelude.{ℕ, ◌+◌, ◌-◌, ◌^◌, Bool, true, false, ◌==◌, if◌then◌else◌, nat_le, List, drop, slice_get, ℤ, pos, ◌*ℤ◌, Option, None, Some, Result, Ok, Err}
+use Rattle.std.specs.Prelude.{ℕ, ◌+◌, ◌-◌, ◌^◌, Bool, true, false, ◌==◌, if◌then◌else◌, nat_le, List, drop, slice_get, ℤ, pos, ◌*ℤ◌, Some, Result, Ok, Err}
 use Rattle.std.specs.Option.{ok_or, option_map}
 use Rattle.lexical_util.specs.declared.error.Error.{Error}
 use Rattle.lexical_util.specs.declared.error.Error.TheVariants.{InvalidDigit}
 use Rattle.lexical_util.specs.Format.{Format, standard}
 use Rattle.lexical_util.specs.Number.{checked, integer_type, mul_add}
 use Rattle.lexical_parse_integer.specs.Grammar.{partial}
+use Rattle.lexical_parse_integer.specs.Runs.{are_same}
 use Rattle.uses.specs.Digits.{digit_before}
 use Rattle.uses.specs.declared.fixed_point.FixedPointError.{FixedPointError}
 use Rattle.uses.specs.declared.fixed_point.FixedPointError.TheVariants.{Whole, Fraction, TooManyDigits, OutOfRange}
@@ -19,14 +20,9 @@ abbrev pub and_then : Answer → (ℤ → ℕ → Answer) → Answer
 and_then (Ok found) next = next found.0 found.1
 and_then (Err e) next = Err e
 
--- whether a byte is there, and is this one
-abbrev pub is_byte : ℕ → Option ℕ → Bool
-is_byte wanted None = false
-is_byte wanted (Some byte) = byte == wanted
-
 -- whether a text begins with a minus
 abbrev pub is_negative : List ℕ → Bool
-is_negative text = is_byte 45 (slice_get text 0)
+is_negative text = are_same (Some 45) (slice_get text 0)
 
 -- ---- the whole part
 
@@ -64,7 +60,7 @@ fraction_at digits start text = fraction_by digits start (partial unsigned (inte
 -- the fraction behind a whole part: none where no point stands at its end
 abbrev pub fraction_behind : ℕ → ℕ → List ℕ → Answer
 fraction_behind digits end text =
-    if is_byte 46 (slice_get text end) then fraction_at digits (end + 1) text else Ok (pos 0, end)
+    if are_same (Some 46) (slice_get text end) then fraction_at digits (end + 1) text else Ok (pos 0, end)
 
 -- ---- the number
 

@@ -64,6 +64,7 @@ fn joined(is_negative: bool, whole: i64, fraction: i128, digits: usize) -> Optio
 }
 
 // Whether a text begins with a minus.
+#[tactic(auto, unfolding(lexical_parse_integer::specs::Runs::are_same))]
 fn is_negative(text: &[u8]) -> bool
     ensures { result ≡ is_negative text.now }
 {
@@ -113,6 +114,7 @@ fn fraction_at(text: &[u8], start: usize, digits: usize) -> Result<(i128, usize)
 }
 
 // The fraction behind a whole part that ends at `end`: none where no point stands there.
+#[tactic(auto, unfolding(lexical_parse_integer::specs::Runs::are_same))]
 fn fraction_behind(text: &[u8], end: usize, digits: usize) -> Result<(i128, usize), FixedPointError>
     requires { digits ≤ 18 }
     ensures answer { result ≡ fraction_behind digits end text.now }

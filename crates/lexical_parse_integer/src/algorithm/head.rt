@@ -1,8 +1,7 @@
 // What stands before the digits: the sign and the prefix.
-ghost use Rattle.std.specs.Prelude.{◌≡◌, ℕ, Err, IfErr, IfOk, OnErr, OnOk, length, ◌&&◌, ◌==◌};
+ghost use Rattle.std.specs.Prelude.{◌≡◌, Err, IfErr, IfOk, OnErr, OnOk, length, ◌&&◌, ◌==◌};
 ghost use Rattle.lexical_util.specs.Number.{integer_type};
 ghost use Rattle.lexical_parse_integer.specs.Answer.{seen};
-ghost use Rattle.lexical_parse_integer.specs.CursorView.{IsSound};
 ghost use Rattle.lexical_parse_integer.specs.Head.{head_of, sign};
 ghost use Rattle.lexical_parse_integer.specs.Reading.{IsAtHead};
 

@@ -1,6 +1,6 @@
 // All digits of a numeral, by the ways that options and format leave open.
 ghost use Rattle.std.specs.Prelude.{◌≡◌, ◌⊎◌, ◌+◌, ◌-◌, ◌≤◌, ◌↔◌, Some, None, false, IfErr, IfOk, IsTrue, OnOk};
-ghost use Rattle.lexical_util.specs.Number.{HasRoom, integer_type, overflow_digits};
+ghost use Rattle.lexical_util.specs.Number.{integer_type, overflow_digits};
 ghost use Rattle.lexical_parse_integer.specs.CursorView.{IsSound, numeral_of};
 ghost use Rattle.lexical_parse_integer.specs.Grammar.{range_fault};
 ghost use Rattle.lexical_parse_integer.specs.Numeral.{digit_count, numeral_value};

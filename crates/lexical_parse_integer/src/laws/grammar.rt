@@ -10,6 +10,7 @@ ghost use Rattle.lexical_util.specs.Digit.{IsRadix};
 ghost use Rattle.lexical_util.specs.Format.{Format};
 ghost use Rattle.lexical_util.specs.Number.{IntegerType, IsNumber};
 ghost use Rattle.lexical_util.specs.Validity.{fault};
+ghost use Rattle.lexical_parse_integer.specs.Laws.{LeavesWithin};
 
 use lexical_util::format::NumberFormat;
 
@@ -30,6 +31,17 @@ pub fn longest_run(bytes: &[u8], format: &NumberFormat, start: usize, place: usi
     requires within { start ≤ place }
     requires separator { separator_at format.now bytes.now place ≡ true }
     ensures { IsLongestRun format.now bytes.now start place }
+{}
+
+/// Where a value leaves its type, it does so at a place within the text.
+///
+/// As `u8`, `256x` gives `Overflow(2)`, and the text has four bytes. A fault where digits are missing
+/// may stand at the text's end.
+pub fn range_faults()
+    ensures front { (format : Format) (type : IntegerType) (text : List ℕ)
+        → LeavesWithin (length text) (partial format type text) }
+    ensures whole { (format : Format) (type : IntegerType) (text : List ℕ)
+        → LeavesWithin (length text) (complete format type text) }
 {}
 
 /// The complete answer follows from the partial one, by one equation and by the sentences of

@@ -3,8 +3,9 @@ ghost use Rattle.std.specs.Fmt.{decimal};
 ghost use Rattle.lexical_parse_integer.specs.Answer.{placed, seen};
 ghost use Rattle.lexical_parse_integer.specs.Laws.{IsSettledAt};
 
-use super::grammar::numerals;
+use super::grammar::{numerals, range_faults};
 use super::{complete_and_partial, local, numeral, rebuilt, small_and_large, zeros_in_front};
+use crate::FromLexical;
 use crate::options::{LARGE_NUMBERS, SMALL_NUMBERS};
 use lexical_util::error::Error;
 use lexical_util::format::{NumberFormatBuilder, STANDARD};
@@ -29,6 +30,15 @@ fn read_back(text: &[u8], value: u64) -> Answer<u64>
     numeral::<u64>(text, 10)
 }
 
+// The byte with which a value leaves `u8`: its place is within the text, so that no index fails.
+fn byte_too_many(text: &[u8]) -> Option<u8> {
+    range_faults();
+    match u8::from_lexical(text) {
+        Err(Error::Overflow(place)) => Some(text[place]),
+        _ => None,
+    }
+}
+
 #[test]
 fn complete_follows_partial(rt: HostRuntime) -> Result<(), Fail> {
     assert_eq!(rt;
@@ -43,6 +53,14 @@ fn complete_follows_partial(rt: HostRuntime) -> Result<(), Fail> {
         complete_and_partial::<i64>(b"_1_", &internal, &SMALL_NUMBERS),
         (Err(Error::InvalidDigit(0)), Err(Error::Empty(0)))
     );
+    Ok(())
+}
+
+#[test]
+fn a_value_leaves_its_type_within_the_text(rt: HostRuntime) -> Result<(), Fail> {
+    assert_eq!(rt; byte_too_many(b"256"), Some(b'6'));
+    assert_eq!(rt; byte_too_many(b"1000"), Some(b'0'));
+    assert_eq!(rt; byte_too_many(b"25x"), None);
     Ok(())
 }
 

@@ -6,7 +6,8 @@ use crate::{Error, NumberFormat, NumberFormatBuilder, Result};
 use std::process::Abort;
 use std::test::Fail;
 
-fn with_all_parts() -> NumberFormat {
+/// A sign, a prefix, digits with separators between them, and a suffix.
+pub fn with_all_parts() -> NumberFormat {
     NumberFormatBuilder::new()
         .digit_separator(Some(b'_'))
         .integer_internal_digit_separator(true)

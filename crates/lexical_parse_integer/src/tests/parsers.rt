@@ -5,6 +5,7 @@ ghost use Rattle.lexical_util.specs.Number.{integer_type};
 ghost use Rattle.lexical_parse_integer.specs.Answer.{placed, seen};
 ghost use Rattle.lexical_parse_integer.specs.Grammar.{complete, partial, partial_if_valid};
 
+use super::cursor::with_all_parts;
 use crate::algorithm::{
     algorithm_complete, algorithm_complete_on, algorithm_partial, algorithm_partial_on,
 };
@@ -111,16 +112,6 @@ fn parsers_of_a_type(rt: HostRuntime) {
     assert_eq!(rt; front, Ok((1234, 4)));
     let json = algorithm_complete::<i32>(b"-01", &JSON, &LARGE_NUMBERS);
     assert_eq!(rt; json, Err(Error::InvalidLeadingZeros(1)));
-}
-
-// A sign, a prefix, two digits with a separator between them, and a suffix.
-fn with_all_parts() -> NumberFormat {
-    NumberFormatBuilder::new()
-        .digit_separator(Some(b'_'))
-        .integer_internal_digit_separator(true)
-        .base_prefix(Some(b'x'))
-        .base_suffix(Some(b'h'))
-        .build_unchecked()
 }
 
 // At an answer the cursor stands behind the suffix, and counts the digits alone.
