@@ -10,7 +10,7 @@ ghost use Rattle.uses.specs.FixedPoint.{fixed_point_in, fraction_at, fraction_be
 
 use crate::digits::digit_before;
 use crate::narrow::as_i64;
-use lexical_parse_integer::laws::grammar::complete_by_partial;
+use lexical_parse_integer::laws::grammar::front_end;
 use lexical_parse_integer::{
     Error, FromLexical, FromLexicalWithOptions, NumberFormat, NumberFormatBuilder, options,
 };
@@ -87,7 +87,7 @@ fn read_digits(text: &[u8]) -> Result<(u64, usize), Error>
     ensures answer { seen (placed pos) result ≡ partial unsigned (integer_type 64 false) text.now }
     ensures within { IfOk result (λ found. found.1 ≤ length text.now) }
 {
-    complete_by_partial();
+    front_end();
     u64::from_lexical_partial_with_options(text, &unsigned(), &options::STANDARD)
 }
 
