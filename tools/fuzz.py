@@ -208,12 +208,14 @@ def reproduced(source: bytes) -> str:
 
 def tell(found: Difference, lines: List[bytes], comparison: Comparison) -> None:
     """Prints a difference at the smallest lines at which there is still one."""
+    line = comparison.compared["slow reading"] + found.number + 1
+    print(f"fuzz: a difference at line {line}; it is made smaller now", flush=True)
     first = next((number for number in range(found.number, -1, -1) if lines[number] == b"r"), 0)
     batch = lines[first:found.number + 1]
     failing = batch if comparison.difference(batch) else lines
     failing = smallest(failing, lambda fewer: comparison.difference(fewer) is not None)
     small = comparison.difference(failing)
-    print(f"fuzz: a difference at line {found.number + 1} of this run; {len(failing)} lines are enough for one:")
+    print(f"fuzz: {len(failing)} lines are enough for a difference:")
     print("".join(f"    {line!r}\n" for line in failing), end="")
     if small is not None:  # a program that answers in one way once and in another then has none now
         print(f"    line {small.number + 1}: expected by {small.judge}: {small.expected!r}, answered: {small.actual!r}")

@@ -13,7 +13,9 @@ from slow_reading import BYTE_FIELDS, FLAG_FIELDS, TYPES, IntegerType
 NAMES = tuple(TYPES)
 SMALL = b"0123456789abcdefghijklmnopqrstuvwxyz"
 CAPITALS = b"0123456789ABCDEFGHIJKLMNOPQRSTUVWXYZ"
-RADIXES = (2, 3, 4, 7, 8, 9, 10, 10, 10, 11, 12, 15, 16, 16, 17, 32, 35, 36)
+# Each radix, and most often those at which a reader of words, letters or prefixes may change its ways.
+RADIXES = tuple(range(2, 37)) + (2, 8, 9) * 2 + (10,) * 12 + (11, 16, 16, 16, 17, 36)
+ODD_RADIXES = (0, 1, 37, 100, 255) * 3
 SEPARATORS = b"___''., \t\r\0\x7fzZ:/@[`{n"
 LETTERS = b"xXxXoObBdDhHuULlfnNzZ$#\0~@`"
 SUFFIXES = b"hHhHuULlnNdDbBfFzZ%#\0~@`"
@@ -24,6 +26,7 @@ FIELDS = FLAGS + BYTE_FIELDS + ("mantissa_radix", "radix", "")
 ALL_BYTES = bytes(range(256))
 # the neighbours of digits, letters and ASCII, digits with the high bit set, and what is often a separator or a sign
 ODD_BYTES = b"\0\1\t\r +,-./09:@AZ[_`az{\x7f\x80\xb0\xb9\xff"
+DOUBTFUL_BYTES = (ODD_BYTES, LETTERS, SUFFIXES, SEPARATORS, ALL_BYTES)
 BAD_VALUES = (b"", b"none ", b"None", b"TRUE", b"true ", b" true", b"1", b"no", b"hh", b"-0", b"256", b"0x10", b"1e1",
               b"+", b"99999999999999999999", b"\xff\xff")
 TO_MUTATE = (b"r", b"c u8 12", b"p i128 0x1F", b"c usize ", b"f base_prefix x", b"f literal_prefixes true", b"t 0x1",
@@ -61,11 +64,18 @@ class Lines:
 
     def batch(self) -> List[bytes]:
         """A batch: `r`, fields, and then texts with other lines among them."""
-        self.radix, self.bytes, self.literal = 10, dict.fromkeys(BYTE_FIELDS), False
-        lines = [b"r"] + self.fields()
+        lines = [self.reset()]
+        if self.often(20):
+            return lines + self.doubtful_fields() + self.parses()
+        lines += self.fields()
         for _ in range(self.chance.randint(8, 40)):
             lines += self.among()
         return lines
+
+    def reset(self) -> bytes:
+        """The line that sets all fields back."""
+        self.radix, self.bytes, self.literal = 10, dict.fromkeys(BYTE_FIELDS), False
+        return b"r"
 
     def often(self, percent: float) -> bool:
         """Whether something happens that happens that often."""
@@ -124,6 +134,17 @@ class Lines:
             lines.append(self.set_byte("base_suffix", self.fit_byte(SUFFIXES)))
         return lines + self.flag_fields()
 
+    def doubtful_fields(self) -> List[bytes]:
+        """Fields that may make a format invalid, by one rule or by several."""
+        lines = [self.set_flag("literal_prefixes", True)] if self.often(40) else []
+        if self.often(40):
+            lines.append(self.set_radix(self.chance.choice(RADIXES + ODD_RADIXES)))
+        for field in BYTE_FIELDS:
+            if self.often(45):
+                lines.append(self.set_byte(field, self.chance.choice(self.chance.choice(DOUBTFUL_BYTES))))
+        self.chance.shuffle(lines)
+        return lines
+
     def separator_fields(self, among: bytes) -> List[bytes]:
         """A separator, and where it may stand."""
         lines = [self.set_byte("digit_separator", self.fit_byte(among))]
@@ -171,9 +192,9 @@ class Lines:
         if which < 0.15:
             return b"f %s %s" % (self.chance.choice(FIELDS).encode(), self.chance.choice(BAD_VALUES))
         if which < 0.35:
-            return self.set_radix(self.chance.choice((0, 1, 2, 8, 10, 10, 16, 36, 37, 255)))
+            return self.set_radix(self.chance.choice(RADIXES + ODD_RADIXES))
         if which < 0.65:
-            byte = self.chance.choice(self.chance.choice((ODD_BYTES, LETTERS, SEPARATORS, ALL_BYTES)))
+            byte = self.chance.choice(self.chance.choice(DOUBTFUL_BYTES))
             return self.set_byte(self.chance.choice(BYTE_FIELDS), None if self.often(20) else byte)
         return self.set_flag(self.chance.choice(FLAGS), self.often(60))
 
