@@ -30,7 +30,8 @@ from slow_reading import STANDARD, TOP, TYPES, Session
 
 PROGRAM = os.path.join(TOP, "crates", "lexint", "out", "lexint")
 DRIVER = os.path.join(TOP, "tools", "from_str_radix.rs")
-LINES_OF_A_RUN = 20000
+# How many lines a run of the program gets: those of a line or two meet the ends of reads, long ones full buffers.
+LINES_OF_RUNS = (1, 2, 5, 50, 1000, 20000, 20000)
 SECONDS_OF_A_RUN = 60
 DIGITS = b"0123456789abcdefghijklmnopqrstuvwxyz"
 LONGEST_INT = 4000  # digits; newer Pythons refuse more
@@ -186,12 +187,16 @@ def first_difference(expected: List[str], output: str) -> Difference:
 
 def random_runs(seed: int, wanted: int, tokens: bool) -> Iterator[List[bytes]]:
     """Runs of random batches, until there are as many lines as wanted."""
-    batches = Lines(random.Random(seed), tokens)
+    chance = random.Random(seed)
+    batches = Lines(chance, tokens)
     made = 0
     while made < wanted:
         lines: List[bytes] = []
-        while len(lines) < min(LINES_OF_A_RUN, wanted - made):
+        length = min(chance.choice(LINES_OF_RUNS), wanted - made)
+        while len(lines) < length:
             lines += batches.batch()
+        # A short run is the end of a batch, without the fields that stand in front.
+        lines = lines[-length:] if length < 50 else lines
         made += len(lines)
         yield lines
 
@@ -263,7 +268,7 @@ def main() -> int:
     given = arguments()
     if given.all:
         print(f"fuzz: all texts of up to {given.longest} bytes", flush=True)
-        runs = short_runs(given.longest, LINES_OF_A_RUN)
+        runs = short_runs(given.longest, max(LINES_OF_RUNS))
     else:
         print(f"fuzz: seed {given.seed}", flush=True)
         runs = random_runs(given.seed, given.lines, given.tokens)

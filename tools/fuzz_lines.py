@@ -17,8 +17,8 @@ CAPITALS = b"0123456789ABCDEFGHIJKLMNOPQRSTUVWXYZ"
 RADIXES = tuple(range(2, 37)) + (2, 8, 9) * 2 + (10,) * 12 + (11, 16, 16, 16, 17, 36)
 ODD_RADIXES = (0, 1, 37, 100, 255) * 3
 SEPARATORS = b"___''., \t\r\0\x7fzZ:/@[`{n"
-LETTERS = b"xXxXoObBdDhHuULlfnNzZ$#\0~@`"
-SUFFIXES = b"hHhHuULlnNdDbBfFzZ%#\0~@`"
+LETTERS = b"xXxXoObBdDhHuULlfnNzZ$#\0~@`[{"
+SUFFIXES = b"hHhHuULlnNdDbBfFzZ%#\0~@`[{"
 SEPARATOR_FLAGS = tuple(flag for flag in FLAG_FIELDS if flag.endswith("_digit_separator"))
 FLAGS = FLAG_FIELDS + ("required_digits", "no_multi_digit")
 OTHER_FLAGS = tuple(flag for flag in FLAGS if flag not in SEPARATOR_FLAGS + ("literal_prefixes",))
@@ -27,11 +27,11 @@ ALL_BYTES = bytes(range(256))
 # the neighbours of digits, letters and ASCII, digits with the high bit set, and what is often a separator or a sign
 ODD_BYTES = b"\0\1\t\r +,-./09:@AZ[_`az{\x7f\x80\xb0\xb9\xff"
 DOUBTFUL_BYTES = (ODD_BYTES, LETTERS, SUFFIXES, SEPARATORS, ALL_BYTES)
-BAD_VALUES = (b"", b"none ", b"None", b"TRUE", b"true ", b" true", b"1", b"no", b"hh", b"-0", b"256", b"0x10", b"1e1",
+BAD_VALUES = (b"", b"none ", b"None", b"TRUE", b"true ", b"falsee", b"1", b"no", b"hh", b"-0", b"256", b"0x10", b"1e1",
               b"+", b"99999999999999999999", b"\xff\xff")
 TO_MUTATE = (b"r", b"c u8 12", b"p i128 0x1F", b"c usize ", b"f base_prefix x", b"f literal_prefixes true", b"t 0x1",
              b"f mantissa_radix 16", b"", b" ", b"c", b"p", b"f", b"t")
-LITERALS = {2: b"0b", 8: b"0o", 16: b"0x"}
+LITERALS = {2: ord("b"), 8: ord("o"), 16: ord("x")}
 MANY_SIGNS = (b"+-", b"--", b"-+", b"_-", b"+ ")
 TAILS = (b" ", b"}", b".5", b"_", b"x", b"g", b"h", b"\r", b"\xff", b"\0", b"0", b"12345678", b"123456789")
 TOKEN_PIECES = (b"0x", b"0o", b"0b", b"0", b"_", b"__", b" ", b"\t", b"\r", b"+", b"-", b"x", b"abc", b"1_000", b"0xFF",
@@ -223,7 +223,7 @@ class Lines:
 
     def bad_line(self) -> bytes:
         """A line that no longer is what it was; it may be a good one still."""
-        line = self.chance.choice(TO_MUTATE)
+        line = self.any_field() if self.often(30) else self.chance.choice(TO_MUTATE)
         for _ in range(self.chance.choice((0, 1, 1, 1, 2, 3))):
             line = self.mutated(line)
         return without_line_feed(line)
@@ -263,20 +263,23 @@ class Lines:
         """A prefix, or none, and the radix behind it."""
         if self.literal and self.often(75):
             radix = self.chance.choice((2, 8, 16))
-            prefix = LITERALS[radix]
-            return (prefix.upper() if self.often(25) else prefix), radix
+            return b"0" + self.near(LITERALS[radix]), radix
         byte = self.bytes["base_prefix"]
         if byte is None or self.often(45):
             return (b"0x" if self.often(2) else b""), self.radix
-        letter = bytes([byte])
-        return b"0" + (letter.swapcase() if self.often(25) else letter), self.radix
+        return b"0" + self.near(byte), self.radix
+
+    def near(self, byte: int) -> bytes:
+        """The byte, at times in its other case if it is a letter, and at times one beside it."""
+        if self.often(72):
+            return bytes([byte])
+        # of bytes that are no letters, the one that differs as the cases of letters do is another
+        return bytes([byte ^ 0x20 if self.often(75) else (byte + self.chance.choice((1, -1))) % 256])
 
     def tail(self) -> bytes:
         """What stands behind the numeral: nothing, a suffix, or other bytes."""
         byte = self.bytes["base_suffix"]
-        suffix = b"" if byte is None or self.often(40) else bytes([byte])
-        if self.often(20):
-            suffix = suffix.swapcase()
+        suffix = b"" if byte is None or self.often(40) else self.near(byte)
         if self.often(75):
             return suffix
         return suffix + (suffix if self.often(15) else self.chance.choice(TAILS))
