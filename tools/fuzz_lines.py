@@ -191,6 +191,8 @@ class Lines:
         which = self.chance.random()
         if which < 0.15:
             return b"f %s %s" % (self.chance.choice(FIELDS).encode(), self.chance.choice(BAD_VALUES))
+        if which < 0.20:
+            return without_line_feed(b"f mantissa_radix " + self.mutated(b"%03d" % self.chance.randrange(300)))
         if which < 0.35:
             return self.set_radix(self.chance.choice(RADIXES + ODD_RADIXES))
         if which < 0.65:
