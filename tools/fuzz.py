@@ -185,18 +185,21 @@ def first_difference(expected: List[str], output: str) -> Difference:
 
 # ---- lines
 
+def gathered(batches: Lines, length: int) -> List[bytes]:
+    """The lines of one run of the program: batches of that length together, or the end of one for a short run."""
+    lines: List[bytes] = []
+    while len(lines) < length:
+        lines += batches.batch()
+    return lines[-length:] if length < 50 else lines
+
+
 def random_runs(seed: int, wanted: int, tokens: bool) -> Iterator[List[bytes]]:
     """Runs of random batches, until there are as many lines as wanted."""
     chance = random.Random(seed)
     batches = Lines(chance, tokens)
     made = 0
     while made < wanted:
-        lines: List[bytes] = []
-        length = min(chance.choice(LINES_OF_RUNS), wanted - made)
-        while len(lines) < length:
-            lines += batches.batch()
-        # A short run is the end of a batch, without the fields that stand in front.
-        lines = lines[-length:] if length < 50 else lines
+        lines = gathered(batches, min(chance.choice(LINES_OF_RUNS), wanted - made))
         made += len(lines)
         yield lines
 

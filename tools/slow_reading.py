@@ -161,6 +161,9 @@ def sign_of(form: Format, kind: IntegerType, text: bytes) -> Union[Sign, Fault]:
     return Fault("MissingSign", 0) if form.required_mantissa_sign else Sign(False, 0)
 
 
+LITERAL_RADIXES = ((ord("x"), 16), (ord("o"), 8), (ord("b"), 2))
+
+
 class Region(NamedTuple):
     """Where the numeral's region starts, whether a prefix stands before it, and the radix in force."""
 
@@ -176,7 +179,7 @@ def region_of(form: Format, text: bytes, place: int) -> Region:
         if form.base_prefix is not None and matches(letter, form.base_prefix, form.case_sensitive_base_prefix):
             return Region(place + 2, True, form.mantissa_radix)
         if form.literal_prefixes:
-            for known, radix in ((ord("x"), 16), (ord("o"), 8), (ord("b"), 2)):
+            for known, radix in LITERAL_RADIXES:
                 if matches(letter, known, form.case_sensitive_base_prefix):
                     return Region(place + 2, True, radix)
     return Region(place, False, form.mantissa_radix)
@@ -497,25 +500,32 @@ def answer_of_row(row) -> Tuple[Union[str, int], ...]:
     return ("Ok", answer.value, answer.stop) if row.parser == "partial" else ("Ok", answer.value)
 
 
-def check() -> int:
-    """Compares the slow reading with the worked rows, the stored run and RUNS, and answers the exit status."""
+Judged = Tuple[object, object, object]
+
+
+def judged_rows() -> Iterator[Judged]:
+    """Each row of tools/rows.txt, as its question, the answer here and the answer there."""
     import rows  # its reader of the rows; it stands beside this file
-    wrong = total = 0
-    for row in (row for file in rows.read_data(rows.DATA) for group in file.groups for row in group.rows):
-        total, answer = total + 1, answer_of_row(row)
-        if answer != row.answer:
-            wrong += 1
-            print(f"slow_reading: {row.question()}: {answer}, and the row says {row.answer}")
+    groups = (group for file in rows.read_data(rows.DATA) for group in file.groups)
+    return ((row.question(), answer_of_row(row), row.answer) for group in groups for row in group.rows)
+
+
+def judged_runs() -> Iterator[Judged]:
+    """The runs above and the stored one, as their input, the output here and the output there."""
     stored = os.path.join(TOP, "crates", "lexint")
     with open(os.path.join(stored, "stdin"), "rb") as source, open(os.path.join(stored, "stdout"), "rb") as wanted:
         runs = RUNS + [(source.read(), wanted.read().decode("ascii"))]
-    for source, wanted in runs:
-        total, output = total + 1, output_of(source)
-        if output != wanted:
-            wrong += 1
-            print(f"slow_reading: {source!r}: {output!r}, and not {wanted!r}")
-    print(f"slow_reading: {total} rows and runs, {wrong} answered in another way")
-    return 1 if wrong or not total else 0
+    return ((source, output_of(source), wanted) for source, wanted in runs)
+
+
+def check() -> int:
+    """Compares the slow reading with the worked rows and the runs, and answers the exit status."""
+    judged = list(judged_rows()) + list(judged_runs())
+    wrong = [one for one in judged if one[1] != one[2]]
+    for question, answer, wanted in wrong:
+        print(f"slow_reading: {question}: {answer!r}, and not {wanted!r}")
+    print(f"slow_reading: {len(judged)} rows and runs, {len(wrong)} answered in another way")
+    return 1 if wrong else 0
 
 
 def main() -> int:
