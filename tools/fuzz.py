@@ -34,6 +34,7 @@ DRIVER = os.path.join(TOP, "tools", "from_str_radix.rs")
 LINES_OF_RUNS = (1, 2, 5, 50, 1000, 20000, 20000)
 SECONDS_OF_A_RUN = 60
 DIGITS = b"0123456789abcdefghijklmnopqrstuvwxyz"
+PLAIN = {radix: replace(STANDARD, mantissa_radix=radix) for radix in range(2, 37)}
 LONGEST_INT = 4000  # digits; newer Pythons refuse more
 RUST_FAULTS = {
     "err PosOverflow": "Overflow ", "err NegOverflow": "Underflow ", "err Empty": "Empty 0\n",
@@ -82,9 +83,11 @@ def int_expects(question: Question) -> Optional[str]:
     if not set(digits.lower()) <= set(DIGITS[:question.radix]):
         return None
     value = int(question.text, question.radix)
-    if kind.has(value):
-        return f"ok {value}\n"
-    return "err Underflow " if negative else "err Overflow "
+    # said anew here, so that the slow reading's own ends of the types are compared as well
+    least, greatest = (-2 ** (kind.bits - 1), 2 ** (kind.bits - 1) - 1) if kind.signed else (0, 2 ** kind.bits - 1)
+    if value > greatest:
+        return "err Overflow "
+    return "err Underflow " if value < least else f"ok {value}\n"
 
 
 def rust_expects(question: Question, told: str) -> Optional[str]:
@@ -146,6 +149,8 @@ class Comparison:
             return None
         asked = b"".join(b"%s %d %s\n" % (question.name, question.radix, question.text) for question in questions)
         told = self.run(self.driver, asked).splitlines()
+        if len(told) != len(questions):
+            sys.exit(f"fuzz: from_str_radix answered {len(told)} of {len(questions)} lines, the last one {told[-1:]}")
         return self.first_unexpected("from_str_radix", questions, map(rust_expects, questions, told))
 
     def first_unexpected(
@@ -161,7 +166,7 @@ class Comparison:
 
 def is_plain(session: Session) -> bool:
     """Whether the format is valid, and the standard one but for its radix."""
-    return session.fault is None and session.form == replace(STANDARD, mantissa_radix=session.form.mantissa_radix)
+    return session.form == PLAIN.get(session.form.mantissa_radix)
 
 
 def question_of(number: int, line: bytes, session: Session, answer: str) -> List[Question]:
