@@ -5,8 +5,9 @@
     python3 tools/slow_reading.py --check    reads the worked rows, the stored run and the runs below, and compares
 
 Written from docs/GRAMMAR.md and crates/lexint/README.md, and not from the code or the definitions in specs/, so that a
-slip there isn't repeated here. It looks at the whole text by its places, as the grammar does: it finds each run of separators once and judges it by its neighbours, takes the greatest end, adds the digits up
-without bound, and then asks for each fault in the grammar's order. Nothing of it follows the program's steps.
+slip there isn't repeated here. It looks at the whole text by its places, as the grammar does: it finds each run of
+separators once and judges it by its neighbours, takes the greatest end, adds the digits up without bound, and then asks
+for each fault in the grammar's order. Nothing of it follows the program's steps.
 
 Needs Python 3.8 and nothing else.
 """
