@@ -32,7 +32,7 @@ PROGRAM = os.path.join(TOP, "crates", "lexint", "out", "lexint")
 DRIVER = os.path.join(TOP, "tools", "from_str_radix.rs")
 # How many lines a run of the program gets: those of a line or two meet the ends of reads, long ones full buffers.
 LINES_OF_RUNS = (1, 2, 5, 50, 1000, 20000, 20000)
-SECONDS_OF_A_RUN = 60
+SECONDS_OF_A_RUN = 20
 DIGITS = b"0123456789abcdefghijklmnopqrstuvwxyz"
 PLAIN = {radix: replace(STANDARD, mantissa_radix=radix) for radix in range(2, 37)}
 LONGEST_INT = 4000  # digits; newer Pythons refuse more
