@@ -3,13 +3,14 @@
 # make lexint  the program alone, as crates/lexint/out/lexint
 # make install puts it into $(PREFIX)/bin
 # make rows    writes the theorems and tests of the worked rows anew from tools/rows.txt
+# make fuzz    runs the program beside a slow reading of the grammar: make fuzz SEED=1 LINES=1000000
 
 RT ?= rt
 PREFIX ?= /usr/local
 PROGRAM := crates/lexint/out/lexint
 SOURCES := $(shell find crates -name out -prune -o -type f \( -name '*.rt' -o -name '*.antt' \) -print) crates.txt
 
-.PHONY: run test lexint install rows
+.PHONY: run test lexint install rows fuzz
 
 run: $(PROGRAM)
 	@./$(PROGRAM)
@@ -33,3 +34,11 @@ install: $(PROGRAM)
 rows:
 	@python3 tools/rows.py
 	@cd crates/lexical_parse_integer && $(RT) fmt
+
+# What the fuzz run asks for: the seed that a run before has printed, and how many lines.
+SEED ?=
+LINES ?= 200000
+
+fuzz: $(PROGRAM)
+	@python3 tools/slow_reading.py --check
+	@python3 tools/fuzz.py --lines $(LINES) $(if $(SEED),--seed $(SEED))

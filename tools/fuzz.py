@@ -1,0 +1,289 @@
+#!/usr/bin/env python3
+"""Runs the built program beside the slow reading of the grammar, and stops at the first difference.
+
+    python3 tools/fuzz.py [--program PATH] [--seed N] [--lines N] [--tokens]     random lines
+    python3 tools/fuzz.py [--program PATH] [--tokens] --all [--longest N]        all short texts under a list of formats
+
+The seed is printed, and the same seed gives the same lines. A difference is made as small as it can be and printed,
+and the status is then 1. `--tokens` says that the program knows the lines of tokens; without it they are bad lines.
+
+Where the format is the standard one or differs from it in the radix alone, complete parses are also compared with
+Python's `int`, and with Rust's `from_str_radix` by tools/from_str_radix.rs, where there is a rustc.
+"""
+from __future__ import annotations
+
+import argparse
+import os
+import random
+import shutil
+import subprocess
+import sys
+import tempfile
+from collections import Counter
+from dataclasses import replace
+from typing import Iterable, Iterator, List, NamedTuple, Optional
+
+from fuzz_lines import Lines
+from fuzz_short import short_runs
+from fuzz_shrink import smallest
+from slow_reading import STANDARD, TOP, TYPES, Session
+
+PROGRAM = os.path.join(TOP, "crates", "lexint", "out", "lexint")
+DRIVER = os.path.join(TOP, "tools", "from_str_radix.rs")
+# How many lines a run of the program gets: those of a line or two meet the ends of reads, long ones full buffers.
+LINES_OF_RUNS = (1, 2, 5, 50, 1000, 20000, 20000)
+SECONDS_OF_A_RUN = 20
+DIGITS = b"0123456789abcdefghijklmnopqrstuvwxyz"
+PLAIN = {radix: replace(STANDARD, mantissa_radix=radix) for radix in range(2, 37)}
+LONGEST_INT = 4000  # digits; newer Pythons refuse more
+RUST_FAULTS = {
+    "err PosOverflow": "Overflow ", "err NegOverflow": "Underflow ", "err Empty": "Empty 0\n",
+    "err InvalidDigit": "InvalidDigit ",
+}
+
+
+class Difference(NamedTuple):
+    """An answer that is not the expected one: the line's number from 0, who expected what, and what was answered."""
+
+    number: int
+    judge: str
+    expected: str
+    actual: str
+
+
+class Question(NamedTuple):
+    """A complete parse that int and from_str_radix can be asked too, with the program's answer."""
+
+    number: int
+    name: bytes
+    radix: int
+    text: bytes
+    answer: str
+
+
+# ---- the judges
+
+def source_of(lines: List[bytes]) -> bytes:
+    """The input of these lines. The last one needs no line feed: it has none where its length is odd."""
+    source = b"\n".join(lines)
+    return source if lines and len(lines[-1]) % 2 else source + b"\n" * bool(lines)
+
+
+def int_expects(question: Question) -> Optional[str]:
+    """How the answer begins by Python's `int`; None where that reads other texts than the grammar does.
+
+    `int` takes blanks, `_` and prefixes, so it is asked for digits with a sign alone. It also takes a minus where the
+    type is unsigned, and there the program has no sign, but a byte that is no digit.
+    """
+    kind = TYPES[question.name]
+    negative = question.text[:1] == b"-"
+    digits = question.text[1:] if question.text[:1] in (b"+", b"-") else question.text
+    if not 0 < len(digits) <= LONGEST_INT or (negative and not kind.signed):
+        return None
+    if not set(digits.lower()) <= set(DIGITS[:question.radix]):
+        return None
+    value = int(question.text, question.radix)
+    # said anew here, so that the slow reading's own ends of the types are compared as well
+    least, greatest = (-2 ** (kind.bits - 1), 2 ** (kind.bits - 1) - 1) if kind.signed else (0, 2 ** kind.bits - 1)
+    if value > greatest:
+        return "err Overflow "
+    return "err Underflow " if value < least else f"ok {value}\n"
+
+
+def rust_expects(question: Question, told: str) -> Optional[str]:
+    """How the answer begins by what `from_str_radix` told; None where it was told nothing.
+
+    One thing differs: a sign alone is an InvalidDigit there, and Empty behind the sign here. Both take a plus at every
+    type and a minus at the signed ones alone, both read `-0` as 0, and both tell an overflow and no byte behind it.
+    """
+    if told == "none":
+        return None
+    if told.startswith("ok "):
+        return told + "\n"
+    signs = (b"+", b"-") if TYPES[question.name].signed else (b"+",)
+    if told == "err InvalidDigit" and question.text in signs:
+        return "err Empty 1\n"
+    return "err " + RUST_FAULTS[told]
+
+
+class Comparison:
+    """The program beside its judges."""
+
+    def __init__(self, program: str, driver: Optional[str], tokens: bool) -> None:
+        """DRIVER: the compiled tools/from_str_radix.rs, if there is one."""
+        self.program, self.driver, self.tokens = program, driver, tokens
+        self.compared: Counter = Counter()
+
+    def run(self, command: str, source: bytes) -> str:
+        """What the command writes, and behind it how it ended, where that isn't well."""
+        try:
+            done = subprocess.run([command], input=source, capture_output=True, timeout=SECONDS_OF_A_RUN)
+        except subprocess.TimeoutExpired:
+            return f"no end in {SECONDS_OF_A_RUN} seconds\n"
+        output = done.stdout.decode("latin-1")
+        if done.returncode or done.stderr:
+            output += f"status {done.returncode} {done.stderr.decode('latin-1').strip()}\n"
+        return output
+
+    def difference(self, lines: List[bytes]) -> Optional[Difference]:
+        """The first difference at these lines."""
+        session = Session(self.tokens)
+        expected, questions = [], []
+        for number, line in enumerate(lines):
+            expected.append(session.answer(line))
+            if line.startswith(b"c ") and is_plain(session):
+                questions += question_of(number, line, session, expected[-1])
+        output = self.run(self.program, source_of(lines))
+        if output != "".join(expected):
+            return first_difference(expected, output)
+        found = self.by_int(questions) or self.by_rust(questions)
+        self.compared["slow reading"] += 0 if found else len(lines)
+        return found
+
+    def by_int(self, questions: List[Question]) -> Optional[Difference]:
+        """The first answer that isn't that of `int`."""
+        return self.first_unexpected("int", questions, map(int_expects, questions))
+
+    def by_rust(self, questions: List[Question]) -> Optional[Difference]:
+        """The first answer that isn't that of `from_str_radix`."""
+        if self.driver is None:
+            return None
+        asked = b"".join(b"%s %d %s\n" % (question.name, question.radix, question.text) for question in questions)
+        told = self.run(self.driver, asked).splitlines()
+        if len(told) != len(questions):
+            sys.exit(f"fuzz: from_str_radix answered {len(told)} of {len(questions)} lines, the last one {told[-1:]}")
+        return self.first_unexpected("from_str_radix", questions, map(rust_expects, questions, told))
+
+    def first_unexpected(
+            self, judge: str, questions: List[Question], expected: Iterable[Optional[str]]) -> Optional[Difference]:
+        """The first answer that doesn't begin as the judge expects."""
+        for question, wanted in zip(questions, expected):
+            if wanted is not None:
+                self.compared[judge] += 1
+                if not question.answer.startswith(wanted):
+                    return Difference(question.number, judge, wanted, question.answer)
+        return None
+
+
+def is_plain(session: Session) -> bool:
+    """Whether the format is valid, and the standard one but for its radix."""
+    return session.form == PLAIN.get(session.form.mantissa_radix)
+
+
+def question_of(number: int, line: bytes, session: Session, answer: str) -> List[Question]:
+    """The question of a `c` line, where it is no bad line."""
+    if answer == "bad line\n":
+        return []
+    _, name, text = line.split(b" ", 2)
+    return [Question(number, name, session.form.mantissa_radix, text, answer)]
+
+
+def first_difference(expected: List[str], output: str) -> Difference:
+    """The first line whose answer isn't the expected one."""
+    place = 0
+    for number, wanted in enumerate(expected):
+        if not output.startswith(wanted, place):
+            lines = output[place:].splitlines(True)[:max(1, wanted.count("\n"))]
+            return Difference(number, "slow reading", wanted, "".join(lines))
+        place += len(wanted)
+    return Difference(len(expected) - 1, "slow reading", "no more lines\n", output[place:])
+
+
+# ---- lines
+
+def gathered(batches: Lines, length: int) -> List[bytes]:
+    """The lines of one run of the program: batches of that length together, or the end of one for a short run."""
+    lines: List[bytes] = []
+    while len(lines) < length:
+        lines += batches.batch()
+    return lines[-length:] if length < 50 else lines
+
+
+def random_runs(seed: int, wanted: int, tokens: bool) -> Iterator[List[bytes]]:
+    """Runs of random batches, until there are as many lines as wanted."""
+    chance = random.Random(seed)
+    batches = Lines(chance, tokens)
+    made = 0
+    while made < wanted:
+        lines = gathered(batches, min(chance.choice(LINES_OF_RUNS), wanted - made))
+        made += len(lines)
+        yield lines
+
+
+# ---- the run
+
+def reproduced(source: bytes) -> str:
+    """A printf that writes the source."""
+    plain = set(range(32, 127)) - set(b"\\%'")
+    names = {ord("\n"): "\\n", ord("%"): "%%", ord("\\"): "\\\\"}
+    text = "".join(chr(byte) if byte in plain else names.get(byte, f"\\{byte:03o}") for byte in source)
+    return f"printf '{text}'"
+
+
+def tell(found: Difference, lines: List[bytes], comparison: Comparison) -> None:
+    """Prints a difference at the smallest lines at which there is still one."""
+    line = comparison.compared["slow reading"] + found.number + 1
+    print(f"fuzz: a difference at line {line}; it is made smaller now", flush=True)
+    first = next((number for number in range(found.number, -1, -1) if lines[number] == b"r"), 0)
+    batch = lines[first:found.number + 1]
+    failing = batch if comparison.difference(batch) else lines
+    failing = smallest(failing, lambda fewer: comparison.difference(fewer) is not None)
+    small = comparison.difference(failing)
+    print(f"fuzz: {len(failing)} lines are enough for a difference:")
+    print("".join(f"    {line!r}\n" for line in failing), end="")
+    if small is not None:  # a program that answers in one way once and in another then has none now
+        print(f"    line {small.number + 1}: expected by {small.judge}: {small.expected!r}, answered: {small.actual!r}")
+    print(f"    {reproduced(source_of(failing))} | {comparison.program}")
+
+
+def compiled_driver(folder: str) -> Optional[str]:
+    """The driver of from_str_radix, compiled into the folder; None where there is no rustc."""
+    rustc = shutil.which("rustc")
+    if rustc is None:
+        print("fuzz: there is no rustc, so from_str_radix is left out")
+        return None
+    driver = os.path.join(folder, "from_str_radix")
+    subprocess.run([rustc, "-O", "-o", driver, DRIVER], check=True)
+    return driver
+
+
+def compare_all(runs: Iterable[List[bytes]], comparison: Comparison) -> int:
+    """Compares the runs, and answers the exit status."""
+    for lines in runs:
+        found = comparison.difference(lines)
+        if found is not None:
+            tell(found, lines, comparison)
+            return 1
+    counts = comparison.compared
+    print(f"fuzz: {counts['slow reading']} lines and no difference; {counts['int']} of their answers were compared "
+          f"with Python's int too, and {counts['from_str_radix']} with Rust's from_str_radix")
+    return 0
+
+
+def arguments() -> argparse.Namespace:
+    """The command line."""
+    parser = argparse.ArgumentParser(description="Runs the built program beside the slow reading of the grammar.")
+    parser.add_argument("--program", default=PROGRAM)
+    parser.add_argument("--seed", type=int, default=random.SystemRandom().randrange(10 ** 9))
+    parser.add_argument("--lines", type=int, default=200000)
+    parser.add_argument("--tokens", action="store_true", help="the program knows the lines of tokens")
+    parser.add_argument("--all", action="store_true", help="all short texts in the place of random lines")
+    parser.add_argument("--longest", type=int, default=5, help="how long these are at most")
+    return parser.parse_args()
+
+
+def main() -> int:
+    """The run that the command line asks for."""
+    given = arguments()
+    if given.all:
+        print(f"fuzz: all texts of up to {given.longest} bytes", flush=True)
+        runs = short_runs(given.longest, max(LINES_OF_RUNS))
+    else:
+        print(f"fuzz: seed {given.seed}", flush=True)
+        runs = random_runs(given.seed, given.lines, given.tokens)
+    with tempfile.TemporaryDirectory() as folder:
+        return compare_all(runs, Comparison(given.program, compiled_driver(folder), given.tokens))
+
+
+if __name__ == "__main__":
+    sys.exit(main())
