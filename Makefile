@@ -41,4 +41,4 @@ LINES ?= 200000
 
 fuzz: $(PROGRAM)
 	@python3 tools/slow_reading.py --check
-	@python3 tools/fuzz.py --lines $(LINES) $(if $(SEED),--seed $(SEED))
+	@python3 tools/fuzz.py --tokens --lines $(LINES) $(if $(SEED),--seed $(SEED))
