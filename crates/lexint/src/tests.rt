@@ -3,6 +3,7 @@
 mod devices;
 mod faults;
 mod fields;
+mod hostile;
 mod lines;
 mod pieces;
 
