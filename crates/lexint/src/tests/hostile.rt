@@ -1,4 +1,4 @@
-// Long inputs, and bytes that no line is made for. Each ends within a second or two.
+// Long inputs, and bytes that no line is made for.
 
 use super::devices::BlockWriter;
 use super::written;
