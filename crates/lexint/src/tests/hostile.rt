@@ -61,6 +61,13 @@ fn lines_of_mebibytes(rt: HostRuntime) -> Result<(), Fail> {
         ("c u8 2566", "x", 16, "\nr\n", "err Overflow 2\nok\n"),
         ("c u8 1", " ", 16, "\nr", "err InvalidDigit 1\nok\n"),
         ("f ", "r", 16, " true\n", "bad line\n"),
+        (
+            "f digit_separator ",
+            "_",
+            16,
+            "\nc u8 1",
+            "bad line\nok 1\n",
+        ),
         ("p i8 -", "9", 10, "", "err Underflow 3\n"),
         ("c ", "u", 10, " 1", "bad line\n"),
         ("", "\0", 10, "", "bad line\n"),
