@@ -9,10 +9,12 @@ use std::io::{Error, ErrorKind, Read, Result, Write};
 /// The most that a `FixedWriter` holds.
 pub const ROOM: usize = 128;
 
-/// Refuses one read, once it has given `good` of its bytes. A second try would be given the others.
+/// Gives `most` bytes a call, and refuses one read, once it has given `good` of them. A second try
+/// would be given the others.
 #[derive(Drop)]
 pub struct FailingReader<'a> {
     pub bytes: &'a [u8],
+    pub most: usize,
     pub good: usize,
     pub kind: ErrorKind,
 }
@@ -23,7 +25,8 @@ impl Read for FailingReader<'_> {
             self.good = usize::MAX;
             return Err(Error::from(self.kind));
         }
-        let count = self.bytes.len().min(buf.len()).min(self.good);
+        let given = self.bytes.len().min(self.most).min(self.good);
+        let count = given.min(buf.len());
         buf[..count].copy_from_slice(&self.bytes[..count]);
         self.bytes = &self.bytes[count..];
         self.good -= count;

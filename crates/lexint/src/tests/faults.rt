@@ -63,10 +63,11 @@ fn a_run_writes_an_answer_line_for_each_line(rt: HostRuntime) -> Result<(), Fail
 #[test]
 fn a_refused_read_writes_nothing(rt: HostRuntime) -> Result<(), Fail> {
     let long = blocks(rt.alloc())?;
-    for bytes in [INPUT, long.as_slice()] {
+    for (bytes, most) in [(INPUT, 1), (INPUT, 7), (long.as_slice(), usize::MAX)] {
         for good in 0..=bytes.len() {
             let mut input = FailingReader {
                 bytes,
+                most,
                 good,
                 kind: ErrorKind::Other,
             };
@@ -85,6 +86,7 @@ fn a_read_is_refused_whatever_the_fault(rt: HostRuntime) {
         for good in [0, 9, INPUT.len()] {
             let mut input = FailingReader {
                 bytes: INPUT,
+                most: usize::MAX,
                 good,
                 kind,
             };
