@@ -7,6 +7,7 @@ pub mod CursorLemmas
 pub mod DigitTexts
 pub mod First
 pub mod FitLemmas
+pub mod FrontEnds
 pub mod Fronts
 pub mod InARow
 pub mod LaneJoins

@@ -1,6 +1,6 @@
--- Each answer is one line of the output.
-use Rattle.std.proofs.Common.{◌≡◌, ℕ, ◌+◌, Bool, true, false, cond, ◌||◌, eqb, List, [], ◌∷◌, ◌++◌, map, Option, None, Some, Result, Ok, Err, pos, negsuc, suc, codes, refl, ap, ◌∙◌, arith}
-use Rattle.std.specs.List.{list_any, scan}
+-- The lines of the output are those of the answers.
+use Rattle.std.proofs.Common.{◌≡◌, ℕ, ◌+◌, Bool, true, false, cond, ◌||◌, eqb, List, [], ◌∷◌, ◌++◌, map, Option, None, Some, Result, Ok, Err, pos, negsuc, suc, codes, refl, ap, sym, ◌∙◌, append_assoc, arith}
+use Rattle.std.specs.List.{flat_map, list_any, scan}
 use Rattle.std.specs.Int.Digits.{digits_of}
 use Rattle.std.proofs.lemmas.Bool.Decides.{nat_tests}
 use Rattle.std.proofs.lemmas.List.Folds.{list_any-append}
@@ -9,11 +9,14 @@ use Rattle.lexical_parse_integer.specs.Grammar.{complete_if_valid, partial_if_va
 use Rattle.lexical_util.specs.declared.error.Error.{Error}
 use Rattle.lexical_util.specs.declared.error.Error.TheVariants.{Overflow}
 use Rattle.lexical_util.specs.Faults.{place_of}
-use Rattle.lexint.specs.Command.{Command, command_in, parse_complete, parse_partial, change, reset, type_of}
+use Rattle.lexint.specs.Command.{Command, command_in, parse_complete, parse_partial, list_tokens, change, reset, type_of}
 use Rattle.lexint.specs.Lines.{lines, onto_line}
 use Rattle.lexint.specs.Numeral.{numeral, signed_numeral}
-use Rattle.lexint.specs.Output.{answer_of, answers, command_answer, complete_text, fault_name, fault_text, output, partial_text, place_text, settings_after}
+use Rattle.lexint.specs.Output.{answer_lines, answer_of, answers, command_answer, command_lines, complete_text, fault_name, fault_text, kind_text, output, partial_text, place_text, settings_after, token_text, tokens_text}
 use Rattle.lexint.specs.Settings.{Settings, standard_settings}
+use Rattle.lexint.specs.Tokens.{TokenView, tokens}
+use Rattle.lexint.specs.declared.literals.Kind.{Kind}
+use Rattle.lexint.specs.declared.literals.Kind.TheVariants.{Number, Word, Byte, Fault}
 
 -- ---- no answer holds a line feed
 
@@ -69,16 +72,19 @@ partial_has_none (Ok found) =
     (both (codes "ok " ++ signed_numeral found.0) (codes " ") (value_has_none found.0) refl) (numeral_has_none found.1)
 partial_has_none (Err fault) = fault_has_none fault
 
-command_has_none : (settings : Settings) (command : Option Command) → HasNoFeed (command_answer settings command)
-command_has_none settings None = refl
-command_has_none settings (Some (parse_complete type text)) = complete_has_none (complete_if_valid settings.format (type_of type) text)
-command_has_none settings (Some (parse_partial type text)) = partial_has_none (partial_if_valid settings.format (type_of type) text)
-command_has_none settings (Some (change asked)) = refl
-command_has_none settings (Some reset) = refl
+kind_has_none : (kind : Kind) → HasNoFeed (kind_text kind)
+kind_has_none (Number value) = both (codes "number ") (numeral value) refl (numeral_has_none value)
+kind_has_none Word = refl
+kind_has_none Byte = refl
+kind_has_none (Fault fault) =
+    both (codes "fault " ++ fault_name fault) (place_text (place_of fault)) (both (codes "fault ") (fault_name fault) refl (name_has_none fault)) (place_has_none (place_of fault))
 
-answer_has_none : (settings : Settings) (line : List ℕ) → HasNoFeed (answer_of settings line)
-unfolding answer_of
-answer_has_none settings line = command_has_none settings (command_in line)
+token_has_none : (token : TokenView) → HasNoFeed (token_text token)
+token_has_none token =
+    both (kind_text token.kind ++ codes " " ++ numeral token.start ++ codes " ") (numeral token.stop)
+    (both (kind_text token.kind ++ codes " " ++ numeral token.start) (codes " ")
+    (both (kind_text token.kind ++ codes " ") (numeral token.start) (both (kind_text token.kind) (codes " ") (kind_has_none token.kind) refl) (numeral_has_none token.start)) refl)
+    (numeral_has_none token.stop)
 
 -- ---- lines
 
@@ -94,11 +100,35 @@ first_line (b ∷ text) more none =
     ap (λ c. cond c ([] ∷ lines (text ++ 10 ∷ [] ++ more)) (onto_line b (lines (text ++ 10 ∷ [] ++ more)))) here
     ∙ ap (λ ls. onto_line b ls) (first_line text more there)
 
-answers_in_lines : (settings : Settings) (ls : List (List ℕ)) → lines (answers settings ls) ≡ scan settings_after answer_of settings ls
+tokens_in_lines : (ts : List TokenView) (more : List ℕ) → lines (tokens_text ts ++ 10 ∷ [] ++ more) ≡ (map token_text ts ++ codes "end" ∷ []) ++ lines more
+tokens_in_lines [] more = first_line (codes "end") more refl
+tokens_in_lines (t ∷ ts) more =
+    let first = token_text t ++ 10 ∷ [] in
+    let rest = tokens_text ts in
+    ap lines (append_assoc (first ++ rest) (10 ∷ []) more ∙ append_assoc first rest (10 ∷ more) ∙ ap (λ l. first ++ l) (sym (append_assoc rest (10 ∷ []) more)))
+    ∙ first_line (token_text t) (tokens_text ts ++ 10 ∷ [] ++ more) (token_has_none t)
+    ∙ ap (λ ls. token_text t ∷ ls) (tokens_in_lines ts more)
+
+command_in_lines : (settings : Settings) (command : Option Command) (more : List ℕ)
+    → lines (command_answer settings command ++ 10 ∷ [] ++ more) ≡ command_lines settings command ++ lines more
+command_in_lines settings None more = first_line (codes "bad line") more refl
+command_in_lines settings (Some (parse_complete type text)) more =
+    let found = complete_if_valid settings.format (type_of type) text in first_line (complete_text found) more (complete_has_none found)
+command_in_lines settings (Some (parse_partial type text)) more =
+    let found = partial_if_valid settings.format (type_of type) text in first_line (partial_text found) more (partial_has_none found)
+command_in_lines settings (Some (list_tokens text)) more = tokens_in_lines (tokens text) more
+command_in_lines settings (Some (change asked)) more = first_line (codes "ok") more refl
+command_in_lines settings (Some reset) more = first_line (codes "ok") more refl
+
+answer_in_lines : (settings : Settings) (line more : List ℕ) → lines (answer_of settings line ++ 10 ∷ [] ++ more) ≡ answer_lines settings line ++ lines more
+unfolding answer_of answer_lines
+answer_in_lines settings line more = command_in_lines settings (command_in line) more
+
+answers_in_lines : (settings : Settings) (ls : List (List ℕ)) → lines (answers settings ls) ≡ flat_map (λ answer. answer) (scan settings_after answer_lines settings ls)
 answers_in_lines settings [] = refl
 answers_in_lines settings (line ∷ ls) =
-    first_line (answer_of settings line) (answers (settings_after settings line) ls) (answer_has_none settings line)
-    ∙ ap (λ more. answer_of settings line ∷ more) (answers_in_lines (settings_after settings line) ls)
+    answer_in_lines settings line (answers (settings_after settings line) ls)
+    ∙ ap (λ more. answer_lines settings line ++ more) (answers_in_lines (settings_after settings line) ls)
 
-pub output_in_lines : (input : List ℕ) → lines (output input) ≡ scan settings_after answer_of standard_settings (lines input)
+pub output_in_lines : (input : List ℕ) → lines (output input) ≡ flat_map (λ answer. answer) (scan settings_after answer_lines standard_settings (lines input))
 output_in_lines input = answers_in_lines standard_settings (lines input)

@@ -5,7 +5,7 @@ use Rattle.std.specs.Option.{option_and_then, option_map, unwrap_or}
 use Rattle.std.specs.Str.{bytes_eq}
 use Rattle.lexint.proofs.AfterLast.{is_none, at_first, at_none, at_rest}
 use Rattle.lexint.specs.Change.{changed}
-use Rattle.lexint.specs.Command.{Command, command_in, command_of, change_named, parts, parse_complete, parse_partial, change, reset, typed_in}
+use Rattle.lexint.specs.Command.{Command, command_in, command_of, change_named, parts, parse_complete, parse_partial, list_tokens, change, reset, typed_in}
 use Rattle.lexint.proofs.FieldChanges.{flag_by, mark_by, no_multi_digit_by, radix_by}
 use Rattle.lexint.specs.Given.{change_made, flag_given, flag_value, is_reset, last_of, mark_given, mark_value, no_multi_digit_given, radix_given, settings_left, IsAnsweredInTurn, LeavesLastGiven}
 use Rattle.lexint.specs.Output.{answer_of, answers, command_effect, settings_after}
@@ -20,6 +20,7 @@ abbrev IsNoReset : Option Command → Type 0
 IsNoReset None = Unit {0}
 IsNoReset (Some (parse_complete type text)) = Unit {0}
 IsNoReset (Some (parse_partial type text)) = Unit {0}
+IsNoReset (Some (list_tokens text)) = Unit {0}
 IsNoReset (Some (change asked)) = Unit {0}
 IsNoReset (Some reset) = ⊥
 
@@ -35,18 +36,20 @@ change_is_none : (asked : Option Change) → IsNoReset (option_map change asked)
 change_is_none None = tt
 change_is_none (Some c) = tt
 
--- whichever of three
-choice : (c p f : Bool) (x y z : Option Command) → IsNoReset x → IsNoReset y → IsNoReset z → IsNoReset (cond c x (cond p y (cond f z None)))
-choice true p f x y z a b d = a
-choice false true f x y z a b d = b
-choice false false true x y z a b d = d
-choice false false false x y z a b d = tt
+-- whichever of four
+choice : (c p t f : Bool) (w x y z : Option Command) → IsNoReset w → IsNoReset x → IsNoReset y → IsNoReset z
+    → IsNoReset (cond c w (cond p x (cond t y (cond f z None))))
+choice true p t f w x y z a b d e = a
+choice false true t f w x y z a b d e = b
+choice false false true f w x y z a b d e = d
+choice false false false true w x y z a b d e = e
+choice false false false false w x y z a b d e = tt
 
 cut_is_none : (cut : Option (List ℕ × List ℕ)) → IsNoReset (option_and_then command_of cut)
 cut_is_none None = tt
 cut_is_none (Some cut) =
-    choice (bytes_eq cut.0 (codes "c")) (bytes_eq cut.0 (codes "p")) (bytes_eq cut.0 (codes "f")) _ _ _
-    (complete_is_none (typed_in cut.1)) (partial_is_none (typed_in cut.1)) (change_is_none (change_named cut.1))
+    choice (bytes_eq cut.0 (codes "c")) (bytes_eq cut.0 (codes "p")) (bytes_eq cut.0 (codes "t")) (bytes_eq cut.0 (codes "f")) _ _ _ _
+    (complete_is_none (typed_in cut.1)) (partial_is_none (typed_in cut.1)) tt (change_is_none (change_named cut.1))
 
 -- ---- a field by its value in the settings, and what a change gives it
 
@@ -67,6 +70,7 @@ module _ {A : Type 0} (value : Settings → A) (given : Change → Option A) (by
   after_no_reset s None none = refl
   after_no_reset s (Some (parse_complete type text)) none = refl
   after_no_reset s (Some (parse_partial type text)) none = refl
+  after_no_reset s (Some (list_tokens text)) none = refl
   after_no_reset s (Some (change asked)) none = by_change asked s ∙ given_last (given asked) (value s)
   after_no_reset s (Some reset) none = absurd none
 

@@ -51,11 +51,12 @@ type_of Isize = integer_type 64 true
 
 -- ---- lines
 
--- What a line asks for: a complete or a partial parse of a text, a change of the settings, or the
--- standard ones.
+-- What a line asks for: a complete or a partial parse of a text, its tokens, a change of the
+-- settings, or the standard ones.
 pub data Command : Type 0 where
   parse_complete : TypeName → List ℕ → Command
   parse_partial : TypeName → List ℕ → Command
+  list_tokens : List ℕ → Command
   change : Change → Command
   reset : Command
 
@@ -87,8 +88,9 @@ abbrev pub command_of : List ℕ × List ℕ → Option Command
 command_of (letter, text) =
     if bytes_eq letter (codes "c") then parse_in parse_complete text
     else (if bytes_eq letter (codes "p") then parse_in parse_partial text
+    else (if bytes_eq letter (codes "t") then Some (list_tokens text)
     else (if bytes_eq letter (codes "f") then option_map change (change_named text)
-    else None))
+    else None)))
 
 -- what a line asks for, where it is one of the kinds of line
 abbrev pub command_in : List ℕ → Option Command
@@ -101,5 +103,6 @@ command_in line =
 abbrev pub seen_command : Asked → Command
 seen_command (asks.Complete type text) = parse_complete type text.now
 seen_command (asks.Partial type text) = parse_partial type text.now
+seen_command (asks.Tokens text) = list_tokens text.now
 seen_command (asks.Change setting) = change setting
 seen_command asks.Reset = reset

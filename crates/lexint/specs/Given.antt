@@ -4,7 +4,7 @@ use Rattle.std.specs.Prelude.{◌≡◌, ℕ, Bool, true, List, [], ◌∷◌, �
 use Rattle.std.specs.List.{after_last, filter_map}
 use Rattle.std.specs.Str.{bytes_eq}
 use Rattle.lexical_util.specs.Format.{Format, standard}
-use Rattle.lexint.specs.Command.{Command, command_in, parse_complete, parse_partial, change, reset}
+use Rattle.lexint.specs.Command.{Command, command_in, parse_complete, parse_partial, list_tokens, change, reset}
 use Rattle.lexint.specs.Field.{flag_name, mark_name}
 use Rattle.lexint.specs.Output.{answer_of, answers, settings_after}
 use Rattle.lexint.specs.Settings.{Settings, standard_settings}
@@ -87,6 +87,7 @@ abbrev pub change_made : Option Command → Option Change
 change_made None = None
 change_made (Some (parse_complete type text)) = None
 change_made (Some (parse_partial type text)) = None
+change_made (Some (list_tokens text)) = None
 change_made (Some (change asked)) = Some asked
 change_made (Some reset) = None
 

@@ -8,3 +8,5 @@ pub mod Lines
 pub mod Numeral
 pub mod Output
 pub mod Settings
+pub mod TokenCallers
+pub mod Tokens

@@ -1,5 +1,5 @@
 -- The shortest numeral of a number.
-use Rattle.std.specs.Prelude.{ℕ, suc, ◌≡◌, ◌+◌, ◌-◌, ◌<◌, ◌≤◌, length, List, [], ◌∷◌, map, if◌then◌else◌, ◌==◌, pos, negsuc, neg_ℤ, Bool}
+use Rattle.std.specs.Prelude.{ℕ, suc, ◌≡◌, ◌+◌, ◌-◌, ◌<◌, ◌≤◌, length, List, [], ◌∷◌, map, if◌then◌else◌, ◌==◌, pos, negsuc}
 use Rattle.std.specs.List.{AllByRecursion}
 use Rattle.std.specs.Int.Digits.{digits_of, number_from_digits, AllBelowBase}
 use lib.IntN.{ℤ}
@@ -13,10 +13,6 @@ numeral n = if n == 0 then 48 ∷ [] else map (λ d. 48 + d) (digits_of 10 n)
 abbrev pub signed_numeral : ℤ → List ℕ
 signed_numeral (pos n) = numeral n
 signed_numeral (negsuc n) = 45 ∷ numeral (suc n)
-
--- a whole number from its sign and its size
-abbrev pub signed : Bool → ℕ → ℤ
-signed is_negative size = if is_negative then neg_ℤ (pos size) else pos size
 
 -- the digits that a text writes
 abbrev pub digits_in : List ℕ → List ℕ

@@ -1,15 +1,18 @@
 -- What the program writes.
-use Rattle.std.specs.Prelude.{ℕ, List, [], ◌∷◌, ◌++◌, codes, Result, Ok, Err, Option, None, Some}
+use Rattle.std.specs.Prelude.{ℕ, List, [], ◌∷◌, ◌++◌, codes, map, Result, Ok, Err, Option, None, Some}
 use lib.IntN.{ℤ}
 use Rattle.lexical_parse_integer.specs.Grammar.{complete_if_valid, partial_if_valid}
 use Rattle.lexical_util.specs.declared.error.Error.{Error}
 use Rattle.lexical_util.specs.declared.error.Error.TheVariants.{Overflow, Underflow, InvalidDigit, Empty, MissingSign, InvalidPositiveSign, InvalidLeadingZeros, InvalidMantissaRadix, InvalidDigitSeparator, InvalidBasePrefix, InvalidBaseSuffix, InvalidPunctuation, InvalidLiteralPrefixes}
 use Rattle.lexical_util.specs.Faults.{place_of}
 use Rattle.lexint.specs.Change.{changed}
-use Rattle.lexint.specs.Command.{Command, command_in, parse_complete, parse_partial, change, reset, type_of}
+use Rattle.lexint.specs.Command.{Command, command_in, parse_complete, parse_partial, list_tokens, change, reset, type_of}
 use Rattle.lexint.specs.Lines.{lines}
 use Rattle.lexint.specs.Numeral.{numeral, signed_numeral}
 use Rattle.lexint.specs.Settings.{Settings, standard_settings}
+use Rattle.lexint.specs.Tokens.{TokenView, tokens}
+use Rattle.lexint.specs.declared.literals.Kind.{Kind}
+use Rattle.lexint.specs.declared.literals.Kind.TheVariants.{Number, Word, Byte, Fault}
 
 -- ---- answers
 
@@ -48,6 +51,24 @@ abbrev pub partial_text : Result (ℤ × ℕ) Error → List ℕ
 partial_text (Ok found) = codes "ok " ++ signed_numeral found.0 ++ codes " " ++ numeral found.1
 partial_text (Err fault) = fault_text fault
 
+-- ---- tokens
+
+-- `number V`, `word`, `byte`, or `fault NAME PLACE`
+abbrev pub kind_text : Kind → List ℕ
+kind_text (Number value) = codes "number " ++ numeral value
+kind_text Word = codes "word"
+kind_text Byte = codes "byte"
+kind_text (Fault fault) = codes "fault " ++ fault_name fault ++ place_text (place_of fault)
+
+-- what a token is, `START` and `STOP`
+abbrev pub token_text : TokenView → List ℕ
+token_text token = kind_text token.kind ++ codes " " ++ numeral token.start ++ codes " " ++ numeral token.stop
+
+-- a line for each token, and then `end`
+abbrev pub tokens_text : List TokenView → List ℕ
+tokens_text [] = codes "end"
+tokens_text (token ∷ more) = token_text token ++ 10 ∷ [] ++ tokens_text more
+
 -- ---- lines
 
 -- the answer to a command under the settings, and `bad line` where there is none
@@ -57,6 +78,7 @@ command_answer settings (Some (parse_complete type text)) =
     complete_text (complete_if_valid settings.format (type_of type) text)
 command_answer settings (Some (parse_partial type text)) =
     partial_text (partial_if_valid settings.format (type_of type) text)
+command_answer settings (Some (list_tokens text)) = tokens_text (tokens text)
 command_answer settings (Some (change asked)) = codes "ok"
 command_answer settings (Some reset) = codes "ok"
 
@@ -65,6 +87,7 @@ abbrev pub command_effect : Settings → Option Command → Settings
 command_effect settings None = settings
 command_effect settings (Some (parse_complete type text)) = settings
 command_effect settings (Some (parse_partial type text)) = settings
+command_effect settings (Some (list_tokens text)) = settings
 command_effect settings (Some (change asked)) = changed asked settings
 command_effect settings (Some reset) = standard_settings
 
@@ -75,6 +98,19 @@ answer_of settings line = command_answer settings (command_in line)
 -- the settings after a line
 unfoldable pub settings_after : Settings → List ℕ → Settings
 settings_after settings line = command_effect settings (command_in line)
+
+-- the lines of the answer to a command: one for each token and `end`, or a single one
+abbrev pub command_lines : Settings → Option Command → List (List ℕ)
+command_lines settings None = command_answer settings None ∷ []
+command_lines settings (Some (parse_complete type text)) = command_answer settings (Some (parse_complete type text)) ∷ []
+command_lines settings (Some (parse_partial type text)) = command_answer settings (Some (parse_partial type text)) ∷ []
+command_lines settings (Some (list_tokens text)) = map token_text (tokens text) ++ codes "end" ∷ []
+command_lines settings (Some (change asked)) = command_answer settings (Some (change asked)) ∷ []
+command_lines settings (Some reset) = command_answer settings (Some reset) ∷ []
+
+-- the lines of the answer to a line under the settings
+unfoldable pub answer_lines : Settings → List ℕ → List (List ℕ)
+answer_lines settings line = command_lines settings (command_in line)
 
 -- ---- output
 

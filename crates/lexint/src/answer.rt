@@ -7,6 +7,9 @@ ghost use Rattle.lexint.specs.Gather.{Gathers};
 ghost use Rattle.lexint.specs.Numeral.{numeral, signed_numeral};
 ghost use Rattle.lexint.specs.Output.{answer_of, command_answer, command_effect, complete_text, fault_name, fault_text, partial_text, place_text, settings_after};
 
+mod tokens;
+
+use crate::answer::tokens::put_tokens;
 use crate::batch::{Batch, put};
 use crate::command::Command;
 use crate::fault::RunError;
@@ -56,6 +59,7 @@ fn tell<W: Write>(
         Some(Command::Partial(name, text)) => {
             put_partial(parse::partial(name, text, settings), batch, out)
         }
+        Some(Command::Tokens(text)) => put_tokens(text, batch, out),
         Some(Command::Change(_)) | Some(Command::Reset) => put(b"ok", batch, out),
     }
 }

@@ -52,6 +52,8 @@ pub enum Command<'a> {
     Complete(TypeName, &'a [u8]),
     /// `p TYPE TEXT`: the partial parse of the text.
     Partial(TypeName, &'a [u8]),
+    /// `t TEXT`: the tokens of the text.
+    Tokens(&'a [u8]),
     /// `f FIELD VALUE`: a new value of a field.
     Change(Change),
     /// `r`: the standard settings.
@@ -76,6 +78,7 @@ impl<'a> Command<'a> {
                 let (name, text) = typed(text)?;
                 Some(Command::Partial(name, text))
             }
+            b"t" => Some(Command::Tokens(text)),
             b"f" => Some(Command::Change(change(text)?)),
             _ => None,
         }

@@ -1,11 +1,11 @@
 //! What the definitions of the program's output come to.
 
 ghost use Rattle.std.specs.Prelude.{◌≡◌, ℕ, List};
-ghost use Rattle.std.specs.List.{scan};
+ghost use Rattle.std.specs.List.{flat_map, scan};
 ghost use Rattle.lexint.specs.Given.{IsAnsweredInTurn, LeavesLastGiven};
 ghost use Rattle.lexint.specs.Lines.{lines, pieces, without_empty_last};
 ghost use Rattle.lexint.specs.Numeral.{numeral, IsShortest};
-ghost use Rattle.lexint.specs.Output.{answer_of, output, settings_after};
+ghost use Rattle.lexint.specs.Output.{answer_lines, output, settings_after};
 ghost use Rattle.lexint.specs.Settings.{standard_settings};
 
 /// The lines are the pieces between the line feeds, without the last where that is empty.
@@ -13,10 +13,11 @@ pub fn lines_are_pieces()
     ensures { (bytes : List ℕ) → lines bytes ≡ without_empty_last (pieces bytes) }
 {}
 
-/// The lines of the output are the answers to the lines of the input, one for each and in order.
-pub fn output_is_a_line_for_each_line()
+/// The lines of the output are those of the answers to the lines of the input, in order. An answer
+/// is a single line, or, where tokens are asked for, a line for each token and `end`.
+pub fn output_lines_are_those_of_the_answers()
     ensures { (input : List ℕ) → lines (output input)
-        ≡ scan settings_after answer_of standard_settings (lines input) }
+        ≡ flat_map (λ answer. answer) (scan settings_after answer_lines standard_settings (lines input)) }
 {}
 
 /// A numeral is the shortest text of digits that writes its number.

@@ -9,6 +9,7 @@ mod fault;
 mod field;
 mod laws;
 mod lines;
+pub mod literals;
 mod number;
 mod numeral;
 mod parse;

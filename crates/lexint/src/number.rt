@@ -13,7 +13,7 @@ pub struct Number {
 
 impl Model for Number {
     ghost use Rattle.std.specs.Prelude.{◌<◌, IsTrue, ℤ};
-    ghost use Rattle.lexint.specs.Numeral.{signed};
+    ghost use Rattle.lexical_parse_integer.specs.Value.{signed};
 
     ghost Value = { ℤ };
 

@@ -1,11 +1,13 @@
 //! What no clause says: worked lines, and devices that give and take bytes badly.
 
+mod caller;
 mod devices;
 mod faults;
 mod fields;
 mod hostile;
 mod lines;
 mod pieces;
+mod tokens;
 
 use crate::fault::RunError;
 use crate::program::run;

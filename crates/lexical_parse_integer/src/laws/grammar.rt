@@ -1,11 +1,11 @@
 //! What the definitions of the grammar come to, over every format, type and text.
 //!
 //! These calls do nothing. A proof that needs one of these laws calls it and has its clauses.
-ghost use Rattle.std.specs.Prelude.{◌≡◌, ◌≢◌, ◌≤◌, ◌⊎◌, true, List, length, slice_get, IsNone, Some, ℕ, ℤ};
+ghost use Rattle.std.specs.Prelude.{◌≡◌, ◌≢◌, ◌<◌, ◌≤◌, ◌⊎◌, true, List, length, slice_get, IsNone, Ok, Some, ℕ, ℤ};
 ghost use Rattle.std.specs.Fmt.{signed_decimal};
 ghost use Rattle.lexical_parse_integer.specs.Grammar.{complete, partial};
 ghost use Rattle.lexical_parse_integer.specs.Laws.{Completes, IsGreatestEnd, IsLocal, IsLongestRun, IsNumeralOf, ReadsNumerals, ReadsPadded, Writes, WritesShortest, completed};
-ghost use Rattle.lexical_parse_integer.specs.Runs.{separator_at};
+ghost use Rattle.lexical_parse_integer.specs.Runs.{digit_at, separator_at};
 ghost use Rattle.lexical_util.specs.Digit.{IsRadix};
 ghost use Rattle.lexical_util.specs.Format.{Format};
 ghost use Rattle.lexical_util.specs.Number.{IntegerType, IsNumber};
@@ -39,6 +39,18 @@ pub fn complete_by_partial()
         → complete format type text ≡ completed (length text) (partial format type text) }
     ensures sentences { (format : Format) (type : IntegerType) (text : List ℕ)
         → Completes (length text) (complete format type text) (partial format type text) }
+{}
+
+/// The front that is read of a text ends within the text, and it isn't empty where the text begins
+/// with a digit of the format's radix.
+///
+/// So a reader that takes one number after the other off its input comes to the input's end.
+pub fn front_end()
+    ensures within { (format : Format) (type : IntegerType) (text : List ℕ) (value : ℤ) (place : ℕ)
+        → partial format type text ≡ Ok (value, place) → place ≤ length text }
+    ensures some { (format : Format) (type : IntegerType) (text : List ℕ) (value : ℤ) (place digit : ℕ)
+        → digit_at format.mantissa_radix text 0 ≡ Some digit
+        → partial format type text ≡ Ok (value, place) → 0 < place }
 {}
 
 /// Under a valid format without a separator byte, a partial answer that is settled at a place is

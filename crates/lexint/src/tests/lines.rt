@@ -97,7 +97,7 @@ fn other_lines_are_bad(rt: HostRuntime) -> Result<(), Fail> {
         b"f".as_slice(),
         b"f ".as_slice(),
         b"f mantissa_radix".as_slice(),
-        b"t 1".as_slice(),
+        b"t".as_slice(),
         b"\xff".as_slice(),
     ] {
         let out = written(rt.alloc(), input)?;

@@ -1,0 +1,9 @@
+use Rattle.lexical_parse_integer.proofs.Completing.{partial_within}
+use Rattle.lexical_parse_integer.proofs.FrontEnds.{front_is_some}
+use Rattle.lexical_parse_integer.proofs.laws.grammar.front_end.Goals as goal
+
+pub returns-clause-within : goal.returns-clause-within
+returns-clause-within c = partial_within
+
+pub returns-clause-some : goal.returns-clause-some
+returns-clause-some c = front_is_some

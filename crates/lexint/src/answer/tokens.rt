@@ -1,0 +1,77 @@
+//! The answer to a line that asks for tokens.
+
+ghost use Rattle.std.specs.Prelude.{◌++◌, codes, OnOk, IsOkUnless};
+ghost use Rattle.lexical_util.specs.Faults.{place_of};
+ghost use Rattle.lexint.specs.Gather.{Gathers};
+ghost use Rattle.lexint.specs.Numeral.{numeral};
+ghost use Rattle.lexint.specs.Output.{fault_name, kind_text, place_text, token_text, tokens_text};
+ghost use Rattle.lexint.specs.Tokens.{seen_token, tokens};
+
+use crate::answer::{fault_name, put_place, put_place_of};
+use crate::batch::{Batch, put};
+use crate::fault::RunError;
+use crate::literals::{Kind, Token, Tokens};
+use crate::numeral;
+use lexical_parse_integer::Error;
+use std::io::Write;
+
+/// Writes a line for each token of the source, and then `end`.
+pub fn put_tokens<W: Write>(source: &[u8], batch: &mut Batch, out: &mut W) -> Result<(), RunError>
+    ensures ok { OnOk result (Gathers (W.contents out.old) batch.old (W.contents out.new) batch.new
+        (tokens_text (tokens source.now))) }
+    ensures fault { IsOkUnless result RunError.Write }
+{
+    for token in Tokens::new(source) {
+        put_token(&token, batch, out)?;
+        put(b"\n", batch, out)?;
+    }
+    put(b"end", batch, out)
+}
+
+// What a token is, and where it starts and stops.
+fn put_token<W: Write>(token: &Token<'_>, batch: &mut Batch, out: &mut W) -> Result<(), RunError>
+    ensures ok { OnOk result (Gathers (W.contents out.old) batch.old (W.contents out.new) batch.new
+        (token_text (seen_token token.now))) }
+    ensures fault { IsOkUnless result RunError.Write }
+{
+    put_kind(&token.kind, batch, out)?;
+    put_place(token.start, batch, out)?;
+    put_place(token.stop, batch, out)
+}
+
+// `number V`, `word`, `byte` or `fault NAME PLACE`.
+fn put_kind<W: Write>(kind: &Kind, batch: &mut Batch, out: &mut W) -> Result<(), RunError>
+    ensures ok { OnOk result (Gathers (W.contents out.old) batch.old (W.contents out.new) batch.new
+        (kind_text kind.now)) }
+    ensures fault { IsOkUnless result RunError.Write }
+{
+    match kind {
+        Kind::Number(value) => put_number(*value, batch, out),
+        Kind::Word => put(b"word", batch, out),
+        Kind::Byte => put(b"byte", batch, out),
+        Kind::Fault(fault) => put_token_fault(*fault, batch, out),
+    }
+}
+
+// `number V`.
+fn put_number<W: Write>(value: u128, batch: &mut Batch, out: &mut W) -> Result<(), RunError>
+    ensures ok { OnOk result (Gathers (W.contents out.old) batch.old (W.contents out.new) batch.new
+        (codes "number " ++ numeral value)) }
+    ensures fault { IsOkUnless result RunError.Write }
+{
+    put(b"number ", batch, out)?;
+    let mut digits = [0u8; numeral::MOST];
+    let start = numeral::write_numeral(value, &mut digits);
+    put(&digits[start..], batch, out)
+}
+
+// `fault NAME PLACE`.
+fn put_token_fault<W: Write>(fault: Error, batch: &mut Batch, out: &mut W) -> Result<(), RunError>
+    ensures ok { OnOk result (Gathers (W.contents out.old) batch.old (W.contents out.new) batch.new
+        (codes "fault " ++ fault_name fault ++ place_text (place_of fault))) }
+    ensures fault { IsOkUnless result RunError.Write }
+{
+    put(b"fault ", batch, out)?;
+    put(fault_name(fault).as_bytes(), batch, out)?;
+    put_place_of(fault, batch, out)
+}
