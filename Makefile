@@ -1,5 +1,6 @@
 # make run     builds the proved program where needed, and gives it standard input
 # make test    the gate: proves everything from nothing, and runs every test and must-fail edit
+# make devices runs the program alone over devices that refuse, which make test does too
 # make lexint  the program alone, as crates/lexint/out/lexint
 # make install puts it into $(PREFIX)/bin
 # make rows    writes the theorems and tests of the worked rows anew from tools/rows.txt
@@ -10,7 +11,7 @@ PREFIX ?= /usr/local
 PROGRAM := crates/lexint/out/lexint
 SOURCES := $(shell find crates -name out -prune -o -type f \( -name '*.rt' -o -name '*.antt' \) -print) crates.txt
 
-.PHONY: run test lexint install rows fuzz
+.PHONY: run test devices lexint install rows fuzz
 
 run: $(PROGRAM)
 	@./$(PROGRAM)
@@ -26,6 +27,10 @@ test:
 	@python3 tools/rows.py --check
 	@tools/lanes.sh
 	@$(RT) ci
+	@RT=$(RT) tools/devices.py
+
+devices: $(PROGRAM)
+	@RT=$(RT) tools/devices.py $(PROGRAM)
 
 install: $(PROGRAM)
 	install -d $(DESTDIR)$(PREFIX)/bin

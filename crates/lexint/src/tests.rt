@@ -4,6 +4,7 @@ mod caller;
 mod devices;
 mod faults;
 mod fields;
+mod hostile;
 mod lines;
 mod pieces;
 mod tokens;

@@ -1,6 +1,6 @@
 // Devices that give and take bytes badly.
 
-ghost use Rattle.std.specs.Prelude.{◌≤◌};
+ghost use Rattle.std.specs.Prelude.{◌≡◌, ◌≤◌, IfOk};
 
 use crate::buffer::Buffer;
 use std::alloc::AllocError;
@@ -9,19 +9,24 @@ use std::io::{Error, ErrorKind, Read, Result, Write};
 /// The most that a `FixedWriter` holds.
 pub const ROOM: usize = 128;
 
-/// Gives its bytes, and fails once it has given `good` of them.
+/// Gives `most` bytes a call, and refuses one read, once it has given `good` of them. A second try
+/// would be given the others.
 #[derive(Drop)]
 pub struct FailingReader<'a> {
     pub bytes: &'a [u8],
+    pub most: usize,
     pub good: usize,
+    pub kind: ErrorKind,
 }
 
 impl Read for FailingReader<'_> {
     fn read(&mut self, buf: &mut [u8]) -> Result<usize> {
         if self.good == 0 {
-            return Err(Error::from(ErrorKind::Other));
+            self.good = usize::MAX;
+            return Err(Error::from(self.kind));
         }
-        let count = self.bytes.len().min(buf.len()).min(self.good);
+        let given = self.bytes.len().min(self.most).min(self.good);
+        let count = given.min(buf.len());
         buf[..count].copy_from_slice(&self.bytes[..count]);
         self.bytes = &self.bytes[count..];
         self.good -= count;
@@ -29,21 +34,32 @@ impl Read for FailingReader<'_> {
     }
 }
 
-/// Gives a byte a call, and is interrupted once before each where it is told to be.
+/// Gives a byte a call, and is interrupted so many times before each of them and before the end.
 #[derive(Drop)]
 pub struct OneByteReader<'a> {
-    pub bytes: &'a [u8],
-    pub interrupted: bool,
-    pub ready: bool,
+    bytes: &'a [u8],
+    interruptions: usize,
+    left: usize,
+}
+
+impl<'a> OneByteReader<'a> {
+    /// One that has given nothing.
+    pub fn new(bytes: &'a [u8], interruptions: usize) -> OneByteReader<'a> {
+        OneByteReader {
+            bytes,
+            interruptions,
+            left: interruptions,
+        }
+    }
 }
 
 impl Read for OneByteReader<'_> {
     fn read(&mut self, buf: &mut [u8]) -> Result<usize> {
-        if self.interrupted && !self.ready {
-            self.ready = true;
+        if self.left > 0 {
+            self.left -= 1;
             return Err(Error::from(ErrorKind::Interrupted));
         }
-        self.ready = false;
+        self.left = self.interruptions;
         match (self.bytes.split_first(), buf.first_mut()) {
             (Some((first, more)), Some(place)) => {
                 *place = *first;
@@ -58,19 +74,23 @@ impl Read for OneByteReader<'_> {
 /// What a refused write answers.
 #[derive(Clone, Copy, Debug)]
 pub enum Refusal {
-    Other,
-    Interrupted,
+    Fault(ErrorKind),
     NoByte,
 }
 
-/// What a flush answers.
-#[derive(Clone, Copy, Debug)]
-pub enum Flush {
-    Good,
-    Refused(ErrorKind),
+impl Refusal {
+    fn answer(self) -> Result<usize>
+        ensures { IfOk result (λ taken. taken ≡ 0) }
+    {
+        match self {
+            Refusal::Fault(kind) => Err(Error::from(kind)),
+            Refusal::NoByte => Ok(0),
+        }
+    }
 }
 
-/// Takes bytes into an array, `most` a call, and refuses the write after `good` of them.
+/// Takes bytes into an array, `most` a call, and refuses one write, the one after `good` of them.
+/// A second try would be taken.
 #[derive(Drop)]
 pub struct FixedWriter {
     held: [u8; ROOM],
@@ -78,14 +98,13 @@ pub struct FixedWriter {
     most: usize,
     good: usize,
     refusal: Refusal,
-    flush: Flush,
     ghost in_range: { len ≤ 128 },
 }
 
 impl FixedWriter {
     /// One that refuses nothing.
     pub fn new(most: usize) -> FixedWriter {
-        FixedWriter::failing(most, usize::MAX, Refusal::Other)
+        FixedWriter::failing(most, usize::MAX, Refusal::NoByte)
     }
 
     /// One that refuses the write after `good` of them.
@@ -96,19 +115,6 @@ impl FixedWriter {
             most,
             good,
             refusal,
-            flush: Flush::Good,
-        }
-    }
-
-    /// One that takes all bytes and refuses the flush.
-    pub fn unflushed(kind: ErrorKind) -> FixedWriter {
-        FixedWriter {
-            held: [0; ROOM],
-            len: 0,
-            most: ROOM,
-            good: usize::MAX,
-            refusal: Refusal::Other,
-            flush: Flush::Refused(kind),
         }
     }
 
@@ -121,11 +127,8 @@ impl FixedWriter {
 impl Write for FixedWriter {
     fn write(&mut self, buf: &[u8]) -> Result<usize> {
         if self.good == 0 {
-            return match self.refusal {
-                Refusal::Other => Err(Error::from(ErrorKind::Other)),
-                Refusal::Interrupted => Err(Error::from(ErrorKind::Interrupted)),
-                Refusal::NoByte => Ok(0),
-            };
+            self.good = usize::MAX;
+            return self.refusal.answer();
         }
         self.good -= 1;
         let count = buf.len().min(self.most).min(ROOM - self.len);
@@ -135,44 +138,100 @@ impl Write for FixedWriter {
     }
 
     fn flush(&mut self) -> Result<()> {
-        match self.flush {
-            Flush::Good => Ok(()),
-            Flush::Refused(kind) => Err(Error::from(kind)),
-        }
+        Ok(())
     }
 }
 
-/// Counts the writes and their bytes, and refuses the write after `good` of them.
+/// Compares what it is given with a block of bytes that comes again and again, keeps none of it,
+/// and counts. It takes `most` bytes a call, and refuses one write or one flush.
 #[derive(Drop)]
-pub struct CountingWriter {
+pub struct BlockWriter<'a> {
+    block: &'a [u8],
+    place: usize,
+    most: usize,
+    good: usize,
+    refusal: Refusal,
+    unflushed: Option<ErrorKind>,
+    pub is_other: bool,
     pub writes: usize,
     pub bytes: usize,
-    good: usize,
+    pub flushed: usize,
 }
 
-impl CountingWriter {
-    /// One that has counted nothing.
-    pub fn new(good: usize) -> CountingWriter {
-        CountingWriter {
+impl<'a> BlockWriter<'a> {
+    /// One that refuses nothing.
+    pub fn new(block: &'a [u8], most: usize) -> BlockWriter<'a> {
+        BlockWriter {
+            block,
+            place: 0,
+            most,
+            good: usize::MAX,
+            refusal: Refusal::NoByte,
+            unflushed: None,
+            is_other: false,
             writes: 0,
             bytes: 0,
-            good,
+            flushed: 0,
+        }
+    }
+
+    /// One that refuses the write after `good` of them.
+    pub fn failing(block: &'a [u8], most: usize, good: usize, refusal: Refusal) -> BlockWriter<'a> {
+        let mut out = BlockWriter::new(block, most);
+        out.good = good;
+        out.refusal = refusal;
+        out
+    }
+
+    /// One that refuses the first flush.
+    pub fn unflushed(block: &'a [u8], kind: ErrorKind) -> BlockWriter<'a> {
+        let mut out = BlockWriter::new(block, usize::MAX);
+        out.unflushed = Some(kind);
+        out
+    }
+
+    /// Whether it was given the block so many times, and nothing else.
+    pub fn has_blocks(&self, times: usize) -> bool {
+        !self.is_other && self.bytes == times.saturating_mul(self.block.len())
+    }
+
+    fn compare(&mut self, bytes: &[u8]) {
+        for byte in bytes {
+            if self.place >= self.block.len() {
+                self.place = 0;
+            }
+            match self.block.get(self.place) {
+                Some(want) => self.is_other |= want != byte,
+                None => self.is_other = true,
+            }
+            self.place = self.place.saturating_add(1);
         }
     }
 }
 
-impl Write for CountingWriter {
+impl Write for BlockWriter<'_> {
     fn write(&mut self, buf: &[u8]) -> Result<usize> {
-        if self.writes >= self.good {
-            return Err(Error::from(ErrorKind::Other));
+        if self.good == 0 {
+            self.good = usize::MAX;
+            return self.refusal.answer();
         }
+        self.good -= 1;
+        let count = buf.len().min(self.most);
+        self.compare(&buf[..count]);
         self.writes = self.writes.saturating_add(1);
-        self.bytes = self.bytes.saturating_add(buf.len());
-        Ok(buf.len())
+        self.bytes = self.bytes.saturating_add(count);
+        Ok(count)
     }
 
     fn flush(&mut self) -> Result<()> {
-        Ok(())
+        self.flushed = self.bytes;
+        match self.unflushed {
+            Some(kind) => {
+                self.unflushed = None;
+                Err(Error::from(kind))
+            }
+            None => Ok(()),
+        }
     }
 }
 

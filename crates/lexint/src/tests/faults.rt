@@ -1,8 +1,11 @@
 // Runs over devices that refuse, and the answers of `RunError`.
 
-use super::devices::{FailingReader, FixedWriter, OneByteReader, ROOM, Refusal, RefusingBuffer};
+use super::devices::{
+    BlockWriter, FailingReader, FixedWriter, OneByteReader, ROOM, Refusal, RefusingBuffer,
+};
 use crate::fault::RunError;
 use crate::program::{output_in_memory, run, run_from, run_with};
+use std::alloc::{AllocError, Global};
 use std::io::ErrorKind;
 use std::test::Fail;
 
@@ -11,6 +14,41 @@ const INPUT: &[u8] =
 
 const OUTPUT: &[u8] =
     b"err Overflow 19\nok 1234\nok 1234 4\nok -128\nerr Underflow 3\nok 0 0\nerr Empty 0\nerr InvalidDigit 1\nbad line\n";
+
+/// Lines whose answers are longer than they are, so that a short input has several writes.
+const BLOCK: &[u8] = b"c u8 256\nc u8 \n\n\n\n\n\n\n\n\n\n\n\n\n";
+
+const ANSWERS: &[u8] =
+    b"err Overflow 2\nerr Empty 0\nbad line\nbad line\nbad line\nbad line\nbad line\nbad line\nbad line\nbad line\nbad line\nbad line\nbad line\nbad line\n";
+
+/// So many blocks have answers of more than two gathering arrays.
+const TIMES: usize = 1000;
+
+/// Faults that a run could mistake for an end, or for something to try again.
+const KINDS: [ErrorKind; 8] = [
+    ErrorKind::Other,
+    ErrorKind::WouldBlock,
+    ErrorKind::TimedOut,
+    ErrorKind::UnexpectedEof,
+    ErrorKind::BrokenPipe,
+    ErrorKind::WriteZero,
+    ErrorKind::OutOfMemory,
+    ErrorKind::InvalidInput,
+];
+
+const REFUSALS: [Refusal; 3] = [
+    Refusal::Fault(ErrorKind::Other),
+    Refusal::Fault(ErrorKind::Interrupted),
+    Refusal::NoByte,
+];
+
+fn blocks(alloc: Global) -> Result<Vec<u8>, AllocError> {
+    let mut input = Vec::new(alloc);
+    for _ in 0..TIMES {
+        input.extend_from_slice(BLOCK)?;
+    }
+    Ok(input)
+}
 
 #[test]
 fn a_run_writes_an_answer_line_for_each_line(rt: HostRuntime) -> Result<(), Fail> {
@@ -23,24 +61,52 @@ fn a_run_writes_an_answer_line_for_each_line(rt: HostRuntime) -> Result<(), Fail
 }
 
 #[test]
-fn a_refused_read_writes_nothing(rt: HostRuntime) {
-    for good in 0..=INPUT.len() {
-        let mut input = FailingReader { bytes: INPUT, good };
-        let mut out = FixedWriter::new(ROOM);
-        let answer = run_from(rt.alloc(), &mut input, &mut out);
-        assert_eq!(rt; answer, Err(RunError::Read), "after {good} bytes");
-        assert_eq!(rt; out.held(), b"".as_slice());
+fn a_refused_read_writes_nothing(rt: HostRuntime) -> Result<(), Fail> {
+    let long = blocks(rt.alloc())?;
+    for (bytes, most) in [(INPUT, 1), (INPUT, 7), (long.as_slice(), usize::MAX)] {
+        for good in 0..=bytes.len() {
+            let mut input = FailingReader {
+                bytes,
+                most,
+                good,
+                kind: ErrorKind::Other,
+            };
+            let mut out = FixedWriter::new(ROOM);
+            let answer = run_from(rt.alloc(), &mut input, &mut out);
+            assert_eq!(rt; answer, Err(RunError::Read), "after {good} bytes");
+            assert_eq!(rt; out.held(), b"".as_slice(), "after {good} bytes");
+        }
+    }
+    Ok(())
+}
+
+#[test]
+fn a_read_is_refused_whatever_the_fault(rt: HostRuntime) {
+    for kind in KINDS {
+        for good in [0, 9, INPUT.len()] {
+            let mut input = FailingReader {
+                bytes: INPUT,
+                most: usize::MAX,
+                good,
+                kind,
+            };
+            let mut out = FixedWriter::new(ROOM);
+            let answer = run_from(rt.alloc(), &mut input, &mut out);
+            assert_eq!(rt; answer, Err(RunError::Read), "{kind:?} after {good} bytes");
+            assert_eq!(rt; out.held(), b"".as_slice(), "{kind:?} after {good} bytes");
+        }
     }
 }
 
 #[test]
 fn a_refused_write_is_told(rt: HostRuntime) {
-    for refusal in [Refusal::Other, Refusal::Interrupted, Refusal::NoByte] {
+    for refusal in REFUSALS {
         for good in 0..OUTPUT.len() {
             let mut input: &[u8] = INPUT;
             let mut out = FixedWriter::failing(1, good, refusal);
             let answer = run_from(rt.alloc(), &mut input, &mut out);
             assert_eq!(rt; answer, Err(RunError::Write), "{refusal:?} after {good}");
+            assert_eq!(rt; out.held(), &OUTPUT[..good], "{refusal:?} after {good}");
         }
         let mut input: &[u8] = INPUT;
         let mut out = FixedWriter::failing(1, OUTPUT.len(), refusal);
@@ -49,28 +115,79 @@ fn a_refused_write_is_told(rt: HostRuntime) {
     }
 }
 
+/// The writes of a good run, which takes so many bytes a call, are counted first.
 #[test]
-fn a_refused_flush_is_told(rt: HostRuntime) {
-    for kind in [ErrorKind::Other, ErrorKind::Interrupted] {
-        let mut input: &[u8] = INPUT;
-        let mut out = FixedWriter::unflushed(kind);
-        let answer = run_from(rt.alloc(), &mut input, &mut out);
-        assert_eq!(rt; answer, Err(RunError::Write), "{kind:?}");
+fn each_refused_write_of_a_long_run_is_told(rt: HostRuntime) -> Result<(), Fail> {
+    let long = blocks(rt.alloc())?;
+    for (most, least_writes) in [(usize::MAX, 3), (10_000, 14)] {
+        let mut out = BlockWriter::new(ANSWERS, most);
+        assert_eq!(rt;
+            run_from(rt.alloc(), &mut long.as_slice(), &mut out),
+            Ok(())
+        );
+        assert!(rt; out.has_blocks(TIMES));
+        let writes = out.writes;
+        assert!(rt; writes >= least_writes);
+        for refusal in REFUSALS {
+            for good in 0..writes {
+                let mut out = BlockWriter::failing(ANSWERS, most, good, refusal);
+                let answer = run_from(rt.alloc(), &mut long.as_slice(), &mut out);
+                assert_eq!(rt; answer, Err(RunError::Write), "{refusal:?} after {good}");
+                assert_eq!(rt; out.writes, good, "{refusal:?}");
+                assert!(rt; !out.is_other, "{refusal:?} after {good}");
+            }
+        }
     }
+    Ok(())
 }
 
 #[test]
-fn bytes_go_one_at_a_time(rt: HostRuntime) {
-    for interrupted in [false, true] {
-        let mut input = OneByteReader {
-            bytes: INPUT,
-            interrupted,
-            ready: false,
-        };
+fn a_write_is_refused_whatever_the_fault(rt: HostRuntime) {
+    for kind in KINDS {
+        let mut input: &[u8] = INPUT;
+        let mut out = FixedWriter::failing(1, 9, Refusal::Fault(kind));
+        let answer = run_from(rt.alloc(), &mut input, &mut out);
+        assert_eq!(rt; answer, Err(RunError::Write), "{kind:?}");
+        assert_eq!(rt; out.held(), &OUTPUT[..9], "{kind:?}");
+    }
+}
+
+/// It comes once all is written.
+#[test]
+fn a_refused_flush_is_told(rt: HostRuntime) -> Result<(), Fail> {
+    let long = blocks(rt.alloc())?;
+    for (bytes, block, times) in [(INPUT, OUTPUT, 1), (long.as_slice(), ANSWERS, TIMES)] {
+        for kind in [
+            ErrorKind::Interrupted,
+            ErrorKind::Other,
+            ErrorKind::WouldBlock,
+        ] {
+            let mut input = bytes;
+            let mut out = BlockWriter::unflushed(block, kind);
+            let answer = run_from(rt.alloc(), &mut input, &mut out);
+            assert_eq!(rt; answer, Err(RunError::Write), "{kind:?}");
+            assert!(rt; out.has_blocks(times), "{kind:?}");
+            assert_eq!(rt; out.flushed, out.bytes, "{kind:?}");
+        }
+    }
+    Ok(())
+}
+
+#[test]
+fn bytes_go_one_at_a_time(rt: HostRuntime) -> Result<(), Fail> {
+    let long = blocks(rt.alloc())?;
+    for interruptions in [0, 1, 5] {
+        let mut input = OneByteReader::new(INPUT, interruptions);
         let mut out = FixedWriter::new(1);
         assert_eq!(rt; run_from(rt.alloc(), &mut input, &mut out), Ok(()));
         assert_eq!(rt; out.held(), OUTPUT);
+        let mut input = OneByteReader::new(&long, interruptions);
+        let mut out = BlockWriter::new(ANSWERS, 1);
+        assert_eq!(rt; run_from(rt.alloc(), &mut input, &mut out), Ok(()));
+        assert!(rt; out.has_blocks(TIMES));
+        assert_eq!(rt; out.flushed, out.bytes);
     }
+    Ok(())
 }
 
 /// It also passes where an allocation of the test is refused.
@@ -87,6 +204,8 @@ fn a_refused_allocation_writes_nothing(rt: HostRuntime) {
     }
 }
 
+/// The writers hold what they are given in an array, or not at all, so that no growth but the
+/// input's is there to refuse.
 #[test]
 fn each_refused_growth_writes_nothing(rt: HostRuntime) {
     let mut refused = 0usize;
@@ -95,11 +214,7 @@ fn each_refused_growth_writes_nothing(rt: HostRuntime) {
             held: Vec::new(rt.alloc()),
             left,
         };
-        let mut input = OneByteReader {
-            bytes: INPUT,
-            interrupted: false,
-            ready: false,
-        };
+        let mut input = OneByteReader::new(INPUT, 0);
         let mut out = FixedWriter::new(ROOM);
         match run_with(buffer, &mut input, &mut out) {
             Ok(()) => assert_eq!(rt; out.held(), OUTPUT, "at {left}"),
@@ -113,6 +228,32 @@ fn each_refused_growth_writes_nothing(rt: HostRuntime) {
     }
     assert!(rt; refused > 0);
     assert!(rt; refused < 20);
+}
+
+#[test]
+fn each_refused_growth_of_a_long_run_writes_nothing(rt: HostRuntime) -> Result<(), Fail> {
+    let long = blocks(rt.alloc())?;
+    let mut refused = 0usize;
+    for left in 0..30usize {
+        let buffer = RefusingBuffer {
+            held: Vec::new(rt.alloc()),
+            left,
+        };
+        let mut input = OneByteReader::new(&long, 0);
+        let mut out = BlockWriter::new(ANSWERS, usize::MAX);
+        match run_with(buffer, &mut input, &mut out) {
+            Ok(()) => assert!(rt; out.has_blocks(TIMES), "at {left}"),
+            Err(fault) => {
+                assert_eq!(rt; fault, RunError::Memory, "at {left}");
+                assert_eq!(rt; out.bytes, 0, "at {left}");
+                assert_eq!(rt; refused, left);
+                refused = refused.saturating_add(1);
+            }
+        }
+    }
+    assert!(rt; refused > 5);
+    assert!(rt; refused < 30);
+    Ok(())
 }
 
 #[test]

@@ -1,27 +1,32 @@
 // The parts below the lines: numerals and batches.
 
-use super::devices::CountingWriter;
+use super::devices::{BlockWriter, Refusal};
 use crate::batch::{Batch, SIZE, put, send};
 use crate::fault::RunError;
 use crate::number::Number;
 use crate::numeral::{MOST, write_number, write_numeral};
 use crate::program::run;
+use std::io::ErrorKind;
 
-/// Each of these lines is answered by nine bytes.
-const EMPTY_LINES: &[u8] = &[b'\n'; 40_000];
+const LINES: usize = 40_000;
+
+const EMPTY_LINES: &[u8] = &[b'\n'; LINES];
+
+const ANSWER: &[u8] = b"bad line\n";
 
 #[test]
 fn answers_go_out_by_the_batch(rt: HostRuntime) {
-    let mut out = CountingWriter::new(usize::MAX);
+    let mut out = BlockWriter::new(ANSWER, usize::MAX);
     assert_eq!(rt; run(EMPTY_LINES, &mut out), Ok(()));
-    assert_eq!(rt; out.bytes, 360_000);
+    assert!(rt; out.has_blocks(LINES));
     assert_eq!(rt; out.writes, 6);
 }
 
 #[test]
 fn a_refused_batch_is_told(rt: HostRuntime) {
     for good in 0..6 {
-        let mut out = CountingWriter::new(good);
+        let refusal = Refusal::Fault(ErrorKind::Other);
+        let mut out = BlockWriter::failing(ANSWER, usize::MAX, good, refusal);
         assert_eq!(rt; run(EMPTY_LINES, &mut out), Err(RunError::Write));
         assert_eq!(rt; out.writes, good);
     }
@@ -29,9 +34,9 @@ fn a_refused_batch_is_told(rt: HostRuntime) {
 
 #[test]
 fn a_piece_longer_than_the_batch_goes_out(rt: HostRuntime) {
-    let mut out = CountingWriter::new(usize::MAX);
+    let mut out = BlockWriter::new(b"x", usize::MAX);
     let mut batch = Batch::new();
-    assert_eq!(rt; put(b"abc", &mut batch, &mut out), Ok(()));
+    assert_eq!(rt; put(b"xxx", &mut batch, &mut out), Ok(()));
     assert_eq!(rt; out.writes, 0);
     assert_eq!(rt; put(&[b'x'; SIZE + 1], &mut batch, &mut out), Ok(()));
     assert_eq!(rt; out.bytes, SIZE + 4);
@@ -42,6 +47,7 @@ fn a_piece_longer_than_the_batch_goes_out(rt: HostRuntime) {
     assert_eq!(rt; out.writes, 3);
     assert_eq!(rt; send(&mut batch, &mut out), Ok(()));
     assert_eq!(rt; out.writes, 3);
+    assert!(rt; out.has_blocks(2 * SIZE + 4));
 }
 
 #[test]
