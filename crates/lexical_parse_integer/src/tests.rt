@@ -142,19 +142,28 @@ where
     }
 }
 
-// Formats that break a rule, which is their fault, whatever the text is.
+// Formats that break a rule, which is their fault, whatever the text is: also where they refuse more of the texts.
 fn are_refused(rt: &impl Abort, fault: Error, rows: &[NumberFormatBuilder]) {
     for builder in rows {
-        let format = builder.build_unchecked();
-        assert_eq!(rt; format.error(), Some(fault), "{format:?}");
-        assert!(rt; !format.is_valid(), "{format:?}");
-        assert!(rt; !builder.is_valid(), "{format:?}");
-        for text in FAULTY {
-            complete_with::<u8>(rt, &format, &[(text, Err(fault))]);
-            partial_with::<u8>(rt, &format, &[(text, Err(fault))]);
-            complete_with::<i64>(rt, &format, &[(text, Err(fault))]);
-            partial_with::<i64>(rt, &format, &[(text, Err(fault))]);
-        }
+        is_refused(rt, fault, builder);
+        let strict = builder
+            .no_positive_mantissa_sign(true)
+            .required_mantissa_sign(true)
+            .no_integer_leading_zeros(true);
+        is_refused(rt, fault, &strict);
+    }
+}
+
+fn is_refused(rt: &impl Abort, fault: Error, builder: &NumberFormatBuilder) {
+    let format = builder.build_unchecked();
+    assert_eq!(rt; format.error(), Some(fault), "{format:?}");
+    assert!(rt; !format.is_valid(), "{format:?}");
+    assert!(rt; !builder.is_valid(), "{format:?}");
+    for text in FAULTY {
+        complete_with::<u8>(rt, &format, &[(text, Err(fault))]);
+        partial_with::<u8>(rt, &format, &[(text, Err(fault))]);
+        complete_with::<i64>(rt, &format, &[(text, Err(fault))]);
+        partial_with::<i64>(rt, &format, &[(text, Err(fault))]);
     }
 }
 

@@ -6,32 +6,43 @@ use std::process::Abort;
 // The longest of these texts: two words and what is left of a third, behind a sign.
 const LENGTH: usize = 20;
 
+// The text with another byte at this place.
+fn changed(text: &[u8], place: usize, byte: u8) -> [u8; LENGTH] {
+    let mut changed = [byte; LENGTH];
+    for (k, (new, old)) in changed.iter_mut().zip(text).enumerate() {
+        if k != place {
+            *new = *old;
+        }
+    }
+    changed
+}
+
 // Every text that differs from this one at one place.
 fn at_place<T: Whole>(rt: &impl Abort, format: &NumberFormat, text: &[u8], place: usize) {
     for byte in 0..=255 {
-        let mut changed = [0; LENGTH];
-        for (k, (new, old)) in changed.iter_mut().zip(text).enumerate() {
-            *new = if k == place { byte } else { *old };
-        }
-        if let Some(changed) = changed.get(..text.len()) {
+        if let Some(changed) = changed(text, place, byte).get(..text.len()) {
             agrees::<T>(rt, format, changed);
         }
     }
 }
 
 // As types of each width that is read in its own way.
+fn at_each_place(rt: &impl Abort, format: &NumberFormat, text: &[u8]) {
+    for place in 0..text.len() {
+        at_place::<u8>(rt, format, text, place);
+        at_place::<i8>(rt, format, text, place);
+        at_place::<u32>(rt, format, text, place);
+        at_place::<i32>(rt, format, text, place);
+        at_place::<u64>(rt, format, text, place);
+        at_place::<i64>(rt, format, text, place);
+        at_place::<i128>(rt, format, text, place);
+    }
+}
+
 fn each_byte(rt: &impl Abort, builder: NumberFormatBuilder, texts: &[&[u8]]) {
     let format = builder.build_unchecked();
     for text in texts {
-        for place in 0..text.len() {
-            at_place::<u8>(rt, &format, text, place);
-            at_place::<i8>(rt, &format, text, place);
-            at_place::<u32>(rt, &format, text, place);
-            at_place::<i32>(rt, &format, text, place);
-            at_place::<u64>(rt, &format, text, place);
-            at_place::<i64>(rt, &format, text, place);
-            at_place::<i128>(rt, &format, text, place);
-        }
+        at_each_place(rt, &format, text);
     }
 }
 

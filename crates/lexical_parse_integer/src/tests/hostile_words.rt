@@ -131,14 +131,21 @@ fn words_with(rt: &impl Abort, radix: u8, other: u8, place: usize)
     }
 }
 
+// Words whose other bytes are `0`, or the greatest digit.
+fn words_of(rt: &impl Abort, radix: u8)
+    requires least { 2 ≤ radix }
+    requires greatest { radix ≤ 10 }
+{
+    for place in 0..8 {
+        words_with(rt, radix, b'0', place);
+        words_with(rt, radix, b'0' + (radix - 1), place);
+    }
+}
+
 #[test]
 fn each_byte_at_each_place_of_a_word(rt: HostRuntime) {
     for radix in 2..=10_u8 {
-        for other in [b'0', b'0' + (radix - 1)] {
-            for place in 0..8 {
-                words_with(&rt, radix, other, place);
-            }
-        }
+        words_of(&rt, radix);
     }
 }
 
