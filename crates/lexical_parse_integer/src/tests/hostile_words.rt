@@ -149,6 +149,49 @@ fn each_byte_at_each_place_of_a_word(rt: HostRuntime) {
     }
 }
 
+// Bytes next to the first digit and to the last, and bytes that carry or borrow where words are added or taken away.
+fn edges(radix: u8) -> [u8; 9]
+    requires least { 2 ≤ radix }
+    requires greatest { radix ≤ 10 }
+{
+    let last = b'0' + (radix - 1);
+    [0, b'/', b'0', last, last + 1, 127, 128, b'0' + 128, 255]
+}
+
+// Words of these bytes alone, one for each number.
+fn word_of_edges(rt: &impl Abort, radix: u8, number: usize)
+    requires least { 2 ≤ radix }
+    requires greatest { radix ≤ 10 }
+{
+    let edges = edges(radix);
+    let a = edges[number % 9];
+    let b = edges[number / 9 % 9];
+    let c = edges[number / 81 % 9];
+    let d = edges[number / 729 % 9];
+    let are_digits = [a, b, c, d]
+        .iter()
+        .all(|byte| char_is_digit(*byte, u32::from(radix)));
+    reads_4(rt, [a, b, c, d], radix, are_digits);
+    reads_8(rt, [a, b, c, d, d, c, b, a], radix, are_digits);
+}
+
+fn words_of_edges(rt: &impl Abort, radix: u8)
+    requires least { 2 ≤ radix }
+    requires greatest { radix ≤ 10 }
+{
+    for number in 0..6561 {
+        word_of_edges(rt, radix, number);
+    }
+}
+
+// Several bytes of a word at once that are no digits.
+#[test]
+fn each_word_of_bytes_at_the_edges(rt: HostRuntime) {
+    for radix in 2..=10_u8 {
+        words_of_edges(&rt, radix);
+    }
+}
+
 // What a digit is, once more without the crate's own test: the bytes from `0` on, as many as the radix says.
 #[test]
 fn digits_of_the_radixes_of_words(rt: HostRuntime) {
