@@ -1,9 +1,8 @@
 // Texts of a million bytes and of sixteen mebibytes.
-use super::slow::{Number, greatest, power};
-use super::whole::Whole;
-use super::{complete, complete_with, partial, partial_with};
-use crate::options::{LARGE_NUMBERS, SMALL_NUMBERS};
-use crate::{Error, NumberFormat, NumberFormatBuilder, Result};
+use super::slow::{greatest, power};
+use super::whole::{Whole, answers};
+use crate::format::STANDARD;
+use crate::{Error, NumberFormat, NumberFormatBuilder};
 use std::process::Abort;
 use std::test::Fail;
 
@@ -25,29 +24,21 @@ fn put(text: &mut [u8], place: usize, byte: u8) {
     }
 }
 
-// The answers of both parsers to a text that the complete one accepts, or at which both find the same fault.
-fn whole_text<T: Whole>(
-    rt: &impl Abort,
-    format: &NumberFormat,
-    text: &[u8],
-    expected: Result<Number>,
-) {
-    for options in [SMALL_NUMBERS, LARGE_NUMBERS] {
-        let answer = T::from_lexical_with_options(text, format, &options);
-        assert_eq!(rt;
-            answer.map(|value| value.number()),
-            expected,
-            "complete at width {} with {options:?}",
-            T::WIDTH
-        );
-        let answer = T::from_lexical_partial_with_options(text, format, &options);
-        assert_eq!(rt;
-            answer.map(|(value, place)| (value.number(), place)),
-            expected.map(|number| (number, text.len())),
-            "partial at width {} with {options:?}",
-            T::WIDTH
-        );
-    }
+// Both parsers answer this number, of the whole text.
+fn reads<T: Whole>(rt: &impl Abort, format: &NumberFormat, text: &[u8], size: u128) {
+    let number = (false, size);
+    answers::<T>(rt, format, text, Ok(number), Ok((number, text.len())));
+}
+
+// Both parsers find the same fault.
+fn faults<T: Whole>(rt: &impl Abort, format: &NumberFormat, text: &[u8], fault: Error) {
+    answers::<T>(rt, format, text, Err(fault), Err(fault));
+}
+
+// No digit but zeros stands before this place, and the text goes on there.
+fn stops<T: Whole>(rt: &impl Abort, text: &[u8], place: usize) {
+    let whole = Err(Error::InvalidDigit(place));
+    answers::<T>(rt, &STANDARD, text, whole, Ok(((false, 0), place)));
 }
 
 // Zeros, and then the greatest digit: that is its value.
@@ -57,11 +48,11 @@ fn a_million_zeros_and_a_digit(rt: HostRuntime) -> std::result::Result<(), Fail>
     for radix in 2..=36_u8 {
         put(&mut text, MILLION - 1, greatest_digit(radix));
         let format = NumberFormatBuilder::from_radix(radix);
-        let number = (false, u128::from(radix - 1));
-        whole_text::<u8>(&rt, &format, &text, Ok(number));
-        whole_text::<i32>(&rt, &format, &text, Ok(number));
-        whole_text::<u64>(&rt, &format, &text, Ok(number));
-        whole_text::<i128>(&rt, &format, &text, Ok(number));
+        let value = u128::from(radix - 1);
+        reads::<u8>(&rt, &format, &text, value);
+        reads::<i32>(&rt, &format, &text, value);
+        reads::<u64>(&rt, &format, &text, value);
+        reads::<i128>(&rt, &format, &text, value);
     }
     Ok(())
 }
@@ -93,7 +84,7 @@ fn leaves_the_type<T: Whole>(rt: &impl Abort, radix: u8, text: &[u8], before: us
     } else {
         Error::Overflow(place)
     };
-    whole_text::<T>(rt, &format, text, Err(fault));
+    faults::<T>(rt, &format, text, fault);
 }
 
 #[test]
@@ -151,16 +142,13 @@ fn a_million_separators(rt: HostRuntime) -> std::result::Result<(), Fail> {
         let mut text = vec![in rt.alloc(); separator; MILLION + 1]?;
         put(&mut text, MILLION, b'1');
         let row = everywhere(separator, true);
+        faults::<i64>(&rt, &row, &separators, Error::Empty(MILLION));
+        reads::<i64>(&rt, &row, &text, 1);
         let single = everywhere(separator, false);
-        let all = Error::Empty(MILLION);
-        complete_with::<i64>(&rt, &row, &[(&separators, Err(all))]);
-        partial_with::<i64>(&rt, &row, &[(&separators, Err(all))]);
-        complete_with::<i64>(&rt, &single, &[(&separators, Err(Error::InvalidDigit(0)))]);
-        partial_with::<i64>(&rt, &single, &[(&separators, Err(Error::Empty(0)))]);
-        complete_with::<i64>(&rt, &row, &[(&text, Ok(1))]);
-        partial_with::<i64>(&rt, &row, &[(&text, Ok((1, MILLION + 1)))]);
-        complete_with::<i64>(&rt, &single, &[(&text, Err(Error::InvalidDigit(0)))]);
-        partial_with::<i64>(&rt, &single, &[(&text, Err(Error::Empty(0)))]);
+        let whole = Err(Error::InvalidDigit(0));
+        let front = Err(Error::Empty(0));
+        answers::<i64>(&rt, &single, &separators, whole, front);
+        answers::<i64>(&rt, &single, &text, whole, front);
     }
     Ok(())
 }
@@ -170,18 +158,15 @@ fn a_million_separators(rt: HostRuntime) -> std::result::Result<(), Fail> {
 fn sixteen_mebibytes(rt: HostRuntime) -> std::result::Result<(), Fail> {
     let last = SIXTEEN_MEBIBYTES - 1;
     let mut text = vec![in rt.alloc(); b'0'; SIXTEEN_MEBIBYTES]?;
-    complete::<u8>(&rt, &[(&text, Ok(0))]);
+    reads::<u8>(&rt, &STANDARD, &text, 0);
     put(&mut text, last, b'7');
-    complete::<u64>(&rt, &[(&text, Ok(7))]);
-    partial::<i32>(&rt, &[(&text, Ok((7, SIXTEEN_MEBIBYTES)))]);
+    reads::<u64>(&rt, &STANDARD, &text, 7);
     for byte in [0, 255] {
         put(&mut text, last, byte);
-        complete::<u64>(&rt, &[(&text, Err(Error::InvalidDigit(last)))]);
-        partial::<i32>(&rt, &[(&text, Ok((0, last)))]);
+        stops::<i32>(&rt, &text, last);
     }
     put(&mut text, 0, 255);
-    complete::<i128>(&rt, &[(&text, Err(Error::InvalidDigit(0)))]);
-    partial::<u16>(&rt, &[(&text, Ok((0, 0)))]);
+    stops::<i128>(&rt, &text, 0);
     Ok(())
 }
 
@@ -190,13 +175,13 @@ fn sixteen_mebibytes(rt: HostRuntime) -> std::result::Result<(), Fail> {
 fn sixteen_mebibytes_of_one_byte(rt: HostRuntime) -> std::result::Result<(), Fail> {
     for byte in [0, b' ', b'x', 127, 128, 255] {
         let text = vec![in rt.alloc(); byte; SIXTEEN_MEBIBYTES]?;
-        complete::<u64>(&rt, &[(&text, Err(Error::InvalidDigit(0)))]);
-        partial::<i8>(&rt, &[(&text, Ok((0, 0)))]);
+        stops::<u64>(&rt, &text, 0);
+        stops::<i8>(&rt, &text, 0);
     }
     for sign in [b'+', b'-'] {
         let text = vec![in rt.alloc(); sign; SIXTEEN_MEBIBYTES]?;
-        complete::<i64>(&rt, &[(&text, Err(Error::InvalidDigit(1)))]);
-        partial::<i8>(&rt, &[(&text, Ok((0, 1)))]);
+        stops::<i64>(&rt, &text, 1);
+        stops::<i8>(&rt, &text, 1);
     }
     Ok(())
 }

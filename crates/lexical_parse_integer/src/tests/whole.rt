@@ -1,7 +1,8 @@
 // The twelve integer types as whole numbers, and comparisons of the parsers with the slow reading at each of them.
 use super::slow::{LONGEST, Number, complete, partial, read};
+use crate::format::STANDARD;
 use crate::options::{LARGE_NUMBERS, SMALL_NUMBERS};
-use crate::{FromLexicalWithOptions, NumberFormat, Options};
+use crate::{FromLexicalWithOptions, NumberFormat, Options, Result};
 use std::fmt::Debug;
 use std::process::Abort;
 
@@ -15,29 +16,62 @@ pub(super) trait Whole: FromLexicalWithOptions<Options = Options> + Debug {
     fn number(self) -> Number;
 }
 
-// Both parsers answer what the slow reading does, with either kind of options.
+// The front of a text that is too long to be shown.
+fn shown(text: &[u8]) -> &[u8] {
+    text.get(..LONGEST).unwrap_or(text)
+}
+
+// What both parsers answer, with either kind of options, and under the standard format by the calls without options.
+pub(super) fn answers<T: Whole>(
+    rt: &impl Abort,
+    format: &NumberFormat,
+    text: &[u8],
+    whole: Result<Number>,
+    front: Result<(Number, usize)>,
+) {
+    for options in [SMALL_NUMBERS, LARGE_NUMBERS] {
+        let complete = T::from_lexical_with_options(text, format, &options);
+        let partial = T::from_lexical_partial_with_options(text, format, &options);
+        assert_eq!(rt;
+            (of_whole(complete), of_front(partial)),
+            (whole, front),
+            "{} bytes, {}, at width {} under {format:?} with {options:?}",
+            text.len(),
+            shown(text).escape_ascii(),
+            T::WIDTH
+        );
+    }
+    if *format == STANDARD {
+        assert_eq!(rt;
+            (
+                of_whole(T::from_lexical(text)),
+                of_front(T::from_lexical_partial(text))
+            ),
+            (whole, front),
+            "{} bytes, {}, at width {}",
+            text.len(),
+            shown(text).escape_ascii(),
+            T::WIDTH
+        );
+    }
+}
+
+// The complete parser's answer as a whole number.
+fn of_whole<T: Whole>(answer: Result<T>) -> Result<Number> {
+    answer.map(|value| value.number())
+}
+
+// The partial parser's.
+fn of_front<T: Whole>(answer: Result<(T, usize)>) -> Result<(Number, usize)> {
+    answer.map(|(value, place)| (value.number(), place))
+}
+
+// Both parsers answer what the slow reading does.
 pub(super) fn agrees<T: Whole>(rt: &impl Abort, format: &NumberFormat, text: &[u8]) {
     let reading = read(text, format, T::WIDTH, T::SIGNED);
     let whole = complete(text, format, &reading);
     let front = partial(text, format, &reading);
-    for options in [SMALL_NUMBERS, LARGE_NUMBERS] {
-        let answer = T::from_lexical_with_options(text, format, &options);
-        assert_eq!(rt;
-            answer.map(|value| value.number()),
-            whole,
-            "{} at width {} under {format:?} with {options:?}",
-            text.escape_ascii(),
-            T::WIDTH
-        );
-        let answer = T::from_lexical_partial_with_options(text, format, &options);
-        assert_eq!(rt;
-            answer.map(|(value, place)| (value.number(), place)),
-            front,
-            "{} at width {} under {format:?} with {options:?}",
-            text.escape_ascii(),
-            T::WIDTH
-        );
-    }
+    answers::<T>(rt, format, text, whole, front);
 }
 
 // Both kinds of options have the same answers.
