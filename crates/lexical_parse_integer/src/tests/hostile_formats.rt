@@ -3,6 +3,7 @@ use super::slow::digit_of;
 use super::whole::agrees;
 use super::{are_refused, are_valid};
 use crate::{Error, NumberFormat, NumberFormatBuilder};
+use std::process::Abort;
 
 // `STANDARD` with this radix, separator, prefix and suffix.
 fn marked(
@@ -28,6 +29,27 @@ fn literal(
     marked(radix, separator, prefix, suffix).literal_prefixes(true)
 }
 
+// A byte that in this radix is no separator, no prefix and no suffix.
+fn is_nowhere(rt: &impl Abort, radix: u8, byte: u8) {
+    let separator = marked(radix, Some(byte), None, None);
+    let prefix = marked(radix, None, Some(byte), None);
+    let suffix = marked(radix, None, None, Some(byte));
+    are_refused(rt, Error::InvalidDigitSeparator, &[separator]);
+    are_refused(rt, Error::InvalidBasePrefix, &[prefix]);
+    are_refused(rt, Error::InvalidBaseSuffix, &[suffix]);
+}
+
+#[test]
+fn one_unfit_byte(rt: HostRuntime) {
+    for byte in [b'0', b'5', b'9', b'+', b'-', 128, 255] {
+        is_nowhere(&rt, 10, byte);
+    }
+    for byte in [b'a', b'F', b'f'] {
+        is_nowhere(&rt, 16, byte);
+        are_valid(&rt, &[marked(10, Some(byte), None, None)]);
+    }
+}
+
 #[test]
 fn one_broken_rule(rt: HostRuntime) {
     are_refused(
@@ -35,25 +57,6 @@ fn one_broken_rule(rt: HostRuntime) {
         Error::InvalidMantissaRadix,
         &[0, 1, 37, 128, 255].map(|radix| marked(radix, None, None, None)),
     );
-    for unfit in [b'0', b'5', b'9', b'+', b'-', 128, 255] {
-        let unfit = Some(unfit);
-        let separator = marked(10, unfit, None, None);
-        let prefix = marked(10, None, unfit, None);
-        let suffix = marked(10, None, None, unfit);
-        are_refused(&rt, Error::InvalidDigitSeparator, &[separator]);
-        are_refused(&rt, Error::InvalidBasePrefix, &[prefix]);
-        are_refused(&rt, Error::InvalidBaseSuffix, &[suffix]);
-    }
-    for alike in [b'a', b'F', b'f'] {
-        let alike = Some(alike);
-        let separator = marked(16, alike, None, None);
-        let prefix = marked(16, None, alike, None);
-        let suffix = marked(16, None, None, alike);
-        are_refused(&rt, Error::InvalidDigitSeparator, &[separator]);
-        are_refused(&rt, Error::InvalidBasePrefix, &[prefix]);
-        are_refused(&rt, Error::InvalidBaseSuffix, &[suffix]);
-        are_valid(&rt, &[marked(10, alike, None, None)]);
-    }
     are_refused(
         &rt,
         Error::InvalidPunctuation,
