@@ -1,10 +1,15 @@
 // What no clause says: that the definitions are those of worked texts, and that the calls answer so when they run.
 mod affixes;
+mod beginnings;
+mod bytes;
 mod caller;
 mod cursor;
 mod ends;
 mod flags;
 mod formats;
+mod hostile_formats;
+mod hostile_words;
+mod huge;
 mod literals;
 mod long;
 mod options;
@@ -12,8 +17,11 @@ mod parsers;
 mod radixes;
 mod separators;
 mod signs;
+mod slow;
+mod small;
 mod stops;
 mod turns;
+mod whole;
 mod words;
 mod zeros;
 
@@ -28,6 +36,12 @@ type Row<'a, A> = (&'a [u8], Result<A>);
 
 // A radix, a text, and what a parser answers to it.
 type RadixRow<'a, A> = (u8, &'a [u8], Result<A>);
+
+// Texts most of which have a fault of their own: one that is empty, and those with no digit, a value outside of a byte,
+// zeros in front, a prefix alone, or bytes of other kinds.
+const FAULTY: [&[u8]; 10] = [
+    b"", b"+", b"+-", b"999", b"00", b"0x", b"_", b"1\xff", b"\0", b"1",
+];
 
 // The complete parser under the standard format: with no options, and with either kind.
 fn complete<T>(rt: &impl Abort, rows: &[Row<'_, T>])
@@ -128,14 +142,28 @@ where
     }
 }
 
-// Formats that break a rule, which is their fault, whatever the text is.
+// Formats that break a rule, which is their fault, whatever the text is: also where they refuse more of the texts.
 fn are_refused(rt: &impl Abort, fault: Error, rows: &[NumberFormatBuilder]) {
     for builder in rows {
-        let format = builder.build_unchecked();
-        assert_eq!(rt; format.error(), Some(fault), "{format:?}");
-        assert!(rt; !format.is_valid(), "{format:?}");
-        complete_with::<u8>(rt, &format, &[(b"", Err(fault)), (b"256", Err(fault))]);
-        partial_with::<u8>(rt, &format, &[(b"", Err(fault)), (b"256", Err(fault))]);
+        is_refused(rt, fault, builder);
+        let strict = builder
+            .no_positive_mantissa_sign(true)
+            .required_mantissa_sign(true)
+            .no_integer_leading_zeros(true);
+        is_refused(rt, fault, &strict);
+    }
+}
+
+fn is_refused(rt: &impl Abort, fault: Error, builder: &NumberFormatBuilder) {
+    let format = builder.build_unchecked();
+    assert_eq!(rt; format.error(), Some(fault), "{format:?}");
+    assert!(rt; !format.is_valid(), "{format:?}");
+    assert!(rt; !builder.is_valid(), "{format:?}");
+    for text in FAULTY {
+        complete_with::<u8>(rt, &format, &[(text, Err(fault))]);
+        partial_with::<u8>(rt, &format, &[(text, Err(fault))]);
+        complete_with::<i64>(rt, &format, &[(text, Err(fault))]);
+        partial_with::<i64>(rt, &format, &[(text, Err(fault))]);
     }
 }
 
