@@ -127,6 +127,7 @@ fn front(first: u8, text: &[u8]) -> (Kind, usize)
 /// constant number of times.
 #[derive(Drop)]
 pub struct Tokens<'a> {
+    // The source behind the last token, and the place in the source at which it begins.
     rest: &'a [u8],
     place: usize,
 }
@@ -152,6 +153,7 @@ impl<'a> Tokens<'a> {
         ensures parts { All (IsPartOf source.now) (tokens source.now) }
         ensures count { length (tokens source.now) ≤ length source.now }
     {
+        // The law by which no number is empty, and each ends within the source.
         front_end();
         Tokens {
             rest: source,
@@ -169,6 +171,7 @@ impl<'a> Iterator for Tokens<'a> {
 
     /// The next token, and `None` where only skipped bytes are left, now and at each later call.
     fn next(&mut self) -> Option<Token<'a>> {
+        // The law by which a number isn't empty, and `length` is within the text.
         front_end();
         let (skipped, rest) = self.rest.split_at(skipped_length(self.rest));
         let first = *rest.first()?;
