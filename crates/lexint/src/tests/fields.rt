@@ -38,10 +38,9 @@ fn settings_last_until_they_change(rt: HostRuntime) -> Result<(), Fail> {
 }
 
 #[test]
-fn each_field_is_in_force(rt: HostRuntime) -> Result<(), Fail> {
+fn radix_prefix_and_suffix_are_in_force(rt: HostRuntime) -> Result<(), Fail> {
     for (input, want) in [
         ("f mantissa_radix 2\nc u8 102\n", "ok\nerr InvalidDigit 2\n"),
-        ("f digit_separator _\np i32 x\n", "ok\nerr Empty 0\n"),
         (
             "f base_prefix x\nf mantissa_radix 16\nc u8 0x1F\nc u8 0X\n",
             "ok\nok\nok 31\nerr Empty 2\n",
@@ -55,6 +54,20 @@ fn each_field_is_in_force(rt: HostRuntime) -> Result<(), Fail> {
             "f base_suffix h\nf case_sensitive_base_suffix true\nc u8 1h\nc u8 1H\n",
             "ok\nok\nok 1\nerr InvalidDigit 1\n",
         ),
+        (
+            "f literal_prefixes true\np u64 0x1F;\nc u32 0b101\nc u8 0o400\nr\nc u32 0x1F\n",
+            "ok\nok 31 4\nok 5\nerr Overflow 4\nok\nerr InvalidDigit 1\n",
+        ),
+    ] {
+        let out = written(rt.alloc(), input.as_bytes())?;
+        assert_eq!(rt; out.as_slice(), want.as_bytes(), "{input:?}");
+    }
+    Ok(())
+}
+
+#[test]
+fn signs_and_digits_that_are_asked_for_are_in_force(rt: HostRuntime) -> Result<(), Fail> {
+    for (input, want) in [
         (
             "f required_mantissa_digits false\nc u8 \nf required_integer_digits true\nc u8 \n",
             "ok\nok 0\nok\nerr Empty 0\n",
@@ -75,6 +88,17 @@ fn each_field_is_in_force(rt: HostRuntime) -> Result<(), Fail> {
             "f no_integer_leading_zeros true\nc i32 -01\nc i32 0\n",
             "ok\nerr InvalidLeadingZeros 1\nok 0\n",
         ),
+    ] {
+        let out = written(rt.alloc(), input.as_bytes())?;
+        assert_eq!(rt; out.as_slice(), want.as_bytes(), "{input:?}");
+    }
+    Ok(())
+}
+
+#[test]
+fn each_separator_flag_is_in_force(rt: HostRuntime) -> Result<(), Fail> {
+    for (input, want) in [
+        ("f digit_separator _\np i32 x\n", "ok\nerr Empty 0\n"),
         (
             "f digit_separator _\nf integer_leading_digit_separator true\np i64 _1_\n",
             "ok\nok\nok 1 2\n",
@@ -90,10 +114,6 @@ fn each_field_is_in_force(rt: HostRuntime) -> Result<(), Fail> {
         (
             "f digit_separator _\nf integer_trailing_digit_separator true\nf integer_consecutive_digit_separator true\np i64 1__\n",
             "ok\nok\nok\nok 1 3\n",
-        ),
-        (
-            "f literal_prefixes true\np u64 0x1F;\nc u32 0b101\nc u8 0o400\nr\nc u32 0x1F\n",
-            "ok\nok 31 4\nok 5\nerr Overflow 4\nok\nerr InvalidDigit 1\n",
         ),
     ] {
         let out = written(rt.alloc(), input.as_bytes())?;
@@ -134,7 +154,7 @@ fn faults_of_formats_have_no_place(rt: HostRuntime) -> Result<(), Fail> {
 }
 
 #[test]
-fn values_are_read_exactly(rt: HostRuntime) -> Result<(), Fail> {
+fn bytes_are_read_exactly(rt: HostRuntime) -> Result<(), Fail> {
     for (input, want) in [
         (b"f digit_separator  ".as_slice(), b"ok\n".as_slice()),
         (
@@ -152,6 +172,16 @@ fn values_are_read_exactly(rt: HostRuntime) -> Result<(), Fail> {
         (b"f base_prefix none ".as_slice(), b"bad line\n".as_slice()),
         (b"f base_prefix ".as_slice(), b"bad line\n".as_slice()),
         (b"f base_suffix h\r".as_slice(), b"bad line\n".as_slice()),
+    ] {
+        let out = written(rt.alloc(), input)?;
+        assert_eq!(rt; out.as_slice(), want, "{input:?}");
+    }
+    Ok(())
+}
+
+#[test]
+fn other_values_and_names_are_read_exactly(rt: HostRuntime) -> Result<(), Fail> {
+    for (input, want) in [
         (b"f mantissa_radix ".as_slice(), b"bad line\n".as_slice()),
         (b"f mantissa_radix 007".as_slice(), b"ok\n".as_slice()),
         (b"f mantissa_radix +2".as_slice(), b"ok\n".as_slice()),

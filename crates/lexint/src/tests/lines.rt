@@ -31,7 +31,7 @@ fn parses_are_answered(rt: HostRuntime) -> Result<(), Fail> {
 }
 
 #[test]
-fn each_type_has_its_own_range(rt: HostRuntime) -> Result<(), Fail> {
+fn each_unsigned_type_has_its_own_range(rt: HostRuntime) -> Result<(), Fail> {
     for (input, want) in [
         ("c u8 255\nc u8 256", "ok 255\nerr Overflow 2\n"),
         ("c u16 65535\nc u16 65536", "ok 65535\nerr Overflow 4\n"),
@@ -51,6 +51,16 @@ fn each_type_has_its_own_range(rt: HostRuntime) -> Result<(), Fail> {
             "c usize 18446744073709551615\nc usize 18446744073709551616",
             "ok 18446744073709551615\nerr Overflow 19\n",
         ),
+    ] {
+        let out = written(rt.alloc(), input.as_bytes())?;
+        assert_eq!(rt; out.as_slice(), want.as_bytes(), "{input:?}");
+    }
+    Ok(())
+}
+
+#[test]
+fn each_signed_type_has_its_own_range(rt: HostRuntime) -> Result<(), Fail> {
+    for (input, want) in [
         ("c i8 -128\nc i8 -129", "ok -128\nerr Underflow 3\n"),
         (
             "p i16 -32768\np i16 -32769",
