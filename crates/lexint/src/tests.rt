@@ -12,10 +12,24 @@ mod tokens;
 use crate::fault::RunError;
 use crate::program::run;
 use std::alloc::Global;
+use std::process::Abort;
 
 /// What a run writes for an input.
 fn written(alloc: Global, input: &[u8]) -> Result<Vec<u8>, RunError> {
     let mut out = Vec::new(alloc);
     run(input, &mut out)?;
     Ok(out)
+}
+
+/// Each input, as a run of its own, has its output.
+fn each_has_output(
+    rt: &impl Abort,
+    alloc: Global,
+    rows: &[(&[u8], &[u8])],
+) -> Result<(), RunError> {
+    for (input, expected) in rows {
+        let out = written(alloc, input)?;
+        assert_eq!(rt; out.as_slice(), *expected, "{}", input.escape_ascii());
+    }
+    Ok(())
 }

@@ -1,6 +1,6 @@
 // Sources and their tokens.
 
-use super::written;
+use super::each_has_output;
 use crate::literals::{Kind, Token, Tokens, literal_format};
 use lexical_parse_integer::{Error, NumberFormatBuilder};
 use std::process::Abort;
@@ -159,26 +159,27 @@ fn literals_have_their_own_format(rt: HostRuntime) {
 
 #[test]
 fn lines_list_tokens(rt: HostRuntime) -> Result<(), Fail> {
-    for (input, expected) in [
-        (
-            "t x1 = 0x1F + 12_3;",
-            "word 0 2\nbyte 3 4\nnumber 31 5 9\nbyte 10 11\nnumber 123 12 16\nbyte 16 17\nend\n",
-        ),
-        (
-            "t 0b102 0o8",
-            "number 2 0 4\nnumber 2 4 5\nfault Empty 2 6 9\nend\n",
-        ),
-        ("t ", "end\n"),
-        ("t", "bad line\n"),
-        ("t  ", "end\n"),
-        ("T 1", "bad line\n"),
-        (
-            "f mantissa_radix 2\nf digit_separator none\nt 1_9\nc u8 9",
-            "ok\nok\nnumber 19 0 3\nend\nerr InvalidDigit 0\n",
-        ),
-    ] {
-        let out = written(rt.alloc(), input.as_bytes())?;
-        assert_eq!(rt; out.as_slice(), expected.as_bytes(), "{input:?}");
-    }
+    each_has_output(
+        &rt,
+        rt.alloc(),
+        &[
+            (
+                b"t x1 = 0x1F + 12_3;",
+                b"word 0 2\nbyte 3 4\nnumber 31 5 9\nbyte 10 11\nnumber 123 12 16\nbyte 16 17\nend\n",
+            ),
+            (
+                b"t 0b102 0o8",
+                b"number 2 0 4\nnumber 2 4 5\nfault Empty 2 6 9\nend\n",
+            ),
+            (b"t ", b"end\n"),
+            (b"t", b"bad line\n"),
+            (b"t  ", b"end\n"),
+            (b"T 1", b"bad line\n"),
+            (
+                b"f mantissa_radix 2\nf digit_separator none\nt 1_9\nc u8 9",
+                b"ok\nok\nnumber 19 0 3\nend\nerr InvalidDigit 0\n",
+            ),
+        ],
+    )?;
     Ok(())
 }
