@@ -53,22 +53,20 @@ is_at source p b bs e = by_place (cases_lt p (length source))
 
 -- ---- in turn
 
--- a skipped byte in front of what follows
-one_before : (source : List ℕ) (p : ℕ) (ts : List TokenView) → is_skipped (slice_index source p) ≡ true → FollowInTurn source (p + 1) ts → FollowInTurn source p ts
-one_before source p [] skipped follow = λ k low high. from_here source p k (length source) skipped follow low high
-  where
-    from_here : (source : List ℕ) (p k to : ℕ) → is_skipped (slice_index source p) ≡ true → AreSkipped source (p + 1) to → p ≤ k → k < to → is_skipped (slice_index source k) ≡ true
-    from_here source p k to skipped rest low high = elim (cases_lt p k) [
+-- one skipped byte more in front
+one_more : (source : List ℕ) (p to : ℕ) → is_skipped (slice_index source p) ≡ true → AreSkipped source (p + 1) to → AreSkipped source p to
+one_more source p to skipped rest k low high =
+    elim (cases_lt p k) [
       | inl lt ↦ rest k (omega arith) high
       | inr ge ↦ let same : p ≡ k = omega arith in subst (λ i. is_skipped (slice_index source i) ≡ true) same skipped
     ]
+
+one_before : (source : List ℕ) (p : ℕ) (ts : List TokenView) → is_skipped (slice_index source p) ≡ true → FollowInTurn source (p + 1) ts → FollowInTurn source p ts
+one_before source p [] skipped follow = one_more source p (length source) skipped follow
 one_before source p (t ∷ ts) skipped follow = (
   record {
     behind = omega (arith, follow.0.behind);
-    between = λ k low high. elim (cases_lt p k) [
-      | inl lt ↦ follow.0.between k (omega arith) high
-      | inr ge ↦ let same : p ≡ k = omega arith in subst (λ i. is_skipped (slice_index source i) ≡ true) same skipped
-    ];
+    between = one_more source p t.start skipped follow.0.between;
     here = follow.0.here;
     token_is = follow.0.token_is;
   },

@@ -5,7 +5,7 @@ ghost use Rattle.lexical_util.specs.Faults.{place_of};
 ghost use Rattle.lexint.specs.Command.{seen_command};
 ghost use Rattle.lexint.specs.Gather.{Gathers};
 ghost use Rattle.lexint.specs.Numeral.{numeral, signed_numeral};
-ghost use Rattle.lexint.specs.Output.{answer_of, command_answer, command_effect, complete_text, fault_name, fault_text, partial_text, place_text, settings_after};
+ghost use Rattle.lexint.specs.Output.{answer_of, command_answer, command_effect, complete_text, fault_name, partial_text, place_text, settings_after};
 
 mod tokens;
 
@@ -87,7 +87,7 @@ fn put_complete<W: Write>(
 {
     match answer {
         Ok(value) => put_value(&value, batch, out),
-        Err(fault) => put_fault(fault, batch, out),
+        Err(fault) => put_fault(b"err ", fault, batch, out),
     }
 }
 
@@ -103,7 +103,7 @@ fn put_partial<W: Write>(
 {
     match answer {
         Ok((value, stop)) => put_found(&value, stop, batch, out),
-        Err(fault) => put_fault(fault, batch, out),
+        Err(fault) => put_fault(b"err ", fault, batch, out),
     }
 }
 
@@ -134,13 +134,18 @@ fn put_found<W: Write>(
     put_place(stop, batch, out)
 }
 
-// `err NAME PLACE`, or `err NAME`.
-fn put_fault<W: Write>(fault: Error, batch: &mut Batch, out: &mut W) -> Result<(), RunError>
+// A word and a space, the fault's name, and its place where it has one: `err NAME PLACE`.
+fn put_fault<W: Write>(
+    word: &[u8],
+    fault: Error,
+    batch: &mut Batch,
+    out: &mut W,
+) -> Result<(), RunError>
     ensures ok { OnOk result (Gathers (W.contents out.old) batch.old (W.contents out.new) batch.new
-        (fault_text fault)) }
+        (word.now ++ fault_name fault ++ place_text (place_of fault))) }
     ensures fault { IsOkUnless result RunError.Write }
 {
-    put(b"err ", batch, out)?;
+    put(word, batch, out)?;
     put(fault_name(fault).as_bytes(), batch, out)?;
     put_place_of(fault, batch, out)
 }
@@ -164,8 +169,17 @@ fn put_place<W: Write>(place: usize, batch: &mut Batch, out: &mut W) -> Result<(
     ensures fault { IsOkUnless result RunError.Write }
 {
     put(b" ", batch, out)?;
+    put_numeral(place as u128, batch, out)
+}
+
+// The numeral of a number.
+fn put_numeral<W: Write>(number: u128, batch: &mut Batch, out: &mut W) -> Result<(), RunError>
+    ensures ok { OnOk result (Gathers (W.contents out.old) batch.old (W.contents out.new) batch.new
+        (numeral number)) }
+    ensures fault { IsOkUnless result RunError.Write }
+{
     let mut digits = [0u8; numeral::MOST];
-    let start = numeral::write_numeral(place as u128, &mut digits);
+    let start = numeral::write_numeral(number, &mut digits);
     put(&digits[start..], batch, out)
 }
 

@@ -10,8 +10,7 @@
 //! Spaces, tabs, line feeds and carriage returns between tokens are skipped. A sign is a byte of its
 //! own: `-5` is two tokens.
 
-ghost use Rattle.std.specs.Prelude.{◌≡◌, ◌+◌, ◌<◌, ◌≤◌, ◌^◌, true, Some, List, All, length, slice_get, slice_index};
-ghost use Rattle.std.specs.Char.{is_ascii_digit};
+ghost use Rattle.std.specs.Prelude.{◌≡◌, ◌+◌, ◌<◌, ◌≤◌, ◌^◌, List, All, length, slice_index};
 ghost use Rattle.std.specs.Iterator.{YieldsFirstBy, item_count};
 ghost use Rattle.std.specs.List.{prefix_len};
 ghost use Rattle.lexint.specs.Tokens.{FollowInTurn, IsPartOf, TokenView, front_of, is_skipped, is_word_byte, literals, number_of, seen_token, tokens, tokens_from, word_length};

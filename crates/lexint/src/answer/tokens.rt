@@ -1,18 +1,15 @@
 //! The answer to a line that asks for tokens.
 
 ghost use Rattle.std.specs.Prelude.{◌++◌, codes, OnOk, IsOkUnless};
-ghost use Rattle.lexical_util.specs.Faults.{place_of};
 ghost use Rattle.lexint.specs.Gather.{Gathers};
 ghost use Rattle.lexint.specs.Numeral.{numeral};
-ghost use Rattle.lexint.specs.Output.{fault_name, kind_text, place_text, token_text, tokens_text};
+ghost use Rattle.lexint.specs.Output.{kind_text, token_text, tokens_text};
 ghost use Rattle.lexint.specs.Tokens.{seen_token, tokens};
 
-use crate::answer::{fault_name, put_place, put_place_of};
+use crate::answer::{put_fault, put_numeral, put_place};
 use crate::batch::{Batch, put};
 use crate::fault::RunError;
 use crate::literals::{Kind, Token, Tokens};
-use crate::numeral;
-use lexical_parse_integer::Error;
 use std::io::Write;
 
 /// Writes a line for each token of the source, and then `end`.
@@ -49,7 +46,7 @@ fn put_kind<W: Write>(kind: &Kind, batch: &mut Batch, out: &mut W) -> Result<(),
         Kind::Number(value) => put_number(*value, batch, out),
         Kind::Word => put(b"word", batch, out),
         Kind::Byte => put(b"byte", batch, out),
-        Kind::Fault(fault) => put_token_fault(*fault, batch, out),
+        Kind::Fault(fault) => put_fault(b"fault ", *fault, batch, out),
     }
 }
 
@@ -60,18 +57,5 @@ fn put_number<W: Write>(value: u128, batch: &mut Batch, out: &mut W) -> Result<(
     ensures fault { IsOkUnless result RunError.Write }
 {
     put(b"number ", batch, out)?;
-    let mut digits = [0u8; numeral::MOST];
-    let start = numeral::write_numeral(value, &mut digits);
-    put(&digits[start..], batch, out)
-}
-
-// `fault NAME PLACE`.
-fn put_token_fault<W: Write>(fault: Error, batch: &mut Batch, out: &mut W) -> Result<(), RunError>
-    ensures ok { OnOk result (Gathers (W.contents out.old) batch.old (W.contents out.new) batch.new
-        (codes "fault " ++ fault_name fault ++ place_text (place_of fault))) }
-    ensures fault { IsOkUnless result RunError.Write }
-{
-    put(b"fault ", batch, out)?;
-    put(fault_name(fault).as_bytes(), batch, out)?;
-    put_place_of(fault, batch, out)
+    put_numeral(value, batch, out)
 }

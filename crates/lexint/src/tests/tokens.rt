@@ -2,7 +2,7 @@
 
 use super::each_has_output;
 use crate::literals::{Kind, Token, Tokens, literal_format};
-use lexical_parse_integer::{Error, NumberFormatBuilder};
+use lexical_parse_integer::{Error, FromLexicalWithOptions, Result as Parse, options};
 use std::process::Abort;
 use std::test::Fail;
 
@@ -146,15 +146,19 @@ fn bytes_outlive_the_iterator(rt: HostRuntime) {
     assert_eq!(rt; first_text(b" "), None);
 }
 
+// What the whole text is under the format of literals.
+fn whole(text: &[u8]) -> Parse<u128> {
+    u128::from_lexical_with_options(text, &literal_format(), &options::STANDARD)
+}
+
 #[test]
 fn literals_have_their_own_format(rt: HostRuntime) {
-    let expected = NumberFormatBuilder::new()
-        .digit_separator(Some(b'_'))
-        .integer_internal_digit_separator(true)
-        .integer_consecutive_digit_separator(true)
-        .literal_prefixes(true)
-        .build_strict();
-    assert_eq!(rt; literal_format(), expected);
+    assert_eq!(rt; whole(b"1_000"), Ok(1000));
+    assert_eq!(rt; whole(b"0xF_F"), Ok(255));
+    assert_eq!(rt; whole(b"0o1__7"), Ok(15));
+    assert_eq!(rt; whole(b"_1"), Err(Error::InvalidDigit(0)));
+    assert_eq!(rt; whole(b"1_"), Err(Error::InvalidDigit(1)));
+    assert_eq!(rt; whole(b""), Err(Error::Empty(0)));
 }
 
 #[test]
