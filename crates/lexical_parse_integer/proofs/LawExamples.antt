@@ -1,5 +1,5 @@
 -- The laws at examples: their premises can be met, and without them they fail.
-use Rattle.std.proofs.Common.{◌≡◌, ℕ, zero, suc, true, false, List, [], ◌∷◌, ◌++◌, refl, arith, Some, IsSome, Ok, Err, inr}
+use Rattle.std.proofs.Common.{◌≡◌, ℕ, zero, suc, true, false, List, [], ◌∷◌, ◌++◌, refl, arith, None, Some, IsSome, Ok, Err, inr}
 use Rattle.std.proofs.Math.IntN.{pos, negsuc}
 use Rattle.std.specs.Prelude.{replicate}
 use Rattle.std.specs.Fmt.{digits, signed_decimal}
@@ -47,6 +47,15 @@ last_digit_leaves = (refl, refl)
 missing_at_end : partial standard u8 [] ≡ Err (Empty 0)
 unfolding partial numeral numeral_stop head_of sign prefix_radix marked_radix literal_radix suffix_at is_affix range_fault end_of belongs digits_between digit_at separator_at are_same
 missing_at_end = refl
+
+-- ---- the front's end: `1x` begins with a digit, and `x` with none, so that its front is empty
+full_front : (digit_at 10 (49 ∷ 120 ∷ []) 0 ≡ Some 1) × (partial standard u8 (49 ∷ 120 ∷ []) ≡ Ok (pos 1, 1))
+unfolding partial numeral numeral_stop head_of sign prefix_radix marked_radix literal_radix suffix_at is_affix range_fault end_of belongs digits_between digit_at separator_at are_same
+full_front = (refl, refl)
+
+empty_front : (digit_at 10 (120 ∷ []) 0 ≡ None) × (partial standard u8 (120 ∷ []) ≡ Ok (pos 0, 0))
+unfolding partial numeral numeral_stop head_of sign prefix_radix marked_radix literal_radix suffix_at is_affix range_fault end_of belongs digits_between digit_at separator_at are_same
+empty_front = (refl, refl)
 
 -- ---- complete and partial: each of the sentences has a text
 
