@@ -21,6 +21,7 @@ pub mod Locality
 pub mod NumeralLemmas
 pub mod Numerals
 pub mod Places
+pub mod PlainTurns
 pub mod Progress
 pub mod RangeFaults
 pub mod SeenLemmas

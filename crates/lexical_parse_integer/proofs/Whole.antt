@@ -1,5 +1,5 @@
 -- The answers of the two parsers, from what was read.
-use Rattle.std.proofs.Common.{◌≡◌, ℕ, ◌+◌, ◌≤◌, ◌<◌, Bool, false, true, cond, ◌&&◌, ◌||◌, List, [], ◌∷◌, length, is_some, Option, Some, None, Ok, Err, Result, refl, sym, ap, ◌∙◌, arith, inl, inr, ◌⊎◌}
+use Rattle.std.proofs.Common.{◌≡◌, ℕ, ◌+◌, ◌≤◌, ◌<◌, Bool, false, true, cond, ◌&&◌, ◌||◌, List, [], ◌∷◌, length, is_some, Option, Some, None, Ok, Err, Result, refl, sym, ap, ◌∙◌, subst, arith, inl, inr, ◌⊎◌}
 use Rattle.std.specs.Prelude.{◌↔◌, IsTrue, ℤ, nat_lt, ◌==◌}
 use Rattle.std.specs.Option.{option_or}
 use Rattle.std.proofs.lemmas.Bool.{lt-ltb, le-ltb, cases_lt, false≢true}
@@ -10,7 +10,7 @@ use Rattle.lexical_parse_integer.specs.CursorView.{CursorView, behind_prefix, Is
 use Rattle.lexical_parse_integer.specs.Grammar.{complete, digits_required, first_fault_or, partial, prefix_fault, range_fault, zero_fault}
 use Rattle.lexical_parse_integer.specs.Head.{Head, head_of, no_sign, sign}
 use Rattle.lexical_parse_integer.specs.Numeral.{Numeral, digit_count, numeral, numeral_value}
-use Rattle.lexical_parse_integer.specs.Reading.{GoesOn, IsAtHead, IsRead}
+use Rattle.lexical_parse_integer.specs.Reading.{GoesOn, IsAtHead, IsOver, IsRead}
 use Rattle.lexical_util.specs.Format.{Format}
 use Rattle.lexical_util.specs.Number.{IntegerType}
 use Rattle.lexical_parse_integer.proofs.CursorLemmas.{digits_bound}
@@ -235,6 +235,19 @@ is_read f t text minus p b v₁ v₂ v₃ v₄ value at goes g₁ no_zeros g₂ 
       at_stop = stops here ∙ sym (stop_of_numeral v₃) ∙ ap (λ (y : Numeral). y.stop) third;
       all_digits = digits ∙ all ∙ ap digit_count second;
     }
+
+-- ---- the cursor's text and format
+
+-- a cursor that stays as it is
+pub over_same : (v w : CursorView) → IsSound v → w ≡ v → IsOver v.bytes v.format w
+over_same v w s same = subst (λ (u : CursorView). IsOver v.bytes v.format u) (sym same) (record { bytes = refl; format = refl; sound = s })
+
+-- a cursor from which the suffix was looked for
+pub over_suffix : (f : Format) (t : IntegerType) (text : List ℕ) (minus p b : Bool) (v₁ v₂ v₃ v₄ : CursorView) → IsAtHead f t text minus p v₁ → GoesOn v₁ v₂ → GoesOn v₂ v₃ → v₄ ≡ cond b (record v₃ { position = v₃.position + 1; closed = true }) v₃ → IsSound v₄ → IsOver text f v₄
+over_suffix f t text minus p b v₁ v₂ v₃ v₄ at g₁ g₂ after s =
+    let kept = same_but_place b v₃ v₄ after in
+    let g = goes_on_joined v₁ v₂ v₃ g₁ g₂ in
+    record { bytes = kept.0 ∙ g.bytes ∙ at.bytes; format = kept.1 ∙ g.format ∙ at.format; sound = s }
 
 -- ---- the answers
 

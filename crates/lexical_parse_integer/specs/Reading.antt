@@ -26,6 +26,12 @@ pub record GoesOn (old new : CursorView) : Type 0 where
   pub closed : new.closed ≡ false
   pub sound : IsSound new
 
+-- a cursor is over this text and under this format, and what is true of each cursor is true of it
+pub record IsOver (text : List ℕ) (under : Format) (cursor : CursorView) : Type 0 where
+  pub bytes : cursor.bytes ≡ text
+  pub format : cursor.format ≡ under
+  pub sound : IsSound cursor
+
 -- sign and prefix are read
 pub record IsAtHead (under : Format) (type : IntegerType) (text : List ℕ) (is_minus is_prefixed : Bool) (cursor : CursorView) : Type 0 where
   pub head_is : head_of under type text ≡ Ok (record { is_minus = is_minus; is_prefixed = is_prefixed; start = cursor.start; radix = cursor.radix })

@@ -7,7 +7,7 @@ ghost use Rattle.lexical_util.specs.Number.{integer_type};
 ghost use Rattle.lexical_util.specs.Validity.{fault};
 ghost use Rattle.lexical_parse_integer.specs.Answer.{placed, seen};
 ghost use Rattle.lexical_parse_integer.specs.Grammar.{complete, digits_required, partial};
-ghost use Rattle.lexical_parse_integer.specs.Reading.{IsRead, StandsAtStop};
+ghost use Rattle.lexical_parse_integer.specs.Reading.{IsOver, IsRead, StandsAtStop};
 ghost use Rattle.lexical_parse_integer.specs.Turns.{AsksWords, HasFewTurns};
 
 mod digits;
@@ -35,6 +35,7 @@ pub use words::{is_4digits, is_8digits, parse_4digits, parse_8digits};
 #[inline(always)]
 fn read<T: Integer>(c: &mut Cursor<'_>, no_multi_digit: bool) -> Result<T>
     requires { c.old.position ≡ 0 }
+    ensures over { IsOver c.old.bytes c.old.format c.new }
     ensures found { IfOk result (λ value. IsRead c.old.format (integer_type T.BITS T.IS_SIGNED) c.old.bytes (T.number value) c.new) }
     ensures completes { IfErr result (λ e. complete c.old.format (integer_type T.BITS T.IS_SIGNED) c.old.bytes ≡ Err e) }
     ensures goes_part { IfErr result (λ e. partial c.old.format (integer_type T.BITS T.IS_SIGNED) c.old.bytes ≡ Err e) }
@@ -82,6 +83,7 @@ fn is_settled(c: &Cursor<'_>) -> bool
 pub fn algorithm_complete_on<T: Integer>(c: &mut Cursor<'_>, options: &Options) -> Result<T>
     requires front { c.old.position ≡ 0 }
     ensures answer { seen T.number result ≡ complete c.old.format (integer_type T.BITS T.IS_SIGNED) c.old.bytes }
+    ensures over { IsOver c.old.bytes c.old.format c.new }
     ensures at_stop { OnOk result (StandsAtStop c.old.format (integer_type T.BITS T.IS_SIGNED) c.old.bytes c.new) }
     ensures each { IsTrue options.now.no_multi_digit → OnOk result (c.new.turns ≡ c.new.digits) }
     ensures few { AsksWords T.BITS options.now.no_multi_digit c.old.format → HasFewTurns c.old.format (integer_type T.BITS T.IS_SIGNED) c.old.bytes c.new.turns }
@@ -104,6 +106,7 @@ pub fn algorithm_complete_on<T: Integer>(c: &mut Cursor<'_>, options: &Options) 
 pub fn algorithm_partial_on<T: Integer>(c: &mut Cursor<'_>, options: &Options) -> Result<(T, usize)>
     requires front { c.old.position ≡ 0 }
     ensures answer { seen (placed T.number) result ≡ partial c.old.format (integer_type T.BITS T.IS_SIGNED) c.old.bytes }
+    ensures over { IsOver c.old.bytes c.old.format c.new }
     ensures at_stop { OnOk result (StandsAtStop c.old.format (integer_type T.BITS T.IS_SIGNED) c.old.bytes c.new) }
     ensures each { IsTrue options.now.no_multi_digit → OnOk result (c.new.turns ≡ c.new.digits) }
     ensures few { AsksWords T.BITS options.now.no_multi_digit c.old.format → HasFewTurns c.old.format (integer_type T.BITS T.IS_SIGNED) c.old.bytes c.new.turns }

@@ -267,6 +267,7 @@ impl<'a> Cursor<'a> {
         ensures answer { result ≡ closes self.old }
         ensures at_end { self.old.position ≡ numeral_end self.old → self.new.position ≡ numeral_stop self.old.format self.old.radix self.old.bytes self.old.start }
         ensures before_end { self.old.position < numeral_end self.old → self.new ≡ self.old }
+        ensures sound { IsSound self.new }
         ensures after { self.new ≡ (if result then record self.old { position = self.old.position + 1; closed = true } else self.old) }
     {
         if self.digits == 0 || !suffix_at(self.bytes, &self.format, self.position) {

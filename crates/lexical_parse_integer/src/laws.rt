@@ -13,6 +13,7 @@ ghost use Rattle.lexical_util.specs.Number.{IsNumber, integer_type};
 ghost use Rattle.lexical_util.specs.Validity.{fault};
 
 pub mod grammar;
+pub mod turns;
 
 use crate::algorithm::{algorithm_complete, algorithm_partial};
 use crate::options::{self, LARGE_NUMBERS, Options, SMALL_NUMBERS};

@@ -74,7 +74,7 @@ pub(crate) fn read_rest<T: Integer>(c: &mut Cursor<'_>, value: T, negative: bool
     ensures value { IfOk result (λ value. T.number value ≡ numeral_value negative (numeral_of c.old)) }
     ensures fits { OnOk result (range_fault (integer_type T.BITS T.IS_SIGNED) negative (numeral_of c.old) ≡ None) }
     ensures leaves { IfErr result (λ e. range_fault (integer_type T.BITS T.IS_SIGNED) negative (numeral_of c.old) ≡ Some e) }
-    ensures goes_on { OnOk result (GoesOn c.old c.new) }
+    ensures goes_on { GoesOn c.old c.new }
     ensures at_end { OnOk result (c.new.position ≡ (numeral_of c.old).ends) }
     ensures all { OnOk result (c.new.digits ≡ digit_count (numeral_of c.old)) }
     ensures count { c.new.digits ≤ digit_count (numeral_of c.old) }

@@ -3,7 +3,7 @@ ghost use Rattle.std.specs.Prelude.{◌≡◌, Err, IfErr, IfOk, OnErr, OnOk, le
 ghost use Rattle.lexical_util.specs.Number.{integer_type};
 ghost use Rattle.lexical_parse_integer.specs.Answer.{seen};
 ghost use Rattle.lexical_parse_integer.specs.Head.{head_of, sign};
-ghost use Rattle.lexical_parse_integer.specs.Reading.{IsAtHead};
+ghost use Rattle.lexical_parse_integer.specs.Reading.{IsAtHead, IsOver};
 
 use crate::cursor::Cursor;
 use lexical_util::error::Error;
@@ -55,6 +55,7 @@ pub(crate) fn read_head<T: Integer>(c: &mut Cursor<'_>) -> Result<(bool, bool)>
     ensures head { IfOk result (λ found. IsAtHead c.old.format (integer_type T.BITS T.IS_SIGNED) c.old.bytes found.0 found.1 c.new) }
     ensures fault { IfErr result (λ e. head_of c.old.format (integer_type T.BITS T.IS_SIGNED) c.old.bytes ≡ Err e) }
     ensures no_turn { OnErr result (c.new.turns ≡ 0) }
+    ensures over { OnErr result (IsOver c.old.bytes c.old.format c.new) }
 {
     c.sound();
     let negative = parse_sign::<T>(c)?;

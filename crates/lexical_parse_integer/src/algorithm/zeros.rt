@@ -20,7 +20,7 @@ fn has_more(c: &mut Cursor<'_>) -> bool
     requires open { c.old.closed ≡ false }
     requires sound { IsSound c.old }
     ensures answer { result ≡ nat_lt c.old.digits (digit_count (numeral_of c.old)) }
-    ensures goes_on { result ≡ false → GoesOn c.old c.new }
+    ensures goes_on { GoesOn c.old c.new }
     ensures digits { result ≡ false → c.new.digits ≡ c.old.digits }
     ensures turns { c.new.turns + c.old.digits ≡ c.old.turns + c.new.digits }
     ensures count { c.old.digits ≤ digit_count (numeral_of c.old) → c.new.digits ≤ digit_count (numeral_of c.old) }
@@ -49,7 +49,7 @@ pub(crate) fn read_first<T: Integer>(
     requires none { c.old.digits ≡ 0 }
     ensures no_zeros { OnOk result (zero_fault c.old.format is_prefixed (numeral_of c.old) ≡ None) }
     ensures reads { IfOk result (λ value. Reads (integer_type T.BITS T.IS_SIGNED) negative (numeral_of c.old) c.new.digits (T.number value)) }
-    ensures goes_on { OnOk result (GoesOn c.old c.new) }
+    ensures goes_on { GoesOn c.old c.new }
     ensures turns { c.new.turns ≡ c.old.turns + c.new.digits }
     ensures count { c.new.digits ≤ digit_count (numeral_of c.old) }
     ensures one { IsNone c.old.format.digit_separator → c.new.digits ≤ 1 }

@@ -1,7 +1,7 @@
 use Rattle.std.proofs.lemmas.Result.{err_from_is_err_and}
 use Rattle.std.proofs.Common.{ap, sym, ◌∙◌}
 use Rattle.lexical_parse_integer.specs.CursorView.{CursorView}
-use Rattle.lexical_parse_integer.proofs.Whole.{is_fresh, sign_short, head_fault, at_head}
+use Rattle.lexical_parse_integer.proofs.Whole.{is_fresh, over_same, sign_short, head_fault, at_head}
 use Rattle.lexical_parse_integer.proofs.algorithm.head.read_head.Goals as goal
 
 pub returns-in_err-negative-clause-fault : goal.returns-in_err-negative-clause-fault
@@ -26,3 +26,8 @@ returns-in_err-negative-clause-no_turn g c =
     let p = err_from_is_err_and c.from_residual.result c.from_residual.ensures.1 in
     let fresh = is_fresh c.args.c.now c.sound.ensures c.requires in
     rw p.1 (ap (λ (v : CursorView). v.turns) c.in_err-negative.ensures.unmoved ∙ fresh.no_turn)
+
+pub returns-in_err-negative-clause-over : goal.returns-in_err-negative-clause-over
+returns-in_err-negative-clause-over g c =
+    let p = err_from_is_err_and c.from_residual.result c.from_residual.ensures.1 in
+    rw p.1 (over_same c.args.c.now c.parse_sign.new.c c.sound.ensures c.in_err-negative.ensures.unmoved)
