@@ -1,10 +1,11 @@
 -- What keeps a cursor sound.
 use Rattle.std.proofs.Common.{◌≡◌, ℕ, ◌+◌, ◌-◌, ◌≤◌, ◌<◌, Bool, true, false, List, [], ◌∷◌, length, length-append, ◌&&◌, ltb, Option, Some, None, is_some, IsNone, option_and_then, slice_get, refl, sym, ◌∙◌, ap, arith, inl, inr, cond}
-use Rattle.std.proofs.lemmas.Bool.{false≢true, cases_lt}
+use Rattle.std.proofs.lemmas.Bool.{false≢true, cases_lt, ltb-false, ltb-true}
 use Rattle.std.proofs.lemmas.Bool.Decides.{nat_tests}
+use Rattle.std.specs.Prelude.{nat_lt}
 use Rattle.std.proofs.lemmas.Option.{slice_get_past}
 use Rattle.lexical_parse_integer.specs.Affixes.{is_affix, literal_radix, marked_radix, matches, numeral_stop, prefix_radix, suffix_at}
-use Rattle.lexical_parse_integer.specs.CursorView.{CursorView, IsSound, IsSuffixNoDigit, IsSuffixNoSeparator, numeral_end}
+use Rattle.lexical_parse_integer.specs.CursorView.{CursorView, IsSound, IsSuffixNoDigit, IsSuffixNoSeparator, closes, numeral_end}
 use Rattle.lexical_parse_integer.specs.Runs.{are_same, belongs, digit_at, digits_between, end_of, places, separator_at}
 use Rattle.lexical_parse_integer.specs.Seeking.{Finds, IsSeparatorNoDigit}
 use Rattle.lexical_util.specs.Digit.{digit}
@@ -317,13 +318,31 @@ at_stop_behind v s open_now some suffix at_end =
     let there = rw at_end at suffix in
     ap (λ n. n + 1) at_end ∙ sym (stop_behind v.format v.radix v.bytes v.start (omega arith) there)
 
-pub at_stop_no_digit : (v : CursorView) → IsSound v → v.closed ≡ false → v.digits ≡ 0 → v.position ≡ numeral_end v → v.position ≡ view_stop v
+at_stop_no_digit : (v : CursorView) → IsSound v → v.closed ≡ false → v.digits ≡ 0 → v.position ≡ numeral_end v → v.position ≡ view_stop v
 at_stop_no_digit v s open_now none at_end =
     let o = s.while_open open_now in
     let all = rw at_end at o.digits in
     at_end ∙ sym (stop_no_digit v.format v.radix v.bytes v.start (sym all ∙ none))
 
-pub at_stop_other : (v : CursorView) → suffix_at v.format v.bytes v.position ≡ false → v.position ≡ numeral_end v → v.position ≡ view_stop v
+at_stop_other : (v : CursorView) → suffix_at v.format v.bytes v.position ≡ false → v.position ≡ numeral_end v → v.position ≡ view_stop v
 at_stop_other v other at_end =
     let there = rw at_end at other in
     at_end ∙ sym (stop_other v.format v.radix v.bytes v.start there)
+
+-- where the suffix may be read, a digit was read and the suffix stands there
+pub may_close : (v : CursorView) → closes v ≡ true → (0 < v.digits) × (suffix_at v.format v.bytes v.position ≡ true)
+may_close v here = by_tests (nat_lt 0 v.digits) (suffix_at v.format v.bytes v.position) refl refl here
+  where
+    by_tests : (some suffix : Bool) → nat_lt 0 v.digits ≡ some → suffix_at v.format v.bytes v.position ≡ suffix → (some && suffix) ≡ true → (0 < v.digits) × (suffix_at v.format v.bytes v.position ≡ true)
+    by_tests true true a b h = (ltb-true 0 v.digits a, b)
+    by_tests true false a b h = cc
+    by_tests false suffix a b h = cc
+
+-- where it may not, the end is where reading stops
+pub at_stop_open : (v : CursorView) → IsSound v → v.closed ≡ false → closes v ≡ false → v.position ≡ numeral_end v → v.position ≡ view_stop v
+at_stop_open v s open_now here at_end = by_tests (nat_lt 0 v.digits) (suffix_at v.format v.bytes v.position) refl refl here
+  where
+    by_tests : (some suffix : Bool) → nat_lt 0 v.digits ≡ some → suffix_at v.format v.bytes v.position ≡ suffix → (some && suffix) ≡ false → v.position ≡ view_stop v
+    by_tests false suffix a b h = let none = ltb-false 0 v.digits a in at_stop_no_digit v s open_now (omega arith) at_end
+    by_tests true false a b h = at_stop_other v b at_end
+    by_tests true true a b h = cc

@@ -1,18 +1,19 @@
 -- The laws at examples: their premises can be met, and without them they fail.
-use Rattle.std.proofs.Common.{◌≡◌, ℕ, zero, suc, true, false, List, [], ◌∷◌, ◌++◌, refl, arith, None, Some, IsSome, Ok, Err, inr}
+use Rattle.std.proofs.Common.{◌≡◌, ℕ, zero, suc, true, false, List, [], ◌∷◌, ◌++◌, refl, arith, None, Some, IsSome, Ok, Err, codes, inr}
 use Rattle.std.proofs.Math.IntN.{pos, negsuc}
 use Rattle.std.specs.Prelude.{replicate}
 use Rattle.std.specs.Fmt.{digits, signed_decimal}
-use Rattle.lexical_util.specs.declared.error.Error.TheVariants.{Empty, InvalidDigit, InvalidLeadingZeros, Overflow, Underflow}
+use Rattle.lexical_util.specs.declared.error.Error.TheVariants.{Empty, InvalidDigit, InvalidLeadingZeros, InvalidPositiveSign, Overflow, Underflow}
 use Rattle.lexical_util.specs.Format.{Format, json, standard}
-use Rattle.lexical_util.specs.Number.{IntegerType, integer_type, is_number}
+use Rattle.lexical_util.specs.Number.{IntegerType, integer_type, is_number, overflow_digits}
 use Rattle.lexical_parse_integer.specs.Affixes.{is_affix, literal_radix, marked_radix, numeral_stop, prefix_radix, suffix_at}
 use Rattle.lexical_parse_integer.specs.Grammar.{complete, partial, range_fault}
 use Rattle.lexical_parse_integer.specs.Head.{head_of, sign}
 use Rattle.lexical_parse_integer.specs.Laws.{IsNumeralOf, IsSettledAt, PadsZeros, SameFront, WritesShortest, with_radix}
-use Rattle.lexical_parse_integer.specs.Numeral.{numeral}
+use Rattle.lexical_parse_integer.specs.Numeral.{digit_count, numeral}
 use Rattle.lexical_parse_integer.specs.Runs.{are_same, begin_of, belongs, digit_at, digits_between, end_of, flag_for, run_begin, run_passes, run_stop, separator_at}
 use Rattle.lexical_parse_integer.specs.Seeking.{HasNoDigit}
+use Rattle.lexical_parse_integer.specs.Turns.{HasFewTurns}
 use Rattle.lexical_parse_integer.proofs.Locality.{is_local}
 use Rattle.lexical_parse_integer.proofs.Numerals.{digits_text, numeral_text, printed_is, reads_numerals, shortest_if}
 use Rattle.lexical_parse_integer.proofs.Zeros.{reads_padded}
@@ -192,3 +193,18 @@ not_padded p =
 seven_json : (complete json i16 (55 ∷ []) ≡ Ok (pos 7)) × (complete json i16 (48 ∷ 55 ∷ []) ≡ Err (InvalidLeadingZeros 0))
 unfolding complete numeral numeral_stop head_of sign prefix_radix marked_radix literal_radix suffix_at is_affix range_fault end_of belongs digits_between digit_at separator_at are_same
 seven_json = (refl, refl)
+
+-- ---- turns: the head of `12345678` is read in radix 10, and its eight digits have room in 64 bits
+pub eight_digits : (head_of standard (integer_type 64 false) (codes "12345678") ≡ Ok (record { is_minus = false; is_prefixed = false; start = 0; radix = 10 })) × (digit_count (numeral standard (codes "12345678") 0 10) ≡ 8) × (overflow_digits (integer_type 64 false) 10 ≡ 16)
+unfolding head_of sign prefix_radix marked_radix literal_radix is_affix numeral numeral_stop suffix_at end_of belongs digits_between digit_at separator_at are_same
+eight_digits = (refl, refl, refl)
+
+-- a plus that is forbidden is a fault of the sign
+pub plus_forbidden : head_of json (integer_type 64 false) (codes "+1") ≡ Err (InvalidPositiveSign 0)
+unfolding head_of sign
+plus_forbidden = refl
+
+-- in radix 16 any number of turns is few: nothing is promised there
+any_in_radix_16 : (turns : ℕ) → HasFewTurns (with_radix 16) (integer_type 64 false) (49 ∷ []) turns
+unfolding head_of sign prefix_radix marked_radix literal_radix is_affix are_same
+any_in_radix_16 turns = λ ten. absurd (omega arith)

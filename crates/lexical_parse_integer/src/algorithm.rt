@@ -72,7 +72,8 @@ fn is_settled(c: &Cursor<'_>) -> bool
 /// The integer that the cursor's whole text stands for; the cursor's position has to be 0.
 ///
 /// The faults are those of [`algorithm_complete`]. At `Ok` the cursor stands where reading stops, with all digits of
-/// the numeral counted. After a fault it stands somewhere in its text, and is of no further use.
+/// the numeral counted. After a fault it stands somewhere in its text. Whatever the answer is, it is over the text and
+/// under the format that it had.
 ///
 /// It takes few turns. With `no_multi_digit` an `Ok` takes one turn a digit. Without it, where the format has no
 /// separator byte and the radix is at most 10, let `d` be the number of the numeral's digits, `o` what
@@ -106,19 +107,20 @@ pub fn algorithm_complete_on<T: Integer>(c: &mut Cursor<'_>, options: &Options) 
 pub fn algorithm_partial_on<T: Integer>(c: &mut Cursor<'_>, options: &Options) -> Result<(T, usize)>
     requires front { c.old.position ≡ 0 }
     ensures answer { seen (placed T.number) result ≡ partial c.old.format (integer_type T.BITS T.IS_SIGNED) c.old.bytes }
+    ensures place { IfOk result (λ found. c.new.position ≡ found.1) }
     ensures over { IsOver c.old.bytes c.old.format c.new }
     ensures at_stop { OnOk result (StandsAtStop c.old.format (integer_type T.BITS T.IS_SIGNED) c.old.bytes c.new) }
     ensures each { IsTrue options.now.no_multi_digit → OnOk result (c.new.turns ≡ c.new.digits) }
     ensures few { AsksWords T.BITS options.now.no_multi_digit c.old.format → HasFewTurns c.old.format (integer_type T.BITS T.IS_SIGNED) c.old.bytes c.new.turns }
 {
-    let value = read::<T>(c, options.get_no_multi_digit())?;
+    let front = read::<T>(c, options.get_no_multi_digit())?;
     if lacks_digits(c) {
         if is_settled(c) {
             return Err(Error::Empty(c.cursor()));
         }
-        return Ok((value, c.cursor()));
+        return Ok((front, c.cursor()));
     }
-    Ok((value, c.cursor()))
+    Ok((front, c.cursor()))
 }
 
 /// The integer that the whole text stands for under a valid format.

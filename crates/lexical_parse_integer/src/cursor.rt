@@ -257,6 +257,14 @@ impl<'a> Cursor<'a> {
         self.turns.tick();
     }
 
+    // Whether the suffix stands at the position and a digit was read.
+    #[inline(always)]
+    fn is_at_suffix(&self) -> bool
+        ensures { result ≡ closes self.now }
+    {
+        self.digits > 0 && suffix_at(self.bytes, &self.format, self.position)
+    }
+
     /// Steps over the suffix where it stands at the position and a digit was read, closes the cursor, and answers
     /// whether it did; else the cursor stays.
     ///
@@ -270,7 +278,7 @@ impl<'a> Cursor<'a> {
         ensures sound { IsSound self.new }
         ensures after { self.new ≡ (if result then record self.old { position = self.old.position + 1; closed = true } else self.old) }
     {
-        if self.digits == 0 || !suffix_at(self.bytes, &self.format, self.position) {
+        if !self.is_at_suffix() {
             return false;
         }
         self.position += 1;

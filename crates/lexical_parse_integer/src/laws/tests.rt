@@ -1,14 +1,16 @@
-ghost use Rattle.std.specs.Prelude.{◌≡◌, ◌<◌, Ok, length};
+ghost use Rattle.std.specs.Prelude.{◌≡◌, ◌<◌, ◌≤◌, Ok, length};
 ghost use Rattle.std.specs.Fmt.{decimal};
 ghost use Rattle.lexical_parse_integer.specs.Answer.{placed, seen};
 ghost use Rattle.lexical_parse_integer.specs.Laws.{IsSettledAt};
 
 use super::grammar::{numerals, range_faults};
+use super::turns::{complete_in_few_turns, partial_in_few_turns};
 use super::{complete_and_partial, local, numeral, rebuilt, small_and_large, zeros_in_front};
 use crate::FromLexical;
+use crate::cursor::Cursor;
 use crate::options::{LARGE_NUMBERS, SMALL_NUMBERS};
 use lexical_util::error::Error;
-use lexical_util::format::{NumberFormatBuilder, STANDARD};
+use lexical_util::format::{JSON, NumberFormatBuilder, STANDARD};
 use lexical_util::num::Integer;
 use lexical_util::result::Result as Answer;
 use std::test::Fail;
@@ -37,6 +39,32 @@ fn byte_too_many(text: &[u8]) -> Option<u8> {
         Err(Error::Overflow(place)) => Some(text[place]),
         _ => None,
     }
+}
+
+// Readers that count: eight digits of 64 bits are one turn, and a sign that is a fault is none.
+fn eight_in_a_turn() -> (Answer<u64>, Cursor<'static>)
+    ensures { result.1.turns ≤ 1 }
+{
+    complete_in_few_turns::<u64>(b"12345678", &STANDARD)
+}
+
+fn front_in_a_turn() -> (Answer<(u64, usize)>, Cursor<'static>)
+    ensures { result.1.turns ≤ 1 }
+{
+    partial_in_few_turns::<u64>(b"12345678", &STANDARD)
+}
+
+fn plus_in_no_turn() -> (Answer<u64>, Cursor<'static>)
+    ensures { result.1.turns ≡ 0 }
+{
+    complete_in_few_turns::<u64>(b"+1", &JSON)
+}
+
+#[test]
+fn turns_follow_from_digits(rt: HostRuntime) {
+    assert_eq!(rt; eight_in_a_turn().0, Ok(12_345_678));
+    assert_eq!(rt; front_in_a_turn().0, Ok((12_345_678, 8)));
+    assert_eq!(rt; plus_in_no_turn().0, Err(Error::InvalidPositiveSign(0)));
 }
 
 #[test]

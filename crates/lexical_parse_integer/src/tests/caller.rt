@@ -1,11 +1,14 @@
 // The callers that CALLING.md shows, proved and run.
 
-ghost use Rattle.std.specs.Prelude.{◌≡◌, ◌<◌, false, drop, Err, IfErr, IfNone, IfOk, IfSome, Ok, pos, Some, ℕ};
+ghost use Rattle.std.specs.Prelude.{◌≡◌, ◌<◌, false, drop, Err, IfErr, IfNone, IfOk, IfSome, Ok, pos, slice_get, Some, ℕ};
 ghost use Rattle.lexical_parse_integer.specs.Answer.{seen};
 ghost use Rattle.lexical_parse_integer.specs.Grammar.{complete, partial};
 ghost use Rattle.lexical_util.specs.Format.{standard};
 ghost use Rattle.lexical_util.specs.Number.{integer_type};
 
+use crate::algorithm::algorithm_partial_on;
+use crate::cursor::Cursor;
+use crate::format::STANDARD;
 use crate::{Error, FromLexical, FromLexicalWithOptions, NumberFormatBuilder, Result, options};
 
 /// A field that has to be a port: a number from 1 to 65535, and nothing else.
@@ -42,6 +45,18 @@ pub fn address(text: &[u8]) -> Result<u32>
     u32::from_lexical_with_options(text, &format, &options::STANDARD)
 }
 
+/// The number at a text's front, and the byte at which its reading stopped: `None` at the text's end.
+pub fn number_and_stopper(text: &[u8]) -> Result<(u32, Option<u8>)>
+    ensures found { IfOk result (λ found. (place : ℕ)
+        × (partial standard (integer_type 32 false) text.now ≡ Ok (pos found.0, place))
+        × (slice_get text.now place ≡ found.1)) }
+    ensures fault { IfErr result (λ e. partial standard (integer_type 32 false) text.now ≡ Err e) }
+{
+    let mut c = Cursor::new(text, &STANDARD);
+    let (number, _) = algorithm_partial_on::<u32>(&mut c, &options::STANDARD)?;
+    Ok((number, c.first()))
+}
+
 #[test]
 fn callers(rt: HostRuntime) {
     assert_eq!(rt; port(b"8080"), Some(8080));
@@ -49,6 +64,9 @@ fn callers(rt: HostRuntime) {
     assert_eq!(rt; port(b"65536"), None);
     assert_eq!(rt; number_and_rest(b"12 x"), Ok((12, b" x".as_slice())));
     assert_eq!(rt; number_and_rest(b""), Err(Error::Empty(0)));
+    assert_eq!(rt; number_and_stopper(b"12,3"), Ok((12, Some(b','))));
+    assert_eq!(rt; number_and_stopper(b"12"), Ok((12, None)));
+    assert_eq!(rt; number_and_stopper(b"+"), Err(Error::Empty(1)));
     assert_eq!(rt; address(b"0x1F"), Ok(31));
     assert_eq!(rt; address(b"1f"), Ok(31));
 }

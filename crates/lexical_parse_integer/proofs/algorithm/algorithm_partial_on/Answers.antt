@@ -4,12 +4,12 @@ use Rattle.lexical_parse_integer.proofs.algorithm.algorithm_partial_on.Goals as 
 
 pub returns-then-is_settled-clause-answer : goal.returns-then-is_settled-clause-answer
 returns-then-is_settled-clause-answer g c =
-    rw c.cursor.ensures.place (sym (partial_empty _ _ _ _ c.read.new.c c.in_ok-value.ensures.found c.if-lacks_digits.ensures c.if-is_settled.ensures))
+    rw c.cursor.ensures.place (sym (partial_empty _ _ _ _ c.read.new.c c.in_ok-front.ensures.found c.if-lacks_digits.ensures c.if-is_settled.ensures))
 
 pub returns-then-lacks_digits-clause-answer : goal.returns-then-lacks_digits-clause-answer
 returns-then-lacks_digits-clause-answer g c =
-    rw c.cursor-then-lacks_digits.ensures.place (sym (partial_goes_on _ _ _ _ c.read.new.c c.in_ok-value.ensures.found c.if-lacks_digits.ensures c.if-is_settled.ensures))
+    rw c.cursor-then-lacks_digits.ensures.place (sym (partial_goes_on _ _ _ _ c.read.new.c c.in_ok-front.ensures.found c.if-lacks_digits.ensures c.if-is_settled.ensures))
 
 pub returns-clause-answer : goal.returns-clause-answer
 returns-clause-answer g c =
-    rw c.cursor-2.ensures.place (sym (partial_value _ _ _ _ c.read.new.c c.in_ok-value.ensures.found c.if-lacks_digits.ensures))
+    rw c.cursor-2.ensures.place (sym (partial_value _ _ _ _ c.read.new.c c.in_ok-front.ensures.found c.if-lacks_digits.ensures))
