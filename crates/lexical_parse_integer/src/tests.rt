@@ -14,6 +14,7 @@ mod literals;
 mod long;
 mod options;
 mod parsers;
+mod pins;
 mod radixes;
 mod separators;
 mod signs;
