@@ -1,4 +1,4 @@
-// The signed types as whole numbers.
+// The signed types as whole numbers. `mul_add!` and `checked_mul_add!` are macros of `num.rt`.
 
 ghost use Rattle.std.specs.Prelude.{pos, true};
 ghost use Rattle.std.proofs.Common.{refl};

@@ -1,4 +1,4 @@
-// The unsigned types as whole numbers.
+// The unsigned types as whole numbers. `mul_add!` and `checked_mul_add!` are macros of `num.rt`.
 
 ghost use Rattle.std.specs.Prelude.{pos, false};
 ghost use Rattle.std.proofs.Common.{refl};
