@@ -7,7 +7,32 @@ ghost use Rattle.lexical_util.specs.Digit.{IsRadix};
 ghost use Rattle.lexical_util.specs.Number.{HasRoom, HasSign, IsNumber, IsWidth};
 ghost use Rattle.lexical_util.specs.Number.{checked, integer_type, mul_add, overflow_digits};
 
-mod impls;
+// The body of `mul_add` of each type.
+macro_rules! mul_add {
+    ($value:expr, $scale:expr, $add:expr, $negative:expr) => {{
+        let product = $value * $scale;
+        if $negative {
+            product - $add
+        } else {
+            product + $add
+        }
+    }};
+}
+
+// The body of `checked_mul_add` of each type.
+macro_rules! checked_mul_add {
+    ($value:expr, $scale:expr, $add:expr, $negative:expr) => {{
+        let product = $value.checked_mul($scale)?;
+        if $negative {
+            product.checked_sub($add)
+        } else {
+            product.checked_add($add)
+        }
+    }};
+}
+
+mod signed;
+mod unsigned;
 
 /// An integer type whose values stand for whole numbers.
 ///
