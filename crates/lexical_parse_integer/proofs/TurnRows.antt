@@ -79,6 +79,10 @@ pub eleven_ternary : (turns : ℕ) → HasFewTurns (record standard { mantissa_r
 unfolding numeral head_of sign begin_of digit_at are_same separator_at flag_for run_passes belongs end_of digits_between matches is_affix literal_radix marked_radix prefix_radix suffix_at numeral_stop word_length
 eleven_ternary turns few = few (lit≤ tt)
 
+pub two_before_an_eight : (turns : ℕ) → HasFewTurns (record standard { mantissa_radix = 8 }) (integer_type 32 false) (codes "1281") turns → turns ≤ 2
+unfolding numeral head_of sign begin_of digit_at are_same separator_at flag_for run_passes belongs end_of digits_between matches is_affix literal_radix marked_radix prefix_radix suffix_at numeral_stop word_length
+two_before_an_eight turns few = few (lit≤ tt)
+
 pub eight_in_radix_nine : (turns : ℕ) → HasFewTurns (record standard { mantissa_radix = 9 }) (integer_type 32 true) (codes "12345678") turns → turns ≤ 5
 unfolding numeral head_of sign begin_of digit_at are_same separator_at flag_for run_passes belongs end_of digits_between matches is_affix literal_radix marked_radix prefix_radix suffix_at numeral_stop word_length
 eight_in_radix_nine turns few = few (lit≤ tt)

@@ -166,6 +166,16 @@ fn eleven_ternary() -> (Result<u64>, Cursor<'static>)
     (answer, c)
 }
 
+// A byte that is no digit of the radix takes no turn, nor does what is behind it.
+fn two_before_an_eight() -> (Result<(u32, usize)>, Cursor<'static>)
+    ensures { result.1.turns ≤ 2 }
+{
+    let format = NumberFormatBuilder::from_radix(8);
+    let mut c = Cursor::new(b"1281", &format);
+    let answer = algorithm_partial_on::<u32>(&mut c, &LARGE_NUMBERS);
+    (answer, c)
+}
+
 // In radix 9 seven digits have room in 32 bits behind a sign: a word of four, three digits, and one that is tested.
 fn eight_in_radix_nine() -> (Result<i32>, Cursor<'static>)
     ensures { result.1.turns ≤ 5 }
@@ -273,6 +283,7 @@ fn few_turns_behind_signs_and_in_radixes(rt: HostRuntime) {
     );
     assert_eq!(rt; sixteen_octal().0, Ok(45_954_944_846_776));
     assert_eq!(rt; eleven_ternary().0, Ok(102_200));
+    assert_eq!(rt; two_before_an_eight().0, Ok((10, 2)));
     assert_eq!(rt; eight_in_radix_nine().0, Ok(6_053_444));
     assert_eq!(rt; eight_before_a_suffix().0, Ok(12_345_678));
     assert_eq!(rt; eight_behind_a_prefix().0, Ok(12_345_678));
