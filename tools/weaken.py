@@ -408,7 +408,7 @@ SAME = [
     ("the byte would be worth 36, which is below no radix", [
         ("digit_value", "is_between 97 122 byte", ["is_between 97 123 byte"]),
         ("digit_value", "is_between 65 90 byte", ["is_between 65 91 byte"])]),
-    ("either of the two fields asks for a digit, and JSON has the other; tests of lexical_util ask the getters", [
+    ("either of the two fields asks for a digit, and JSON has the other; a test of lexical_util compares all fields", [
         ("json", "required_integer_digits = true", ["required_integer_digits = false"])]),
     ("a minus is a sign for signed types alone, so no value of an unsigned type is below 0", [
         ("is_number", "type.is_signed && (nat_lt n (number_limit type))",
