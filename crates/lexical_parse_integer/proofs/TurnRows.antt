@@ -1,5 +1,5 @@
 -- How many turns some texts take: the bound, computed.
-use Rattle.std.proofs.Common.{◌≡◌, ◌∙◌, ℕ, ◌≤◌, Result, Ok, Err, OnOk, codes, false, true, refl, lit≤}
+use Rattle.std.proofs.Common.{◌≡◌, ◌∙◌, ℕ, ◌≤◌, Some, Result, Ok, Err, OnOk, codes, false, true, refl, lit≤}
 use Rattle.std.proofs.lemmas.Result.{MatchResult-at_ok}
 use Rattle.lexical_util.specs.Format.{standard}
 use Rattle.lexical_util.specs.Number.{integer_type}
@@ -60,6 +60,49 @@ eight_zeros turns few = few (lit≤ tt)
 pub sixty_four_binary : (turns : ℕ) → HasFewTurns (record standard { literal_prefixes = true }) (integer_type 64 false) (codes "0b1111111111111111111111111111111111111111111111111111111111111111") turns → turns ≤ 50
 unfolding numeral head_of sign begin_of digit_at are_same separator_at flag_for run_passes belongs end_of digits_between matches is_affix literal_radix marked_radix prefix_radix suffix_at numeral_stop word_length
 sixty_four_binary turns few = few (lit≤ tt)
+
+-- ---- signs, radixes, prefixes and suffixes
+
+pub minus_eight_of_i64 : (turns : ℕ) → HasFewTurns standard (integer_type 64 true) (codes "-12345678") turns → turns ≤ 1
+unfolding numeral head_of sign begin_of digit_at are_same separator_at flag_for run_passes belongs end_of digits_between matches is_affix literal_radix marked_radix prefix_radix suffix_at numeral_stop word_length
+minus_eight_of_i64 turns few = few (lit≤ tt)
+
+pub sixty_five_of_u128 : (turns : ℕ) → HasFewTurns standard (integer_type 128 false) (codes "00000000000000000000000000123456789012345678901234567890123456789") turns → turns ≤ 37
+unfolding numeral head_of sign begin_of digit_at are_same separator_at flag_for run_passes belongs end_of digits_between matches is_affix literal_radix marked_radix prefix_radix suffix_at numeral_stop word_length
+sixty_five_of_u128 turns few = few (lit≤ tt)
+
+pub sixteen_octal : (turns : ℕ) → HasFewTurns (record standard { mantissa_radix = 8 }) (integer_type 64 false) (codes "1234567012345670") turns → turns ≤ 2
+unfolding numeral head_of sign begin_of digit_at are_same separator_at flag_for run_passes belongs end_of digits_between matches is_affix literal_radix marked_radix prefix_radix suffix_at numeral_stop word_length
+sixteen_octal turns few = few (lit≤ tt)
+
+pub eleven_ternary : (turns : ℕ) → HasFewTurns (record standard { mantissa_radix = 3 }) (integer_type 64 false) (codes "12012012012") turns → turns ≤ 4
+unfolding numeral head_of sign begin_of digit_at are_same separator_at flag_for run_passes belongs end_of digits_between matches is_affix literal_radix marked_radix prefix_radix suffix_at numeral_stop word_length
+eleven_ternary turns few = few (lit≤ tt)
+
+pub two_before_an_eight : (turns : ℕ) → HasFewTurns (record standard { mantissa_radix = 8 }) (integer_type 32 false) (codes "1281") turns → turns ≤ 2
+unfolding numeral head_of sign begin_of digit_at are_same separator_at flag_for run_passes belongs end_of digits_between matches is_affix literal_radix marked_radix prefix_radix suffix_at numeral_stop word_length
+two_before_an_eight turns few = few (lit≤ tt)
+
+pub eight_in_radix_nine : (turns : ℕ) → HasFewTurns (record standard { mantissa_radix = 9 }) (integer_type 32 true) (codes "12345678") turns → turns ≤ 5
+unfolding numeral head_of sign begin_of digit_at are_same separator_at flag_for run_passes belongs end_of digits_between matches is_affix literal_radix marked_radix prefix_radix suffix_at numeral_stop word_length
+eight_in_radix_nine turns few = few (lit≤ tt)
+
+pub eight_before_a_suffix : (turns : ℕ) → HasFewTurns (record standard { base_suffix = Some 104 }) (integer_type 64 false) (codes "12345678h") turns → turns ≤ 1
+unfolding numeral head_of sign begin_of digit_at are_same separator_at flag_for run_passes belongs end_of digits_between matches is_affix literal_radix marked_radix prefix_radix suffix_at numeral_stop word_length
+eight_before_a_suffix turns few = few (lit≤ tt)
+
+pub eight_behind_a_prefix : (turns : ℕ) → HasFewTurns (record standard { base_prefix = Some 120 }) (integer_type 64 true) (codes "+0x12345678") turns → turns ≤ 1
+unfolding numeral head_of sign begin_of digit_at are_same separator_at flag_for run_passes belongs end_of digits_between matches is_affix literal_radix marked_radix prefix_radix suffix_at numeral_stop word_length
+eight_behind_a_prefix turns few = few (lit≤ tt)
+
+pub sixteen_behind_a_literal_prefix : (turns : ℕ) → HasFewTurns (record standard { literal_prefixes = true }) (integer_type 64 false) (codes "0o1234567012345670") turns → turns ≤ 2
+unfolding numeral head_of sign begin_of digit_at are_same separator_at flag_for run_passes belongs end_of digits_between matches is_affix literal_radix marked_radix prefix_radix suffix_at numeral_stop word_length
+sixteen_behind_a_literal_prefix turns few = few (lit≤ tt)
+
+-- a sign that is refused takes no turn
+pub refused_plus : (turns : ℕ) → HasFewTurns (record standard { no_positive_mantissa_sign = true }) (integer_type 32 true) (codes "+1") turns → turns ≡ 0
+unfolding numeral head_of sign begin_of digit_at are_same separator_at flag_for run_passes belongs end_of digits_between matches is_affix literal_radix marked_radix prefix_radix suffix_at numeral_stop word_length
+refused_plus turns few = few
 
 -- ---- digits one by one
 

@@ -109,6 +109,15 @@ prefix_18 : complete (record standard { base_prefix = Some 120 }) i32 (codes "x1
 unfolding complete partial numeral head_of sign range_fault begin_of digit_at are_same separator_at flag_for run_passes belongs end_of digits_between matches is_affix literal_radix marked_radix prefix_radix suffix_at numeral_stop
 prefix_18 = refl
 
+-- no other digit is
+prefix_19 : complete (record standard { base_prefix = Some 120 }) i32 (codes "1x2") ≡ Err (InvalidDigit 1)
+unfolding complete partial numeral head_of sign range_fault begin_of digit_at are_same separator_at flag_for run_passes belongs end_of digits_between matches is_affix literal_radix marked_radix prefix_radix suffix_at numeral_stop
+prefix_19 = refl
+
+prefix_20 : partial (record standard { base_prefix = Some 120 }) i32 (codes "1x2") ≡ Ok (pos 1, 1)
+unfolding complete partial numeral head_of sign range_fault begin_of digit_at are_same separator_at flag_for run_passes belongs end_of digits_between matches is_affix literal_radix marked_radix prefix_radix suffix_at numeral_stop
+prefix_20 = refl
+
 -- ---- nothing behind the prefix is a fault, also where no digit is asked for
 
 prefix_without_digits_1 : complete (record standard { base_prefix = Some 120; required_mantissa_digits = false }) i32 (codes "0x") ≡ Err (Empty 2)
@@ -348,6 +357,55 @@ suffix_case_7 : complete (record standard { base_suffix = Some 91 }) i32 (codes 
 unfolding complete partial numeral head_of sign range_fault begin_of digit_at are_same separator_at flag_for run_passes belongs end_of digits_between matches is_affix literal_radix marked_radix prefix_radix suffix_at numeral_stop
 suffix_case_7 = refl
 
+-- ---- the letters are those from a to z, and the bytes beside them have one case
+
+suffix_letters_1 : complete (record standard { base_suffix = Some 97 }) i32 (codes "1A") ≡ Ok (pos 1)
+unfolding complete partial numeral head_of sign range_fault begin_of digit_at are_same separator_at flag_for run_passes belongs end_of digits_between matches is_affix literal_radix marked_radix prefix_radix suffix_at numeral_stop
+suffix_letters_1 = refl
+
+suffix_letters_2 : complete (record standard { base_suffix = Some 122 }) i32 (codes "1Z") ≡ Ok (pos 1)
+unfolding complete partial numeral head_of sign range_fault begin_of digit_at are_same separator_at flag_for run_passes belongs end_of digits_between matches is_affix literal_radix marked_radix prefix_radix suffix_at numeral_stop
+suffix_letters_2 = refl
+
+suffix_letters_3 : complete (record standard { base_suffix = Some 90 }) i32 (codes "1z") ≡ Ok (pos 1)
+unfolding complete partial numeral head_of sign range_fault begin_of digit_at are_same separator_at flag_for run_passes belongs end_of digits_between matches is_affix literal_radix marked_radix prefix_radix suffix_at numeral_stop
+suffix_letters_3 = refl
+
+suffix_letters_4 : complete (record standard { base_suffix = Some 64 }) i32 (codes "1`") ≡ Err (InvalidDigit 1)
+unfolding complete partial numeral head_of sign range_fault begin_of digit_at are_same separator_at flag_for run_passes belongs end_of digits_between matches is_affix literal_radix marked_radix prefix_radix suffix_at numeral_stop
+suffix_letters_4 = refl
+
+suffix_letters_5 : complete (record standard { base_suffix = Some 64 }) i32 (codes "1@") ≡ Ok (pos 1)
+unfolding complete partial numeral head_of sign range_fault begin_of digit_at are_same separator_at flag_for run_passes belongs end_of digits_between matches is_affix literal_radix marked_radix prefix_radix suffix_at numeral_stop
+suffix_letters_5 = refl
+
+suffix_letters_6 : complete (record standard { base_suffix = Some 96 }) i32 (codes "1@") ≡ Err (InvalidDigit 1)
+unfolding complete partial numeral head_of sign range_fault begin_of digit_at are_same separator_at flag_for run_passes belongs end_of digits_between matches is_affix literal_radix marked_radix prefix_radix suffix_at numeral_stop
+suffix_letters_6 = refl
+
+-- ---- a suffix that is a digit of the next radix, and one behind the greatest digit
+
+suffix_and_digits_1 : complete (record standard { mantissa_radix = 8; base_suffix = Some 56 }) u32 (codes "18") ≡ Ok (pos 1)
+unfolding complete partial numeral head_of sign range_fault begin_of digit_at are_same separator_at flag_for run_passes belongs end_of digits_between matches is_affix literal_radix marked_radix prefix_radix suffix_at numeral_stop
+suffix_and_digits_1 = refl
+
+suffix_and_digits_2 : partial (record standard { mantissa_radix = 8; base_suffix = Some 56 }) u32 (codes "18") ≡ Ok (pos 1, 2)
+unfolding complete partial numeral head_of sign range_fault begin_of digit_at are_same separator_at flag_for run_passes belongs end_of digits_between matches is_affix literal_radix marked_radix prefix_radix suffix_at numeral_stop
+suffix_and_digits_2 = refl
+
+-- no digit of radix 8 before it
+suffix_and_digits_3 : complete (record standard { mantissa_radix = 8; base_suffix = Some 56 }) u32 (codes "8") ≡ Err (InvalidDigit 0)
+unfolding complete partial numeral head_of sign range_fault begin_of digit_at are_same separator_at flag_for run_passes belongs end_of digits_between matches is_affix literal_radix marked_radix prefix_radix suffix_at numeral_stop
+suffix_and_digits_3 = refl
+
+suffix_and_digits_4 : partial (record standard { mantissa_radix = 8; base_suffix = Some 56 }) u32 (codes "8") ≡ Ok (pos 0, 0)
+unfolding complete partial numeral head_of sign range_fault begin_of digit_at are_same separator_at flag_for run_passes belongs end_of digits_between matches is_affix literal_radix marked_radix prefix_radix suffix_at numeral_stop
+suffix_and_digits_4 = refl
+
+suffix_and_digits_5 : complete (record standard { base_suffix = Some 104 }) i32 (codes "9h") ≡ Ok (pos 9)
+unfolding complete partial numeral head_of sign range_fault begin_of digit_at are_same separator_at flag_for run_passes belongs end_of digits_between matches is_affix literal_radix marked_radix prefix_radix suffix_at numeral_stop
+suffix_and_digits_5 = refl
+
 -- ---- the suffix is read wherever the digits end, and more may follow it
 
 -- sixteen digits
@@ -432,6 +490,10 @@ suffix_and_separators_6 = refl
 suffix_and_separators_7 : partial (record standard { base_suffix = Some 104; digit_separator = Some 95; integer_trailing_digit_separator = true }) i64 (codes "1h_") ≡ Ok (pos 1, 2)
 unfolding complete partial numeral head_of sign range_fault begin_of digit_at are_same separator_at flag_for run_passes belongs end_of digits_between matches is_affix literal_radix marked_radix prefix_radix suffix_at numeral_stop
 suffix_and_separators_7 = refl
+
+suffix_and_separators_8 : partial (record standard { base_suffix = Some 104; digit_separator = Some 95; integer_internal_digit_separator = true }) i64 (codes "1_2h") ≡ Ok (pos 12, 4)
+unfolding complete partial numeral head_of sign range_fault begin_of digit_at are_same separator_at flag_for run_passes belongs end_of digits_between matches is_affix literal_radix marked_radix prefix_radix suffix_at numeral_stop
+suffix_and_separators_8 = refl
 
 -- ---- both are set
 

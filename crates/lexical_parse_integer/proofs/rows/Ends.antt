@@ -445,3 +445,22 @@ zeros_in_front_1 = refl
 zeros_in_front_2 : complete standard i8 (codes "-00128") ≡ Ok (minus 128)
 unfolding complete partial numeral head_of sign range_fault begin_of digit_at are_same separator_at flag_for run_passes belongs end_of digits_between matches is_affix literal_radix marked_radix prefix_radix suffix_at numeral_stop
 zeros_in_front_2 = refl
+
+-- ---- as many digits as a number of 128 bits can have
+
+ends_of_many_digits_1 : complete (record standard { mantissa_radix = 2 }) u128 (codes "11111111111111111111111111111111111111111111111111111111111111111111111111111111111111111111111111111111111111111111111111111111") ≡ Ok (pos 340282366920938463463374607431768211455)
+unfolding complete partial numeral head_of sign range_fault begin_of digit_at are_same separator_at flag_for run_passes belongs end_of digits_between matches is_affix literal_radix marked_radix prefix_radix suffix_at numeral_stop
+ends_of_many_digits_1 = refl
+
+-- the number of 129 digits is two to the power of 128
+ends_of_many_digits_2 : complete (record standard { mantissa_radix = 2 }) u128 (codes "100000000000000000000000000000000000000000000000000000000000000000000000000000000000000000000000000000000000000000000000000000000") ≡ Err (Overflow 128)
+unfolding complete partial numeral head_of sign range_fault begin_of digit_at are_same separator_at flag_for run_passes belongs end_of digits_between matches is_affix literal_radix marked_radix prefix_radix suffix_at numeral_stop
+ends_of_many_digits_2 = refl
+
+ends_of_many_digits_3 : complete (record standard { mantissa_radix = 2 }) i128 (codes "10000000000000000000000000000000000000000000000000000000000000000000000000000000000000000000000000000000000000000000000000000000") ≡ Err (Overflow 127)
+unfolding complete partial numeral head_of sign range_fault begin_of digit_at are_same separator_at flag_for run_passes belongs end_of digits_between matches is_affix literal_radix marked_radix prefix_radix suffix_at numeral_stop
+ends_of_many_digits_3 = refl
+
+ends_of_many_digits_4 : complete (record standard { mantissa_radix = 2 }) i128 (codes "-10000000000000000000000000000000000000000000000000000000000000000000000000000000000000000000000000000000000000000000000000000000") ≡ Ok (minus 170141183460469231731687303715884105728)
+unfolding complete partial numeral head_of sign range_fault begin_of digit_at are_same separator_at flag_for run_passes belongs end_of digits_between matches is_affix literal_radix marked_radix prefix_radix suffix_at numeral_stop
+ends_of_many_digits_4 = refl

@@ -54,48 +54,60 @@ broken_radix_9 = refl
 broken_separator_1 : fault (record standard { digit_separator = Some 128 }) ≡ Some InvalidDigitSeparator
 broken_separator_1 = refl
 
-broken_separator_2 : fault (record standard { digit_separator = Some 43 }) ≡ Some InvalidDigitSeparator
+broken_separator_2 : fault (record standard { digit_separator = Some 255 }) ≡ Some InvalidDigitSeparator
 broken_separator_2 = refl
 
-broken_separator_3 : fault (record standard { digit_separator = Some 45 }) ≡ Some InvalidDigitSeparator
+broken_separator_3 : fault (record standard { digit_separator = Some 43 }) ≡ Some InvalidDigitSeparator
 broken_separator_3 = refl
 
-broken_separator_4 : fault (record standard { digit_separator = Some 53 }) ≡ Some InvalidDigitSeparator
+broken_separator_4 : fault (record standard { digit_separator = Some 45 }) ≡ Some InvalidDigitSeparator
 broken_separator_4 = refl
 
-broken_separator_5 : fault (record standard { mantissa_radix = 16; digit_separator = Some 97 }) ≡ Some InvalidDigitSeparator
+broken_separator_5 : fault (record standard { digit_separator = Some 53 }) ≡ Some InvalidDigitSeparator
 broken_separator_5 = refl
 
-broken_separator_6 : fault (record standard { mantissa_radix = 16; digit_separator = Some 70 }) ≡ Some InvalidDigitSeparator
+broken_separator_6 : fault (record standard { mantissa_radix = 16; digit_separator = Some 97 }) ≡ Some InvalidDigitSeparator
 broken_separator_6 = refl
 
-broken_separator_7 : fault (record standard { digit_separator = Some 43; base_suffix = Some 45 }) ≡ Some InvalidDigitSeparator
+broken_separator_7 : fault (record standard { mantissa_radix = 16; digit_separator = Some 70 }) ≡ Some InvalidDigitSeparator
 broken_separator_7 = refl
 
-broken_separator_8 : fault (record standard { digit_separator = Some 43; base_prefix = Some 48 }) ≡ Some InvalidDigitSeparator
+broken_separator_8 : fault (record standard { digit_separator = Some 43; base_suffix = Some 45 }) ≡ Some InvalidDigitSeparator
 broken_separator_8 = refl
 
-broken_separator_9 : fault (record standard { digit_separator = Some 53; base_prefix = Some 120; base_suffix = Some 88 }) ≡ Some InvalidDigitSeparator
+broken_separator_9 : fault (record standard { digit_separator = Some 43; base_prefix = Some 48 }) ≡ Some InvalidDigitSeparator
 broken_separator_9 = refl
+
+broken_separator_10 : fault (record standard { digit_separator = Some 53; base_prefix = Some 120; base_suffix = Some 88 }) ≡ Some InvalidDigitSeparator
+broken_separator_10 = refl
 
 -- ---- so is a prefix
 
 broken_prefix_1 : fault (record standard { base_prefix = Some 48 }) ≡ Some InvalidBasePrefix
 broken_prefix_1 = refl
 
-broken_prefix_2 : fault (record standard { base_prefix = Some 45; base_suffix = Some 57 }) ≡ Some InvalidBasePrefix
+broken_prefix_2 : fault (record standard { base_prefix = Some 57 }) ≡ Some InvalidBasePrefix
 broken_prefix_2 = refl
 
-broken_prefix_3 : fault (record standard { base_prefix = Some 48; digit_separator = Some 120; base_suffix = Some 88 }) ≡ Some InvalidBasePrefix
+broken_prefix_3 : fault (record standard { base_prefix = Some 255 }) ≡ Some InvalidBasePrefix
 broken_prefix_3 = refl
+
+broken_prefix_4 : fault (record standard { base_prefix = Some 45; base_suffix = Some 57 }) ≡ Some InvalidBasePrefix
+broken_prefix_4 = refl
+
+broken_prefix_5 : fault (record standard { base_prefix = Some 48; digit_separator = Some 120; base_suffix = Some 88 }) ≡ Some InvalidBasePrefix
+broken_prefix_5 = refl
 
 -- ---- so is a suffix
 
 broken_suffix_1 : fault (record standard { base_suffix = Some 57 }) ≡ Some InvalidBaseSuffix
 broken_suffix_1 = refl
 
-broken_suffix_2 : fault (record standard { base_suffix = Some 57; digit_separator = Some 95; base_prefix = Some 95 }) ≡ Some InvalidBaseSuffix
+broken_suffix_2 : fault (record standard { base_suffix = Some 255 }) ≡ Some InvalidBaseSuffix
 broken_suffix_2 = refl
+
+broken_suffix_3 : fault (record standard { base_suffix = Some 57; digit_separator = Some 95; base_prefix = Some 95 }) ≡ Some InvalidBaseSuffix
+broken_suffix_3 = refl
 
 -- ---- no two of separator, prefix and suffix are one byte, in either case
 
@@ -108,9 +120,18 @@ broken_punctuation_2 = refl
 broken_punctuation_3 : fault (record standard { digit_separator = Some 120; base_suffix = Some 88 }) ≡ Some InvalidPunctuation
 broken_punctuation_3 = refl
 
--- also where other fields tell the cases apart
-broken_punctuation_4 : fault (record standard { base_prefix = Some 120; base_suffix = Some 88; case_sensitive_base_prefix = true; case_sensitive_base_suffix = true }) ≡ Some InvalidPunctuation
+broken_punctuation_4 : fault (record standard { digit_separator = Some 120; base_prefix = Some 88 }) ≡ Some InvalidPunctuation
 broken_punctuation_4 = refl
+
+broken_punctuation_5 : fault (record standard { base_prefix = Some 65; base_suffix = Some 97 }) ≡ Some InvalidPunctuation
+broken_punctuation_5 = refl
+
+broken_punctuation_6 : fault (record standard { base_prefix = Some 122; base_suffix = Some 90 }) ≡ Some InvalidPunctuation
+broken_punctuation_6 = refl
+
+-- also where other fields tell the cases apart
+broken_punctuation_7 : fault (record standard { base_prefix = Some 120; base_suffix = Some 88; case_sensitive_base_prefix = true; case_sensitive_base_suffix = true }) ≡ Some InvalidPunctuation
+broken_punctuation_7 = refl
 
 -- ---- literal prefixes ask for radix 10, no prefix of the format's own, and for a separator and a suffix that can't be taken for a part of them
 
@@ -123,41 +144,44 @@ broken_literals_2 = refl
 broken_literals_3 : fault (record standard { literal_prefixes = true; base_prefix = Some 100 }) ≡ Some InvalidLiteralPrefixes
 broken_literals_3 = refl
 
-broken_literals_4 : fault (record standard { literal_prefixes = true; base_suffix = Some 102 }) ≡ Some InvalidLiteralPrefixes
+broken_literals_4 : fault (record standard { literal_prefixes = true; base_prefix = Some 120 }) ≡ Some InvalidLiteralPrefixes
 broken_literals_4 = refl
 
-broken_literals_5 : fault (record standard { literal_prefixes = true; base_suffix = Some 70 }) ≡ Some InvalidLiteralPrefixes
+broken_literals_5 : fault (record standard { literal_prefixes = true; base_suffix = Some 102 }) ≡ Some InvalidLiteralPrefixes
 broken_literals_5 = refl
 
-broken_literals_6 : fault (record standard { literal_prefixes = true; base_suffix = Some 88 }) ≡ Some InvalidLiteralPrefixes
+broken_literals_6 : fault (record standard { literal_prefixes = true; base_suffix = Some 70 }) ≡ Some InvalidLiteralPrefixes
 broken_literals_6 = refl
 
-broken_literals_7 : fault (record standard { literal_prefixes = true; base_suffix = Some 111 }) ≡ Some InvalidLiteralPrefixes
+broken_literals_7 : fault (record standard { literal_prefixes = true; base_suffix = Some 88 }) ≡ Some InvalidLiteralPrefixes
 broken_literals_7 = refl
 
-broken_literals_8 : fault (record standard { literal_prefixes = true; base_suffix = Some 79 }) ≡ Some InvalidLiteralPrefixes
+broken_literals_8 : fault (record standard { literal_prefixes = true; base_suffix = Some 111 }) ≡ Some InvalidLiteralPrefixes
 broken_literals_8 = refl
 
-broken_literals_9 : fault (record standard { literal_prefixes = true; base_suffix = Some 98 }) ≡ Some InvalidLiteralPrefixes
+broken_literals_9 : fault (record standard { literal_prefixes = true; base_suffix = Some 79 }) ≡ Some InvalidLiteralPrefixes
 broken_literals_9 = refl
 
-broken_literals_10 : fault (record standard { literal_prefixes = true; digit_separator = Some 97 }) ≡ Some InvalidLiteralPrefixes
+broken_literals_10 : fault (record standard { literal_prefixes = true; base_suffix = Some 98 }) ≡ Some InvalidLiteralPrefixes
 broken_literals_10 = refl
 
-broken_literals_11 : fault (record standard { literal_prefixes = true; digit_separator = Some 88 }) ≡ Some InvalidLiteralPrefixes
+broken_literals_11 : fault (record standard { literal_prefixes = true; digit_separator = Some 97 }) ≡ Some InvalidLiteralPrefixes
 broken_literals_11 = refl
 
-broken_literals_12 : fault (record standard { literal_prefixes = true; base_prefix = Some 120; base_suffix = Some 88 }) ≡ Some InvalidPunctuation
+broken_literals_12 : fault (record standard { literal_prefixes = true; digit_separator = Some 88 }) ≡ Some InvalidLiteralPrefixes
 broken_literals_12 = refl
 
-broken_literals_13 : fault (record standard { literal_prefixes = true; digit_separator = Some 95; base_suffix = Some 117 }) ≡ None
+broken_literals_13 : fault (record standard { literal_prefixes = true; base_prefix = Some 120; base_suffix = Some 88 }) ≡ Some InvalidPunctuation
 broken_literals_13 = refl
 
-broken_literals_14 : fault (record standard { literal_prefixes = true }) ≡ None
+broken_literals_14 : fault (record standard { literal_prefixes = true; digit_separator = Some 95; base_suffix = Some 117 }) ≡ None
 broken_literals_14 = refl
 
-broken_literals_15 : fault (record standard { literal_prefixes = true; digit_separator = Some 103; base_suffix = Some 121 }) ≡ None
+broken_literals_15 : fault (record standard { literal_prefixes = true }) ≡ None
 broken_literals_15 = refl
+
+broken_literals_16 : fault (record standard { literal_prefixes = true; digit_separator = Some 103; base_suffix = Some 121 }) ≡ None
+broken_literals_16 = refl
 
 -- ---- formats that break no rule
 
@@ -183,8 +207,40 @@ valid_6 = refl
 valid_7 : fault (record standard { mantissa_radix = 9; digit_separator = Some 57 }) ≡ None
 valid_7 = refl
 
-valid_8 : fault (record standard { base_prefix = Some 120; base_suffix = Some 104; digit_separator = Some 95 }) ≡ None
+valid_8 : fault (record standard { mantissa_radix = 8; base_prefix = Some 56 }) ≡ None
 valid_8 = refl
+
+valid_9 : fault (record standard { mantissa_radix = 8; base_suffix = Some 56 }) ≡ None
+valid_9 = refl
+
+valid_10 : fault (record standard { base_prefix = Some 120; base_suffix = Some 104; digit_separator = Some 95 }) ≡ None
+valid_10 = refl
+
+-- ---- any ASCII byte but the signs and the digits, also one that doesn't show
+
+valid_punctuation_1 : fault (record standard { digit_separator = Some 127 }) ≡ None
+valid_punctuation_1 = refl
+
+-- a space
+valid_punctuation_2 : fault (record standard { digit_separator = Some 32 }) ≡ None
+valid_punctuation_2 = refl
+
+valid_punctuation_3 : fault (record standard { digit_separator = Some 44 }) ≡ None
+valid_punctuation_3 = refl
+
+valid_punctuation_4 : fault (record standard { digit_separator = Some 46 }) ≡ None
+valid_punctuation_4 = refl
+
+-- a tab
+valid_punctuation_5 : fault (record standard { digit_separator = Some 9 }) ≡ None
+valid_punctuation_5 = refl
+
+-- letters alone have two cases
+valid_punctuation_6 : fault (record standard { base_prefix = Some 91; base_suffix = Some 123 }) ≡ None
+valid_punctuation_6 = refl
+
+valid_punctuation_7 : fault (record standard { base_prefix = Some 64; base_suffix = Some 96 }) ≡ None
+valid_punctuation_7 = refl
 
 -- ---- an invalid format is refused before any byte is judged
 

@@ -60,25 +60,30 @@ literal_radix_7 : complete (record standard { literal_prefixes = true }) u32 (co
 unfolding complete partial numeral head_of sign range_fault begin_of digit_at are_same separator_at flag_for run_passes belongs end_of digits_between matches is_affix literal_radix marked_radix prefix_radix suffix_at numeral_stop
 literal_radix_7 = refl
 
-literal_radix_8 : complete (record standard { literal_prefixes = true }) u32 (codes "0") ≡ Ok (pos 0)
+-- the zero is part of the prefix
+literal_radix_8 : complete (record standard { literal_prefixes = true }) u32 (codes "1x2") ≡ Err (InvalidDigit 1)
 unfolding complete partial numeral head_of sign range_fault begin_of digit_at are_same separator_at flag_for run_passes belongs end_of digits_between matches is_affix literal_radix marked_radix prefix_radix suffix_at numeral_stop
 literal_radix_8 = refl
 
-literal_radix_9 : complete (record standard { literal_prefixes = true }) i32 (codes "-0b101") ≡ Ok (minus 5)
+literal_radix_9 : complete (record standard { literal_prefixes = true }) u32 (codes "0") ≡ Ok (pos 0)
 unfolding complete partial numeral head_of sign range_fault begin_of digit_at are_same separator_at flag_for run_passes belongs end_of digits_between matches is_affix literal_radix marked_radix prefix_radix suffix_at numeral_stop
 literal_radix_9 = refl
 
-literal_radix_10 : complete (record standard { literal_prefixes = true }) i32 (codes "+0o10") ≡ Ok (pos 8)
+literal_radix_10 : complete (record standard { literal_prefixes = true }) i32 (codes "-0b101") ≡ Ok (minus 5)
 unfolding complete partial numeral head_of sign range_fault begin_of digit_at are_same separator_at flag_for run_passes belongs end_of digits_between matches is_affix literal_radix marked_radix prefix_radix suffix_at numeral_stop
 literal_radix_10 = refl
 
-literal_radix_11 : partial (record standard { literal_prefixes = true }) u64 (codes "0x1F;") ≡ Ok (pos 31, 4)
+literal_radix_11 : complete (record standard { literal_prefixes = true }) i32 (codes "+0o10") ≡ Ok (pos 8)
 unfolding complete partial numeral head_of sign range_fault begin_of digit_at are_same separator_at flag_for run_passes belongs end_of digits_between matches is_affix literal_radix marked_radix prefix_radix suffix_at numeral_stop
 literal_radix_11 = refl
 
-literal_radix_12 : partial (record standard { literal_prefixes = true }) u64 (codes "0b12345678") ≡ Ok (pos 1, 3)
+literal_radix_12 : partial (record standard { literal_prefixes = true }) u64 (codes "0x1F;") ≡ Ok (pos 31, 4)
 unfolding complete partial numeral head_of sign range_fault begin_of digit_at are_same separator_at flag_for run_passes belongs end_of digits_between matches is_affix literal_radix marked_radix prefix_radix suffix_at numeral_stop
 literal_radix_12 = refl
+
+literal_radix_13 : partial (record standard { literal_prefixes = true }) u64 (codes "0b12345678") ≡ Ok (pos 1, 3)
+unfolding complete partial numeral head_of sign range_fault begin_of digit_at are_same separator_at flag_for run_passes belongs end_of digits_between matches is_affix literal_radix marked_radix prefix_radix suffix_at numeral_stop
+literal_radix_13 = refl
 
 -- ---- the small letters alone
 
@@ -186,10 +191,15 @@ literals_beside_others_7 : complete (record standard { literal_prefixes = true; 
 unfolding complete partial numeral head_of sign range_fault begin_of digit_at are_same separator_at flag_for run_passes belongs end_of digits_between matches is_affix literal_radix marked_radix prefix_radix suffix_at numeral_stop
 literals_beside_others_7 = refl
 
-literals_beside_others_8 : complete (record standard { literal_prefixes = true; base_suffix = Some 117 }) u32 (codes "0x1Fu") ≡ Ok (pos 31)
+-- 1 * 2 + 1
+literals_beside_others_8 : complete (record standard { literal_prefixes = true; digit_separator = Some 95; integer_internal_digit_separator = true }) i32 (codes "-0b1_1") ≡ Ok (minus 3)
 unfolding complete partial numeral head_of sign range_fault begin_of digit_at are_same separator_at flag_for run_passes belongs end_of digits_between matches is_affix literal_radix marked_radix prefix_radix suffix_at numeral_stop
 literals_beside_others_8 = refl
 
-literals_beside_others_9 : complete (record standard { literal_prefixes = true; base_suffix = Some 117 }) u32 (codes "0xu") ≡ Err (InvalidDigit 2)
+literals_beside_others_9 : complete (record standard { literal_prefixes = true; base_suffix = Some 117 }) u32 (codes "0x1Fu") ≡ Ok (pos 31)
 unfolding complete partial numeral head_of sign range_fault begin_of digit_at are_same separator_at flag_for run_passes belongs end_of digits_between matches is_affix literal_radix marked_radix prefix_radix suffix_at numeral_stop
 literals_beside_others_9 = refl
+
+literals_beside_others_10 : complete (record standard { literal_prefixes = true; base_suffix = Some 117 }) u32 (codes "0xu") ≡ Err (InvalidDigit 2)
+unfolding complete partial numeral head_of sign range_fault begin_of digit_at are_same separator_at flag_for run_passes belongs end_of digits_between matches is_affix literal_radix marked_radix prefix_radix suffix_at numeral_stop
+literals_beside_others_10 = refl

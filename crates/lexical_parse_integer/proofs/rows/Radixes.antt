@@ -2,7 +2,7 @@
 -- Written by tools/rows.py from tools/rows.txt: make rows writes it anew.
 use Rattle.std.specs.Prelude.{◌≡◌, codes, ℕ, ℤ, pos, neg_ℤ, true, false, Ok, Err}
 use Rattle.std.proofs.Common.{refl}
-use Rattle.lexical_util.specs.declared.error.Error.TheVariants.{Overflow}
+use Rattle.lexical_util.specs.declared.error.Error.TheVariants.{Overflow, InvalidDigit}
 use Rattle.lexical_util.specs.Format.{standard}
 use Rattle.lexical_util.specs.Number.{IntegerType, integer_type}
 use Rattle.lexical_parse_integer.specs.Affixes.{is_affix, literal_radix, marked_radix, matches, numeral_stop, prefix_radix, suffix_at}
@@ -262,3 +262,50 @@ ends_in_great_radixes_5 = refl
 ends_in_great_radixes_6 : complete (record standard { mantissa_radix = 36 }) u8 (codes "74") ≡ Err (Overflow 1)
 unfolding complete partial numeral head_of sign range_fault begin_of digit_at are_same separator_at flag_for run_passes belongs end_of digits_between matches is_affix literal_radix marked_radix prefix_radix suffix_at numeral_stop
 ends_in_great_radixes_6 = refl
+
+-- ---- the bytes just outside of the digits and of the letters are no digits
+
+-- before `0`
+beside_digits_and_letters_1 : partial (record standard { mantissa_radix = 36 }) u32 (codes "1/") ≡ Ok (pos 1, 1)
+unfolding complete partial numeral head_of sign range_fault begin_of digit_at are_same separator_at flag_for run_passes belongs end_of digits_between matches is_affix literal_radix marked_radix prefix_radix suffix_at numeral_stop
+beside_digits_and_letters_1 = refl
+
+-- behind `9`
+beside_digits_and_letters_2 : partial (record standard { mantissa_radix = 36 }) u32 (codes "1:") ≡ Ok (pos 1, 1)
+unfolding complete partial numeral head_of sign range_fault begin_of digit_at are_same separator_at flag_for run_passes belongs end_of digits_between matches is_affix literal_radix marked_radix prefix_radix suffix_at numeral_stop
+beside_digits_and_letters_2 = refl
+
+-- before `A`
+beside_digits_and_letters_3 : partial (record standard { mantissa_radix = 36 }) u32 (codes "1@") ≡ Ok (pos 1, 1)
+unfolding complete partial numeral head_of sign range_fault begin_of digit_at are_same separator_at flag_for run_passes belongs end_of digits_between matches is_affix literal_radix marked_radix prefix_radix suffix_at numeral_stop
+beside_digits_and_letters_3 = refl
+
+-- behind `Z`
+beside_digits_and_letters_4 : partial (record standard { mantissa_radix = 36 }) u32 (codes "1[") ≡ Ok (pos 1, 1)
+unfolding complete partial numeral head_of sign range_fault begin_of digit_at are_same separator_at flag_for run_passes belongs end_of digits_between matches is_affix literal_radix marked_radix prefix_radix suffix_at numeral_stop
+beside_digits_and_letters_4 = refl
+
+-- before `a`
+beside_digits_and_letters_5 : partial (record standard { mantissa_radix = 36 }) u32 (codes "1`") ≡ Ok (pos 1, 1)
+unfolding complete partial numeral head_of sign range_fault begin_of digit_at are_same separator_at flag_for run_passes belongs end_of digits_between matches is_affix literal_radix marked_radix prefix_radix suffix_at numeral_stop
+beside_digits_and_letters_5 = refl
+
+-- behind `z`
+beside_digits_and_letters_6 : partial (record standard { mantissa_radix = 36 }) u32 (codes "1{") ≡ Ok (pos 1, 1)
+unfolding complete partial numeral head_of sign range_fault begin_of digit_at are_same separator_at flag_for run_passes belongs end_of digits_between matches is_affix literal_radix marked_radix prefix_radix suffix_at numeral_stop
+beside_digits_and_letters_6 = refl
+
+beside_digits_and_letters_7 : complete (record standard { mantissa_radix = 36 }) u32 (codes "@") ≡ Err (InvalidDigit 0)
+unfolding complete partial numeral head_of sign range_fault begin_of digit_at are_same separator_at flag_for run_passes belongs end_of digits_between matches is_affix literal_radix marked_radix prefix_radix suffix_at numeral_stop
+beside_digits_and_letters_7 = refl
+
+-- ---- a digit of the next radix alone ends the numeral, also before one that is a digit
+
+-- 1 * 8 + 2
+digits_of_the_next_radix_1 : partial (record standard { mantissa_radix = 8 }) u32 (codes "1281") ≡ Ok (pos 10, 2)
+unfolding complete partial numeral head_of sign range_fault begin_of digit_at are_same separator_at flag_for run_passes belongs end_of digits_between matches is_affix literal_radix marked_radix prefix_radix suffix_at numeral_stop
+digits_of_the_next_radix_1 = refl
+
+digits_of_the_next_radix_2 : complete (record standard { mantissa_radix = 8 }) u32 (codes "1281") ≡ Err (InvalidDigit 2)
+unfolding complete partial numeral head_of sign range_fault begin_of digit_at are_same separator_at flag_for run_passes belongs end_of digits_between matches is_affix literal_radix marked_radix prefix_radix suffix_at numeral_stop
+digits_of_the_next_radix_2 = refl

@@ -2,7 +2,7 @@
 -- Written by tools/rows.py from tools/rows.txt: make rows writes it anew.
 use Rattle.std.specs.Prelude.{◌≡◌, codes, pos, Some, true, false, Ok, Err}
 use Rattle.std.proofs.Common.{refl}
-use Rattle.lexical_util.specs.declared.error.Error.TheVariants.{Overflow, Underflow, InvalidDigit, Empty, MissingSign}
+use Rattle.lexical_util.specs.declared.error.Error.TheVariants.{Overflow, Underflow, InvalidDigit, Empty, MissingSign, InvalidLeadingZeros}
 use Rattle.lexical_util.specs.Format.{standard}
 use Rattle.lexical_util.specs.Number.{IntegerType, integer_type}
 use Rattle.lexical_parse_integer.specs.Affixes.{is_affix, literal_radix, marked_radix, matches, numeral_stop, prefix_radix, suffix_at}
@@ -13,6 +13,9 @@ use Rattle.lexical_parse_integer.specs.Runs.{are_same, begin_of, belongs, digit_
 
 abbrev u8 : IntegerType
 u8 = integer_type 8 false
+
+abbrev u32 : IntegerType
+u32 = integer_type 32 false
 
 abbrev i8 : IntegerType
 i8 = integer_type 8 true
@@ -120,6 +123,36 @@ byte_zero_8 = refl
 byte_zero_9 : partial (record standard { digit_separator = Some 0; integer_leading_digit_separator = true }) i32 (codes "\0") ≡ Err (Empty 1)
 unfolding complete partial numeral head_of sign range_fault begin_of digit_at are_same separator_at flag_for run_passes belongs end_of digits_between matches is_affix literal_radix marked_radix prefix_radix suffix_at numeral_stop
 byte_zero_9 = refl
+
+-- ---- a long run passes as a short one does, or not at all
+
+ten_in_a_row_1 : complete (record standard { digit_separator = Some 95; integer_internal_digit_separator = true; integer_consecutive_digit_separator = true }) i64 (codes "1__________2") ≡ Ok (pos 12)
+unfolding complete partial numeral head_of sign range_fault begin_of digit_at are_same separator_at flag_for run_passes belongs end_of digits_between matches is_affix literal_radix marked_radix prefix_radix suffix_at numeral_stop
+ten_in_a_row_1 = refl
+
+ten_in_a_row_2 : partial (record standard { digit_separator = Some 95; integer_internal_digit_separator = true; integer_consecutive_digit_separator = true }) i64 (codes "1__________2") ≡ Ok (pos 12, 12)
+unfolding complete partial numeral head_of sign range_fault begin_of digit_at are_same separator_at flag_for run_passes belongs end_of digits_between matches is_affix literal_radix marked_radix prefix_radix suffix_at numeral_stop
+ten_in_a_row_2 = refl
+
+ten_in_a_row_3 : complete (record standard { digit_separator = Some 95; integer_internal_digit_separator = true }) i64 (codes "1__________2") ≡ Err (InvalidDigit 1)
+unfolding complete partial numeral head_of sign range_fault begin_of digit_at are_same separator_at flag_for run_passes belongs end_of digits_between matches is_affix literal_radix marked_radix prefix_radix suffix_at numeral_stop
+ten_in_a_row_3 = refl
+
+ten_in_a_row_4 : partial (record standard { digit_separator = Some 95; integer_internal_digit_separator = true }) i64 (codes "1__________2") ≡ Ok (pos 1, 1)
+unfolding complete partial numeral head_of sign range_fault begin_of digit_at are_same separator_at flag_for run_passes belongs end_of digits_between matches is_affix literal_radix marked_radix prefix_radix suffix_at numeral_stop
+ten_in_a_row_4 = refl
+
+-- ---- a separator that is a digit of the next radix is none of the numeral's digits
+
+-- 1 * 8 + 1
+digits_that_separate_1 : complete (record standard { mantissa_radix = 8; digit_separator = Some 56; integer_internal_digit_separator = true }) u32 (codes "181") ≡ Ok (pos 9)
+unfolding complete partial numeral head_of sign range_fault begin_of digit_at are_same separator_at flag_for run_passes belongs end_of digits_between matches is_affix literal_radix marked_radix prefix_radix suffix_at numeral_stop
+digits_that_separate_1 = refl
+
+-- the 8 passes, and the zeros are digits
+digits_that_separate_2 : complete (record standard { mantissa_radix = 8; digit_separator = Some 56; integer_leading_digit_separator = true; no_integer_leading_zeros = true }) i32 (codes "800") ≡ Err (InvalidLeadingZeros 1)
+unfolding complete partial numeral head_of sign range_fault begin_of digit_at are_same separator_at flag_for run_passes belongs end_of digits_between matches is_affix literal_radix marked_radix prefix_radix suffix_at numeral_stop
+digits_that_separate_2 = refl
 
 -- ---- a digit beside a separator is one of the radix in force
 

@@ -85,6 +85,10 @@ no_leading_zeros_11 : complete (record standard { no_integer_leading_zeros = tru
 unfolding complete partial numeral head_of sign range_fault begin_of digit_at are_same separator_at flag_for run_passes belongs end_of digits_between matches is_affix literal_radix marked_radix prefix_radix suffix_at numeral_stop
 no_leading_zeros_11 = refl
 
+no_leading_zeros_12 : complete (record standard { no_integer_leading_zeros = true }) u64 (codes "0123456789") ≡ Err (InvalidLeadingZeros 0)
+unfolding complete partial numeral head_of sign range_fault begin_of digit_at are_same separator_at flag_for run_passes belongs end_of digits_between matches is_affix literal_radix marked_radix prefix_radix suffix_at numeral_stop
+no_leading_zeros_12 = refl
+
 -- ---- a zero before a point is alone
 
 no_leading_zeros_in_fractions_1 : complete (record standard { required_integer_digits = true; no_integer_leading_zeros = true }) i64 (codes "1.1") ≡ Err (InvalidDigit 1)

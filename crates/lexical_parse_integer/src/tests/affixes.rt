@@ -28,12 +28,17 @@ fn prefix(rt: HostRuntime) {
             (b"-0x012h ", Err(Error::InvalidDigit(6))),
             (b"0x0x1", Err(Error::InvalidDigit(3))),
             (b"x1", Err(Error::InvalidDigit(0))),
+            (b"1x2", Err(Error::InvalidDigit(1))),
         ],
     );
     partial_with::<i32>(
         &rt,
         &format,
-        &[(b"-0x012h", Ok((-12, 6))), (b"-0x012h ", Ok((-12, 6)))],
+        &[
+            (b"-0x012h", Ok((-12, 6))),
+            (b"-0x012h ", Ok((-12, 6))),
+            (b"1x2", Ok((1, 1))),
+        ],
     );
     let format = NumberFormatBuilder::new()
         .mantissa_radix(16)
@@ -244,6 +249,54 @@ fn suffix_case(rt: HostRuntime) {
     );
 }
 
+// The letters are those from a to z, and the bytes beside them have one case.
+#[test]
+fn suffix_letters(rt: HostRuntime) {
+    let format = NumberFormatBuilder::new()
+        .base_suffix(Some(b'a'))
+        .build_unchecked();
+    complete_with::<i32>(&rt, &format, &[(b"1A", Ok(1))]);
+    let format = NumberFormatBuilder::new()
+        .base_suffix(Some(b'z'))
+        .build_unchecked();
+    complete_with::<i32>(&rt, &format, &[(b"1Z", Ok(1))]);
+    let format = NumberFormatBuilder::new()
+        .base_suffix(Some(b'Z'))
+        .build_unchecked();
+    complete_with::<i32>(&rt, &format, &[(b"1z", Ok(1))]);
+    let format = NumberFormatBuilder::new()
+        .base_suffix(Some(b'@'))
+        .build_unchecked();
+    complete_with::<i32>(
+        &rt,
+        &format,
+        &[(b"1`", Err(Error::InvalidDigit(1))), (b"1@", Ok(1))],
+    );
+    let format = NumberFormatBuilder::new()
+        .base_suffix(Some(b'`'))
+        .build_unchecked();
+    complete_with::<i32>(&rt, &format, &[(b"1@", Err(Error::InvalidDigit(1)))]);
+}
+
+// A suffix that is a digit of the next radix, and one behind the greatest digit.
+#[test]
+fn suffix_and_digits(rt: HostRuntime) {
+    let format = NumberFormatBuilder::new()
+        .mantissa_radix(8)
+        .base_suffix(Some(b'8'))
+        .build_unchecked();
+    complete_with::<u32>(
+        &rt,
+        &format,
+        &[(b"18", Ok(1)), (b"8", Err(Error::InvalidDigit(0)))],
+    );
+    partial_with::<u32>(&rt, &format, &[(b"18", Ok((1, 2))), (b"8", Ok((0, 0)))]);
+    let format = NumberFormatBuilder::new()
+        .base_suffix(Some(b'h'))
+        .build_unchecked();
+    complete_with::<i32>(&rt, &format, &[(b"9h", Ok(9))]);
+}
+
 // The suffix is read wherever the digits end, and more may follow it.
 #[test]
 fn suffix_behind_many_digits(rt: HostRuntime) {
@@ -316,7 +369,11 @@ fn suffix_and_separators(rt: HostRuntime) {
         .digit_separator(Some(b'_'))
         .integer_internal_digit_separator(true)
         .build_unchecked();
-    partial_with::<i64>(&rt, &format, &[(b"1_h", Ok((1, 1)))]);
+    partial_with::<i64>(
+        &rt,
+        &format,
+        &[(b"1_h", Ok((1, 1))), (b"1_2h", Ok((12, 4)))],
+    );
     complete_with::<i64>(&rt, &format, &[(b"1_h", Err(Error::InvalidDigit(1)))]);
 }
 

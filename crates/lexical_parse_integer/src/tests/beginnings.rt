@@ -178,7 +178,7 @@ fn with_affixes() -> [NumberFormat; 12] {
 
 #[test]
 fn beginnings_with_affixes(rt: HostRuntime) {
-    let texts: [&[u8]; 34] = [
+    let texts: [&[u8]; 35] = [
         b"0x",
         b"-0x",
         b"-0x1",
@@ -210,6 +210,7 @@ fn beginnings_with_affixes(rt: HostRuntime) {
         b"01",
         b"10",
         b"1.1.0",
+        b"10.1",
         b"0.1",
         b"01.1",
         b"00.1",

@@ -42,6 +42,7 @@ fn broken_separator(rt: HostRuntime) {
         Error::InvalidDigitSeparator,
         &[
             NumberFormatBuilder::new().digit_separator(Some(0x80)),
+            NumberFormatBuilder::new().digit_separator(Some(0xff)),
             NumberFormatBuilder::new().digit_separator(Some(b'+')),
             NumberFormatBuilder::new().digit_separator(Some(b'-')),
             NumberFormatBuilder::new().digit_separator(Some(b'5')),
@@ -73,6 +74,8 @@ fn broken_prefix(rt: HostRuntime) {
         Error::InvalidBasePrefix,
         &[
             NumberFormatBuilder::new().base_prefix(Some(b'0')),
+            NumberFormatBuilder::new().base_prefix(Some(b'9')),
+            NumberFormatBuilder::new().base_prefix(Some(0xff)),
             NumberFormatBuilder::new()
                 .base_prefix(Some(b'-'))
                 .base_suffix(Some(b'9')),
@@ -92,6 +95,7 @@ fn broken_suffix(rt: HostRuntime) {
         Error::InvalidBaseSuffix,
         &[
             NumberFormatBuilder::new().base_suffix(Some(b'9')),
+            NumberFormatBuilder::new().base_suffix(Some(0xff)),
             NumberFormatBuilder::new()
                 .base_suffix(Some(b'9'))
                 .digit_separator(Some(b'_'))
@@ -117,6 +121,15 @@ fn broken_punctuation(rt: HostRuntime) {
                 .digit_separator(Some(b'x'))
                 .base_suffix(Some(b'X')),
             NumberFormatBuilder::new()
+                .digit_separator(Some(b'x'))
+                .base_prefix(Some(b'X')),
+            NumberFormatBuilder::new()
+                .base_prefix(Some(b'A'))
+                .base_suffix(Some(b'a')),
+            NumberFormatBuilder::new()
+                .base_prefix(Some(b'z'))
+                .base_suffix(Some(b'Z')),
+            NumberFormatBuilder::new()
                 .base_prefix(Some(b'x'))
                 .base_suffix(Some(b'X'))
                 .case_sensitive_base_prefix(true)
@@ -141,6 +154,9 @@ fn broken_literals(rt: HostRuntime) {
             NumberFormatBuilder::new()
                 .literal_prefixes(true)
                 .base_prefix(Some(b'd')),
+            NumberFormatBuilder::new()
+                .literal_prefixes(true)
+                .base_prefix(Some(b'x')),
             NumberFormatBuilder::new()
                 .literal_prefixes(true)
                 .base_suffix(Some(b'f')),
@@ -208,12 +224,39 @@ fn valid(rt: HostRuntime) {
                 .mantissa_radix(9)
                 .digit_separator(Some(b'9')),
             NumberFormatBuilder::new()
+                .mantissa_radix(8)
+                .base_prefix(Some(b'8')),
+            NumberFormatBuilder::new()
+                .mantissa_radix(8)
+                .base_suffix(Some(b'8')),
+            NumberFormatBuilder::new()
                 .base_prefix(Some(b'x'))
                 .base_suffix(Some(b'h'))
                 .digit_separator(Some(b'_')),
         ],
     );
     assert_eq!(rt; JSON.error(), None);
+}
+
+// Any ASCII byte but the signs and the digits, also one that doesn't show.
+#[test]
+fn valid_punctuation(rt: HostRuntime) {
+    are_valid(
+        &rt,
+        &[
+            NumberFormatBuilder::new().digit_separator(Some(0x7f)),
+            NumberFormatBuilder::new().digit_separator(Some(0x20)),
+            NumberFormatBuilder::new().digit_separator(Some(b',')),
+            NumberFormatBuilder::new().digit_separator(Some(b'.')),
+            NumberFormatBuilder::new().digit_separator(Some(0x09)),
+            NumberFormatBuilder::new()
+                .base_prefix(Some(b'['))
+                .base_suffix(Some(b'{')),
+            NumberFormatBuilder::new()
+                .base_prefix(Some(b'@'))
+                .base_suffix(Some(b'`')),
+        ],
+    );
 }
 
 // An invalid format is refused before any byte is judged.

@@ -20,6 +20,7 @@ fn literal_radix(rt: HostRuntime) {
             (b"0b101", Ok(5)),
             (b"0B101", Ok(5)),
             (b"017", Ok(17)),
+            (b"1x2", Err(Error::InvalidDigit(1))),
             (b"0", Ok(0)),
         ],
     );
@@ -121,6 +122,7 @@ fn literals_beside_others(rt: HostRuntime) {
         &[(b"0x1_F", Ok(31)), (b"0x_1", Err(Error::InvalidDigit(2)))],
     );
     partial_with::<u32>(&rt, &format, &[(b"0o1_8", Ok((1, 3)))]);
+    complete_with::<i32>(&rt, &format, &[(b"-0b1_1", Ok(-3))]);
     let format = NumberFormatBuilder::new()
         .literal_prefixes(true)
         .digit_separator(Some(b'_'))

@@ -100,3 +100,30 @@ fn ends_in_great_radixes(rt: HostRuntime) {
         &[(b"73", Ok(255)), (b"74", Err(Error::Overflow(1)))],
     );
 }
+
+// The bytes just outside of the digits and of the letters are no digits.
+#[test]
+fn beside_digits_and_letters(rt: HostRuntime) {
+    let format = NumberFormatBuilder::from_radix(36);
+    partial_with::<u32>(
+        &rt,
+        &format,
+        &[
+            (b"1/", Ok((1, 1))),
+            (b"1:", Ok((1, 1))),
+            (b"1@", Ok((1, 1))),
+            (b"1[", Ok((1, 1))),
+            (b"1`", Ok((1, 1))),
+            (b"1{", Ok((1, 1))),
+        ],
+    );
+    complete_with::<u32>(&rt, &format, &[(b"@", Err(Error::InvalidDigit(0)))]);
+}
+
+// A digit of the next radix alone ends the numeral, also before one that is a digit.
+#[test]
+fn digits_of_the_next_radix(rt: HostRuntime) {
+    let format = NumberFormatBuilder::from_radix(8);
+    partial_with::<u32>(&rt, &format, &[(b"1281", Ok((10, 2)))]);
+    complete_with::<u32>(&rt, &format, &[(b"1281", Err(Error::InvalidDigit(2)))]);
+}

@@ -103,6 +103,50 @@ fn byte_zero(rt: HostRuntime) {
     partial_with::<i32>(&rt, &format, &[(b"\0", Err(Error::Empty(1)))]);
 }
 
+// A long run passes as a short one does, or not at all.
+#[test]
+fn ten_in_a_row(rt: HostRuntime) {
+    let format = NumberFormatBuilder::new()
+        .digit_separator(Some(b'_'))
+        .integer_internal_digit_separator(true)
+        .integer_consecutive_digit_separator(true)
+        .build_unchecked();
+    complete_with::<i64>(&rt, &format, &[(b"1__________2", Ok(12))]);
+    partial_with::<i64>(&rt, &format, &[(b"1__________2", Ok((12, 12)))]);
+    let format = NumberFormatBuilder::new()
+        .digit_separator(Some(b'_'))
+        .integer_internal_digit_separator(true)
+        .build_unchecked();
+    complete_with::<i64>(
+        &rt,
+        &format,
+        &[(b"1__________2", Err(Error::InvalidDigit(1)))],
+    );
+    partial_with::<i64>(&rt, &format, &[(b"1__________2", Ok((1, 1)))]);
+}
+
+// A separator that is a digit of the next radix is none of the numeral's digits.
+#[test]
+fn digits_that_separate(rt: HostRuntime) {
+    let format = NumberFormatBuilder::new()
+        .mantissa_radix(8)
+        .digit_separator(Some(b'8'))
+        .integer_internal_digit_separator(true)
+        .build_unchecked();
+    complete_with::<u32>(&rt, &format, &[(b"181", Ok(9))]);
+    let format = NumberFormatBuilder::new()
+        .mantissa_radix(8)
+        .digit_separator(Some(b'8'))
+        .integer_leading_digit_separator(true)
+        .no_integer_leading_zeros(true)
+        .build_unchecked();
+    complete_with::<i32>(
+        &rt,
+        &format,
+        &[(b"800", Err(Error::InvalidLeadingZeros(1)))],
+    );
+}
+
 // A digit beside a separator is one of the radix in force.
 #[test]
 fn great_radix(rt: HostRuntime) {

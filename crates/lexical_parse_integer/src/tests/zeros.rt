@@ -44,6 +44,11 @@ fn no_leading_zeros(rt: HostRuntime) {
         &format,
         &[(b"0999", Err(Error::InvalidLeadingZeros(0)))],
     );
+    complete_with::<u64>(
+        &rt,
+        &format,
+        &[(b"0123456789", Err(Error::InvalidLeadingZeros(0)))],
+    );
 }
 
 // A zero before a point is alone.
