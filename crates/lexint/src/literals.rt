@@ -122,8 +122,7 @@ fn front(first: u8, text: &[u8]) -> (Kind, usize)
 /// The tokens of a source, in order. It is an iterator, and contracts see it as the list of the
 /// tokens that are still to come.
 ///
-/// It takes no memory. The time for a source grows as its length does: each byte is looked at a
-/// constant number of times.
+/// It takes no memory. How long it takes is in no contract.
 #[derive(Drop)]
 pub struct Tokens<'a> {
     // The source behind the last token, and the place in the source at which it begins.
