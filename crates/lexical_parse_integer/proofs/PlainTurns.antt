@@ -1,10 +1,9 @@
 -- What few turns come to, in plain numbers: the laws of turns lean on it.
-use Rattle.std.proofs.Common.{◌≡◌, ℕ, ◌+◌, ◌-◌, ◌≤◌, Bool, true, false, min, List, Ok, Err, refl, sym, ap, ◌∙◌, arith}
+use Rattle.std.proofs.Common.{◌≡◌, ℕ, ◌+◌, ◌-◌, ◌≤◌, Bool, true, false, min, List, Ok, refl, arith}
 use Rattle.std.specs.Prelude.{◌/◌, ◌%◌, nat_le, IsNone}
 use Rattle.std.proofs.lemmas.Bool.{le-leb}
-use Rattle.lexical_util.specs.declared.error.Error.{Error}
 use Rattle.lexical_util.specs.Format.{Format}
-use Rattle.lexical_util.specs.Number.{IntegerType, integer_type, overflow_digits}
+use Rattle.lexical_util.specs.Number.{integer_type, overflow_digits}
 use Rattle.lexical_parse_integer.specs.Head.{Head, head_of}
 use Rattle.lexical_parse_integer.specs.Numeral.{digit_count, numeral}
 use Rattle.lexical_parse_integer.specs.Turns.{AsksWords, HasFewTurns, turns_bound, word_length}

@@ -14,9 +14,9 @@ use Rattle.lexint.specs.Lines.{lines, onto_line}
 use Rattle.lexint.specs.Numeral.{numeral, signed_numeral}
 use Rattle.lexint.specs.Output.{answer_lines, answer_of, answers, command_answer, command_lines, complete_text, fault_name, fault_text, kind_text, output, partial_text, place_text, settings_after, token_text, tokens_text}
 use Rattle.lexint.specs.Settings.{Settings, standard_settings}
-use Rattle.lexint.specs.Tokens.{TokenView, tokens}
-use Rattle.lexint.specs.declared.literals.Kind.{Kind}
-use Rattle.lexint.specs.declared.literals.Kind.TheVariants.{Number, Word, Byte, Fault}
+use Rattle.lexical_literals.specs.Tokens.{TokenView, tokens}
+use Rattle.lexical_literals.specs.declared.Kind.{Kind}
+use Rattle.lexical_literals.specs.declared.Kind.TheVariants.{Number, Word, Byte, Fault}
 
 -- ---- no answer holds a line feed
 

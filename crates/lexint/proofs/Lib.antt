@@ -6,6 +6,3 @@ pub mod AnswerLines
 pub mod FieldChanges
 pub mod LastGiven
 pub mod Sending
-pub mod TokenLists
-pub mod TokenRows
-pub mod TokenSteps

@@ -8,5 +8,3 @@ pub mod Lines
 pub mod Numeral
 pub mod Output
 pub mod Settings
-pub mod TokenCallers
-pub mod Tokens

@@ -10,9 +10,9 @@ use Rattle.lexint.specs.Command.{Command, command_in, parse_complete, parse_part
 use Rattle.lexint.specs.Lines.{lines}
 use Rattle.lexint.specs.Numeral.{numeral, signed_numeral}
 use Rattle.lexint.specs.Settings.{Settings, standard_settings}
-use Rattle.lexint.specs.Tokens.{TokenView, tokens}
-use Rattle.lexint.specs.declared.literals.Kind.{Kind}
-use Rattle.lexint.specs.declared.literals.Kind.TheVariants.{Number, Word, Byte, Fault}
+use Rattle.lexical_literals.specs.Tokens.{TokenView, tokens}
+use Rattle.lexical_literals.specs.declared.Kind.{Kind}
+use Rattle.lexical_literals.specs.declared.Kind.TheVariants.{Number, Word, Byte, Fault}
 
 -- ---- answers
 

@@ -1,6 +1,6 @@
 //! One line's answer.
 
-ghost use Rattle.std.specs.Prelude.{◌≡◌, ◌∷◌, [], ◌++◌, codes, OnOk, IsOkUnless, option_map};
+ghost use Rattle.std.specs.Prelude.{◌≡◌, ◌∷◌, [], ◌++◌, codes, OnOk, OnErr, IsOkUnless, option_map};
 ghost use Rattle.lexical_util.specs.Faults.{place_of};
 ghost use Rattle.lexint.specs.Command.{seen_command};
 ghost use Rattle.lexint.specs.Gather.{Gathers};
@@ -20,7 +20,7 @@ use lexical_parse_integer::{Error, Result as Parse};
 use std::io::Write;
 
 /// Writes a line's answer and a line feed, and sets what the line sets. A line that asks for
-/// nothing is answered by `bad line`, and changes nothing.
+/// nothing is answered by `bad line`, and changes nothing. A refused write changes no setting.
 #[tactic(auto, unfolding(crate::specs::Output::answer_of, crate::specs::Output::settings_after))]
 pub fn answer<W: Write>(
     line: &[u8],
@@ -31,6 +31,7 @@ pub fn answer<W: Write>(
     ensures ok { OnOk result (Gathers (W.contents out.old) batch.old (W.contents out.new) batch.new
         (answer_of settings.old line.now ++ 10 ∷ [])) }
     ensures settings { OnOk result (settings.new ≡ settings_after settings.old line.now) }
+    ensures kept { OnErr result (settings.new ≡ settings.old) }
     ensures fault { IsOkUnless result RunError.Write }
 {
     let command = Command::of(line);

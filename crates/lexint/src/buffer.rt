@@ -1,6 +1,6 @@
 //! Where the input is kept until it is all there.
 
-ghost use Rattle.std.specs.Prelude.{◌≡◌, ◌++◌, ℕ, List, OnOk};
+ghost use Rattle.std.specs.Prelude.{◌≡◌, ◌++◌, ℕ, List, OnOk, OnErr};
 
 use std::alloc::{AllocError, Allocator};
 
@@ -9,9 +9,10 @@ pub trait Buffer: Drop {
     // The bytes that it holds.
     ghost contents: { Self → List ℕ };
 
-    /// Adds the bytes at the end.
+    /// Adds the bytes at the end. After a refused growth it holds what it held.
     fn append(&mut self, bytes: &[u8]) -> Result<(), AllocError>
-        ensures { OnOk result (contents self.new ≡ contents self.old ++ bytes.now) };
+        ensures ok { OnOk result (contents self.new ≡ contents self.old ++ bytes.now) }
+        ensures kept { OnErr result (contents self.new ≡ contents self.old) };
 
     /// The bytes that it holds.
     fn bytes(&self) -> &[u8]

@@ -9,7 +9,6 @@ mod fault;
 mod field;
 mod laws;
 mod lines;
-pub mod literals;
 mod number;
 mod numeral;
 mod parse;
@@ -17,6 +16,11 @@ mod program;
 mod settings;
 #[cfg(test)]
 mod tests;
+
+/// The tokens of a source, as the library has them.
+pub mod literals {
+    pub use lexical_literals::{Kind, Token, Tokens, literal_format};
+}
 
 pub use fault::RunError;
 pub use program::{run, run_from};

@@ -2,6 +2,7 @@
 
 ghost use Rattle.std.specs.Prelude.{◌≡◌, ◌++◌, [], OnOk, IfOk, IfSome, IsOkUnless, IsErrOf};
 ghost use Rattle.std.specs.Io.KnownBytes.{Appends, Keeps, IsAtEnd};
+ghost use Rattle.lexint.specs.Gather.{LosesFront};
 ghost use Rattle.lexint.specs.Output.{output};
 
 use crate::answer::answer;
@@ -44,6 +45,7 @@ fn read_all<R: Read, B: Buffer>(input: &mut R, bytes: &mut B) -> Result<(), RunE
     ensures all { OnOk result (IfSome (R.remaining input.old) (λ all.
         B.contents bytes.new ≡ B.contents bytes.old ++ all)) }
     ensures end { OnOk result (IsAtEnd (R.remaining input.new)) }
+    ensures front { LosesFront (R.remaining input.old) (R.remaining input.new) }
     ensures fault { IsErrOf result RunError.Write → ⊥ }
 {
     let mut chunk = [0u8; CHUNK];
@@ -75,6 +77,8 @@ pub fn run_with<R: Read, W: Write, B: Buffer>(
     ensures ok { OnOk result (IfSome (R.remaining input.old) (λ all.
         Appends (W.contents out.old) (W.contents out.new) (output all))) }
     ensures end { OnOk result (IsAtEnd (R.remaining input.new)) }
+    ensures all_read { IsErrOf result RunError.Write → IsAtEnd (R.remaining input.new) }
+    ensures front { LosesFront (R.remaining input.old) (R.remaining input.new) }
     ensures read { IsErrOf result RunError.Read
         → Keeps (W.contents out.old) (W.contents out.new) }
     ensures memory { IsErrOf result RunError.Memory
@@ -93,8 +97,9 @@ pub fn run_with<R: Read, W: Write, B: Buffer>(
 ///
 /// `Read` is a refused read, or 4,294,967,296 reads that don't come to the end; an interrupted
 /// read counts, and is tried again. `Memory` is a refused growth of the input buffer. After both
-/// nothing was written. `Write` is a refused write or flush; one that is interrupted, and a write
-/// that takes no byte, count as refused. After it nothing is said of how much went out.
+/// nothing was written, and the reader has lost what was read. `Write` is a refused write or
+/// flush; one that is interrupted, and a write that takes no byte, count as refused. After it the
+/// reader is at its end, and nothing is said of how much went out.
 pub fn run_from<R: Read, W: Write>(
     alloc: Global,
     input: &mut R,
@@ -103,6 +108,8 @@ pub fn run_from<R: Read, W: Write>(
     ensures ok { OnOk result (IfSome (R.remaining input.old) (λ all.
         Appends (W.contents out.old) (W.contents out.new) (output all))) }
     ensures end { OnOk result (IsAtEnd (R.remaining input.new)) }
+    ensures all_read { IsErrOf result RunError.Write → IsAtEnd (R.remaining input.new) }
+    ensures front { LosesFront (R.remaining input.old) (R.remaining input.new) }
     ensures read { IsErrOf result RunError.Read
         → Keeps (W.contents out.old) (W.contents out.new) }
     ensures memory { IsErrOf result RunError.Memory

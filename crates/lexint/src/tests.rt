@@ -1,6 +1,5 @@
 //! What no clause says: worked lines, and devices that give and take bytes badly.
 
-mod caller;
 mod devices;
 mod faults;
 mod fields;

@@ -4,7 +4,7 @@ ghost use Rattle.std.specs.Prelude.{◌++◌, codes, OnOk, IsOkUnless};
 ghost use Rattle.lexint.specs.Gather.{Gathers};
 ghost use Rattle.lexint.specs.Numeral.{numeral};
 ghost use Rattle.lexint.specs.Output.{kind_text, token_text, tokens_text};
-ghost use Rattle.lexint.specs.Tokens.{seen_token, tokens};
+ghost use Rattle.lexical_literals.specs.Tokens.{seen_token, tokens};
 
 use crate::answer::{put_fault, put_numeral, put_place};
 use crate::batch::{Batch, put};

@@ -1,8 +1,8 @@
 // Long inputs, and bytes that no line is made for.
 
-use super::devices::BlockWriter;
+use super::devices::{BlockWriter, OneByteReader};
 use super::written;
-use crate::program::run;
+use crate::program::{run, run_from};
 use std::alloc::{AllocError, Global};
 use std::test::Fail;
 
@@ -40,6 +40,18 @@ fn a_million_empty_lines(rt: HostRuntime) -> Result<(), Fail> {
     let mut out = BlockWriter::new(b"bad line\n", usize::MAX);
     assert_eq!(rt; run(&input, &mut out), Ok(()));
     assert!(rt; out.has_blocks(MANY));
+    Ok(())
+}
+
+/// No clause says after how many reads a run gives up: it goes on for more than a million.
+#[test]
+fn a_million_short_reads(rt: HostRuntime) -> Result<(), Fail> {
+    let input = filled(rt.alloc(), "", "c u8 12\nr\n", 100_010, "")?;
+    assert_eq!(rt; input.len(), 1_000_100);
+    let mut reader = OneByteReader::new(&input, 0);
+    let mut out = BlockWriter::new(b"ok 12\nok\n", usize::MAX);
+    assert_eq!(rt; run_from(rt.alloc(), &mut reader, &mut out), Ok(()));
+    assert!(rt; out.has_blocks(100_010));
     Ok(())
 }
 

@@ -2,7 +2,7 @@ use Rattle.std.proofs.Common.{List, [], ◌∷◌, ◌++◌, subst}
 use Rattle.std.specs.Io.KnownBytes.{append_known}
 use Rattle.lexint.proofs.Sending.{Appends-more, Sends, Sends-piece}
 use Rattle.lexint.specs.Output.{token_text, tokens_text}
-use Rattle.lexint.specs.Tokens.{TokenView, seen_token, tokens}
+use Rattle.lexical_literals.specs.Tokens.{TokenView, seen_token, tokens}
 use Rattle.lexint.proofs.answer.tokens.put_tokens.Goals as goal
 
 pub loop-token-preserved : goal.loop-token-preserved

@@ -1,7 +1,7 @@
 use Rattle.std.specs.Io.KnownBytes.{append_known}
 use Rattle.lexint.proofs.Sending.{Sends}
 use Rattle.lexint.specs.Output.{tokens_text}
-use Rattle.lexint.specs.Tokens.{tokens}
+use Rattle.lexical_literals.specs.Tokens.{tokens}
 use Rattle.lexint.proofs.answer.tokens.put_tokens.Given as goal
 
 -- what went out, and the lines of the tokens that are left, are the lines of all

@@ -1,0 +1,3 @@
+pub mod TokenLists
+pub mod TokenRows
+pub mod TokenSteps

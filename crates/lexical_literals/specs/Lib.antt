@@ -1,0 +1,2 @@
+pub mod TokenCallers
+pub mod Tokens

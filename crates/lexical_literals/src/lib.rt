@@ -1,0 +1,193 @@
+//! The numbers, words and other bytes that a source is made of.
+//!
+//! | A token that begins with | is | and reaches |
+//! |---|---|---|
+//! | `0` to `9`, where a number can be read | a number | as far as that is read |
+//! | `0` to `9`, where none can | a fault | over all ASCII letters, `0` to `9` and `_` that follow |
+//! | an ASCII letter or `_` | a word | over all ASCII letters, `0` to `9` and `_` that follow |
+//! | any other byte | a byte | over itself |
+//!
+//! Spaces, tabs, line feeds and carriage returns between tokens are skipped. A sign is a byte of its
+//! own: `-5` is two tokens.
+#![tactic(auto)]
+
+ghost use Rattle.std.specs.Prelude.{◌≡◌, ◌+◌, ◌<◌, ◌≤◌, ◌^◌, List, All, length, slice_index};
+ghost use Rattle.std.specs.Iterator.{YieldsFirstBy, item_count};
+ghost use Rattle.std.specs.List.{prefix_len};
+ghost use Rattle.lexical_literals.specs.Tokens.{FollowInTurn, IsPartOf, TokenView, front_of, is_skipped, is_word_byte, literals, number_of, seen_token, tokens, tokens_from, word_length};
+
+use lexical_parse_integer::laws::grammar::front_end;
+use lexical_parse_integer::parse::ParseInteger;
+use lexical_parse_integer::{Error, NumberFormat, NumberFormatBuilder, options};
+use std::marker::Model;
+
+/// What a token is.
+///
+/// `12_3` is `Number(123)`, `x1` is `Word`, `+` is `Byte`, and `0xg` is `Fault(Error::Empty(2))`.
+#[derive(Debug, PartialEq, Eq, Drop)]
+pub enum Kind {
+    /// A number, by its value: decimal, or behind `0x`, `0o` or `0b`, as [`literal_format`] has it.
+    Number(u128),
+    /// An ASCII letter or `_`, and the ASCII letters, digits and `_` that follow.
+    Word,
+    /// Any other byte.
+    Byte,
+    /// What begins with a digit and is no number of `u128`: `Overflow` where it is too great, and
+    /// `Empty` where no digit stands behind `0x`, `0o` or `0b`. Its place counts the bytes from the
+    /// token's start, from 0.
+    Fault(Error),
+}
+
+/// A part of a source. Places count the source's bytes from 0.
+#[derive(Debug, PartialEq, Eq, Drop)]
+pub struct Token<'a> {
+    /// What it is.
+    pub kind: Kind,
+    /// The place of its first byte.
+    pub start: usize,
+    /// The place behind its last byte, which is greater than `start`.
+    pub stop: usize,
+    /// Its bytes, lent as long as the source is.
+    pub text: &'a [u8],
+}
+
+/// The format of the numbers in a source: the standard one, with any number of `_` between two
+/// digits, and with `0x`, `0o` and `0b`. `1_000` and `0xF_F` are numbers under it.
+pub fn literal_format() -> NumberFormat
+    ensures { result ≡ literals }
+{
+    NumberFormatBuilder::new()
+        .digit_separator(Some(b'_'))
+        .integer_internal_digit_separator(true)
+        .integer_consecutive_digit_separator(true)
+        .literal_prefixes(true)
+        .build_unchecked()
+}
+
+// Whether a byte is skipped between tokens.
+#[inline(always)]
+fn is_skipped(byte: u8) -> bool
+    ensures { result ≡ is_skipped byte }
+{
+    matches!(byte, b'\t' | b'\n' | b'\r' | b' ')
+}
+
+// Whether a byte is one of a word.
+#[inline(always)]
+fn is_word_byte(byte: u8) -> bool
+    ensures { result ≡ is_word_byte byte }
+{
+    byte.is_ascii_alphanumeric() || byte == b'_'
+}
+
+// How many bytes are skipped in front of a token.
+fn skipped_length(text: &[u8]) -> usize
+    ensures value { result ≡ prefix_len is_skipped text.now }
+    ensures within { result ≤ length text.now }
+{
+    text.iter().take_while(|byte| is_skipped(**byte)).count()
+}
+
+// How many bytes of a word a text begins with.
+fn word_length(text: &[u8]) -> usize
+    ensures value { result ≡ word_length text.now }
+    ensures within { result ≤ length text.now }
+{
+    text.iter().take_while(|byte| is_word_byte(**byte)).count()
+}
+
+// The number that a text begins with, or its fault, and how many bytes that has.
+fn number(text: &[u8]) -> (Kind, usize)
+    ensures { result ≡ number_of text.now }
+{
+    match u128::parse_partial(text, &literal_format(), &options::LARGE_NUMBERS) {
+        Ok((value, length)) => (Kind::Number(value), length),
+        Err(fault) => (Kind::Fault(fault), word_length(text)),
+    }
+}
+
+// What a text begins with, by its first byte, and how many bytes that has.
+fn front(first: u8, text: &[u8]) -> (Kind, usize)
+    requires { slice_index text.now 0 ≡ first }
+    ensures { result ≡ front_of text.now }
+{
+    if first.is_ascii_digit() {
+        number(text)
+    } else if is_word_byte(first) {
+        (Kind::Word, word_length(text))
+    } else {
+        (Kind::Byte, 1)
+    }
+}
+
+/// The tokens of a source, in order. It is an iterator, and contracts see it as the list of the
+/// tokens that are still to come.
+///
+/// It takes no memory. How long it takes is in no contract.
+#[derive(Drop)]
+pub struct Tokens<'a> {
+    // The source behind the last token, and the place in the source at which it begins.
+    rest: &'a [u8],
+    place: usize,
+}
+
+impl<'a> Model for Tokens<'a> {
+    ghost Value = { List TokenView };
+
+    ghost view = { λ t. tokens_from t.place 0 t.rest.now };
+
+    ghost invariant = { λ t. t.place + length t.rest.now < 2 ^ 64 };
+}
+
+impl<'a> Tokens<'a> {
+    /// The tokens of a source. `x1 = 0x1F` has a word from 0 to 2, a byte from 3 to 4, and the
+    /// number 31 from 5 to 9.
+    ///
+    /// Each begins at the least place behind the one before it that isn't skipped, and is what the
+    /// source begins with there (`order`); none is empty, and its bytes are those of the source
+    /// (`parts`); there are no more than the source has bytes (`count`).
+    pub fn new(source: &'a [u8]) -> Tokens<'a>
+        ensures tokens { result ≡ tokens source.now }
+        ensures order { FollowInTurn source.now 0 (tokens source.now) }
+        ensures parts { All (IsPartOf source.now) (tokens source.now) }
+        ensures count { length (tokens source.now) ≤ length source.now }
+    {
+        // The law by which no number is empty, and each ends within the source.
+        front_end();
+        Tokens {
+            rest: source,
+            place: 0,
+        }
+    }
+}
+
+impl<'a> Iterator for Tokens<'a> {
+    type Item = Token<'a>;
+
+    ghost next_gives = { YieldsFirstBy seen_token (λ left. left) };
+
+    ghost remaining = { item_count (λ left. left) };
+
+    /// The next token, and `None` where only skipped bytes are left, now and at each later call.
+    fn next(&mut self) -> Option<Token<'a>> {
+        // The law by which a number isn't empty, and `length` is within the text.
+        front_end();
+        let (skipped, rest) = self.rest.split_at(skipped_length(self.rest));
+        let first = *rest.first()?;
+        let (kind, length) = front(first, rest);
+        let (text, behind) = rest.split_at(length);
+        let start = self.place + skipped.len();
+        let stop = start + length;
+        self.rest = behind;
+        self.place = stop;
+        Some(Token {
+            kind,
+            start,
+            stop,
+            text,
+        })
+    }
+}
+
+#[cfg(test)]
+mod tests;

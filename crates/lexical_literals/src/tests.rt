@@ -1,0 +1,4 @@
+// Sources and their tokens, and callers.
+
+mod caller;
+mod tokens;

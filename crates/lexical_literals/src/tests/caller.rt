@@ -1,0 +1,58 @@
+// Callers of the tokenizer by `for` and by the adapters of std's iterators, proved and run.
+
+ghost use Rattle.std.specs.Prelude.{◌≡◌, length, count_by, map, IfOk};
+ghost use Rattle.lexical_literals.specs.TokenCallers.{first_fault, is_number};
+ghost use Rattle.lexical_literals.specs.Tokens.{tokens};
+
+use crate::{Kind, Tokens};
+use std::alloc::{AllocError, Global};
+use std::test::Fail;
+
+/// How many tokens a source has.
+fn token_count(source: &[u8]) -> usize
+    ensures { result ≡ length (tokens source.now) }
+{
+    Tokens::new(source).count()
+}
+
+/// How many of the tokens are numbers.
+fn number_count(source: &[u8]) -> usize
+    ensures { result ≡ count_by is_number (tokens source.now) }
+{
+    Tokens::new(source)
+        .filter(|token| matches!(token.kind, Kind::Number(_)))
+        .count()
+}
+
+/// Where each token starts.
+fn starts(alloc: Global, source: &[u8]) -> Result<Vec<usize>, AllocError>
+    ensures { IfOk result (λ starts. starts.items ≡ map (λ token. token.start) (tokens source.now)) }
+{
+    Tokens::new(source).map(|token| token.start).collect(alloc)
+}
+
+/// Where the first fault starts.
+fn first_fault(source: &[u8]) -> Option<usize>
+    ensures { result ≡ first_fault (tokens source.now) }
+{
+    for token in Tokens::new(source) {
+        if let Kind::Fault(_) = token.kind {
+            return Some(token.start);
+        }
+    }
+    None
+}
+
+#[test]
+fn callers(rt: HostRuntime) -> Result<(), Fail> {
+    let source = b"x1 = 0x1F + 12_3; 0x";
+    assert_eq!(rt; token_count(source), 7);
+    assert_eq!(rt; number_count(source), 2);
+    assert_eq!(rt;
+        starts(rt.alloc(), source)?.as_slice(),
+        [0, 3, 5, 10, 12, 16, 18].as_slice()
+    );
+    assert_eq!(rt; first_fault(source), Some(18));
+    assert_eq!(rt; first_fault(b"12 x"), None);
+    Ok(())
+}

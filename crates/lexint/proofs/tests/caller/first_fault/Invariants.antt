@@ -1,8 +1,0 @@
-use Rattle.std.proofs.Common.{◌≡◌}
-use Rattle.lexint.specs.TokenCallers.{first_fault}
-use Rattle.lexint.specs.Tokens.{tokens}
-use Rattle.lexint.proofs.tests.caller.first_fault.Given as goal
-
--- no fault so far
-abbrev pub invariant-loop-token : goal.invariant-loop-token
-invariant-loop-token l = first_fault l.token-iterator ≡ first_fault (tokens l.source)
