@@ -36,26 +36,4 @@ pub trait ParseInteger: Integer {
     }
 }
 
-impl ParseInteger for u8 {}
-
-impl ParseInteger for u16 {}
-
-impl ParseInteger for u32 {}
-
-impl ParseInteger for u64 {}
-
-impl ParseInteger for u128 {}
-
-impl ParseInteger for usize {}
-
-impl ParseInteger for i8 {}
-
-impl ParseInteger for i16 {}
-
-impl ParseInteger for i32 {}
-
-impl ParseInteger for i64 {}
-
-impl ParseInteger for i128 {}
-
-impl ParseInteger for isize {}
+impl<T: Integer> ParseInteger for T {}

@@ -1,4 +1,4 @@
-// The integer types, read from bytes.
+// Every integer type, read from bytes.
 ghost use Rattle.std.specs.Prelude.{◌≡◌};
 ghost use Rattle.lexical_util.specs.Number.{integer_type};
 ghost use Rattle.lexical_parse_integer.specs.Answer.{placed, seen};
@@ -8,6 +8,7 @@ use crate::api::{FromLexical, FromLexicalWithOptions};
 use crate::options::Options;
 use crate::parse::ParseInteger;
 use lexical_util::format::NumberFormat;
+use lexical_util::num::Integer;
 use lexical_util::result::Result;
 
 // The complete answer under a format that may be invalid.
@@ -36,9 +37,9 @@ fn partial<T: ParseInteger>(
     }
 }
 
-impl FromLexical for u8 {}
+impl<T: Integer> FromLexical for T {}
 
-impl FromLexicalWithOptions for u8 {
+impl<T: Integer> FromLexicalWithOptions for T {
     type Options = Options;
 
     #[inline(always)]
@@ -46,8 +47,8 @@ impl FromLexicalWithOptions for u8 {
         bytes: &[u8],
         format: &NumberFormat,
         options: &Options,
-    ) -> Result<u8> {
-        complete::<u8>(bytes, format, options)
+    ) -> Result<T> {
+        complete::<T>(bytes, format, options)
     }
 
     #[inline(always)]
@@ -55,271 +56,7 @@ impl FromLexicalWithOptions for u8 {
         bytes: &[u8],
         format: &NumberFormat,
         options: &Options,
-    ) -> Result<(u8, usize)> {
-        partial::<u8>(bytes, format, options)
-    }
-}
-
-impl FromLexical for u16 {}
-
-impl FromLexicalWithOptions for u16 {
-    type Options = Options;
-
-    #[inline(always)]
-    fn from_lexical_with_options(
-        bytes: &[u8],
-        format: &NumberFormat,
-        options: &Options,
-    ) -> Result<u16> {
-        complete::<u16>(bytes, format, options)
-    }
-
-    #[inline(always)]
-    fn from_lexical_partial_with_options(
-        bytes: &[u8],
-        format: &NumberFormat,
-        options: &Options,
-    ) -> Result<(u16, usize)> {
-        partial::<u16>(bytes, format, options)
-    }
-}
-
-impl FromLexical for u32 {}
-
-impl FromLexicalWithOptions for u32 {
-    type Options = Options;
-
-    #[inline(always)]
-    fn from_lexical_with_options(
-        bytes: &[u8],
-        format: &NumberFormat,
-        options: &Options,
-    ) -> Result<u32> {
-        complete::<u32>(bytes, format, options)
-    }
-
-    #[inline(always)]
-    fn from_lexical_partial_with_options(
-        bytes: &[u8],
-        format: &NumberFormat,
-        options: &Options,
-    ) -> Result<(u32, usize)> {
-        partial::<u32>(bytes, format, options)
-    }
-}
-
-impl FromLexical for u64 {}
-
-impl FromLexicalWithOptions for u64 {
-    type Options = Options;
-
-    #[inline(always)]
-    fn from_lexical_with_options(
-        bytes: &[u8],
-        format: &NumberFormat,
-        options: &Options,
-    ) -> Result<u64> {
-        complete::<u64>(bytes, format, options)
-    }
-
-    #[inline(always)]
-    fn from_lexical_partial_with_options(
-        bytes: &[u8],
-        format: &NumberFormat,
-        options: &Options,
-    ) -> Result<(u64, usize)> {
-        partial::<u64>(bytes, format, options)
-    }
-}
-
-impl FromLexical for u128 {}
-
-impl FromLexicalWithOptions for u128 {
-    type Options = Options;
-
-    #[inline(always)]
-    fn from_lexical_with_options(
-        bytes: &[u8],
-        format: &NumberFormat,
-        options: &Options,
-    ) -> Result<u128> {
-        complete::<u128>(bytes, format, options)
-    }
-
-    #[inline(always)]
-    fn from_lexical_partial_with_options(
-        bytes: &[u8],
-        format: &NumberFormat,
-        options: &Options,
-    ) -> Result<(u128, usize)> {
-        partial::<u128>(bytes, format, options)
-    }
-}
-
-impl FromLexical for usize {}
-
-impl FromLexicalWithOptions for usize {
-    type Options = Options;
-
-    #[inline(always)]
-    fn from_lexical_with_options(
-        bytes: &[u8],
-        format: &NumberFormat,
-        options: &Options,
-    ) -> Result<usize> {
-        complete::<usize>(bytes, format, options)
-    }
-
-    #[inline(always)]
-    fn from_lexical_partial_with_options(
-        bytes: &[u8],
-        format: &NumberFormat,
-        options: &Options,
-    ) -> Result<(usize, usize)> {
-        partial::<usize>(bytes, format, options)
-    }
-}
-
-impl FromLexical for i8 {}
-
-impl FromLexicalWithOptions for i8 {
-    type Options = Options;
-
-    #[inline(always)]
-    fn from_lexical_with_options(
-        bytes: &[u8],
-        format: &NumberFormat,
-        options: &Options,
-    ) -> Result<i8> {
-        complete::<i8>(bytes, format, options)
-    }
-
-    #[inline(always)]
-    fn from_lexical_partial_with_options(
-        bytes: &[u8],
-        format: &NumberFormat,
-        options: &Options,
-    ) -> Result<(i8, usize)> {
-        partial::<i8>(bytes, format, options)
-    }
-}
-
-impl FromLexical for i16 {}
-
-impl FromLexicalWithOptions for i16 {
-    type Options = Options;
-
-    #[inline(always)]
-    fn from_lexical_with_options(
-        bytes: &[u8],
-        format: &NumberFormat,
-        options: &Options,
-    ) -> Result<i16> {
-        complete::<i16>(bytes, format, options)
-    }
-
-    #[inline(always)]
-    fn from_lexical_partial_with_options(
-        bytes: &[u8],
-        format: &NumberFormat,
-        options: &Options,
-    ) -> Result<(i16, usize)> {
-        partial::<i16>(bytes, format, options)
-    }
-}
-
-impl FromLexical for i32 {}
-
-impl FromLexicalWithOptions for i32 {
-    type Options = Options;
-
-    #[inline(always)]
-    fn from_lexical_with_options(
-        bytes: &[u8],
-        format: &NumberFormat,
-        options: &Options,
-    ) -> Result<i32> {
-        complete::<i32>(bytes, format, options)
-    }
-
-    #[inline(always)]
-    fn from_lexical_partial_with_options(
-        bytes: &[u8],
-        format: &NumberFormat,
-        options: &Options,
-    ) -> Result<(i32, usize)> {
-        partial::<i32>(bytes, format, options)
-    }
-}
-
-impl FromLexical for i64 {}
-
-impl FromLexicalWithOptions for i64 {
-    type Options = Options;
-
-    #[inline(always)]
-    fn from_lexical_with_options(
-        bytes: &[u8],
-        format: &NumberFormat,
-        options: &Options,
-    ) -> Result<i64> {
-        complete::<i64>(bytes, format, options)
-    }
-
-    #[inline(always)]
-    fn from_lexical_partial_with_options(
-        bytes: &[u8],
-        format: &NumberFormat,
-        options: &Options,
-    ) -> Result<(i64, usize)> {
-        partial::<i64>(bytes, format, options)
-    }
-}
-
-impl FromLexical for i128 {}
-
-impl FromLexicalWithOptions for i128 {
-    type Options = Options;
-
-    #[inline(always)]
-    fn from_lexical_with_options(
-        bytes: &[u8],
-        format: &NumberFormat,
-        options: &Options,
-    ) -> Result<i128> {
-        complete::<i128>(bytes, format, options)
-    }
-
-    #[inline(always)]
-    fn from_lexical_partial_with_options(
-        bytes: &[u8],
-        format: &NumberFormat,
-        options: &Options,
-    ) -> Result<(i128, usize)> {
-        partial::<i128>(bytes, format, options)
-    }
-}
-
-impl FromLexical for isize {}
-
-impl FromLexicalWithOptions for isize {
-    type Options = Options;
-
-    #[inline(always)]
-    fn from_lexical_with_options(
-        bytes: &[u8],
-        format: &NumberFormat,
-        options: &Options,
-    ) -> Result<isize> {
-        complete::<isize>(bytes, format, options)
-    }
-
-    #[inline(always)]
-    fn from_lexical_partial_with_options(
-        bytes: &[u8],
-        format: &NumberFormat,
-        options: &Options,
-    ) -> Result<(isize, usize)> {
-        partial::<isize>(bytes, format, options)
+    ) -> Result<(T, usize)> {
+        partial::<T>(bytes, format, options)
     }
 }
