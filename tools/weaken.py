@@ -14,9 +14,10 @@ fixed, `&&` and `||` or `<` and `≤` are exchanged, a number is one more or les
 of its type, a case is that of another case, a fault is left out of its list, or two stand the other way round. BY_HAND
 has changes besides. A change that each row agrees with is printed, with its file and line, and the exit status is 1.
 
-Some changes mean what the definition means, so that no row can refuse them: SAME lists them, each with the reason.
-Where a row refuses a change of SAME, or nothing is changed so, the exit status is 1 too. Needs Python 3.8 and nothing
-else.
+Some changes can be refused by no row, since they mean what the definition means: SAME lists them, each with the reason.
+Where a row refuses a change of SAME, or nothing is changed so, the exit status is 1 too. A change that promises fewer
+turns than a row of turns says is told apart: to refuse it is for the proofs of the parsers. Needs Python 3.8 and
+nothing else.
 """
 import argparse
 import collections
@@ -80,20 +81,23 @@ class Worked:
 
 
 class Turns:
-    """A row of turns: what HasFewTurns says of a text, and the most turns that it lets through.
-
-    The theorem says that it lets no more through. Here it has to let so many through as well: where a change lets
-    through fewer, the proofs of the parsers refuse it, whose contracts cite it.
-    """
+    """A row of turns: what HasFewTurns says of a text, and the most turns that it lets through."""
 
     def __init__(self, name, question, most):
-        self.name, self.question, self.most = name, question, most
+        self.name, self.most = name, most
+        self.arguments = [antt.in_brackets(part) for part in Reader(question).whole().parts[1:4]]
+
+    def lets_through(self, words, turns):
+        """Whether the definition lets so many turns through."""
+        return words.word("HasFewTurns")(*map(words.value, self.arguments), turns)
 
     def agrees(self, words):
-        """Whether the definition lets so many turns through, and no more."""
-        arguments = [words.value(antt.in_brackets(part)) for part in Reader(self.question).whole().parts[1:4]]
-        few = words.word("HasFewTurns")
-        return few(*arguments, self.most) and not any(few(*arguments, self.most + more) for more in (1, 10, 1000))
+        """Whether the definition lets no more turns through than the row says."""
+        return not any(self.lets_through(words, self.most + more) for more in (1, 10, 1000))
+
+    def is_met(self, words):
+        """Whether it lets so many through. Where it doesn't, it promises more than the row says."""
+        return self.lets_through(words, self.most)
 
 
 def read_rows():
@@ -153,8 +157,7 @@ class Scope:
 
     def fields_beside(self, node):
         """The fields of the record of which a piece is a field, with their types."""
-        record = self.definitions.records.get(self.type_of(node.parts[0]), {})
-        return {name: kind for name, kind in record.items()}
+        return self.definitions.records.get(self.type_of(node.parts[0]), {})
 
 
 def bound(pattern, type_name):
@@ -386,9 +389,14 @@ BY_HAND = [
     ("is_unfit_byte", "nat_le 128 byte", "nat_le 128 byte || (byte == 44)"),
     ("is_unfit_byte", "nat_le 128 byte", "nat_le 128 byte || (byte == 46)"),
     ("lower", "is_between 65 90 byte", "is_between 64 94 byte"),
-    ("zero_fault", "nat_le 2 (digit_count numeral)", "(nat_le 2 (digit_count numeral) && nat_le (digit_count numeral) 8)"),
+    ("zero_fault", "nat_le 2 (digit_count numeral)",
+     "nat_le 2 (digit_count numeral) && nat_le (digit_count numeral) 8"),
     ("first_outside", "digit_count numeral", "min 64 (digit_count numeral)"),
     ("positional_value", "length digits", "min 64 (length digits)"),
+    ("zero_fault", "slice_index numeral.places 0", "numeral.start"),
+    ("has_alike", "are_alike format.base_prefix format.base_suffix",
+     "are_alike format.base_prefix format.base_suffix && not format.case_sensitive_base_prefix"),
+    ("has_unfit_literals", "not (format.mantissa_radix == 10)", "nat_lt 10 format.mantissa_radix"),
 ]
 
 # the changes that no row can refuse: why, and each with its definition, what is changed, and into what
@@ -521,23 +529,32 @@ def same_changes():
 # ---- the changes against the rows
 
 NO_VALUE = (RecursionError, LookupError, TypeError)
+PROMISES_MORE = "it promises fewer turns"
 
 
 def refusal(change, definitions, worked):
     """The first row that disagrees under a change, or none. A change under which a row has no value is refused too."""
+    for place, row in enumerate(worked):
+        try:
+            agrees = row.agrees(definitions)
+        except NO_VALUE:
+            agrees = False
+        if not agrees:
+            worked.insert(0, worked.pop(place))
+            return row
+    return None
+
+
+def verdict(change, definitions, worked):
+    """What becomes of a change: the name of the row that refuses it, PROMISES_MORE, or none."""
     definitions.put(change.definition)
     try:
-        for place, row in enumerate(worked):
-            try:
-                agrees = row.agrees(definitions)
-            except NO_VALUE:
-                agrees = False
-            if not agrees:
-                worked.insert(0, worked.pop(place))
-                return row
+        row = refusal(change, definitions, worked)
+        if row is None and not all(row.is_met(definitions) for row in worked if isinstance(row, Turns)):
+            return PROMISES_MORE
+        return row.name if row else None
     finally:
         definitions.put(definitions.by_name[change.definition.name])
-    return None
 
 
 # ---- texts by chance
@@ -595,21 +612,18 @@ def difference(change, changed, definitions, chance, tries):
 # ---- the whole
 
 def judge(asked, definitions, worked):
-    """Every change: how many there are, and those that no row refuses."""
-    left, count = [], 0
+    """Every change, with what becomes of it."""
+    judged = []
     for definition in spoken_of(definitions):
         for change in changes_of(definition, definitions) if asked.only in (None, definition.name) else ():
-            count += 1
-            row = refusal(change, definitions, worked)
-            if row is None:
-                left.append(change)
+            judged.append((change, verdict(change, definitions, worked)))
             if asked.all:
-                print(f"{change}: {row.name if row else 'not refused'}")
-    return count, left
+                print(f"{change}: {judged[-1][1] or 'not refused'}")
+    return judged
 
 
 def without_same(left, asked):
-    """The changes that are not those of SAME. Where SAME has more than there are, it is at fault."""
+    """The changes that are not those of SAME, and what SAME has beyond those that there are."""
     same, found = same_changes(), []
     for change in left:
         name, was, now = change.key()
@@ -619,11 +633,15 @@ def without_same(left, asked):
             same[name, was, "*"] = 0
         else:
             found.append(change)
-    stale = [key for key, count in same.items() if count and asked.only in (None, key[0])]
-    if stale:
-        sys.exit("\n".join(f"SAME: {name}: {was}  =>  {now}: a row refuses it, or nothing is changed so"
-                           for name, was, now in stale))
-    return found
+    return found, [key for key, count in same.items() if count and asked.only in (None, key[0])]
+
+
+def not_by_hand(definitions):
+    """The changes of BY_HAND that nothing in its definition can be changed by."""
+    bodies = {name: [equation.body for equation in each.equations] for name, each in definitions.by_name.items()}
+    return [(name, was, now) for name, was, now in BY_HAND
+            if not any(node == Reader(was).whole() for body in bodies.get(name, ())
+                       for _, node, _ in pieces(body, Scope(definitions, {})))]
 
 
 def search(asked, left, open_ones, definitions):
@@ -645,14 +663,21 @@ def main():
     sys.setrecursionlimit(3000)
     definitions, worked = antt.Definitions(FILES, PROPOSITIONS), read_rows()
     wrong = [row.name for row in worked if not row.agrees(definitions)]
+    wrong += [row.name for row in worked if isinstance(row, Turns) and not row.is_met(definitions)]
     if wrong:
         sys.exit("these rows disagree with the definitions: " + ", ".join(wrong))
-    count, left = judge(asked, definitions, worked)
-    open_ones = without_same(left, asked)
+    judged = judge(asked, definitions, worked)
+    left = [change for change, found in judged if found is None]
+    more = sum(found == PROMISES_MORE for _, found in judged)
+    open_ones, stale = without_same(left, asked)
     search(asked, left, open_ones, definitions)
-    print(f"{len(worked)} rows agree; {count} changes: {count - len(left)} are refused by a row, "
-          f"{len(left) - len(open_ones)} can't be, {len(open_ones)} are not")
-    sys.exit(1 if open_ones else 0)
+    for name, was, now in stale:
+        print(f"SAME: {name}: {was}  =>  {now}: a row refuses it, or nothing is changed so")
+    for name, was, now in not_by_hand(definitions):
+        print(f"BY_HAND: {name}: {was}  =>  {now}: nothing is changed so")
+    print(f"{len(worked)} rows agree; of {len(judged)} changes rows refuse {len(judged) - more - len(left)}, {more} promise "
+          f"fewer turns, {len(left) - len(open_ones)} can be refused by no row, and {len(open_ones)} are refused by none")
+    sys.exit(1 if open_ones or stale or not_by_hand(definitions) else 0)
 
 
 if __name__ == "__main__":
