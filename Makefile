@@ -38,7 +38,7 @@ install: $(PROGRAM)
 
 rows:
 	@python3 tools/rows.py
-	@cd crates/lexical_parse_integer && $(RT) fmt
+	@cd crates/rows && $(RT) fmt
 
 # What the fuzz run asks for: the seed that a run before has printed, and how many lines.
 SEED ?=

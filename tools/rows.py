@@ -8,7 +8,7 @@ Either way each example of docs/GRAMMAR.md has to be one of the rows.
 
 Each row becomes a theorem, `complete FORMAT TYPE TEXT ≡ ANSWER`, or the same of `partial` or `fault`, with the proof
 `refl`. The check computes the definitions on that text, so it refuses a row and a definition that disagree. Each
-group of rows becomes a test, which runs the calls. The files are, below crates/lexical_parse_integer,
+group of rows becomes a test, which runs the calls. The files are, below crates/rows,
 
     proofs/rows/FILE.antt     the theorems, and proofs/rows.antt, which declares these files
     src/tests/FILE.rt         the tests, over the helpers in src/tests.rt
@@ -23,7 +23,7 @@ import sys
 TOP = os.path.dirname(os.path.dirname(os.path.abspath(__file__)))
 DATA = os.path.join(TOP, "tools", "rows.txt")
 GRAMMAR = os.path.join(TOP, "docs", "GRAMMAR.md")
-CRATE = os.path.join(TOP, "crates", "lexical_parse_integer")
+CRATE = os.path.join(TOP, "crates", "rows")
 WRITTEN = "Written by tools/rows.py from tools/rows.txt: make rows writes it anew."
 LONGEST = 800  # lines of a file
 
@@ -427,7 +427,8 @@ def tests(file):
     """The tests of a file."""
     body = "\n".join(test for test in map(rust_test, file.groups) if test)
     code = re.sub(r'"(?:[^"\\]|\\.)*"|//[^\n]*|fn \w+', "", body)
-    own = [rust_use("crate", ["Error", "NumberFormatBuilder"], code), rust_use("crate::format", ["JSON"], code)]
+    own = [rust_use("lexical_parse_integer", ["Error", "NumberFormatBuilder"], code),
+           rust_use("lexical_parse_integer::format", ["JSON"], code)]
     uses = rust_use("super", HELPERS, code) + "".join(sorted(own))
     return f"// Worked rows: {file.shows}.\n// {WRITTEN}\n{uses}\n{body}"
 

@@ -32,7 +32,7 @@ from antt import NONE, Node, Reader, children, shown
 
 UTIL = os.path.join(rows.TOP, "crates", "lexical_util", "specs")
 PARSE = os.path.join(rows.TOP, "crates", "lexical_parse_integer", "specs")
-TURN_ROWS = os.path.join(rows.CRATE, "proofs", "TurnRows.antt")
+TURN_ROWS = os.path.join(rows.TOP, "crates", "lexical_parse_integer", "proofs", "TurnRows.antt")
 FILES = [(os.path.join(UTIL, f"{name}.antt"), f"lexical_util/specs/{name}.antt")
          for name in ("Digit", "Format", "Number", "Validity")]
 FILES += [(os.path.join(PARSE, f"{name}.antt"), f"lexical_parse_integer/specs/{name}.antt")

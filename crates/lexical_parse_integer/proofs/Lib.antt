@@ -38,4 +38,3 @@ pub mod WordDigits
 pub mod WordTurns
 pub mod WordValues
 pub mod Zeros
-pub mod rows

@@ -1,7 +1,7 @@
 // Worked rows: separators, by the flags that are set.
 // Written by tools/rows.py from tools/rows.txt: make rows writes it anew.
 use super::{complete_with, partial_with};
-use crate::{Error, NumberFormatBuilder};
+use lexical_parse_integer::{Error, NumberFormatBuilder};
 
 // A separator without a flag never passes, but the format has one.
 #[test]

@@ -1,8 +1,8 @@
 // The twelve integer types as whole numbers, and comparisons of the parsers with the slow reading at each of them.
 use super::slow::{LONGEST, Number, complete, partial, read};
-use crate::format::STANDARD;
-use crate::options::{LARGE_NUMBERS, SMALL_NUMBERS};
-use crate::{FromLexicalWithOptions, NumberFormat, Options, Result};
+use lexical_parse_integer::format::STANDARD;
+use lexical_parse_integer::options::{LARGE_NUMBERS, SMALL_NUMBERS};
+use lexical_parse_integer::{FromLexicalWithOptions, NumberFormat, Options, Result};
 use std::fmt::Debug;
 use std::process::Abort;
 

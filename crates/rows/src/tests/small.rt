@@ -1,6 +1,6 @@
 // Every text of up to four or five bytes out of a few, by the slow reading.
 use super::whole::{Whole, agrees};
-use crate::{NumberFormat, NumberFormatBuilder};
+use lexical_parse_integer::{NumberFormat, NumberFormatBuilder};
 use std::process::Abort;
 
 // Digits, a separator, signs, letters of a prefix and of a suffix, and a byte that is nothing.

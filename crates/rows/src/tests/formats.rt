@@ -1,8 +1,8 @@
 // Worked rows: formats, and the fault of the first rule that one breaks.
 // Written by tools/rows.py from tools/rows.txt: make rows writes it anew.
 use super::{are_refused, are_valid, complete_with, partial_with};
-use crate::format::JSON;
-use crate::{Error, NumberFormatBuilder};
+use lexical_parse_integer::format::JSON;
+use lexical_parse_integer::{Error, NumberFormatBuilder};
 
 // A radix is one from 2 to 36, and this rule is the first.
 #[test]

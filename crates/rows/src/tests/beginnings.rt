@@ -1,8 +1,8 @@
 // Each beginning of hostile texts, by both parsers and with either kind of options, as each of the twelve types. The
 // slow reading says what is right of up to thirty bytes; of more, the two kinds of options have to agree.
 use super::whole::{beginnings, beginnings_of};
-use crate::format::{JSON, STANDARD};
-use crate::{NumberFormat, NumberFormatBuilder};
+use lexical_parse_integer::format::{JSON, STANDARD};
+use lexical_parse_integer::{NumberFormat, NumberFormatBuilder};
 
 // The ends of the types, and the numbers next to them.
 #[test]

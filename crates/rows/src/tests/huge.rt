@@ -1,8 +1,8 @@
 // Texts of a million bytes and of sixteen mebibytes.
 use super::slow::{greatest, power};
 use super::whole::{Whole, answers};
-use crate::format::STANDARD;
-use crate::{Error, NumberFormat, NumberFormatBuilder};
+use lexical_parse_integer::format::STANDARD;
+use lexical_parse_integer::{Error, NumberFormat, NumberFormatBuilder};
 use std::process::Abort;
 use std::test::Fail;
 

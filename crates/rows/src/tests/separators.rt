@@ -1,7 +1,7 @@
 // Worked rows: separators beside signs, faults, and bytes of other kinds.
 // Written by tools/rows.py from tools/rows.txt: make rows writes it anew.
 use super::{complete, complete_with, partial_with};
-use crate::{Error, NumberFormatBuilder};
+use lexical_parse_integer::{Error, NumberFormatBuilder};
 
 // Separators are not skipped to find a sign.
 #[test]

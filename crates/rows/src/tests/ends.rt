@@ -1,7 +1,7 @@
 // Worked rows: values at the ends of the types, and outside of them.
 // Written by tools/rows.py from tools/rows.txt: make rows writes it anew.
 use super::{complete, complete_with, partial};
-use crate::{Error, NumberFormatBuilder};
+use lexical_parse_integer::{Error, NumberFormatBuilder};
 
 // The greatest value of each unsigned type, the next one, and zero.
 #[test]

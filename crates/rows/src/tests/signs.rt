@@ -1,7 +1,7 @@
 // Worked rows: signs, and digits that are missing.
 // Written by tools/rows.py from tools/rows.txt: make rows writes it anew.
 use super::{complete, complete_with, partial, partial_with};
-use crate::{Error, NumberFormatBuilder};
+use lexical_parse_integer::{Error, NumberFormatBuilder};
 
 // A zero alone, for every type.
 #[test]

@@ -1,7 +1,7 @@
 // Worked rows: prefixes by which the text chooses its radix.
 // Written by tools/rows.py from tools/rows.txt: make rows writes it anew.
 use super::{complete, complete_with, partial_with};
-use crate::{Error, NumberFormatBuilder};
+use lexical_parse_integer::{Error, NumberFormatBuilder};
 
 // 16 behind 0x, 8 behind 0o and 2 behind 0b, in either case.
 #[test]

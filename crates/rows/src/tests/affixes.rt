@@ -1,7 +1,7 @@
 // Worked rows: prefixes and suffixes.
 // Written by tools/rows.py from tools/rows.txt: make rows writes it anew.
 use super::{complete_with, partial_with};
-use crate::{Error, NumberFormatBuilder};
+use lexical_parse_integer::{Error, NumberFormatBuilder};
 
 // A zero and the prefix, directly behind the sign, in either case.
 #[test]

@@ -2,11 +2,11 @@
 // `0`, or the greatest digit of the radix.
 ghost use Rattle.std.specs.Prelude.{◌≡◌, ◌≤◌, IfNone, IfSome};
 
-use crate::algorithm::{
+use lexical_parse_integer::algorithm::{
     is_4digits, is_8digits, parse_4digits, parse_8digits, try_parse_4digits, try_parse_8digits,
 };
-use crate::cursor::Cursor;
-use crate::{NumberFormat, NumberFormatBuilder};
+use lexical_parse_integer::cursor::Cursor;
+use lexical_parse_integer::{NumberFormat, NumberFormatBuilder};
 use lexical_util::digit::char_is_digit;
 use std::process::Abort;
 

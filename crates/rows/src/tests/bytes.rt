@@ -1,6 +1,6 @@
 // Each of the 256 bytes at each place of a text, among them byte 0 and byte 255.
 use super::whole::{Whole, agrees};
-use crate::{NumberFormat, NumberFormatBuilder};
+use lexical_parse_integer::{NumberFormat, NumberFormatBuilder};
 use std::process::Abort;
 
 // The longest of these texts: two words and what is left of a third, behind a sign.

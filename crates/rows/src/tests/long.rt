@@ -1,7 +1,7 @@
 // Worked rows of tools/rows.txt that are marked `long`: texts of a thousand bytes.
 use super::{complete, complete_with, partial_with};
-use crate::format::JSON;
-use crate::{Error, NumberFormatBuilder};
+use lexical_parse_integer::format::JSON;
+use lexical_parse_integer::{Error, NumberFormatBuilder};
 
 const MANY: usize = 1000;
 

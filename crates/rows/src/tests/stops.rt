@@ -1,8 +1,8 @@
 // Worked rows: where reading stops.
 // Written by tools/rows.py from tools/rows.txt: make rows writes it anew.
 use super::{complete, complete_with, partial};
-use crate::Error;
-use crate::format::JSON;
+use lexical_parse_integer::Error;
+use lexical_parse_integer::format::JSON;
 
 // The complete parser reads the whole text.
 #[test]

@@ -1,7 +1,7 @@
 // Worked rows: radixes from 2 to 36.
 // Written by tools/rows.py from tools/rows.txt: make rows writes it anew.
 use super::{complete_in_radixes, complete_with, partial_in_radixes, partial_with};
-use crate::{Error, NumberFormatBuilder};
+use lexical_parse_integer::{Error, NumberFormatBuilder};
 
 // Digits end at the first that the radix has not.
 #[test]

@@ -2,7 +2,7 @@
 use super::slow::digit_of;
 use super::whole::agrees;
 use super::{are_refused, are_valid};
-use crate::{Error, NumberFormat, NumberFormatBuilder};
+use lexical_parse_integer::{Error, NumberFormat, NumberFormatBuilder};
 use std::process::Abort;
 
 // `STANDARD` with this radix, separator, prefix and suffix.

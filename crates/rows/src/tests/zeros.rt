@@ -1,8 +1,8 @@
 // Worked rows: leading zeros, and the integers of JSON.
 // Written by tools/rows.py from tools/rows.txt: make rows writes it anew.
 use super::{complete, complete_with, partial, partial_with};
-use crate::format::JSON;
-use crate::{Error, NumberFormatBuilder};
+use lexical_parse_integer::format::JSON;
+use lexical_parse_integer::{Error, NumberFormatBuilder};
 
 // Zeros in front are digits like others.
 #[test]

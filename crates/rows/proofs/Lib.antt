@@ -1,0 +1,2 @@
+-- The theorems of the worked rows.
+pub mod rows

@@ -1,0 +1,6 @@
+//! Worked rows: texts with their answers worked out by hand, as theorems and as tests, and hostile texts beside a slow
+//! reading of the grammar. Nothing stands on this crate.
+#![tactic(auto)]
+
+#[cfg(test)]
+mod tests;
