@@ -10,6 +10,8 @@ What counts, as seen in what rt prints:
   name is lost: "record `R` has no field `F`" (or, cut short, "record `R` (nearest: ..)"), "module `M` has no `N` that
   can be named from here", "is not in scope". A goal that had a lost answer is then also told as open, under its old
   or a new name, so that nothing which is said of such a function counts.
+- `./proofs/FILE.antt:LINE:COLUMN: error: `LEMMA`: ..` counts for an edit of a constant, where the file names it: a
+  lemma computes on its value, and the functions that cite the lemma are not proved.
 - `fn PATH: no proof: it calls `F`, which is not proved` says nothing of its own. Where search waits for a callee,
   as "`search` has not tried the goals of `F`" says, the edit has to be tried apart from that callee's.
 - `src/FILE.rt:LINE:COLUMN: error[CODE]: ..` is the front end's: the crate doesn't compile, and nothing was judged.
@@ -21,8 +23,9 @@ OPEN = re.compile(r"note: (src/\S+?):(\d+):\d+: it is not proved that .*?\(`([^`
 FUNCTION = re.compile(r"fn (\w+)::(\S+): (proved|not proved|no proof|could not tell|no holes)(.*)")
 REFUSED = re.compile(r"(?:\./)?proofs/(\S+)/(Answers|Invariants|Proof)\.antt:\d+:\d+: error: (?:`([^`]+)`: )?(.*)")
 LOST = re.compile(r"record `[^`]*`(?: has no field| \(nearest)|has no `|has no field|is not in scope|module `|was not admitted"
-                  r"|cannot be named|is unused|no such|expected a goal named"
+                  r"|cannot be named|is unused|is no name|no such|expected a goal named"
                   r"|types? (?:first |only )?differ[^`]*`[^`]*\.Lts\.(?:After-|Then|Else|In-|View\b|Start\b|Loop)")
+LEMMA = re.compile(r"(?:\./)?(proofs/\S+\.antt):\d+:\d+: error: `([^`]+)`: (.*)")
 WAITING = re.compile(r"\d+ declarations? that depends? on `[^`]+`, which was rejected, .*?: (.*)")
 UNREAD = re.compile(r"(?:\./)?((?:src|specs)/\S+?):(\d+):\d+: error(?:\[[\w-]+\])?: .*")
 MISSING = re.compile(r"has no function `([^`]+)`")
@@ -70,7 +73,7 @@ class Check:
 
     def __init__(self, status, said):
         self.status, self.functions = status, {}
-        self.unread = []
+        self.unread, self.lemmas = [], []
         self.missing = MISSING.findall(said) if status == 2 else []
         above, refused = [], []
         for line in said.split("\n"):
@@ -92,6 +95,9 @@ class Check:
             return []
         if answer:
             refused.append((answer[1].replace("/", "::"), answer[2], answer[3], answer[4]))
+        elif LEMMA.match(line):
+            lemma = LEMMA.match(line)
+            self.lemmas += [(lemma[1], lemma[2])] * (not LOST.search(lemma[3]))
         elif UNREAD.match(line):
             self.unread.append(line)
         return above
@@ -118,6 +124,9 @@ def judged(edit, check):
     for path, it in told:
         if it.goals():
             return f"{path}: {', '.join(it.goals())}", None
+    lemmas = [f"{file}: {lemma}" for file, lemma in check.lemmas if file in edit.lemmas]
+    if lemmas and any(it.status != "proved" for _, it in told):
+        return ", ".join(lemmas), None
     if not told:
         return None, f"the check names none of its functions: {', '.join(edit.items)}"
     path, it = next(((path, it) for path, it in told if it.status != "proved"), told[0])

@@ -4,6 +4,7 @@ An edit is a text file of lines `file: PATH`, `old: TEXT` and `new: TEXT`. Each 
 once in its file, as the pairs above it have left it. The functions that hold the `old` texts are the edit's own.
 """
 import collections
+import glob
 import os
 import re
 
@@ -177,7 +178,7 @@ class Edit:
         self.pairs = pairs_of(read(path))
         self.files = sorted({file for file, _, _ in self.pairs})
         self.brought = {word for _, _, new in self.pairs for word in WORD.findall(new)}
-        self.items, self.others, self.lines = [], [], {}
+        self.items, self.others, self.lines, self.lemmas = [], [], {}, []
         texts = {file: read(os.path.join(folder, file)) for file in self.files}
         for file, text in self.applied(texts).items():
             self.compare(file, texts[file], text)
@@ -271,6 +272,12 @@ def users_of(folder, name):
         code = blanked(text)
         found += [it.path() for it in items_of(file, text) if name in mentions(code, it.body, it.end)]
     return found
+
+
+def lemmas_on(folder, name):
+    """The files of lemmas that name a constant."""
+    files = sorted(glob.glob(os.path.join(glob.escape(folder), "proofs", "**", "*.antt"), recursive=True))
+    return [os.path.relpath(it, folder) for it in files if re.search(rf"\b{name}\b", read(it))]
 
 
 def called_by(edit, calls):

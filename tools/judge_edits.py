@@ -102,14 +102,14 @@ class Room:
         for file in set(self.changed) - set(texts):
             del self.changed[file]
 
-    def check(self, texts, paths=()):
-        """What `rt check` says of the crate with these texts, whole or only of these functions. A name that it doesn't
-        know, as one that only tests have, is left out."""
+    def check(self, texts, paths=(), jobs=1):
+        """What `rt check` says of the crate with these texts, whole or only of these functions, with as many jobs as it
+        likes where none are given. A path that it doesn't know, as one that only tests have, is left out."""
         self.write(texts)
         paths = list(paths)
         while True:
-            words = [word for path in paths for word in ("--only", path)]
-            ran = subprocess.run([RT, "check", "--jobs", "1", *words], cwd=self.folder, stdin=subprocess.DEVNULL,
+            words = (["--jobs", str(jobs)] if jobs else []) + [word for path in paths for word in ("--only", path)]
+            ran = subprocess.run([RT, "check", *words], cwd=self.folder, stdin=subprocess.DEVNULL,
                                  stdout=subprocess.PIPE, stderr=subprocess.STDOUT, errors="replace")
             check = check_output.Check(ran.returncode, ran.stdout)
             if not set(check.missing) & set(paths):
@@ -156,19 +156,23 @@ class Judge:
     def open_rooms(self, temporary):
         """Checks the crate as it is, and makes a room for each check that runs at once."""
         first = Room.of(self.root, self.name, os.path.join(temporary, self.name, "0"))
-        check, said = first.check({})
+        check, said = first.check({}, jobs=None)
         if not check.is_proved():
             sys.exit(f"tools/judge_edits.py: {self.name} is not proved without an edit:\n{said[-2000:]}")
         for edit in self.edits:
-            # A constant that a check doesn't name is judged by the functions that speak of it.
-            for path in [it for it in edit.items if it.rsplit("::", 1)[-1].isupper()]:
-                if path not in check.functions:
-                    edit.items.remove(path)
-                    edit.items += edit_files.users_of(self.folder, path.rsplit("::", 1)[-1])
+            self.settle_constants(edit, check)
         self.jobs = min(self.options.jobs or jobs_for_memory(), len(self.edits))
         self.rooms.put(first)
         for number in range(1, self.jobs):
             self.rooms.put(first.copy(os.path.join(temporary, self.name, str(number))))
+
+    def settle_constants(self, edit, check):
+        """A constant that a check doesn't name is judged by the functions and lemmas that speak of it."""
+        for path in [it for it in edit.items if it.rsplit("::", 1)[-1].isupper() and it not in check.functions]:
+            name = path.rsplit("::", 1)[-1]
+            edit.items.remove(path)
+            edit.items += edit_files.users_of(self.folder, name)
+            edit.lemmas += edit_files.lemmas_on(self.folder, name)
 
     def judge(self, batch):
         """Tries a batch at once, and answers those of its edits that are to be tried alone. Where it doesn't compile,
