@@ -1,7 +1,8 @@
 """Must-fail edits: reading them, the functions that they edit, and which of them can be tried in one check.
 
 An edit is a text file of lines `file: PATH`, `old: TEXT` and `new: TEXT`. Each TEXT is one line, and an `old` stands
-once in its file, as the pairs above it have left it. The functions that hold the `old` texts are the edit's own.
+once in its file, as the pairs above it have left it. The functions and constants that an edit changes or brings are
+its own: it is held to these.
 """
 import collections
 import glob
@@ -12,10 +13,8 @@ ITEM = re.compile(r"\b(fn|const|static)\s+(?!fn\b)([A-Za-z]\w*)")
 WORD = re.compile(r"\b[A-Za-z_]\w*\b")
 CLAUSE = re.compile(r"(?:requires|ensures|ghost)\b[^{}();]*$")
 
-KEPT = re.compile(r"//[^\n]*")
-
-# What may stand between two functions and belongs to the second: comments and attributes.
-ATTACHED = re.compile(r"\s*(?:#\[|//)")
+IMPORT = re.compile(r"\s*(?:ghost\s+|pub\s+)?use\b")
+COMMENT = re.compile(r"//[^\n]*")
 
 
 class BadEdit(Exception):
@@ -71,9 +70,9 @@ def body_of(code, at):
 class Item:
     """A function or a constant of a source file: the names of the blocks around it, and where its parts stand."""
 
-    def __init__(self, file, name, owner, start, head, body, end):
+    def __init__(self, file, name, owner, head, body, end):
         self.file, self.name, self.owner = file, name, owner
-        self.start, self.head, self.body, self.end = start, head, body, end
+        self.head, self.body, self.end = head, body, end
 
     def path(self):
         """Its name as a check prints it, behind the crate's name."""
@@ -109,18 +108,16 @@ def blocks_of(code):
 
 
 def items_of(file, text):
-    """The functions and constants of a file's text, in order. Each starts at its comments and attributes."""
+    """The functions and constants of a file's text, in order."""
     code = blanked(text)
     blocks = blocks_of(code)
     found = []
     for it in ITEM.finditer(code):
         if found and it.start() < found[-1].end:
             continue
-        before = max(found[-1].end if found else 0, code.rfind("}", 0, it.start()) + 1)
-        start = start_of(text, it.start(), before)
         body, end = body_of(code, it.end()) if it[1] == "fn" else (it.end(), behind_semicolon(code, it.end()))
         owner = [name for first, last, name in blocks if first <= it.start() < last]
-        found.append(Item(file, it[2], owner, start, it.start(), body, end))
+        found.append(Item(file, it[2], owner, it.start(), body, end))
     return found
 
 
@@ -134,22 +131,11 @@ def behind_semicolon(code, at):
     return len(code)
 
 
-def start_of(text, place, before):
-    """Where the comments and attributes of what stands at this place begin, behind the end of what comes before."""
-    start = max(text.rfind("\n", 0, place) + 1, before)
-    while start > before:
-        above = text.rfind("\n", 0, start - 1) + 1
-        if above < before or not ATTACHED.match(text, above, start):
-            break
-        start = above
-    return start
-
-
 def parts_of(file, text):
     """{path: (clauses, body)} of each item, without spaces and comments. Of two with one path the first counts: behind
     a `#[cfg(test)]` an edit can keep the right one."""
     code, found = blanked(text), {}
-    bare = lambda start, end: re.sub(r"\s+", "", "".join(KEPT.sub("", text[start:end])))
+    bare = lambda start, end: re.sub(r"\s+", "", COMMENT.sub("", text[start:end]))
     for it in items_of(file, text):
         clauses = [bare(*span) for span in clauses_of(code, it)]
         found.setdefault(it.path(), (clauses, bare(it.body, it.end), it.name))
@@ -207,8 +193,15 @@ class Edit:
             if now[path][0] != was[path][0]:
                 raise BadEdit(f"it changes the contract of {path}: what is stated can't show that it is too weak")
         self.items += changed + [path for path in now if path not in was and now[path][1] not in bodies]
-        if not self.items:
-            self.others.append(file)
+        self.others += [line for line in self.lines if line[0] == file and self.is_beside_items(line, text)]
+
+    def is_beside_items(self, line, text):
+        """Whether a changed line is of a type or the like: outside each item, no import, and no place of a new item."""
+        place = sum(len(it) + 1 for it in text.split("\n")[:line[1] - 1])
+        end = place + len(text[place:].partition("\n")[0])
+        if any(it.head < end and place < it.end for it in items_of(line[0], text)):
+            return False
+        return not IMPORT.match(self.lines[line]) and not ITEM.search(blanked(self.lines[line]))
 
     def names(self):
         return {path.rsplit("::", 1)[-1] for path in self.items}
@@ -250,7 +243,7 @@ def mentions(code, start, end):
     found = set()
     for it in WORD.finditer(code, start, end):
         is_called = re.match(r"\s*(?:\(|::\s*<)", code[it.end():it.end() + 80])
-        if is_called or not code[:it.start()].rstrip().endswith("."):
+        if is_called or not code[max(0, it.start() - 80):it.start()].rstrip().endswith("."):
             found.add(it[0])
     return found
 

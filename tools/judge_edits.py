@@ -20,6 +20,7 @@ import contextlib
 import glob
 import os
 import queue
+import resource
 import shutil
 import subprocess
 import sys
@@ -254,7 +255,9 @@ def main(words):
         for name in options.crate or all_crates(options.root):
             with tempfile.TemporaryDirectory(prefix="judge-edits-") as temporary:
                 sums = [a + b for a, b in zip(sums, Judge(options.root, name, options, say).run(temporary))]
-    print(f"{sums[0]} edits refused, {sums[1]} not ({time.time() - start:.0f} s)")
+    used = resource.getrusage(resource.RUSAGE_CHILDREN)
+    print(f"in {time.time() - start:.0f} s, and {used.ru_utime + used.ru_stime:.0f} s of processors", file=sys.stderr)
+    print(f"{sums[0]} edits refused, {sums[1]} not")
     return 1 if sums[1] or not sums[0] else 0
 
 
