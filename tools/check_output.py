@@ -22,8 +22,8 @@ import re
 OPEN = re.compile(r"note: (src/\S+?):(\d+):\d+: it is not proved that .*?\(`([^`]+)`\)(?:;|$)")
 FUNCTION = re.compile(r"fn (\w+)::(\S+): (proved|not proved|no proof|could not tell|no holes)(.*)")
 REFUSED = re.compile(r"(?:\./)?proofs/(\S+)/(Answers|Invariants|Proof)\.antt:\d+:\d+: error: (?:`([^`]+)`: )?(.*)")
-LOST = re.compile(r"record `[^`]*`(?: has no field| \(nearest)|has no `|has no field|is not in scope|module `|was not admitted"
-                  r"|cannot be named|is unused|is no name|no such|expected a goal named"
+LOST = re.compile(r"record `[^`]*`(?: has no field| \(nearest)|has no `|has no field|is not in scope|module `"
+                  r"|was not admitted|cannot be named|is unused|is no name|no such|expected a goal named"
                   r"|types? (?:first |only )?differ[^`]*`[^`]*\.Lts\.(?:After-|Then|Else|In-|View\b|Start\b|Loop)")
 LEMMA = re.compile(r"(?:\./)?(proofs/\S+\.antt):\d+:\d+: error: `([^`]+)`: (.*)")
 WAITING = re.compile(r"\d+ declarations? that depends? on `[^`]+`, which was rejected, .*?: (.*)")

@@ -14,6 +14,10 @@ WORD = re.compile(r"\b[A-Za-z_]\w*\b")
 CLAUSE = re.compile(r"(?:requires|ensures|ghost)\b[^{}();]*$")
 
 IMPORT = re.compile(r"\s*(?:ghost\s+|pub\s+)?use\b")
+LIFETIME = re.compile(r"'(?:static\b|[a-z_]\w*\b(?!'))")
+NO_CODE = re.compile("|".join([
+    r"//[^\n]*", r"b?r#\"(?s:.*?)\"#", r"b?\"(?:\\(?s:.)|[^\"\\])*\"", LIFETIME.pattern,
+    r"b?'(?:\\(?:x..|u\{[^}]*\}|.)|[^'\\\n])'"]))
 COMMENT = re.compile(r"//[^\n]*")
 
 
@@ -28,13 +32,10 @@ def read(path):
 
 def blanked(text):
     """The text with comments, strings and characters as spaces, so that each brace that is left is one of the code."""
-    lifetime = r"'(?:static\b|[a-z_]\w*\b(?!'))"
-    pattern = r"//[^\n]*|b?r#\"(?s:.*?)\"#|b?\"(?:\\(?s:.)|[^\"\\])*\"|" + lifetime + r"|b?'(?:\\(?:x..|u\{[^}]*\}|.)|[^'\\\n])'"
-
     def blank(found):
-        return found[0] if re.fullmatch(lifetime, found[0]) else re.sub(r"[^\n]", " ", found[0])
+        return found[0] if LIFETIME.fullmatch(found[0]) else re.sub(r"[^\n]", " ", found[0])
 
-    return re.sub(pattern, blank, text)
+    return NO_CODE.sub(blank, text)
 
 
 def closing(code, at):
@@ -82,7 +83,8 @@ class Item:
 
 
 def owner_named(header):
-    """What a check calls the block of this header: `impl Tr for Ty` is `TyTr`, and a type's own methods stand under it."""
+    """What a check calls the block of this header: `impl Tr for Ty` is `TyTr`, and a type's own methods stand under
+    its name."""
     header = re.sub(r"\bwhere\b(?s:.*)", "", header)
     while "<" in header:
         less = re.sub(r"<[^<>]*>", "", header)
@@ -214,7 +216,7 @@ def pairs_of(text):
         if line.startswith("file: "):
             file = line[len("file: "):].strip()
             if not file.startswith("src/") or os.path.normpath(file) != file:
-                raise BadEdit("a 'file:' line names no file below src/: an edit of what is stated or proved shows nothing")
+                raise BadEdit("a 'file:' line names no file below src/: one of a statement or a proof shows nothing")
         elif line.startswith("old: "):
             old = line[len("old: "):]
         elif line.startswith("new:"):

@@ -61,7 +61,9 @@ def crates_below(root, name):
 
 
 def all_crates(root):
-    return [os.path.basename(os.path.dirname(it)) for it in sorted(glob.glob(os.path.join(root, "crates", "*", "must-fail")))]
+    """The crates that have must-fail edits."""
+    folders = sorted(glob.glob(os.path.join(root, "crates", "*", "must-fail")))
+    return [os.path.basename(os.path.dirname(it)) for it in folders]
 
 
 class Room:

@@ -116,7 +116,8 @@ class Texts(unittest.TestCase):
 
     def test_an_item_is_named_as_a_check_names_it(self):
         text = "impl<'a> Tr<'a> for m::Ty<'a> {\n    fn f(&self) {}\n}\nimpl u8 {\n    const N: u32 = 8;\n}\n"
-        self.assertEqual([it.path() for it in edit_files.items_of("src/a/b.rt", text)], ["a::b::TyTr::f", "a::b::u8::N"])
+        paths = [it.path() for it in edit_files.items_of("src/a/b.rt", text)]
+        self.assertEqual(paths, ["a::b::TyTr::f", "a::b::u8::N"])
 
     def test_an_edit_owns_what_it_changes(self):
         self.assertEqual(self.edit("the_less").items, ["greater"])
@@ -149,6 +150,19 @@ class Texts(unittest.TestCase):
         self.assertEqual(len(edit_files.batches_of(edits, edit_files.calls_of(self.folder), 20)), 2)
 
 
+def open_goal(goal, what="what the function ensures holds when it returns"):
+    return f"note: src/m.rt:7:5: it is not proved that {what} (`{goal}`); `search` gave up at one of its limits\n"
+
+
+def no_proof(path, goal):
+    answers = f"./proofs/{path.replace('::', '/')}/Answers.antt"
+    return f"fn toy::{path}: no proof: expected answers in {answers}; `search` did not prove `{goal}`\n"
+
+
+def refused_answer(why):
+    return f"./proofs/m/f/Answers.antt:5:13: error: `returns`: {why}\n"
+
+
 class Outputs(unittest.TestCase):
     """What is read of a check's output."""
 
@@ -156,30 +170,30 @@ class Outputs(unittest.TestCase):
         return check_output.Check(1, f"{said}\nonly=1 proved=0\n").functions[path]
 
     def test_an_open_goal(self):
-        told = self.told("note: src/m.rt:7:5: it is not proved that what the function ensures holds when it returns (`returns`)\n"
-                         "fn toy::m::f: no proof: expected answers in ./proofs/m/f/Answers.antt; `search` did not prove `returns`")
+        told = self.told(open_goal("returns") + no_proof("m::f", "returns"))
         self.assertEqual(told.goals(), ["returns"])
 
     def test_a_goal_belongs_to_the_next_function(self):
-        said = ("note: src/m.rt:7:5: it is not proved that the sum fits its type (at a range `a`, `b`) (`overflow_add`); `search` gave up\n"
-                "fn toy::m::g: no proof: expected answers in ./proofs/m/g/Answers.antt; `search` did not prove `overflow_add`\n"
-                "fn toy::m::f: no proof: it calls `toy::m::g`, which is not proved")
+        said = (open_goal("overflow_add", "the sum fits its type (at a range `a`, `b`)")
+                + no_proof("m::g", "overflow_add")
+                + "fn toy::m::f: no proof: it calls `toy::m::g`, which is not proved")
         self.assertEqual(self.told(said).goals(), [])
         self.assertIn("it calls `toy::m::g`", self.told(said).why_not())
         self.assertEqual(self.told(said, "m::g").goals(), ["overflow_add"])
 
     def test_an_answer_that_does_not_fit(self):
-        said = ("./proofs/m/f/Answers.antt:5:13: error: `returns`: as printed, the two types differ only where one has `1`\n"
-                "fn toy::m::f: not proved")
+        said = refused_answer("as printed, the two types differ only where one has `1`") + "fn toy::m::f: not proved"
         self.assertEqual(self.told(said).goals(), ["returns (its answer doesn't fit)"])
 
     def test_names_that_are_gone(self):
-        for why in ("record `toy.proofs.m.f.Lts.Then7` has no field `format`", "record `toy.proofs.m.f.Lts.After-g` (nearest: .g-2)",
-                    "`goal.returns-2`: module `toy.proofs.m.f.Goals` has no `returns-2` that can be named from here",
-                    "`word` is not in scope", "as printed, the two types differ only where one has `toy.proofs.m.f.Lts.Then7`"):
-            said = (f"./proofs/m/f/Answers.antt:5:13: error: `returns`: {why}\n"
-                    "note: src/m.rt:7:5: it is not proved that what the function ensures holds when it returns (`returns-3`)\n"
-                    "fn toy::m::f: not proved")
+        for why in (
+            "record `toy.proofs.m.f.Lts.Then7` has no field `format`",
+            "record `toy.proofs.m.f.Lts.After-g` (nearest: .g-2)",
+            "`goal.returns-2`: module `toy.proofs.m.f.Goals` has no `returns-2` that can be named from here",
+            "`word` is not in scope",
+            "as printed, the two types differ only where one has `toy.proofs.m.f.Lts.Then7`",
+        ):
+            said = refused_answer(why) + open_goal("returns-3") + "fn toy::m::f: not proved"
             self.assertEqual(self.told(said).goals(), [], why)
 
     def test_what_does_not_compile(self):
