@@ -26,7 +26,7 @@ LOST = re.compile(r"record `[^`]*`(?: has no field| \(nearest)|has no `|has no f
                   r"|was not admitted|cannot be named|is unused|is no name|no such|expected a goal named"
                   r"|types? (?:first |only )?differ[^`]*`[^`]*\.Lts\.(?:After-|Then|Else|In-|View\b|Start\b|Loop)")
 LEMMA = re.compile(r"(?:\./)?(proofs/\S+\.antt):\d+:\d+: error: `([^`]+)`: (.*)")
-WAITING = re.compile(r"\d+ declarations? that depends? on `[^`]+`, which was rejected, .*?: (.*)")
+WAITING = re.compile(r"\d+ declarations? that depends? on `[^`]+`, which was (?:rejected|not admitted), .*?: (.*)")
 UNREAD = re.compile(r"(?:\./)?((?:src|specs)/\S+?):(\d+):\d+: error(?:\[[\w-]+\])?: .*")
 MISSING = re.compile(r"has no function `([^`]+)`")
 CAUSE = re.compile(r"it calls .*?not proved|it passes .*?not proved")
@@ -40,11 +40,12 @@ class Told:
         self.open, self.unfit, self.lost = [], [], []
 
     def answers(self, file, goal, why):
-        """Notes that an answer was refused: it says something else than its goal, or names what is gone."""
+        """Notes that an answer was refused: it says something else than its goal, or names what is gone. An invariant
+        that is refused is no goal but a statement that can't be read any more."""
         waiting = WAITING.match(why)
         if waiting and not goal:
             self.unfit += [it for it in waiting[1].split(", ") if it not in self.unfit]
-        elif file == "Proof" or not goal or LOST.search(why):
+        elif file != "Answers" or not goal or LOST.search(why):
             self.lost.append((goal or file, why))
         elif goal not in self.unfit:
             self.unfit.append(goal)

@@ -101,6 +101,17 @@ def owner_named(header):
     return of if not trait else of[0].upper() + of[1:] + last(trait)
 
 
+def as_told(path, told):
+    """The path under which a check tells of an item: the arguments of a type stand in its name, as in `VecU8Buffer`."""
+    if path in told:
+        return path
+    pattern = "::".join(".*?".join(map(re.escape, part)) for part in path.split("::"))
+    name = path.rsplit("::", 1)[-1]
+    alike = [it for it in told if it.rsplit("::", 1)[-1] == name and it.count("::") == path.count("::")]
+    found = [it for it in alike if re.fullmatch(pattern, it)]
+    return found[0] if len(found) == 1 else path
+
+
 def blocks_of(code):
     """(start, end, name) of each impl, trait and mod block."""
     found = []

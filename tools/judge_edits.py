@@ -163,6 +163,7 @@ class Judge:
         if not check.is_proved():
             sys.exit(f"tools/judge_edits.py: {self.name} is not proved without an edit:\n{said[-2000:]}")
         for edit in self.edits:
+            edit.items = [edit_files.as_told(path, check.functions) for path in edit.items]
             self.settle_constants(edit, check)
         self.jobs = min(self.options.jobs or jobs_for_memory(), len(self.edits))
         self.rooms.put(first)

@@ -119,6 +119,11 @@ class Texts(unittest.TestCase):
         paths = [it.path() for it in edit_files.items_of("src/a/b.rt", text)]
         self.assertEqual(paths, ["a::b::TyTr::f", "a::b::u8::N"])
 
+    def test_an_item_of_a_type_with_arguments(self):
+        told = ["a::VecU8Buffer::append", "a::VecU8Buffer::bytes", "a::Buffer::append"]
+        self.assertEqual(edit_files.as_told("a::VecBuffer::append", told), told[0])
+        self.assertEqual(edit_files.as_told("a::Other::append", told), "a::Other::append")
+
     def test_an_edit_owns_what_it_changes(self):
         self.assertEqual(self.edit("the_less").items, ["greater"])
         self.assertEqual(self.edit("the_less").lines, {("src/lib.rt", 11): "    if a < b { a } else { b }"})
