@@ -4,6 +4,9 @@
 # make lexint  the program alone, as crates/lexint/out/lexint
 # make install puts it into $(PREFIX)/bin
 # make rows    writes the theorems and tests of the worked rows anew from tools/rows.txt
+# make judge   tries the must-fail edits, many in one check, and holds each to the function that it changes
+# make test-judge  tests that
+# make must-not-compile  checks what the compiler or the prover has to refuse of programs that use the libraries
 # make fuzz    runs the program beside a slow reading of the grammar: make fuzz SEED=1 LINES=1000000
 
 RT ?= rt
@@ -11,7 +14,7 @@ PREFIX ?= /usr/local
 PROGRAM := crates/lexint/out/lexint
 SOURCES := $(shell find crates -name out -prune -o -type f \( -name '*.rt' -o -name '*.antt' \) -print) crates.txt
 
-.PHONY: run test devices lexint install rows fuzz
+.PHONY: run test devices lexint install rows judge test-judge must-not-compile fuzz
 
 run: $(PROGRAM)
 	@./$(PROGRAM)
@@ -39,6 +42,18 @@ install: $(PROGRAM)
 rows:
 	@python3 tools/rows.py
 	@cd crates/rows && $(RT) fmt
+
+# JUDGE is what judge_edits.py is asked: make judge JUDGE="--crate lexical_util --jobs 2".
+JUDGE ?=
+
+judge:
+	@RT=$(RT) tools/judge_edits.py $(JUDGE)
+
+test-judge:
+	@RT=$(RT) tools/test_judge.py
+
+must-not-compile:
+	@RT=$(RT) tools/must_not_compile.py
 
 # What the fuzz run asks for: the seed that a run before has printed, and how many lines.
 SEED ?=

@@ -1,0 +1,268 @@
+#!/usr/bin/env python3
+"""Tries the must-fail edits, many in one check, and holds each to the function that it changes.
+
+usage: tools/judge_edits.py [--jobs N] [--crate NAME].. [--only EDIT..] [--most N] [--log FILE] [--said FOLDER]
+
+An edit is refused where the prover, given the edited code, has a goal of the edited function that it can't close: a
+clause, a condition of a call, a bound, an invariant or a measure. A check that fails for a name, a type or an import
+says nothing of the contract. edit_files.py says what a batch is, and check_output.py what counts as refused.
+
+--jobs N     so many checks at once; without it as many as there are processors and memory for
+--crate      this crate alone, also several times
+--only       these edits alone
+--most N     at most so many edits in a batch
+--log        a line for each edit into this file, in place of standard output
+--said       keeps what each check said in this folder
+"""
+import argparse
+import concurrent.futures
+import contextlib
+import glob
+import os
+import queue
+import resource
+import shutil
+import subprocess
+import sys
+import tempfile
+import threading
+import time
+
+sys.dont_write_bytecode = True
+
+import check_output  # noqa: E402
+import edit_files  # noqa: E402
+
+ROOT = os.path.dirname(os.path.dirname(os.path.abspath(__file__)))
+RT = os.environ.get("RT", "rt")
+PARTS = ("src", "specs", "proofs")
+# What a check of the largest crate takes, and what is left to others.
+MEMORY, SPARE = 1.6e9, 1.5e9
+
+
+def crates_below(root, name):
+    """The crates that this one stands on and itself, lowest first, and the lines of crates.txt that name them."""
+    lines = {}
+    with open(os.path.join(root, "crates.txt"), encoding="utf-8") as file:
+        for line in file:
+            if line.strip() and not line.startswith("#"):
+                lines[line.partition(":")[0].split()[0]] = line
+    found = []
+
+    def add(crate):
+        for below in lines[crate].partition(":")[2].split():
+            if below in lines:
+                add(below)
+        if crate not in found:
+            found.append(crate)
+
+    add(name)
+    return found, "".join(lines[it] for it in found)
+
+
+def all_crates(root):
+    """The crates that have must-fail edits."""
+    folders = sorted(glob.glob(os.path.join(root, "crates", "*", "must-fail")))
+    return [os.path.basename(os.path.dirname(it)) for it in folders]
+
+
+class Room:
+    """A copy of a crate and of those below it, with their kept work, in which edits are tried."""
+
+    def __init__(self, folder):
+        self.folder = folder
+        self.changed = {}
+
+    @classmethod
+    def of(cls, root, name, folder):
+        crates, lines = crates_below(root, name)
+        os.makedirs(os.path.join(folder, "crates"))
+        with open(os.path.join(folder, "crates.txt"), "w", encoding="utf-8") as file:
+            file.write(lines)
+        if os.path.isfile(os.path.join(root, "HANDLES")):
+            shutil.copy(os.path.join(root, "HANDLES"), folder)
+        for crate in crates:
+            for part in (*PARTS, "out/rlib", "out/incremental"):
+                of = os.path.join(root, "crates", crate, part)
+                if os.path.isdir(of) and (crate == name or part != "out/incremental" or not is_built(root, crate)):
+                    shutil.copytree(of, os.path.join(folder, "crates", crate, part))
+        return cls(os.path.join(folder, "crates", name))
+
+    def copy(self, folder):
+        """Another room like this one."""
+        top = os.path.dirname(os.path.dirname(self.folder))
+        shutil.copytree(top, folder)
+        return Room(os.path.join(folder, os.path.relpath(self.folder, top)))
+
+    def write(self, texts):
+        """Changes these files alone: those of the check before are as they were again."""
+        for file, text in {**self.changed, **texts}.items():
+            path = os.path.join(self.folder, file)
+            if file not in self.changed:
+                self.changed[file] = edit_files.read(path)
+            with open(path, "w", encoding="utf-8") as it:
+                it.write(text)
+        for file in set(self.changed) - set(texts):
+            del self.changed[file]
+
+    def check(self, texts, paths=(), jobs=1):
+        """What `rt check` says of the crate with these texts, whole or only of these functions, with as many jobs as it
+        likes where none are given. A path that it doesn't know, as one that only tests have, is left out."""
+        self.write(texts)
+        paths = list(paths)
+        while True:
+            words = (["--jobs", str(jobs)] if jobs else []) + [word for path in paths for word in ("--only", path)]
+            ran = subprocess.run([RT, "check", *words], cwd=self.folder, stdin=subprocess.DEVNULL,
+                                 stdout=subprocess.PIPE, stderr=subprocess.STDOUT, errors="replace")
+            check = check_output.Check(ran.returncode, ran.stdout)
+            if not set(check.missing) & set(paths):
+                return check, ran.stdout
+            paths = [path for path in paths if path not in check.missing]
+
+
+def is_built(root, crate):
+    return os.path.isfile(os.path.join(root, "crates", crate, "out", "rlib", "stamp"))
+
+
+class Judge:
+    """The edits of one crate, and how they were judged."""
+
+    def __init__(self, root, name, options, say):
+        self.root, self.name, self.options, self.say = root, name, options, say
+        self.folder = os.path.join(root, "crates", name)
+        self.edits, self.bad, self.told = [], {}, {}
+        for path in sorted(glob.glob(os.path.join(self.folder, "must-fail", "*.edit"))):
+            name = os.path.basename(path)[:-len(".edit")]
+            if options.only and name not in options.only:
+                continue
+            try:
+                self.edits.append(edit_files.Edit(path, self.folder))
+            except edit_files.BadEdit as why:
+                self.bad[name] = str(why)
+        self.rooms, self.checks = queue.Queue(), 0
+
+    def run(self, temporary):
+        """Judges all edits. It answers how many are refused, and how many aren't."""
+        for name, why in self.bad.items():
+            self.say(f"{self.name}/{name}: NOT REFUSED: {why}")
+        if self.edits:
+            self.open_rooms(temporary)
+            batches = edit_files.batches_of(self.edits, edit_files.calls_of(self.folder), self.options.most)
+            self.progress(f"{len(self.edits)} edits in {len(batches)} batches, {self.jobs} at once")
+            with concurrent.futures.ThreadPoolExecutor(self.jobs) as pool:
+                again = [edit for left in pool.map(self.judge, batches) for edit in left]
+                for _ in pool.map(self.judge_alone, again):
+                    pass
+        refused = sum(why is None for _, why in self.told.values())
+        return refused, len(self.edits) + len(self.bad) - refused
+
+    def open_rooms(self, temporary):
+        """Checks the crate as it is, and makes a room for each check that runs at once."""
+        first = Room.of(self.root, self.name, os.path.join(temporary, self.name, "0"))
+        check, said = first.check({}, jobs=None)
+        if not check.is_proved():
+            sys.exit(f"tools/judge_edits.py: {self.name} is not proved without an edit:\n{said[-2000:]}")
+        for edit in self.edits:
+            edit.items = [edit_files.as_told(path, check.functions) for path in edit.items]
+            self.settle_constants(edit, check)
+        self.jobs = min(self.options.jobs or jobs_for_memory(), len(self.edits))
+        self.rooms.put(first)
+        for number in range(1, self.jobs):
+            self.rooms.put(first.copy(os.path.join(temporary, self.name, str(number))))
+
+    def settle_constants(self, edit, check):
+        """A constant that a check doesn't name is judged by the functions and lemmas that speak of it."""
+        for path in [it for it in edit.items if it.rsplit("::", 1)[-1].isupper() and it not in check.functions]:
+            name = path.rsplit("::", 1)[-1]
+            edit.items.remove(path)
+            edit.items += edit_files.users_of(self.folder, name)
+            edit.lemmas += edit_files.lemmas_on(self.folder, name)
+
+    def judge(self, batch):
+        """Tries a batch at once, and answers those of its edits that are to be tried alone. Where it doesn't compile,
+        the edits at whose lines the errors stand are left out, or else it is tried in halves."""
+        check = self.checked(batch)
+        if len(batch) > 1 and not check.compiles():
+            guilty = [it for it in batch if set(it.lines) & check.unread_places()]
+            rest = [it for it in batch if it not in guilty]
+            if guilty and rest:
+                return guilty + self.judge(rest)
+            half = len(batch) // 2
+            return self.judge(batch[:half]) + self.judge(batch[half:])
+        left = []
+        for edit in batch:
+            where, why = check_output.judged(edit, check)
+            if why and len(batch) > 1:
+                left.append(edit)
+            else:
+                self.note(edit, where, why)
+        return left
+
+    def judge_alone(self, edit):
+        self.note(edit, *check_output.judged(edit, self.checked([edit])))
+
+    def checked(self, batch):
+        room, start = self.rooms.get(), time.time()
+        try:
+            paths = sorted({path for it in batch for path in it.items}) if not batch[0].shifts else []
+            check, said = room.check(edit_files.applied(batch, self.folder), paths)
+        finally:
+            self.rooms.put(room)
+        self.checks += 1
+        if self.options.said:
+            with open(os.path.join(self.options.said, f"{self.name}.{self.checks}.txt"), "w", encoding="utf-8") as file:
+                file.write("".join(f"edit: {it.name} {' '.join(it.items)}\n" for it in batch) + said)
+        self.progress(f"{len(batch)} edits tried in {time.time() - start:.0f} s")
+        return check
+
+    def note(self, edit, where, why):
+        self.told[edit.name] = where, why
+        self.say(f"{self.name}/{edit.name}: " + (f"refused at {where}" if where else f"NOT REFUSED: {why}"))
+
+    def progress(self, text):
+        print(f"{self.name}: {text}", file=sys.stderr, flush=True)
+
+
+def jobs_for_memory():
+    """How many checks the processors and the free memory have room for."""
+    with open("/proc/meminfo", encoding="utf-8") as file:
+        free = next(int(line.split()[1]) * 1024 for line in file if line.startswith("MemAvailable"))
+    return max(1, min(len(os.sched_getaffinity(0)), int((free - SPARE) / MEMORY)))
+
+
+def options_of(words):
+    parser = argparse.ArgumentParser(usage=__doc__.split("usage: ")[1].split("\n")[0])
+    parser.add_argument("--jobs", type=int)
+    parser.add_argument("--crate", action="append")
+    parser.add_argument("--only", nargs="+", default=[])
+    parser.add_argument("--most", type=int, default=20)
+    parser.add_argument("--log")
+    parser.add_argument("--said")
+    parser.add_argument("--root", default=ROOT)
+    return parser.parse_args(words)
+
+
+def main(words):
+    options = options_of(words)
+    lock, start, sums = threading.Lock(), time.time(), [0, 0]
+    if options.said:
+        os.makedirs(options.said, exist_ok=True)
+
+    with contextlib.ExitStack() as stack:
+        log = stack.enter_context(open(options.log, "w", encoding="utf-8")) if options.log else sys.stdout
+
+        def say(line):
+            with lock:
+                print(line, file=log, flush=True)
+
+        for name in options.crate or all_crates(options.root):
+            with tempfile.TemporaryDirectory(prefix="judge-edits-") as temporary:
+                sums = [a + b for a, b in zip(sums, Judge(options.root, name, options, say).run(temporary))]
+    used = resource.getrusage(resource.RUSAGE_CHILDREN)
+    print(f"in {time.time() - start:.0f} s, and {used.ru_utime + used.ru_stime:.0f} s of processors", file=sys.stderr)
+    print(f"{sums[0]} edits refused, {sums[1]} not")
+    return 1 if sums[1] or not sums[0] else 0
+
+
+if __name__ == "__main__":
+    sys.exit(main(sys.argv[1:]))

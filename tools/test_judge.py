@@ -1,0 +1,230 @@
+#!/usr/bin/env python3
+"""Tests of judge_edits.py and of the two files that it stands on.
+
+usage: tools/test_judge.py
+
+The first tests read texts alone. The last one writes a crate of four functions into a temporary folder and has its
+edits judged, which takes about a dozen small checks.
+"""
+import os
+import sys
+import tempfile
+import unittest
+
+sys.dont_write_bytecode = True
+
+import check_output  # noqa: E402
+import edit_files  # noqa: E402
+import judge_edits  # noqa: E402
+
+SOURCE = """//! A crate for tests.
+#![tactic(auto)]
+
+ghost use Rattle.std.specs.Prelude.{◌≡◌, ◌+◌, ◌≤◌, ◌<◌};
+
+/// The greater of two.
+pub fn greater(a: u32, b: u32) -> u32
+    ensures low { a ≤ result }
+    ensures high { b ≤ result }
+{
+    if a > b { a } else { b }
+}
+
+/// One more than a digit.
+pub fn next(a: u8) -> u8
+    requires { a < 10 }
+    ensures { result ≡ a + 1 }
+{
+    let more = 1;
+    a + more
+}
+
+/// Two more than a digit. (`next` is called, and "}" closes nothing.)
+pub fn after(a: u8) -> u8
+    requires { a < 9 }
+    ensures { result ≡ a + 2 }
+{
+    next(a) + 1
+}
+
+/// A number that has room above it.
+pub fn near(a: u8) -> u8
+    requires { a < 200 }
+    ensures { a ≤ result }
+{
+    a + 50
+}
+"""
+
+ANSWERS = """use Rattle.std.proofs.Common.{arith}
+use Rattle.toy.proofs.after.Goals as goal
+
+pub returns : goal.returns
+returns c = let e = c.next.ensures in omega arith
+"""
+
+# Each edit: its old and new text, and whether it is refused.
+EDITS = {
+    "the_less": ("if a > b {", "if a < b {", True),
+    "no_room": ("a + 50", "a + 60", True),
+    "value_changed": ("next(a) + 1", "next(a) + 2", True),
+    "said_otherwise": ("    let more = 1;", "    let more = 2 - 1;", False),
+    "no_such_name": ("    a + more", "    a + most", False),
+    "name_moved": ("    next(a) + 1", "    let one = next(a); one + 1", False),
+    "not_once": ("ensures {", "requires {", False),
+    "contract_changed": ("    ensures { a ≤ result }", "    ensures { a < result }", False),
+}
+
+
+def write(path, text):
+    os.makedirs(os.path.dirname(path), exist_ok=True)
+    with open(path, "w", encoding="utf-8") as file:
+        file.write(text)
+
+
+def toy(root):
+    """Writes the crate and its edits."""
+    folder = os.path.join(root, "crates", "toy")
+    write(os.path.join(root, "crates.txt"), "toy:\n")
+    write(os.path.join(root, "HANDLES"), "Handles allowed: none.\n")
+    write(os.path.join(folder, "src", "lib.rt"), SOURCE)
+    write(os.path.join(folder, "proofs", "after", "Answers.antt"), ANSWERS)
+    for name, (old, new, _) in EDITS.items():
+        write(os.path.join(folder, "must-fail", f"{name}.edit"), f"file: src/lib.rt\nold: {old}\nnew: {new}\n")
+    return folder
+
+
+class Texts(unittest.TestCase):
+    """What is read of a crate and its edits."""
+
+    def setUp(self):
+        self.room = tempfile.TemporaryDirectory(prefix="test-judge-")
+        self.folder = toy(self.room.name)
+
+    def tearDown(self):
+        self.room.cleanup()
+
+    def edit(self, name):
+        return edit_files.Edit(os.path.join(self.folder, "must-fail", f"{name}.edit"), self.folder)
+
+    def test_items_and_their_clauses(self):
+        items = edit_files.items_of("src/lib.rt", SOURCE)
+        self.assertEqual([it.path() for it in items], ["greater", "next", "after", "near"])
+        clauses, body, _ = edit_files.parts_of("src/lib.rt", SOURCE)["greater"]
+        self.assertEqual(clauses, ["ensureslow{a≤result}", "ensureshigh{b≤result}"])
+        self.assertEqual(body, "{ifa>b{a}else{b}}")
+
+    def test_an_item_is_named_as_a_check_names_it(self):
+        text = "impl<'a> Tr<'a> for m::Ty<'a> {\n    fn f(&self) {}\n}\nimpl u8 {\n    const N: u32 = 8;\n}\n"
+        paths = [it.path() for it in edit_files.items_of("src/a/b.rt", text)]
+        self.assertEqual(paths, ["a::b::TyTr::f", "a::b::u8::N"])
+
+    def test_an_item_of_a_type_with_arguments(self):
+        told = ["a::VecU8Buffer::append", "a::VecU8Buffer::bytes", "a::Buffer::append"]
+        self.assertEqual(edit_files.as_told("a::VecBuffer::append", told), told[0])
+        self.assertEqual(edit_files.as_told("a::Other::append", told), "a::Other::append")
+
+    def test_an_edit_owns_what_it_changes(self):
+        self.assertEqual(self.edit("the_less").items, ["greater"])
+        self.assertEqual(self.edit("the_less").lines, {("src/lib.rt", 11): "    if a < b { a } else { b }"})
+
+    def test_edits_are_applied_to_the_text_as_it_was(self):
+        edits = [self.edit("no_room"), self.edit("the_less")]
+        text = SOURCE.replace("a + 50", "a + 60").replace("a > b", "a < b")
+        self.assertEqual(edit_files.applied(edits, self.folder), {"src/lib.rt": text})
+
+    def test_a_text_that_does_not_stand_once(self):
+        with self.assertRaisesRegex(edit_files.BadEdit, "3 times"):
+            self.edit("not_once")
+
+    def test_an_edit_of_a_contract(self):
+        with self.assertRaisesRegex(edit_files.BadEdit, "the contract of near"):
+            self.edit("contract_changed")
+
+    def test_a_caller_and_its_callee_are_tried_apart(self):
+        calls = edit_files.calls_of(self.folder)
+        self.assertEqual(calls["after"], {"next"})
+        edits = [self.edit(name) for name in ("the_less", "said_otherwise", "value_changed", "no_room")]
+        batches = [[it.name for it in batch] for batch in edit_files.batches_of(edits, calls, 20)]
+        together = [batch for batch in batches if "said_otherwise" in batch and "value_changed" in batch]
+        self.assertEqual(together, [])
+        self.assertEqual(sorted(map(len, batches)), [1, 3])
+
+    def test_two_edits_of_a_function_are_tried_apart(self):
+        edits = [self.edit("said_otherwise"), self.edit("no_such_name")]
+        self.assertEqual(len(edit_files.batches_of(edits, edit_files.calls_of(self.folder), 20)), 2)
+
+
+def open_goal(goal, what="what the function ensures holds when it returns"):
+    return f"note: src/m.rt:7:5: it is not proved that {what} (`{goal}`); `search` gave up at one of its limits\n"
+
+
+def no_proof(path, goal):
+    answers = f"./proofs/{path.replace('::', '/')}/Answers.antt"
+    return f"fn toy::{path}: no proof: expected answers in {answers}; `search` did not prove `{goal}`\n"
+
+
+def refused_answer(why):
+    return f"./proofs/m/f/Answers.antt:5:13: error: `returns`: {why}\n"
+
+
+class Outputs(unittest.TestCase):
+    """What is read of a check's output."""
+
+    def told(self, said, path="m::f"):
+        return check_output.Check(1, f"{said}\nonly=1 proved=0\n").functions[path]
+
+    def test_an_open_goal(self):
+        told = self.told(open_goal("returns") + no_proof("m::f", "returns"))
+        self.assertEqual(told.goals(), ["returns"])
+
+    def test_a_goal_belongs_to_the_next_function(self):
+        said = (open_goal("overflow_add", "the sum fits its type (at a range `a`, `b`)")
+                + no_proof("m::g", "overflow_add")
+                + "fn toy::m::f: no proof: it calls `toy::m::g`, which is not proved")
+        self.assertEqual(self.told(said).goals(), [])
+        self.assertIn("it calls `toy::m::g`", self.told(said).why_not())
+        self.assertEqual(self.told(said, "m::g").goals(), ["overflow_add"])
+
+    def test_an_answer_that_does_not_fit(self):
+        said = refused_answer("as printed, the two types differ only where one has `1`") + "fn toy::m::f: not proved"
+        self.assertEqual(self.told(said).goals(), ["returns (its answer doesn't fit)"])
+
+    def test_names_that_are_gone(self):
+        for why in (
+            "record `toy.proofs.m.f.Lts.Then7` has no field `format`",
+            "record `toy.proofs.m.f.Lts.After-g` (nearest: .g-2)",
+            "`goal.returns-2`: module `toy.proofs.m.f.Goals` has no `returns-2` that can be named from here",
+            "`word` is not in scope",
+            "as printed, the two types differ only where one has `toy.proofs.m.f.Lts.Then7`",
+        ):
+            said = refused_answer(why) + open_goal("returns-3") + "fn toy::m::f: not proved"
+            self.assertEqual(self.told(said).goals(), [], why)
+
+    def test_what_does_not_compile(self):
+        check = check_output.Check(1, "src/m.rt:7:5: error[unknown-name]: no `most` here\n")
+        self.assertFalse(check.compiles())
+        self.assertEqual(check.unread_places(), {("src/m.rt", 7)})
+
+
+class Whole(unittest.TestCase):
+    """The judge over a crate."""
+
+    def test_edits_of_a_crate(self):
+        with tempfile.TemporaryDirectory(prefix="test-judge-") as root:
+            toy(root)
+            log = os.path.join(root, "log")
+            self.assertEqual(judge_edits.main(["--root", root, "--jobs", "2", "--log", log]), 1)
+            said = dict(line.split(": ", 1) for line in edit_files.read(log).splitlines())
+            for name, (_, _, is_refused) in EDITS.items():
+                self.assertEqual(said[f"toy/{name}"].startswith("refused at "), is_refused, said[f"toy/{name}"])
+            self.assertIn("greater: returns", said["toy/the_less"])
+            self.assertIn("near: overflow_add", said["toy/no_room"])
+            self.assertIn("after: returns", said["toy/value_changed"])
+            self.assertIn("still proved", said["toy/said_otherwise"])
+            self.assertIn("doesn't compile", said["toy/no_such_name"])
+            self.assertIn("names what is gone", said["toy/name_moved"])
+
+
+if __name__ == "__main__":
+    unittest.main()
