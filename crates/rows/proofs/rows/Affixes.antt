@@ -215,17 +215,26 @@ prefix_and_separators_9 : complete (record standard { base_prefix = Some 120; di
 unfolding complete partial numeral head_of sign range_fault begin_of digit_at are_same separator_at flag_for run_passes belongs end_of digits_between matches is_affix literal_radix marked_radix prefix_radix suffix_at numeral_stop
 prefix_and_separators_9 = refl
 
-prefix_and_separators_10 : complete (record standard { required_mantissa_sign = true; digit_separator = Some 95; integer_internal_digit_separator = true; base_prefix = Some 100 }) u64 (codes "+0d12_3_4") ≡ Ok (pos 1234)
+-- nothing stands behind the prefix, with a separator byte too
+prefix_and_separators_10 : complete (record standard { base_prefix = Some 120; digit_separator = Some 95; integer_internal_digit_separator = true }) i32 (codes "0x") ≡ Err (Empty 2)
 unfolding complete partial numeral head_of sign range_fault begin_of digit_at are_same separator_at flag_for run_passes belongs end_of digits_between matches is_affix literal_radix marked_radix prefix_radix suffix_at numeral_stop
 prefix_and_separators_10 = refl
 
-prefix_and_separators_11 : complete (record standard { required_mantissa_sign = true; digit_separator = Some 95; integer_internal_digit_separator = true; base_prefix = Some 100 }) u64 (codes "+12_3_4") ≡ Ok (pos 1234)
+prefix_and_separators_11 : partial (record standard { base_prefix = Some 120; digit_separator = Some 95; integer_internal_digit_separator = true }) i32 (codes "0x") ≡ Err (Empty 2)
 unfolding complete partial numeral head_of sign range_fault begin_of digit_at are_same separator_at flag_for run_passes belongs end_of digits_between matches is_affix literal_radix marked_radix prefix_radix suffix_at numeral_stop
 prefix_and_separators_11 = refl
 
-prefix_and_separators_12 : complete (record standard { required_mantissa_sign = true; digit_separator = Some 95; integer_internal_digit_separator = true; base_prefix = Some 100 }) u64 (codes "-1") ≡ Err (MissingSign 0)
+prefix_and_separators_12 : complete (record standard { required_mantissa_sign = true; digit_separator = Some 95; integer_internal_digit_separator = true; base_prefix = Some 100 }) u64 (codes "+0d12_3_4") ≡ Ok (pos 1234)
 unfolding complete partial numeral head_of sign range_fault begin_of digit_at are_same separator_at flag_for run_passes belongs end_of digits_between matches is_affix literal_radix marked_radix prefix_radix suffix_at numeral_stop
 prefix_and_separators_12 = refl
+
+prefix_and_separators_13 : complete (record standard { required_mantissa_sign = true; digit_separator = Some 95; integer_internal_digit_separator = true; base_prefix = Some 100 }) u64 (codes "+12_3_4") ≡ Ok (pos 1234)
+unfolding complete partial numeral head_of sign range_fault begin_of digit_at are_same separator_at flag_for run_passes belongs end_of digits_between matches is_affix literal_radix marked_radix prefix_radix suffix_at numeral_stop
+prefix_and_separators_13 = refl
+
+prefix_and_separators_14 : complete (record standard { required_mantissa_sign = true; digit_separator = Some 95; integer_internal_digit_separator = true; base_prefix = Some 100 }) u64 (codes "-1") ≡ Err (MissingSign 0)
+unfolding complete partial numeral head_of sign range_fault begin_of digit_at are_same separator_at flag_for run_passes belongs end_of digits_between matches is_affix literal_radix marked_radix prefix_radix suffix_at numeral_stop
+prefix_and_separators_14 = refl
 
 -- ---- one suffix behind the digits, in either case
 

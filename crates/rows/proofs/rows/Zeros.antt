@@ -150,17 +150,25 @@ no_leading_zeros_and_affixes_2 : complete (record standard { base_prefix = Some 
 unfolding complete partial numeral head_of sign range_fault begin_of digit_at are_same separator_at flag_for run_passes belongs end_of digits_between matches is_affix literal_radix marked_radix prefix_radix suffix_at numeral_stop
 no_leading_zeros_and_affixes_2 = refl
 
-no_leading_zeros_and_affixes_3 : complete (record standard { base_suffix = Some 104; no_integer_leading_zeros = true }) i32 (codes "0h") ≡ Ok (pos 0)
+no_leading_zeros_and_affixes_3 : complete (record standard { base_prefix = Some 120; no_integer_leading_zeros = true }) i32 (codes "01") ≡ Err (InvalidLeadingZeros 0)
 unfolding complete partial numeral head_of sign range_fault begin_of digit_at are_same separator_at flag_for run_passes belongs end_of digits_between matches is_affix literal_radix marked_radix prefix_radix suffix_at numeral_stop
 no_leading_zeros_and_affixes_3 = refl
 
-no_leading_zeros_and_affixes_4 : partial (record standard { base_suffix = Some 104; no_integer_leading_zeros = true }) i32 (codes "0h") ≡ Ok (pos 0, 2)
+no_leading_zeros_and_affixes_4 : partial (record standard { base_prefix = Some 120; no_integer_leading_zeros = true }) i32 (codes "01") ≡ Err (InvalidLeadingZeros 0)
 unfolding complete partial numeral head_of sign range_fault begin_of digit_at are_same separator_at flag_for run_passes belongs end_of digits_between matches is_affix literal_radix marked_radix prefix_radix suffix_at numeral_stop
 no_leading_zeros_and_affixes_4 = refl
 
-no_leading_zeros_and_affixes_5 : complete (record standard { base_suffix = Some 104; no_integer_leading_zeros = true }) i32 (codes "00h") ≡ Err (InvalidLeadingZeros 0)
+no_leading_zeros_and_affixes_5 : complete (record standard { base_suffix = Some 104; no_integer_leading_zeros = true }) i32 (codes "0h") ≡ Ok (pos 0)
 unfolding complete partial numeral head_of sign range_fault begin_of digit_at are_same separator_at flag_for run_passes belongs end_of digits_between matches is_affix literal_radix marked_radix prefix_radix suffix_at numeral_stop
 no_leading_zeros_and_affixes_5 = refl
+
+no_leading_zeros_and_affixes_6 : partial (record standard { base_suffix = Some 104; no_integer_leading_zeros = true }) i32 (codes "0h") ≡ Ok (pos 0, 2)
+unfolding complete partial numeral head_of sign range_fault begin_of digit_at are_same separator_at flag_for run_passes belongs end_of digits_between matches is_affix literal_radix marked_radix prefix_radix suffix_at numeral_stop
+no_leading_zeros_and_affixes_6 = refl
+
+no_leading_zeros_and_affixes_7 : complete (record standard { base_suffix = Some 104; no_integer_leading_zeros = true }) i32 (codes "00h") ≡ Err (InvalidLeadingZeros 0)
+unfolding complete partial numeral head_of sign range_fault begin_of digit_at are_same separator_at flag_for run_passes belongs end_of digits_between matches is_affix literal_radix marked_radix prefix_radix suffix_at numeral_stop
+no_leading_zeros_and_affixes_7 = refl
 
 -- ---- the digits of the whole numeral count, and separators do not
 

@@ -122,6 +122,8 @@ fn prefix_and_separators(rt: HostRuntime) {
         ],
     );
     partial_with::<i64>(&rt, &format, &[(b"0x_1", Err(Error::Empty(2)))]);
+    complete_with::<i32>(&rt, &format, &[(b"0x", Err(Error::Empty(2)))]);
+    partial_with::<i32>(&rt, &format, &[(b"0x", Err(Error::Empty(2)))]);
     let format = NumberFormatBuilder::new()
         .base_prefix(Some(b'x'))
         .digit_separator(Some(b'_'))

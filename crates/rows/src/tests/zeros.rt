@@ -97,8 +97,10 @@ fn no_leading_zeros_and_affixes(rt: HostRuntime) {
         &[
             (b"-0x012", Ok(-12)),
             (b"012", Err(Error::InvalidLeadingZeros(0))),
+            (b"01", Err(Error::InvalidLeadingZeros(0))),
         ],
     );
+    partial_with::<i32>(&rt, &format, &[(b"01", Err(Error::InvalidLeadingZeros(0)))]);
     let format = NumberFormatBuilder::new()
         .base_suffix(Some(b'h'))
         .no_integer_leading_zeros(true)
