@@ -9,7 +9,7 @@ ghost use Rattle.lexical_parse_integer.specs.Grammar.{complete, partial};
 ghost use Rattle.lexical_parse_integer.specs.Laws.{Completes, IsNumeralOf, IsSettledAt, PadsZeros, SameFront, with_radix};
 ghost use Rattle.lexical_util.specs.Digit.{IsRadix};
 ghost use Rattle.lexical_util.specs.Format.{standard};
-ghost use Rattle.lexical_util.specs.Number.{IsNumber, integer_type};
+ghost use Rattle.lexical_util.specs.Number.{IsNumber};
 ghost use Rattle.lexical_util.specs.Validity.{fault};
 
 pub mod grammar;
@@ -37,8 +37,8 @@ pub fn complete_and_partial<T: Integer>(
     options: &Options,
 ) -> (Result<T>, Result<(T, usize)>)
     requires valid { IsNone (fault format.now) }
-    ensures whole { seen T.number result.0 ≡ complete format.now (integer_type T.BITS T.IS_SIGNED) bytes.now }
-    ensures front { seen (placed T.number) result.1 ≡ partial format.now (integer_type T.BITS T.IS_SIGNED) bytes.now }
+    ensures whole { seen T.number result.0 ≡ complete format.now T.TYPE bytes.now }
+    ensures front { seen (placed T.number) result.1 ≡ partial format.now T.TYPE bytes.now }
     ensures law { Completes (length bytes.now) (seen T.number result.0) (seen (placed T.number) result.1) }
 {
     let whole = algorithm_complete::<T>(bytes, format, options);
@@ -66,8 +66,8 @@ pub fn local<T: Integer>(
     options: &Options,
 ) -> (Result<(T, usize)>, Result<(T, usize)>)
     requires valid { IsNone (fault format.now) }
-    ensures first { seen (placed T.number) result.0 ≡ partial format.now (integer_type T.BITS T.IS_SIGNED) bytes.now }
-    ensures second { seen (placed T.number) result.1 ≡ partial format.now (integer_type T.BITS T.IS_SIGNED) other.now }
+    ensures first { seen (placed T.number) result.0 ≡ partial format.now T.TYPE bytes.now }
+    ensures second { seen (placed T.number) result.1 ≡ partial format.now T.TYPE other.now }
     ensures law { IsNone format.now.digit_separator → (place : ℕ)
         → IsSettledAt (length bytes.now) place (seen (placed T.number) result.0)
         → SameFront (place + 1) bytes.now other.now → result.1 ≡ result.0 }
@@ -88,8 +88,8 @@ pub fn local<T: Integer>(
 #[tactic(auto, using(crate::proofs::Numerals::answer_read))]
 pub fn numeral<T: Integer>(text: &[u8], radix: u32) -> Result<T>
     requires { IsRadix radix }
-    ensures answer { seen T.number result ≡ complete (with_radix radix) (integer_type T.BITS T.IS_SIGNED) text.now }
-    ensures law { (value : ℤ) → IsNumber (integer_type T.BITS T.IS_SIGNED) value
+    ensures answer { seen T.number result ≡ complete (with_radix radix) T.TYPE text.now }
+    ensures law { (value : ℤ) → IsNumber T.TYPE value
         → IsNumeralOf radix value text.now → seen T.number result ≡ Ok value }
 {
     let format = NumberFormatBuilder::from_radix(radix as u8);
@@ -104,8 +104,8 @@ pub fn numeral<T: Integer>(text: &[u8], radix: u32) -> Result<T>
 /// `-128` and `-00128` both give -128 as `i8`.
 #[tactic(auto, using(crate::proofs::Zeros::answers_padded))]
 pub fn zeros_in_front<T: Integer>(text: &[u8], padded: &[u8]) -> (Result<T>, Result<T>)
-    ensures first { seen T.number result.0 ≡ complete standard (integer_type T.BITS T.IS_SIGNED) text.now }
-    ensures second { seen T.number result.1 ≡ complete standard (integer_type T.BITS T.IS_SIGNED) padded.now }
+    ensures first { seen T.number result.0 ≡ complete standard T.TYPE text.now }
+    ensures second { seen T.number result.1 ≡ complete standard T.TYPE padded.now }
     ensures law { PadsZeros text.now padded.now → OnOk result.0 (result.1 ≡ result.0) }
 {
     let first = algorithm_complete::<T>(text, &format::STANDARD, &options::STANDARD);
@@ -124,8 +124,8 @@ pub fn small_and_large<T: Integer>(
     format: &NumberFormat,
 ) -> (Result<(T, usize)>, Result<(T, usize)>)
     requires valid { IsNone (fault format.now) }
-    ensures small { seen (placed T.number) result.0 ≡ partial format.now (integer_type T.BITS T.IS_SIGNED) bytes.now }
-    ensures large { seen (placed T.number) result.1 ≡ partial format.now (integer_type T.BITS T.IS_SIGNED) bytes.now }
+    ensures small { seen (placed T.number) result.0 ≡ partial format.now T.TYPE bytes.now }
+    ensures large { seen (placed T.number) result.1 ≡ partial format.now T.TYPE bytes.now }
     ensures law { result.1 ≡ result.0 }
 {
     let small = algorithm_partial::<T>(bytes, format, &SMALL_NUMBERS);

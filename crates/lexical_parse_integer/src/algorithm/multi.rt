@@ -1,6 +1,6 @@
 // Words of four and eight digits, taken at once.
 ghost use Rattle.std.specs.Prelude.{◌≡◌, ◌+◌, ◌*◌, ◌<◌, ◌≤◌, ◌⊎◌, ◌↔◌, ◌^◌, pos, false, IsNone, IsSome, IsTrue, IfSome, MatchOption, slice_range};
-ghost use Rattle.lexical_util.specs.Number.{HasRoom, integer_type};
+ghost use Rattle.lexical_util.specs.Number.{HasRoom};
 ghost use Rattle.lexical_parse_integer.specs.CursorView.{AreDigitsAhead, IsSound, numeral_of};
 ghost use Rattle.lexical_parse_integer.specs.Numeral.{digit_count};
 ghost use Rattle.lexical_parse_integer.specs.Reading.{GoesOn, Reads};
@@ -118,10 +118,10 @@ pub(crate) fn read_words<T: Integer>(c: &mut Cursor<'_>, value: T, negative: boo
     requires contiguous { IsNone c.old.format.digit_separator }
     requires open { c.old.closed ≡ false }
     requires sound { IsSound c.old }
-    requires minus { IsTrue negative → IsTrue T.IS_SIGNED }
-    requires room { HasRoom (integer_type T.BITS T.IS_SIGNED) c.old.radix most }
-    requires reads { Reads (integer_type T.BITS T.IS_SIGNED) negative (numeral_of c.old) c.old.digits (T.number value) }
-    ensures reads { Reads (integer_type T.BITS T.IS_SIGNED) negative (numeral_of c.old) c.new.digits (T.number result) }
+    requires minus { IsTrue negative → IsTrue T.TYPE.is_signed }
+    requires room { HasRoom T.TYPE c.old.radix most }
+    requires reads { Reads T.TYPE negative (numeral_of c.old) c.old.digits (T.number value) }
+    ensures reads { Reads T.TYPE negative (numeral_of c.old) c.new.digits (T.number result) }
     ensures goes_on { GoesOn c.old c.new }
     ensures turns { c.new.digits + word_length T.BITS * c.old.turns ≡ c.old.digits + word_length T.BITS * c.new.turns }
     ensures within { (c.new.digits ≡ c.old.digits) ⊎ (c.new.digits ≤ most) }

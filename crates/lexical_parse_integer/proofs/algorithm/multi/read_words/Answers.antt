@@ -3,7 +3,7 @@ use Rattle.std.proofs.Math.Nat.{one-le-pow}
 use Rattle.std.proofs.lemmas.Bool.{false≢true}
 use Rattle.std.proofs.lemmas.Int.{ints}
 use Rattle.lexical_util.specs.Format.{Format}
-use Rattle.lexical_util.specs.Number.{HasRoom, integer_type, mul_add}
+use Rattle.lexical_util.specs.Number.{HasRoom, mul_add}
 use Rattle.lexical_parse_integer.specs.CursorView.{CursorView}
 use Rattle.lexical_parse_integer.specs.Turns.{word_length}
 use Rattle.lexical_parse_integer.proofs.CursorLemmas.{none_from_IsNone}
@@ -18,12 +18,12 @@ mul_add-value-requires-clause-scale g c =
     let one = one-le-pow (word_length g.T.Integer.BITS) c.args.c.now.radix (omega arith) in
     rw c.loop-scale.invariant.scale (omega (arith, ints))
 
-the_word : (g : Over) (c : goal.In-Some g) → ReadsWord g.T.Integer.BITS g.T.Integer.IS_SIGNED c.args.negative c.args.c.now c.loop-scale.c (word_length g.T.Integer.BITS) (mul_add c.args.negative (g.T.Integer.number c.loop-scale.value) (g.T.Integer.number c.word_scale-scale.result) (g.T.Integer.number c.in-Some.word))
+the_word : (g : Over) (c : goal.In-Some g) → ReadsWord g.T.Integer.TYPE.bits g.T.Integer.TYPE.is_signed c.args.negative c.args.c.now c.loop-scale.c (word_length g.T.Integer.BITS) (mul_add c.args.negative (g.T.Integer.number c.loop-scale.value) (g.T.Integer.number c.word_scale-scale.result) (g.T.Integer.number c.in-Some.word))
 the_word g c =
     let i = c.loop-scale.invariant in
     let same : c.loop-scale.c.radix ≡ c.args.c.now.radix = i.goes_on.radix in
     let none : c.loop-scale.c.format.digit_separator ≡ None = ap (λ (f : Format). f.digit_separator) i.goes_on.format ∙ none_from_IsNone _ c.requires.contiguous in
-    let room = subst (λ (r : ℕ). HasRoom (integer_type g.T.Integer.BITS g.T.Integer.IS_SIGNED) r c.args.most) (sym same) c.requires.room in
+    let room = subst (λ (r : ℕ). HasRoom g.T.Integer.TYPE r c.args.most) (sym same) c.requires.room in
     let le : c.digits.result + word_length g.T.Integer.BITS ≤ c.args.most = c.has_room.ensures.0 c.loop-scale-test.true in
     let count = c.digits.ensures in
     let ten = c.requires.radix in
