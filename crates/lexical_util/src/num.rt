@@ -5,7 +5,7 @@ ghost use Rattle.std.specs.Option.{option_map};
 ghost use Rattle.std.specs.Ordering.{int_cmp};
 ghost use Rattle.lexical_util.specs.Digit.{IsRadix};
 ghost use Rattle.lexical_util.specs.Number.{HasRoom, HasSign, IsNumber, IsWidth};
-ghost use Rattle.lexical_util.specs.Number.{IntegerType, checked, mul_add, overflow_digits};
+ghost use Rattle.lexical_util.specs.Number.{IntegerType, number_if_fits, mul_add, overflow_digits};
 
 // The body of `mul_add` of each type.
 macro_rules! mul_add {
@@ -91,7 +91,7 @@ pub trait Integer: Copy + Eq + Ord {
         requires scale { pos 1 ≤ℤ number scale }
         requires add { pos 0 ≤ℤ number add }
         requires sign { HasSign negative (number self) }
-        ensures { option_map number result ≡ checked TYPE
+        ensures { option_map number result ≡ number_if_fits TYPE
             (mul_add negative (number self) (number scale) (number add)) };
 
     /// How many digits of the radix may be joined by `mul_add` with no test, since no numeral of so

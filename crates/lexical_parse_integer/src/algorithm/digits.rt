@@ -24,8 +24,12 @@ pub(crate) fn join_checked<T: Integer>(
     requires radix { IsRadix radix }
     requires digit { digit < radix }
     requires sign { HasSign negative (T.number value) }
-    ensures fits { IfOk result (λ next. (T.number next ≡ mul_add negative (T.number value) (pos radix) (pos digit)) × (is_number T.TYPE (T.number next) ≡ true)) }
-    ensures leaves { IfErr result (λ e. (e ≡ range_error negative place) × (is_number T.TYPE (mul_add negative (T.number value) (pos radix) (pos digit)) ≡ false)) }
+    ensures fits { IfOk result
+        (λ next. (T.number next ≡ mul_add negative (T.number value) (pos radix) (pos digit))
+        × (is_number T.TYPE (T.number next) ≡ true)) }
+    ensures leaves { IfErr result
+        (λ e. (e ≡ range_error negative place)
+        × (is_number T.TYPE (mul_add negative (T.number value) (pos radix) (pos digit)) ≡ false)) }
 {
     match value.checked_mul_add(T::from_u32(radix), T::from_u32(digit), negative) {
         Some(next) => Ok(next),
@@ -71,7 +75,8 @@ pub(crate) fn read_untested<T: Integer>(
 pub(crate) fn read_rest<T: Integer>(c: &mut Cursor<'_>, value: T, negative: bool) -> Result<T>
     requires open { c.old.closed ≡ false }
     requires reads { Reads T.TYPE negative (numeral_of c.old) c.old.digits (T.number value) }
-    ensures value { IfOk result (λ value. T.number value ≡ numeral_value negative (numeral_of c.old)) }
+    ensures value { IfOk result
+        (λ value. T.number value ≡ numeral_value negative (numeral_of c.old)) }
     ensures fits { OnOk result (range_fault T.TYPE negative (numeral_of c.old) ≡ None) }
     ensures leaves { IfErr result (λ e. range_fault T.TYPE negative (numeral_of c.old) ≡ Some e) }
     ensures goes_on { GoesOn c.old c.new }

@@ -1,9 +1,9 @@
 use Rattle.std.proofs.Common.{◌≡◌, ◌+◌, ap, arith}
 use Rattle.std.proofs.lemmas.Result.{err_from_is_err_and}
 use Rattle.lexical_parse_integer.specs.CursorView.{CursorView}
-use Rattle.lexical_parse_integer.proofs.Taking.{goes_on_digit}
-use Rattle.lexical_parse_integer.proofs.First.{taken_count_from}
-use Rattle.lexical_parse_integer.proofs.Turning.{IsAll, digit_below, reads_next, reads_leaves, reads_end}
+use Rattle.lexical_parse_integer.proofs.reading.NumeralSteps.{goes_on_digit}
+use Rattle.lexical_parse_integer.proofs.reading.FirstDigit.{taken_count_from}
+use Rattle.lexical_parse_integer.proofs.reading.DigitLoop.{IsAll, digit_below, reads_next, reads_leaves, reads_end}
 use Rattle.lexical_parse_integer.proofs.algorithm.digits.read_rest.Goals as goal
 use Rattle.lexical_parse_integer.proofs.algorithm.digits.read_rest.Given.{Over}
 

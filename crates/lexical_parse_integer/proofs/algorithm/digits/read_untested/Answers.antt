@@ -3,8 +3,8 @@ use Rattle.std.specs.Prelude.{ℤ, pos}
 use Rattle.lexical_parse_integer.specs.CursorView.{CursorView}
 use Rattle.lexical_util.specs.Number.{mul_add}
 use Rattle.lexical_util.proofs.Room.{small_is_number}
-use Rattle.lexical_parse_integer.proofs.Taking.{goes_on_digit}
-use Rattle.lexical_parse_integer.proofs.Untested.{JoinsDigit, digit_small, joins_digit}
+use Rattle.lexical_parse_integer.proofs.reading.NumeralSteps.{goes_on_digit}
+use Rattle.lexical_parse_integer.proofs.reading.UntestedDigits.{JoinsDigit, digit_small, joins_digit}
 use Rattle.lexical_parse_integer.proofs.algorithm.digits.read_untested.Goals as goal
 use Rattle.lexical_parse_integer.proofs.algorithm.digits.read_untested.Given.{Over}
 

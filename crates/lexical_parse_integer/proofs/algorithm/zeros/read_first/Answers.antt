@@ -4,9 +4,9 @@ use Rattle.std.proofs.lemmas.Bool.{false≢true}
 use Rattle.std.proofs.lemmas.Result.{IfOk-weaker, MatchResult-weaker}
 use Rattle.lexical_parse_integer.specs.CursorView.{CursorView, numeral_of}
 use Rattle.lexical_parse_integer.specs.Grammar.{range_fault}
-use Rattle.lexical_parse_integer.proofs.CursorLemmas.{none_from_IsNone}
-use Rattle.lexical_parse_integer.proofs.Turning.{digit_below}
-use Rattle.lexical_parse_integer.proofs.First.{no_zero_here, no_digit_no_zeros, other_first, leading_zeros, reads_zero, reads_first, leaves_first, taken_count, zero_taken, zero_ahead_told}
+use Rattle.lexical_parse_integer.proofs.reading.Soundness.{none_from_IsNone}
+use Rattle.lexical_parse_integer.proofs.reading.DigitLoop.{digit_below}
+use Rattle.lexical_parse_integer.proofs.reading.FirstDigit.{no_zero_here, no_digit_no_zeros, other_first, leading_zeros, reads_zero, reads_first, leaves_first, taken_count, zero_taken, zero_ahead_told}
 use Rattle.lexical_parse_integer.proofs.algorithm.zeros.read_first.Goals as goal
 use Rattle.lexical_parse_integer.proofs.algorithm.zeros.read_first.Goals.{else-is_contiguous-via-then-is_contiguous+else-ne, else-is_contiguous-via-else-is_contiguous}
 
