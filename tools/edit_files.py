@@ -84,8 +84,9 @@ class Item:
 
 
 def owner_named(header):
-    """What a check calls the block of this header: `impl Tr for Ty` is `TyTr`, and a type's own methods stand under
-    its name."""
+    """What a check calls the block of this header: `impl Tr for Ty` is `TyTr`, one for every type of a bound, as
+    `impl<T> Tr for T`, is `AnyTr`, and a type's own methods stand under its name."""
+    arguments = arguments_of(header)
     header = re.sub(r"\bwhere\b(?s:.*)", "", header)
     while "<" in header:
         less = re.sub(r"<[^<>]*>", "", header)
@@ -99,7 +100,16 @@ def owner_named(header):
     trait, _, of = rest.rpartition(" for ")
     last = lambda path: re.findall(r"\w+", path)[-1]
     of = last(of)
-    return of if not trait else of[0].upper() + of[1:] + last(trait)
+    if not trait:
+        return of
+    return ("Any" if of in arguments else of[0].upper() + of[1:]) + last(trait)
+
+
+def arguments_of(header):
+    """The type arguments that an impl declares."""
+    found = re.match(r"impl\s*<((?:[^<>]|<(?:[^<>]|<[^<>]*>)*>)*)>", header.replace("->", "  "))
+    bare = re.sub(r"<.*?>+", "", found[1]) if found else ""
+    return {it.partition(":")[0].strip() for it in bare.split(",")}
 
 
 def as_told(path, told):

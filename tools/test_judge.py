@@ -140,6 +140,12 @@ class Texts(unittest.TestCase):
         text = "impl<'a> Tr<'a> for m::Ty<'a> {\n    fn f(&self) {}\n}\nimpl u8 {\n    const N: u32 = 8;\n}\n"
         paths = [it.path() for it in edit_files.items_of("src/a/b.rt", text)]
         self.assertEqual(paths, ["a::b::TyTr::f", "a::b::u8::N"])
+        text = "impl<T: Clone, U: From<T>> Tr<T> for U {\n    fn f(&self) {}\n}\n"
+        self.assertEqual([it.path() for it in edit_files.items_of("src/a.rt", text)], ["a::AnyTr::f"])
+        text = "impl From<Ty> for Ty {\n    fn f(&self) {}\n}\n"
+        self.assertEqual([it.path() for it in edit_files.items_of("src/a.rt", text)], ["a::TyFrom::f"])
+        text = "impl<T: Clone> Tr for Vec<T> {\n    fn f(&self) {}\n}\n"
+        self.assertEqual([it.path() for it in edit_files.items_of("src/a.rt", text)], ["a::VecTr::f"])
 
     def test_an_item_of_a_type_with_arguments(self):
         told = ["a::VecU8Buffer::append", "a::VecU8Buffer::bytes", "a::Buffer::append"]
