@@ -114,9 +114,11 @@ def tests_run(said):
 
 
 def counts_of(said):
-    """How many functions and tests `rt ci` says that it has proved."""
-    numbers = [sum(map(int, re.findall(rf"(?m)^logic=proved.* {word}=(\d+)", said))) for word in ("functions", "tests")]
-    return f"{numbers[0]} functions, {numbers[1]} of them tests"
+    """How many functions and tests `rt ci` says that it has proved. Where it proves tests, it counts the functions
+    once more."""
+    proved = re.findall(r"(?m)^logic=proved (?:tests=(\d+) )?functions=(\d+)", said)
+    functions = sum(int(number) for tests, number in proved if not tests)
+    return f"{functions} functions and {sum(int(tests or 0) for tests, _ in proved)} tests"
 
 
 class Gate:

@@ -21,7 +21,7 @@ import gate  # noqa: E402
 
 STAND_IN = """#!/bin/sh
 case $1 in
-ci) echo 'logic=proved functions=3'; echo "rt: low proved"; cat said ;;
+ci) printf 'logic=proved functions=3 sum=0\\nlogic=proved tests=2 functions=5\\n'; echo "rt: low proved"; cat said ;;
 lib) exit 0 ;;
 esac
 """
@@ -97,7 +97,7 @@ class GateTests(unittest.TestCase):
         status, said = self.said()
         self.assertEqual((status, said.splitlines()[-1]), (0, "8 parts passed, 0 failed"), said)
         self.assertIn("3 of 3 edits refused", said)
-        self.assertIn("2 passed, 0 failed: 3 functions, 0 of them tests", said)
+        self.assertIn("2 passed, 0 failed: 3 functions and 2 tests", said)
 
     def test_one_by_one_wants_the_edits_of_the_toolchain(self):
         self.assertIn("its last line is not '5 passed, 0 failed'", self.said("--one-by-one")[1])
