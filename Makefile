@@ -7,7 +7,7 @@
 # make install puts it into $(PREFIX)/bin
 # make rows    writes the theorems and tests of the worked rows anew from tools/rows.txt
 # make judge   tries the must-fail edits alone, many in one check, and holds each to the function that it changes
-# make test-judge  tests that, which make test does too
+# make test-judge  tests the judge and the gate, which make test does too
 # make must-not-compile  checks what the compiler or the prover has to refuse of programs that use the libraries, which
 #              make test does too
 # make fuzz    runs the program beside a slow reading of the grammar: make fuzz SEED=1 LINES=1000000
@@ -53,6 +53,7 @@ judge:
 	@RT=$(RT) tools/judge_edits.py $(JUDGE)
 
 test-judge:
+	@tools/test_gate.py
 	@RT=$(RT) tools/test_judge.py
 
 must-not-compile:

@@ -3,14 +3,15 @@
 
 usage: tools/test_judge.py
 
-The first tests read texts alone. The last ones write a crate of four functions into a temporary folder and have its
-edits judged, which takes about a dozen small checks.
+The first tests read texts alone, or have a stand-in for the prover. The last ones write a crate of four functions into
+a temporary folder and have its edits judged, which takes about a dozen small checks.
 """
 import os
 import sys
 import tempfile
 import types
 import unittest
+from unittest import mock
 
 sys.dont_write_bytecode = True
 
@@ -296,8 +297,70 @@ class Judged(unittest.TestCase):
         self.assertTrue(self.is_refused(said, theorems=[own]))
         self.assertFalse(self.is_refused(said, theorems=[other]))
         self.assertFalse(self.is_refused(said, theorems=[own, other]))
-        self.assertFalse(self.is_refused("./proofs/Facts.antt:4:1: error: `two`: `too` is not in scope", theorems=[own]))
+        unread = "./proofs/Facts.antt:4:1: error: `two`: `too` is not in scope"
+        self.assertFalse(self.is_refused(unread, theorems=[own]))
         self.assertFalse(self.is_refused("", theorems=[own]))
+
+
+# What a stand-in for the prover refuses: the function, and the text that is wrong in it.
+WRONG = {"greater": "if a < b {", "near": "a + 60", "next": "a + most", "after": "next(a) + 2"}
+
+
+def stand_in(room, texts, paths=(), jobs=1):
+    """Answers as a check of the crate, but that it refuses `near` only where nothing else is wrong."""
+    room.write(texts)
+    text = edit_files.read(os.path.join(room.folder, "src", "lib.rt"))
+    wrong = [path for path, mistake in WRONG.items() if mistake in text]
+    said = "src/lib.rt:21:9: error[unknown-name]: no `most` here\n" * ("next" in wrong)
+    for path in WRONG:
+        if path not in wrong:
+            said += f"fn toy::{path}: proved\n"
+        elif path == "near" and len(wrong) > 1:
+            said += "fn toy::near: no proof: `search` has not tried the goals\n"
+        else:
+            said += open_goal("returns") + no_proof(path, "returns")
+    said += "logic=not-proved\n" if wrong else "logic=proved\n"
+    return check_output.Check(1 if wrong else 0, said), said
+
+
+class Batches(unittest.TestCase):
+    """How the judge goes through a crate's edits, with a stand-in for the prover."""
+
+    def judged(self, *names):
+        """The judge's status, and what it said of each edit."""
+        with tempfile.TemporaryDirectory(prefix="test-judge-") as root:
+            toy(root)
+            log = os.path.join(root, "log")
+            with mock.patch.object(judge_edits.Room, "check", stand_in):
+                status = judge_edits.main(["--root", root, "--jobs", "2", "--log", log, "--only", *names])
+            return status, dict(line.split(": ", 1) for line in edit_files.read(log).splitlines())
+
+    def test_each_edit_is_told_of(self):
+        status, said = self.judged("the_less", "value_changed")
+        self.assertEqual((status, sorted(said)), (0, ["toy/the_less", "toy/value_changed"]))
+
+    def test_what_a_batch_does_not_refuse_is_tried_alone(self):
+        status, said = self.judged("the_less", "no_room")
+        self.assertEqual((status, said["toy/no_room"]), (0, "refused at near: returns"))
+
+    def test_one_edit_that_is_not_refused(self):
+        status, said = self.judged("the_less", "no_room", "said_otherwise")
+        self.assertEqual((status, len(said)), (1, 3))
+        self.assertIn("NOT REFUSED", said["toy/said_otherwise"])
+
+    def test_an_edit_that_does_not_compile_among_others(self):
+        status, said = self.judged("the_less", "no_room", "no_such_name")
+        self.assertEqual((status, len(said)), (1, 3))
+        self.assertIn("doesn't compile", said["toy/no_such_name"])
+        self.assertEqual([name for name, it in said.items() if "NOT" in it], ["toy/no_such_name"])
+
+    def test_an_edit_that_cannot_be_applied(self):
+        status, said = self.judged("the_less", "not_once")
+        self.assertEqual((status, len(said)), (1, 2))
+        self.assertIn("3 times", said["toy/not_once"])
+
+    def test_no_edit_at_all(self):
+        self.assertEqual(self.judged("no_such_edit"), (1, {}))
 
 
 class Whole(unittest.TestCase):
