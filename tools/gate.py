@@ -3,8 +3,8 @@
 
 usage: tools/gate.py [--one-by-one]
 
-It works in a folder of its own, on copies of the files that git has or would take. So nothing that an earlier run kept
-is used, and nothing here changes. Its parts:
+It works in a folder of its own, on copies of the repository without the folders that runs make. So nothing that an
+earlier run kept is used, and nothing here changes. Its parts:
 
 rows      the worked rows stand everywhere as tools/rows.txt has them
 lanes     the word readers are lanes
@@ -38,6 +38,8 @@ import must_not_compile  # noqa: E402
 
 ROOT = os.path.dirname(os.path.dirname(os.path.abspath(__file__)))
 RT = os.environ.get("RT", "rt")
+# The folders that no clone has, as .gitignore names them.
+MADE = (".git", "out", "target", "__pycache__")
 # What `rt ci` takes beside the judge's checks, and the most that all take.
 MEMORY_OF_PROOFS, MOST_MEMORY = 5e9, 12e9
 
@@ -78,14 +80,8 @@ def crates_of(root):
 
 
 def copy_of_files(to, leave_out=()):
-    """Copies the files that git has or would take, but for those in folders of these names."""
-    ran = subprocess.run(["git", "ls-files", "-z", "--cached", "--others", "--exclude-standard"], cwd=ROOT, check=True,
-                         stdout=subprocess.PIPE)
-    for file in sorted(set(os.fsdecode(ran.stdout).split("\0")) - {""}):
-        of = os.path.join(ROOT, file)
-        if os.path.lexists(of) and not set(file.split("/")) & set(leave_out):
-            os.makedirs(os.path.dirname(os.path.join(to, file)), exist_ok=True)
-            shutil.copy(of, os.path.join(to, file), follow_symlinks=False)
+    """Copies the repository, but for what earlier runs have made and for folders of these names."""
+    shutil.copytree(ROOT, to, symlinks=True, ignore=lambda _, names: {*MADE, *leave_out} & set(names))
 
 
 def edits_in(root, crates):

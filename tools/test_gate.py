@@ -9,7 +9,6 @@ of two crates that is written into a temporary folder.
 import contextlib
 import io
 import os
-import subprocess
 import sys
 import tempfile
 import unittest
@@ -33,6 +32,7 @@ FILES = {
     "crates/low/must-fail/README.md": "",
     "crates/high/must-fail/three.edit": "",
     "crates/high/src/main.rt": "",
+    "crates/low/out/rlib/stamp": "what an earlier run has kept",
     "said": "2 passed, 0 failed\n",
     "tools/rows.py": "print('5 rows')\n",
     "tools/lanes.sh": "#!/bin/sh\n",
@@ -66,7 +66,6 @@ class GateTests(unittest.TestCase):
         self.write("rt", STAND_IN)
         os.chmod(os.path.join(self.root, "rt"), 0o755)
         os.chmod(os.path.join(self.root, "tools/lanes.sh"), 0o755)
-        subprocess.run(["git", "init", "-q", self.root], check=True)
         for it in (mock.patch.multiple(gate, ROOT=self.root, RT=os.path.join(self.root, "rt")),
                    mock.patch.object(gate.judge_edits, "Judge", Judge),
                    mock.patch.object(gate.must_not_compile, "BELOW", ("low",))):
@@ -106,7 +105,13 @@ class GateTests(unittest.TestCase):
         self.assertEqual((status, said.splitlines()[-1]), (0, "6 parts passed, 0 failed"), said)
 
     def test_the_proofs_run_without_edits_and_the_judge_with_them(self):
-        self.write("rt", STAND_IN.replace("ci)", "ci) test ! -e crates/low/must-fail || exit 1;"))
+        self.write("rt", STAND_IN.replace("ci)", "ci) test ! -e crates/low/must-fail || exit 1;")
+                   .replace("lib)", "lib) test -e must-fail || exit 1;"))
+        self.assertEqual(self.said()[0], 0)
+
+    def test_nothing_is_kept_of_an_earlier_run(self):
+        self.write("rt", STAND_IN.replace("ci)", "ci) test ! -e crates/low/out || exit 1;")
+                   .replace("lib)", "lib) test ! -e out || exit 1;"))
         self.assertEqual(self.said()[0], 0)
 
     def test_an_edit_that_is_not_refused(self):
