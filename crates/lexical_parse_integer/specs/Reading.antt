@@ -1,5 +1,5 @@
 -- How far a parser has come in a text.
-use Rattle.std.specs.Prelude.{◌≡◌, ◌⊎◌, ℕ, ◌+◌, ◌*◌, ◌≤◌, ◌<◌, Bool, true, false, List, ℤ, None, Ok}
+use Rattle.std.specs.Prelude.{◌≡◌, ◌⊎◌, ℕ, ◌+◌, ◌*◌, ◌≤◌, ◌<◌, Bool, true, false, List, ℤ, None, IsNone, Ok}
 use Rattle.lexical_util.specs.Format.{Format}
 use Rattle.lexical_util.specs.Number.{IntegerType, is_number}
 use Rattle.lexical_parse_integer.specs.CursorView.{CursorView, IsSound, numeral_of}
@@ -41,6 +41,27 @@ pub record ReadsOn (type : IntegerType) (is_minus : Bool) (old new : CursorView)
     : Type 0 where
   pub reads : Reads type is_minus (numeral_of old) new.digits value
   pub goes_on : GoesOn old new
+
+-- no digit of a numeral was read yet
+pub record IsAtNumeral (cursor : CursorView) : Type 0 where
+  pub still_open : cursor.closed ≡ false
+  pub sound : IsSound cursor
+  pub none : cursor.digits ≡ 0
+
+-- the first digit was looked for, and taken where it has to be: one turn a digit, and without a separator one at most
+pub record LooksAhead (old new : CursorView) : Type 0 where
+  pub goes_on : GoesOn old new
+  pub turns : new.turns ≡ old.turns + new.digits
+  pub count : new.digits ≤ digit_count (numeral_of old)
+  pub one : IsNone old.format.digit_separator → new.digits ≤ 1
+
+-- there is no zero too many in front, and a value is that of what was read: without a separator that is nothing, or all
+pub record ReadsFirst (type : IntegerType) (is_minus is_prefixed : Bool) (old new : CursorView)
+    (value : ℤ) : Type 0 where
+  pub reads : Reads type is_minus (numeral_of old) new.digits value
+  pub no_zeros : zero_fault old.format is_prefixed (numeral_of old) ≡ None
+  pub lone : IsNone old.format.digit_separator
+      → (new.digits ≡ 0) ⊎ (digit_count (numeral_of old) ≤ 1)
 
 -- words of so many digits are read while there is room for them: one turn a word, and then no word more has room, or
 -- none is left
