@@ -91,8 +91,12 @@ pub record IsOver (text : List ℕ) (under : Format) (cursor : CursorView) : Typ
 pub record IsAtHead (under : Format) (type : IntegerType) (text : List ℕ)
     (is_minus is_prefixed : Bool) (cursor : CursorView) : Type 0 where
   pub head_is : head_of under type text
-      ≡ Ok (record { is_minus = is_minus; is_prefixed = is_prefixed; start = cursor.start;
-      radix = cursor.radix })
+      ≡ Ok (record {
+        is_minus = is_minus;
+        is_prefixed = is_prefixed;
+        start = cursor.start;
+        radix = cursor.radix;
+      })
   pub bytes : cursor.bytes ≡ text
   pub format : cursor.format ≡ under
   pub at_start : cursor.position ≡ cursor.start

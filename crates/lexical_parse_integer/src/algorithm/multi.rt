@@ -20,8 +20,11 @@ pub fn try_parse_4digits<T: Integer>(c: &mut Cursor<'_>) -> Option<T>
     requires is_open { c.old.closed ≡ false }
     ensures moved { MatchOption result (c.new ≡ c.old)
         (λ _. c.new
-        ≡ record c.old { position = c.old.position + 4; digits = c.old.digits + 4;
-        turns = c.old.turns + 1 }) }
+        ≡ record c.old {
+          position = c.old.position + 4;
+          digits = c.old.digits + 4;
+          turns = c.old.turns + 1;
+        }) }
     ensures digits { IsSome result ↔ AreDigitsAhead c.old 4 }
     ensures value { IfSome result
         (λ word. T.number word
@@ -52,8 +55,11 @@ pub fn try_parse_8digits<T: Integer>(c: &mut Cursor<'_>) -> Option<T>
     requires is_open { c.old.closed ≡ false }
     ensures moved { MatchOption result (c.new ≡ c.old)
         (λ _. c.new
-        ≡ record c.old { position = c.old.position + 8; digits = c.old.digits + 8;
-        turns = c.old.turns + 1 }) }
+        ≡ record c.old {
+          position = c.old.position + 8;
+          digits = c.old.digits + 8;
+          turns = c.old.turns + 1;
+        }) }
     ensures digits { IsSome result ↔ AreDigitsAhead c.old 8 }
     ensures value { IfSome result
         (λ word. T.number word
@@ -84,8 +90,11 @@ fn try_parse_word<T: Integer>(c: &mut Cursor<'_>) -> Option<T>
     requires is_open { c.old.closed ≡ false }
     ensures moved { MatchOption result (c.new ≡ c.old)
         (λ _. c.new
-        ≡ record c.old { position = c.old.position + digits_per_word T.BITS;
-        digits = c.old.digits + digits_per_word T.BITS; turns = c.old.turns + 1 }) }
+        ≡ record c.old {
+          position = c.old.position + digits_per_word T.BITS;
+          digits = c.old.digits + digits_per_word T.BITS;
+          turns = c.old.turns + 1;
+        }) }
     ensures digits { IsSome result ↔ AreDigitsAhead c.old (digits_per_word T.BITS) }
     ensures sound { IsSound c.new }
     ensures value { IfSome result

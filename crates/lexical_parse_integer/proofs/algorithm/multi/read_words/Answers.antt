@@ -70,23 +70,27 @@ returns-in-None g c =
     let digits : c.try_parse_word.new.c.digits ≡ c.loop-scale.c.digits = ap (λ (v : CursorView). v.digits) same in
     let turns : c.try_parse_word.new.c.turns ≡ c.loop-scale.c.turns = ap (λ (v : CursorView). v.turns) same in
     let few = few_left_from c.args.c.now c.loop-scale.c (digits_per_word g.T.Integer.BITS) i.goes_on none (λ all. false≢true (c.in-None.ensures.digits.1 all)) in
-    record { words = record {
-      reads = rw digits i.reads;
-      goes_on = subst (GoesOn c.args.c.now) (sym same) i.goes_on;
-      turns = rw (digits, turns) i.turns;
-      within = rw digits i.within;
-      ended = inr (omega arith);
-    } }
+    record {
+      words = record {
+        reads = rw digits i.reads;
+        goes_on = subst (GoesOn c.args.c.now) (sym same) i.goes_on;
+        turns = rw (digits, turns) i.turns;
+        within = rw digits i.within;
+        ended = inr (omega arith);
+      };
+    }
 
 pub returns : goal.returns
 returns g c =
     let i = c.loop-scale.invariant in
     let count = c.digits.ensures in
     let full : c.args.most < c.digits.result + digits_per_word g.T.Integer.BITS = no_room _ _ _ _ c.has_room.ensures c.loop-scale-test.false in
-    record { words = record {
-      reads = i.reads;
-      goes_on = i.goes_on;
-      turns = i.turns;
-      within = i.within;
-      ended = inl (omega arith);
-    } }
+    record {
+      words = record {
+        reads = i.reads;
+        goes_on = i.goes_on;
+        turns = i.turns;
+        within = i.within;
+        ended = inl (omega arith);
+      };
+    }
