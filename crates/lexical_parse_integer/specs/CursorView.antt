@@ -87,8 +87,11 @@ pub record TakesDigit (old new : CursorView) (value : ℕ) : Type 0 where
   pub least : HasNoDigit old.radix old.bytes old.position place
   pub before_end : place < numeral_end old
   pub value_is : digit_at old.radix old.bytes place ≡ Some value
-  pub after : new ≡ record old { position = place + 1; digits = old.digits + 1;
-      turns = old.turns + 1 }
+  pub after : new ≡ record old {
+    position = place + 1;
+    digits = old.digits + 1;
+    turns = old.turns + 1;
+  }
 
 -- no digit of the numeral is left, and the cursor stands at its end
 pub record ReachesEnd (old new : CursorView) : Type 0 where

@@ -59,19 +59,19 @@ is_empty error = false
 
 -- What the whole of a text of this size stands for, by what its front does.
 pub record Completes (size : ℕ) (whole : Result ℤ Error) (front : Result (ℤ × ℕ) Error) : Type 0
-    where
-  -- the whole is read exactly where the front is all of it
-  pub ok : (value : ℤ) → (whole ≡ Ok value) ↔ (front ≡ Ok (value, size))
-  -- a byte behind the front is an invalid digit
-  pub left : (value : ℤ) (place : ℕ) → front ≡ Ok (value, place) → place < size
-      → whole ≡ Err (InvalidDigit place)
-  -- a fault is the same, unless it is that digits are missing
-  pub fault : (error : Error) → front ≡ Err error → is_empty error ≡ false → whole ≡ Err error
-  -- digits are missing at the end
-  pub empty : front ≡ Err (Empty size) → whole ≡ Err (Empty size)
-  -- a byte stands where they are missing
-  pub empty_left : (place : ℕ) → front ≡ Err (Empty place) → place < size
-      → whole ≡ Err (InvalidDigit place)
+  where
+    -- the whole is read exactly where the front is all of it
+    pub ok : (value : ℤ) → (whole ≡ Ok value) ↔ (front ≡ Ok (value, size))
+    -- a byte behind the front is an invalid digit
+    pub left : (value : ℤ) (place : ℕ) → front ≡ Ok (value, place) → place < size
+        → whole ≡ Err (InvalidDigit place)
+    -- a fault is the same, unless it is that digits are missing
+    pub fault : (error : Error) → front ≡ Err error → is_empty error ≡ false → whole ≡ Err error
+    -- digits are missing at the end
+    pub empty : front ≡ Err (Empty size) → whole ≡ Err (Empty size)
+    -- a byte stands where they are missing
+    pub empty_left : (place : ℕ) → front ≡ Err (Empty place) → place < size
+        → whole ≡ Err (InvalidDigit place)
 
 -- ---- range faults
 

@@ -1,8 +1,8 @@
 -- How far a parser has come in a text.
-use Rattle.std.specs.Prelude.{◌≡◌, ℕ, ◌+◌, ◌≤◌, ◌<◌, Bool, true, false, List, ℤ, None, Ok}
+use Rattle.std.specs.Prelude.{◌≡◌, ◌⊎◌, ℕ, ◌+◌, ◌*◌, ◌≤◌, ◌<◌, Bool, true, false, List, ℤ, None, IsNone, Ok}
 use Rattle.lexical_util.specs.Format.{Format}
 use Rattle.lexical_util.specs.Number.{IntegerType, is_number}
-use Rattle.lexical_parse_integer.specs.CursorView.{CursorView, IsSound}
+use Rattle.lexical_parse_integer.specs.CursorView.{CursorView, IsSound, numeral_of}
 use Rattle.lexical_parse_integer.specs.Grammar.{prefix_fault, zero_fault, range_fault}
 use Rattle.lexical_parse_integer.specs.Head.{Head, head_of}
 use Rattle.lexical_parse_integer.specs.Numeral.{Numeral, numeral_in, digit_count, front_value, numeral_value}
@@ -28,6 +28,59 @@ pub record GoesOn (old new : CursorView) : Type 0 where
   pub closed : new.closed ≡ false
   pub sound : IsSound new
 
+-- a value is that of the digits read so far, and more of them may follow
+pub record IsReading (type : IntegerType) (is_minus : Bool) (cursor : CursorView) (value : ℤ)
+    : Type 0 where
+  pub still_open : cursor.closed ≡ false
+  pub sound : IsSound cursor
+  pub minus : is_minus ≡ true → type.is_signed ≡ true
+  pub reads : Reads type is_minus (numeral_of cursor) cursor.digits value
+
+-- a cursor has gone on, and a value is that of the digits read so far
+pub record ReadsOn (type : IntegerType) (is_minus : Bool) (old new : CursorView) (value : ℤ)
+    : Type 0 where
+  pub reads : Reads type is_minus (numeral_of old) new.digits value
+  pub goes_on : GoesOn old new
+
+-- no digit of a numeral was read yet
+pub record IsAtNumeral (cursor : CursorView) : Type 0 where
+  pub still_open : cursor.closed ≡ false
+  pub sound : IsSound cursor
+  pub none : cursor.digits ≡ 0
+
+-- the first digit was looked for, and taken where it has to be: one turn a digit, and without a separator one at most
+pub record LooksAhead (old new : CursorView) : Type 0 where
+  pub goes_on : GoesOn old new
+  pub turns : new.turns ≡ old.turns + new.digits
+  pub count : new.digits ≤ digit_count (numeral_of old)
+  pub one : IsNone old.format.digit_separator → new.digits ≤ 1
+
+-- there is no zero too many in front, and a value is that of what was read: without a separator that is nothing, or all
+pub record ReadsFirst (type : IntegerType) (is_minus is_prefixed : Bool) (old new : CursorView)
+    (value : ℤ) : Type 0 where
+  pub reads : Reads type is_minus (numeral_of old) new.digits value
+  pub no_zeros : zero_fault old.format is_prefixed (numeral_of old) ≡ None
+  pub lone : IsNone old.format.digit_separator
+      → (new.digits ≡ 0) ⊎ (digit_count (numeral_of old) ≤ 1)
+
+-- words of so many digits are read while there is room for them: one turn a word, and then no word more has room, or
+-- none is left
+pub record ReadsWords (type : IntegerType) (is_minus : Bool) (word room : ℕ)
+    (old new : CursorView) (value : ℤ) : Type 0 where
+  pub reads : Reads type is_minus (numeral_of old) new.digits value
+  pub goes_on : GoesOn old new
+  pub turns : new.digits + word * old.turns ≡ old.digits + word * new.turns
+  pub within : (new.digits ≡ old.digits) ⊎ (new.digits ≤ room)
+  pub ended : (room < new.digits + word) ⊎ (digit_count (numeral_of old) < new.digits + word)
+
+-- all digits are read, their value is a number of the type, and a cursor stands at the numeral's end
+pub record ReadsAll (type : IntegerType) (is_minus : Bool) (old new : CursorView) (value : ℤ)
+    : Type 0 where
+  pub value_is : value ≡ numeral_value is_minus (numeral_of old)
+  pub fits : range_fault type is_minus (numeral_of old) ≡ None
+  pub at_end : new.position ≡ (numeral_of old).ends
+  pub all : new.digits ≡ digit_count (numeral_of old)
+
 -- a cursor is over this text and under this format, and what is true of each cursor is true of it
 pub record IsOver (text : List ℕ) (under : Format) (cursor : CursorView) : Type 0 where
   pub bytes : cursor.bytes ≡ text
@@ -38,8 +91,12 @@ pub record IsOver (text : List ℕ) (under : Format) (cursor : CursorView) : Typ
 pub record IsAtHead (under : Format) (type : IntegerType) (text : List ℕ)
     (is_minus is_prefixed : Bool) (cursor : CursorView) : Type 0 where
   pub head_is : head_of under type text
-      ≡ Ok (record { is_minus = is_minus; is_prefixed = is_prefixed; start = cursor.start;
-      radix = cursor.radix })
+      ≡ Ok (record {
+        is_minus = is_minus;
+        is_prefixed = is_prefixed;
+        start = cursor.start;
+        radix = cursor.radix;
+      })
   pub bytes : cursor.bytes ≡ text
   pub format : cursor.format ≡ under
   pub at_start : cursor.position ≡ cursor.start

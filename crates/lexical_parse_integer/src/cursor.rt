@@ -38,13 +38,28 @@ impl<'a> Model for Cursor<'a> {
 
     ghost Value = { CursorView };
 
-    ghost view = { λ c. record { bytes = c.bytes.now; format = c.format; radix = c.radix;
-        start = c.start; position = c.position; digits = c.digits; closed = c.closed;
-        turns = c.turns } };
+    ghost view = { λ c. record {
+      bytes = c.bytes.now;
+      format = c.format;
+      radix = c.radix;
+      start = c.start;
+      position = c.position;
+      digits = c.digits;
+      closed = c.closed;
+      turns = c.turns;
+    } };
 
     ghost invariant = { λ c. IsSound
-        (record { bytes = c.bytes.now; format = c.format; radix = c.radix; start = c.start;
-        position = c.position; digits = c.digits; closed = c.closed; turns = c.turns }) };
+        (record {
+          bytes = c.bytes.now;
+          format = c.format;
+          radix = c.radix;
+          start = c.start;
+          position = c.position;
+          digits = c.digits;
+          closed = c.closed;
+          turns = c.turns;
+        }) };
 }
 
 impl<'a> Cursor<'a> {
@@ -54,9 +69,16 @@ impl<'a> Cursor<'a> {
     #[inline(always)]
     pub fn new(bytes: &'a [u8], format: &NumberFormat) -> Cursor<'a>
         requires valid { IsNone (fault format.now) }
-        ensures { result ≡ record { bytes = bytes.now; format = format.now;
-            radix = format.now.mantissa_radix; start = 0; position = 0; digits = 0; closed = false;
-            turns = 0 } }
+        ensures { result ≡ record {
+          bytes = bytes.now;
+          format = format.now;
+          radix = format.now.mantissa_radix;
+          start = 0;
+          position = 0;
+          digits = 0;
+          closed = false;
+          turns = 0;
+        } }
     {
         Cursor {
             bytes,
@@ -263,8 +285,11 @@ impl<'a> Cursor<'a> {
         requires is_open { self.old.closed ≡ false }
         requires contiguous { IsNone self.old.format.digit_separator }
         requires digits { AreDigitsAhead self.old n }
-        ensures { self.new ≡ record self.old { position = self.old.position + n;
-            digits = self.old.digits + n; turns = self.old.turns + 1 } }
+        ensures { self.new ≡ record self.old {
+          position = self.old.position + n;
+          digits = self.old.digits + n;
+          turns = self.old.turns + 1;
+        } }
     {
         self.position += n;
         self.digits += n;

@@ -17,8 +17,11 @@ grouped =
 -- the same in radix 16, behind `0x` or without it
 abbrev pub hexadecimal : Format
 hexadecimal =
-    record grouped { mantissa_radix = 16; base_prefix = Some letter_x;
-    case_sensitive_base_prefix = true }
+    record grouped {
+      mantissa_radix = 16;
+      base_prefix = Some letter_x;
+      case_sensitive_base_prefix = true;
+    }
 
 -- the `u64` of a text: hexadecimal where it begins with `0x`, and decimal elsewhere
 abbrev pub value_in : List ℕ → Result ℤ ValueError

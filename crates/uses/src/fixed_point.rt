@@ -40,7 +40,7 @@ pub fn unsigned() -> NumberFormat
 }
 
 // A number times a power of ten.
-fn scaled(value: i128, exponent: usize) -> i128
+fn value_in_units(value: i128, exponent: usize) -> i128
     requires value { unsigned_abs value ≤ 2 ^ 64 }
     requires exponent { exponent ≤ 18 }
     ensures product { result ≡ value *ℤ pos (10 ^ exponent) }
@@ -50,13 +50,13 @@ fn scaled(value: i128, exponent: usize) -> i128
 }
 
 // Whole part and fraction in units together, where that is a number of `i64`.
-fn joined(is_negative: bool, whole: i64, fraction: i128, digits: usize) -> Option<i64>
+fn number_of_parts(is_negative: bool, whole: i64, fraction: i128, digits: usize) -> Option<i64>
     requires fraction { unsigned_abs fraction ≤ 2 ^ 64 * 10 ^ 18 }
     requires digits { digits ≤ 18 }
     ensures { result ≡ number_if_fits (integer_type 64 true)
         (mul_add is_negative whole (pos (10 ^ digits)) fraction) }
 {
-    let whole = scaled(i128::from(whole), digits);
+    let whole = value_in_units(i128::from(whole), digits);
     if is_negative {
         as_i64(whole - fraction)
     } else {
@@ -108,7 +108,7 @@ fn fraction_at(text: &[u8], start: usize, digits: usize) -> Result<(i128, usize)
         }),
         Ok((_, count)) if count > digits => Err(FixedPointError::TooManyDigits(start + digits)),
         Ok((value, count)) => {
-            let units = scaled(i128::from(value), digits - count);
+            let units = value_in_units(i128::from(value), digits - count);
             Ok((units, start + count))
         }
         Err(error) => Err(FixedPointError::Fraction { start, error }),
@@ -142,7 +142,7 @@ pub fn fixed_point(text: &[u8], digits: usize) -> Result<(i64, usize), FixedPoin
 {
     let (whole, end) = whole_part(text)?;
     let (fraction, end) = fraction_behind(text, end, digits)?;
-    let units = joined(is_negative(text), whole, fraction, digits);
+    let units = number_of_parts(is_negative(text), whole, fraction, digits);
     let units = units.ok_or(FixedPointError::OutOfRange(end))?;
     Ok((units, end))
 }

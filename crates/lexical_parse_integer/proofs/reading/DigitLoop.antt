@@ -4,8 +4,8 @@ use Rattle.std.specs.Prelude.{ℤ, pos}
 use Rattle.lexical_util.specs.declared.error.Error.{Error}
 use Rattle.lexical_parse_integer.specs.CursorView.{CursorView, ReachesEnd, TakesDigit, numeral_end, numeral_of}
 use Rattle.lexical_parse_integer.specs.Grammar.{range_error, range_fault}
-use Rattle.lexical_parse_integer.specs.Numeral.{Numeral, digit_count, numeral_in, numeral_value}
-use Rattle.lexical_parse_integer.specs.Reading.{GoesOn, Reads}
+use Rattle.lexical_parse_integer.specs.Numeral.{Numeral, digit_count, numeral_in}
+use Rattle.lexical_parse_integer.specs.Reading.{GoesOn, Reads, ReadsAll}
 use Rattle.lexical_util.specs.Number.{IntegerType, is_number, mul_add}
 use Rattle.lexical_parse_integer.proofs.reading.DigitsRead.{reads_more, reads_leaving, reads_all}
 use Rattle.lexical_parse_integer.proofs.reading.NumeralSteps.{IsDigitOf, digit_found, all_found, digit_at_below, same_numeral}
@@ -46,19 +46,13 @@ reads_leaves t b u v w d r place value e g k reads same at is leaves =
     ∙ ap (λ p. Some (range_error b p)) here ∙ ap Some (sym is)
 
 -- no digit is left
-pub record IsAll (t : IntegerType) (b : Bool) (u w : CursorView) (v : ℤ) : Type 0 where
-  pub value : v ≡ numeral_value b (numeral_of u)
-  pub fits : range_fault t b (numeral_of u) ≡ None
-  pub at_end : w.position ≡ (numeral_of u).ends
-  pub all : w.digits ≡ digit_count (numeral_of u)
-
-pub reads_end : (t : IntegerType) (b : Bool) (u v w : CursorView) (value : ℤ) → GoesOn u v → ReachesEnd v w → Reads t b (numeral_of u) v.digits value → IsAll t b u w value
+pub reads_end : (t : IntegerType) (b : Bool) (u v w : CursorView) (value : ℤ) → GoesOn u v → ReachesEnd v w → Reads t b (numeral_of u) v.digits value → ReadsAll t b u w value
 reads_end t b u v w value g k reads =
     let same = same_numeral u v g in
     let all : v.digits ≡ digit_count (numeral_of u) = all_found v g.sound g.closed w k ∙ ap digit_count same in
     let told = reads_all t b (numeral_of u) v.digits value reads all in
     record {
-      value = told.1;
+      value_is = told.1;
       fits = told.0;
       at_end = ap (λ (z : CursorView). z.position) k.after ∙ sym (numeral_ends v) ∙ ap (λ (x : Numeral). x.ends) same;
       all = ap (λ (z : CursorView). z.digits) k.after ∙ all;

@@ -2,7 +2,7 @@
 use Rattle.std.proofs.Common.{◌≡◌, ◌≢◌, ℕ, ◌+◌, ◌-◌, ◌*◌, ◌≤◌, Bool, false, true, not, ◌&&◌, List, get_or, is_some, Some, None, refl, sym, ap, ◌∙◌, subst, arith, inl, inr, ◌⊎◌, cond}
 use Rattle.std.specs.Prelude.{ℤ, pos, nat_lt, nat_le, ◌==◌, slice_get, Option, MatchOption, option_and_then}
 use Rattle.std.specs.Option.{option_or, option_eq}
-use Rattle.std.proofs.lemmas.Bool.{lt-ltb, le-ltb, ltb-true, cases_lt, false≢true}
+use Rattle.std.proofs.lemmas.Bool.{lt-ltb, le-ltb, ltb-true, ltb-false, cases_lt, false≢true}
 use Rattle.std.proofs.lemmas.Bool.Decides.{nat_tests}
 use Rattle.std.proofs.Math.Nat.{one-le-pow}
 use Rattle.lexical_util.specs.declared.error.Error.{Error}
@@ -10,14 +10,14 @@ use Rattle.lexical_util.specs.declared.error.Error.TheVariants.{InvalidLeadingZe
 use Rattle.lexical_parse_integer.specs.CursorView.{CursorView, IsSound, ReachesEnd, TakesDigit, numeral_end, numeral_of}
 use Rattle.lexical_parse_integer.specs.Grammar.{range_error, range_fault, zero_fault}
 use Rattle.lexical_parse_integer.specs.Numeral.{Numeral, digit_count}
-use Rattle.lexical_parse_integer.specs.Reading.{GoesOn, Reads}
+use Rattle.lexical_parse_integer.specs.Reading.{GoesOn, IsAtNumeral, LooksAhead, Reads, ReadsFirst}
 use Rattle.lexical_parse_integer.specs.Runs.{are_same, digit_at, separator_at}
 use Rattle.lexical_util.specs.Digit.{value_if_below, digit, digit_value}
 use Rattle.lexical_util.specs.Format.{Format}
 use Rattle.lexical_util.specs.Number.{IntegerType, is_number, mul_add, number_limit}
 use Rattle.lexical_parse_integer.proofs.grammar.NumeralEnd.{finds_here, ends_here}
 use Rattle.lexical_parse_integer.proofs.reading.DigitsRead.{reads_none}
-use Rattle.lexical_parse_integer.proofs.reading.NumeralSteps.{IsDigitOf, digit_found, all_found, goes_on_none, goes_on_digit, same_numeral}
+use Rattle.lexical_parse_integer.proofs.reading.NumeralSteps.{IsDigitOf, digit_found, all_found, goes_on_none, goes_on_digit, goes_on_further, same_numeral}
 use Rattle.lexical_parse_integer.proofs.reading.DigitLoop.{reads_next, reads_leaves}
 
 pub no_separator : (f : Format) (b : List ℕ) (k : ℕ) → f.digit_separator ≡ None → separator_at f b k ≡ false
@@ -223,3 +223,54 @@ zero_ahead_told (Some c) b told fails = ap Some (by_test (c == 48) refl)
     by_test : (t : Bool) → (c == 48) ≡ t → c ≡ 48
     by_test true e = grind (arith, nat_tests)
     by_test false e = absurd (false≢true (sym fails ∙ told ∙ ap not e))
+
+-- ---- what is read of it
+
+-- nothing was read
+pub reads_nothing : (t : IntegerType) (b p : Bool) (v w : CursorView) (value : ℤ) → w.digits ≡ 0 → value ≡ pos 0 → zero_fault v.format p (numeral_of v) ≡ None → ReadsFirst t b p v w value
+reads_nothing t b p v w value none is no_zeros =
+    record {
+      reads = subst (λ (n : ℕ). Reads t b (numeral_of v) n value) (sym none) (reads_none t b (numeral_of v) value is);
+      no_zeros = no_zeros;
+      lone = λ _. inl none;
+    }
+
+-- a zero is all that there is
+pub reads_lone_zero : (t : IntegerType) (b p : Bool) (v w x : CursorView) (d : ℕ) (value : ℤ) → IsAtNumeral v → TakesDigit v w d → IsSound w → d ≡ 0 → value ≡ pos 0 → x.digits ≡ w.digits → false ≡ nat_lt w.digits (digit_count (numeral_of w)) → ReadsFirst t b p v x value
+reads_lone_zero t b p v w x d value front k s zero is same none_left =
+    let goes = goes_on_digit v v w d (goes_on_none v front.sound front.still_open) k s in
+    let counts : digit_count (numeral_of w) ≡ digit_count (numeral_of v) = ap digit_count (same_numeral v w goes) in
+    let none = front.none in
+    let one : w.digits ≡ v.digits + 1 = ap (λ (z : CursorView). z.digits) k.after in
+    let last : digit_count (numeral_of w) ≤ w.digits = ltb-false w.digits (digit_count (numeral_of w)) (sym none_left) in
+    let few : digit_count (numeral_of v) ≤ 1 = omega arith in
+    record {
+      reads = subst (λ (n : ℕ). Reads t b (numeral_of v) n value) (sym same) (reads_zero t b v w d value front.sound front.still_open front.none k zero is);
+      no_zeros = few_no_fault v.format p (numeral_of v) few;
+      lone = λ _. inr few;
+    }
+
+-- the first digit was taken
+pub looks_at_digit : (v w : CursorView) (d : ℕ) → IsAtNumeral v → TakesDigit v w d → IsSound w → LooksAhead v w
+looks_at_digit v w d front k s =
+    let none = front.none in
+    let digits : w.digits ≡ v.digits + 1 = ap (λ (z : CursorView). z.digits) k.after in
+    let turns : w.turns ≡ v.turns + 1 = ap (λ (z : CursorView). z.turns) k.after in
+    record {
+      goes_on = goes_on_digit v v w d (goes_on_none v front.sound front.still_open) k s;
+      turns = omega arith;
+      count = taken_count v w d front.sound front.still_open k;
+      one = λ _. omega arith;
+    }
+
+-- and no other digit behind it
+pub looks_further : (v w x : CursorView) → LooksAhead v w → GoesOn w x → x.digits ≡ w.digits → x.turns + w.digits ≡ w.turns + x.digits → LooksAhead v x
+looks_further v w x ahead goes same turn =
+    let before = ahead.turns in
+    let count = ahead.count in
+    record {
+      goes_on = goes_on_further v w x ahead.goes_on goes;
+      turns = omega arith;
+      count = omega arith;
+      one = λ none. let one = ahead.one none in omega arith;
+    }

@@ -1,15 +1,17 @@
 -- What a cursor's steps say of its numeral: for loops over digits, and for the first digit.
-use Rattle.std.proofs.Common.{◌≡◌, ℕ, ◌+◌, ◌-◌, ◌≤◌, ◌<◌, Bool, true, false, List, ◌∷◌, ◌++◌, length, length-append, get_or, filter, is_some, Some, None, refl, sym, ap, ◌∙◌, arith, cond}
-use Rattle.std.specs.Prelude.{nat_lt, option_and_then, slice_get, Option}
+use Rattle.std.proofs.Common.{◌≡◌, ℕ, ◌+◌, ◌-◌, ◌≤◌, ◌<◌, Bool, true, false, List, ◌∷◌, ◌++◌, length, length-append, get_or, filter, is_some, Some, None, refl, sym, ap, ◌∙◌, subst, arith, cond}
+use Rattle.std.specs.Prelude.{nat_lt, option_and_then, slice_get, Option, ℤ}
 use Rattle.std.specs.List.{range_with_len}
 use Rattle.std.specs.Option.{unwrap_or}
 use Rattle.std.proofs.lemmas.Bool.{ltb-true}
 use Rattle.std.proofs.lemmas.List.{length-map, get_or-map}
 use Rattle.lexical_parse_integer.specs.CursorView.{CursorView, IsSound, ReachesEnd, TakesDigit, numeral_end, numeral_of}
-use Rattle.lexical_parse_integer.specs.Numeral.{Numeral, digit_count, numeral_in}
-use Rattle.lexical_parse_integer.specs.Reading.{GoesOn}
+use Rattle.lexical_parse_integer.specs.Grammar.{range_fault}
+use Rattle.lexical_parse_integer.specs.Numeral.{Numeral, digit_count, numeral_in, numeral_value}
+use Rattle.lexical_parse_integer.specs.Reading.{GoesOn, IsReading, Reads, ReadsAll, ReadsOn}
 use Rattle.lexical_parse_integer.specs.Runs.{digit_at, digits_between, places}
 use Rattle.lexical_util.specs.Digit.{value_if_below, digit, digit_value}
+use Rattle.lexical_util.specs.Number.{IntegerType}
 use Rattle.lexical_parse_integer.proofs.grammar.PlaceSearch.{filter_range-at, get_or-append_seam}
 use Rattle.lexical_parse_integer.proofs.grammar.DigitCounts.{digits_between_to}
 
@@ -82,6 +84,28 @@ goes_on_digit u v w value g t s =
       sound = s;
     }
 
+pub goes_on_end : (u v w : CursorView) → GoesOn u v → ReachesEnd v w → IsSound w → GoesOn u w
+goes_on_end u v w g t s =
+    record {
+      bytes = ap (λ (z : CursorView). z.bytes) t.after ∙ g.bytes;
+      format = ap (λ (z : CursorView). z.format) t.after ∙ g.format;
+      radix = ap (λ (z : CursorView). z.radix) t.after ∙ g.radix;
+      start = ap (λ (z : CursorView). z.start) t.after ∙ g.start;
+      closed = ap (λ (z : CursorView). z.closed) t.after ∙ g.closed;
+      sound = s;
+    }
+
+pub goes_on_further : (u v w : CursorView) → GoesOn u v → GoesOn v w → GoesOn u w
+goes_on_further u v w g h =
+    record {
+      bytes = h.bytes ∙ g.bytes;
+      format = h.format ∙ g.format;
+      radix = h.radix ∙ g.radix;
+      start = h.start ∙ g.start;
+      closed = h.closed;
+      sound = h.sound;
+    }
+
 -- the numeral stays the same
 pub same_numeral : (u v : CursorView) → GoesOn u v → numeral_of v ≡ numeral_of u
 same_numeral u v g =
@@ -89,3 +113,37 @@ same_numeral u v g =
     ∙ ap (λ b. numeral_in u.format b v.start v.radix) g.bytes
     ∙ ap (λ j. numeral_in u.format u.bytes j v.radix) g.start
     ∙ ap (λ r. numeral_in u.format u.bytes u.start r) g.radix
+
+-- ---- reading on
+
+-- from where it has come, reading may go on
+pub reading_from : (t : IntegerType) (b : Bool) (u v : CursorView) (before value : ℤ) → IsReading t b u before → ReadsOn t b u v value → IsReading t b v value
+reading_from t b u v before value ready on =
+    record {
+      still_open = on.goes_on.closed;
+      sound = on.goes_on.sound;
+      minus = ready.minus;
+      reads = subst (λ (x : Numeral). Reads t b x v.digits value) (sym (same_numeral u v on.goes_on)) on.reads;
+    }
+
+-- what was read behind, was read from the start on
+pub reads_further : (t : IntegerType) (b : Bool) (u v w : CursorView) (before value : ℤ) → ReadsOn t b u v before → ReadsOn t b v w value → ReadsOn t b u w value
+reads_further t b u v w before value first next =
+    record {
+      reads = subst (λ (x : Numeral). Reads t b x w.digits value) (same_numeral u v first.goes_on) next.reads;
+      goes_on = goes_on_further u v w first.goes_on next.goes_on;
+    }
+
+pub reads_all_further : (t : IntegerType) (b : Bool) (u v w : CursorView) (value : ℤ) → GoesOn u v → ReadsAll t b v w value → ReadsAll t b u w value
+reads_all_further t b u v w value g all =
+    let same = same_numeral u v g in
+    record {
+      value_is = all.value_is ∙ ap (numeral_value b) same;
+      fits = ap (range_fault t b) (sym same) ∙ all.fits;
+      at_end = all.at_end ∙ ap (λ (x : Numeral). x.ends) same;
+      all = all.all ∙ ap digit_count same;
+    }
+
+-- nothing more is read
+pub reads_no_more : (t : IntegerType) (b : Bool) (u : CursorView) (value : ℤ) → IsReading t b u value → ReadsOn t b u u value
+reads_no_more t b u value ready = record { reads = ready.reads; goes_on = goes_on_none u ready.sound ready.still_open }

@@ -10,7 +10,7 @@ use Rattle.lexical_parse_integer.specs.CursorView.{CursorView, behind_prefix, Is
 use Rattle.lexical_parse_integer.specs.Grammar.{complete, digits_required, first_fault_or, partial, prefix_fault, range_fault, zero_fault}
 use Rattle.lexical_parse_integer.specs.Head.{Head, head_of, no_sign, sign}
 use Rattle.lexical_parse_integer.specs.Numeral.{Numeral, digit_count, numeral_in, numeral_value}
-use Rattle.lexical_parse_integer.specs.Reading.{GoesOn, IsAtHead, IsOver, IsRead}
+use Rattle.lexical_parse_integer.specs.Reading.{GoesOn, IsAtHead, IsOver, IsRead, IsReading, Reads}
 use Rattle.lexical_util.specs.Format.{Format}
 use Rattle.lexical_util.specs.Number.{IntegerType}
 use Rattle.lexical_parse_integer.proofs.reading.Soundness.{digits_bound}
@@ -190,6 +190,16 @@ module _ (f : Format) (t : IntegerType) (text : List ℕ) (minus p : Bool) (v : 
 pub range_behind : (t : IntegerType) (minus p : Bool) (v w : CursorView) (e : Error) → GoesOn v w → zero_fault v.format p (numeral_of v) ≡ None → range_fault t minus (numeral_of w) ≡ Some e → option_or (zero_fault v.format p (numeral_of v)) (range_fault t minus (numeral_of v)) ≡ Some e
 range_behind t minus p v w e g none fault =
     ap (λ z. option_or z (range_fault t minus (numeral_of v))) none ∙ ap (range_fault t minus) (sym (same_numeral v w g)) ∙ fault
+
+-- behind the first digit, reading may go on
+pub reading_behind_head : (f : Format) (t : IntegerType) (text : List ℕ) (minus p : Bool) (v w : CursorView) (value : ℤ) → IsAtHead f t text minus p v → GoesOn v w → Reads t minus (numeral_of v) w.digits value → IsReading t minus w value
+reading_behind_head f t text minus p v w value at g reads =
+    record {
+      still_open = g.closed;
+      sound = g.sound;
+      minus = at.minus;
+      reads = subst (λ (x : Numeral). Reads t minus x w.digits value) (sym (same_numeral v w g)) reads;
+    }
 
 -- ---- all is read
 

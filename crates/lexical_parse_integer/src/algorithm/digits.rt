@@ -1,11 +1,11 @@
 // Digits, taken one at a time and joined to a value.
-ghost use Rattle.std.specs.Prelude.{◌≡◌, ◌+◌, ◌<◌, false, true, pos, None, Some, IfErr, IfOk, IsTrue, OnOk, ◌≤◌};
+ghost use Rattle.std.specs.Prelude.{◌≡◌, ◌+◌, ◌<◌, false, true, pos, Some, IfErr, IfOk, ◌≤◌};
 ghost use Rattle.lexical_util.specs.Digit.{IsRadix};
 ghost use Rattle.lexical_util.specs.Number.{HasRoom, HasSign, is_number, mul_add};
-ghost use Rattle.lexical_parse_integer.specs.CursorView.{IsSound, numeral_of};
+ghost use Rattle.lexical_parse_integer.specs.CursorView.{numeral_of};
 ghost use Rattle.lexical_parse_integer.specs.Grammar.{range_error, range_fault};
-ghost use Rattle.lexical_parse_integer.specs.Numeral.{digit_count, numeral_value};
-ghost use Rattle.lexical_parse_integer.specs.Reading.{GoesOn, Reads};
+ghost use Rattle.lexical_parse_integer.specs.Numeral.{digit_count};
+ghost use Rattle.lexical_parse_integer.specs.Reading.{GoesOn, IsReading, ReadsAll, ReadsOn};
 
 use crate::cursor::Cursor;
 use lexical_util::error::Error;
@@ -50,13 +50,9 @@ pub(crate) fn read_untested<T: Integer>(
     negative: bool,
     most: usize,
 ) -> T
-    requires open { c.old.closed ≡ false }
-    requires sound { IsSound c.old }
-    requires minus { IsTrue negative → IsTrue T.TYPE.is_signed }
+    requires ready { IsReading T.TYPE negative c.old (T.number value) }
     requires room { HasRoom T.TYPE c.old.radix most }
-    requires reads { Reads T.TYPE negative (numeral_of c.old) c.old.digits (T.number value) }
-    ensures reads { Reads T.TYPE negative (numeral_of c.old) c.new.digits (T.number result) }
-    ensures goes_on { GoesOn c.old c.new }
+    ensures on { ReadsOn T.TYPE negative c.old c.new (T.number result) }
     ensures turns { c.new.turns + c.old.digits ≡ c.old.turns + c.new.digits }
 {
     let radix = T::from_u32(c.radix());
@@ -73,19 +69,13 @@ pub(crate) fn read_untested<T: Integer>(
 // Takes the digits that are left, and tests each step.
 #[inline(always)]
 pub(crate) fn read_rest<T: Integer>(c: &mut Cursor<'_>, value: T, negative: bool) -> Result<T>
-    requires open { c.old.closed ≡ false }
-    requires reads { Reads T.TYPE negative (numeral_of c.old) c.old.digits (T.number value) }
-    ensures value { IfOk result
-        (λ value. T.number value ≡ numeral_value negative (numeral_of c.old)) }
-    ensures fits { OnOk result (range_fault T.TYPE negative (numeral_of c.old) ≡ None) }
+    requires ready { IsReading T.TYPE negative c.old (T.number value) }
+    ensures all { IfOk result (λ value. ReadsAll T.TYPE negative c.old c.new (T.number value)) }
     ensures leaves { IfErr result (λ e. range_fault T.TYPE negative (numeral_of c.old) ≡ Some e) }
     ensures goes_on { GoesOn c.old c.new }
-    ensures at_end { OnOk result (c.new.position ≡ (numeral_of c.old).ends) }
-    ensures all { OnOk result (c.new.digits ≡ digit_count (numeral_of c.old)) }
     ensures count { c.new.digits ≤ digit_count (numeral_of c.old) }
     ensures turns { c.new.turns + c.old.digits ≡ c.old.turns + c.new.digits }
 {
-    c.sound();
     let mut value = value;
     while let Some(digit) = c.next_digit() {
         let place = c.cursor() - 1;

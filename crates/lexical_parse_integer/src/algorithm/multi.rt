@@ -1,9 +1,8 @@
 // Words of four and eight digits, taken at once.
-ghost use Rattle.std.specs.Prelude.{◌≡◌, ◌+◌, ◌*◌, ◌<◌, ◌≤◌, ◌⊎◌, ◌↔◌, ◌^◌, pos, false, IsNone, IsSome, IsTrue, IfSome, MatchOption, slice_range};
+ghost use Rattle.std.specs.Prelude.{◌≡◌, ◌+◌, ◌≤◌, ◌↔◌, ◌^◌, pos, false, IsNone, IsSome, IsTrue, IfSome, MatchOption, slice_range};
 ghost use Rattle.lexical_util.specs.Number.{HasRoom};
-ghost use Rattle.lexical_parse_integer.specs.CursorView.{AreDigitsAhead, IsSound, numeral_of};
-ghost use Rattle.lexical_parse_integer.specs.Numeral.{digit_count};
-ghost use Rattle.lexical_parse_integer.specs.Reading.{GoesOn, Reads};
+ghost use Rattle.lexical_parse_integer.specs.CursorView.{AreDigitsAhead, IsSound};
+ghost use Rattle.lexical_parse_integer.specs.Reading.{IsReading, ReadsWords};
 ghost use Rattle.lexical_parse_integer.specs.Turns.{digits_per_word};
 ghost use Rattle.lexical_parse_integer.specs.Words.{word_value};
 
@@ -21,8 +20,11 @@ pub fn try_parse_4digits<T: Integer>(c: &mut Cursor<'_>) -> Option<T>
     requires is_open { c.old.closed ≡ false }
     ensures moved { MatchOption result (c.new ≡ c.old)
         (λ _. c.new
-        ≡ record c.old { position = c.old.position + 4; digits = c.old.digits + 4;
-        turns = c.old.turns + 1 }) }
+        ≡ record c.old {
+          position = c.old.position + 4;
+          digits = c.old.digits + 4;
+          turns = c.old.turns + 1;
+        }) }
     ensures digits { IsSome result ↔ AreDigitsAhead c.old 4 }
     ensures value { IfSome result
         (λ word. T.number word
@@ -53,8 +55,11 @@ pub fn try_parse_8digits<T: Integer>(c: &mut Cursor<'_>) -> Option<T>
     requires is_open { c.old.closed ≡ false }
     ensures moved { MatchOption result (c.new ≡ c.old)
         (λ _. c.new
-        ≡ record c.old { position = c.old.position + 8; digits = c.old.digits + 8;
-        turns = c.old.turns + 1 }) }
+        ≡ record c.old {
+          position = c.old.position + 8;
+          digits = c.old.digits + 8;
+          turns = c.old.turns + 1;
+        }) }
     ensures digits { IsSome result ↔ AreDigitsAhead c.old 8 }
     ensures value { IfSome result
         (λ word. T.number word
@@ -85,8 +90,11 @@ fn try_parse_word<T: Integer>(c: &mut Cursor<'_>) -> Option<T>
     requires is_open { c.old.closed ≡ false }
     ensures moved { MatchOption result (c.new ≡ c.old)
         (λ _. c.new
-        ≡ record c.old { position = c.old.position + digits_per_word T.BITS;
-        digits = c.old.digits + digits_per_word T.BITS; turns = c.old.turns + 1 }) }
+        ≡ record c.old {
+          position = c.old.position + digits_per_word T.BITS;
+          digits = c.old.digits + digits_per_word T.BITS;
+          turns = c.old.turns + 1;
+        }) }
     ensures digits { IsSome result ↔ AreDigitsAhead c.old (digits_per_word T.BITS) }
     ensures sound { IsSound c.new }
     ensures value { IfSome result
@@ -134,18 +142,10 @@ pub(crate) fn read_words<T: Integer>(c: &mut Cursor<'_>, value: T, negative: boo
     requires bits { 32 ≤ T.BITS }
     requires radix { c.old.radix ≤ 10 }
     requires contiguous { IsNone c.old.format.digit_separator }
-    requires open { c.old.closed ≡ false }
-    requires sound { IsSound c.old }
-    requires minus { IsTrue negative → IsTrue T.TYPE.is_signed }
+    requires ready { IsReading T.TYPE negative c.old (T.number value) }
     requires room { HasRoom T.TYPE c.old.radix most }
-    requires reads { Reads T.TYPE negative (numeral_of c.old) c.old.digits (T.number value) }
-    ensures reads { Reads T.TYPE negative (numeral_of c.old) c.new.digits (T.number result) }
-    ensures goes_on { GoesOn c.old c.new }
-    ensures turns { c.new.digits + digits_per_word T.BITS * c.old.turns
-        ≡ c.old.digits + digits_per_word T.BITS * c.new.turns }
-    ensures within { (c.new.digits ≡ c.old.digits) ⊎ (c.new.digits ≤ most) }
-    ensures ended { (most < c.new.digits + digits_per_word T.BITS)
-        ⊎ (digit_count (numeral_of c.old) < c.new.digits + digits_per_word T.BITS) }
+    ensures words { ReadsWords T.TYPE negative (digits_per_word T.BITS) most
+        c.old c.new (T.number result) }
 {
     let scale = word_scale::<T>(c.radix());
     let mut value = value;

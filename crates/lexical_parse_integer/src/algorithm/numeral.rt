@@ -1,10 +1,10 @@
 // All digits of a numeral, by the ways that options and format leave open.
-ghost use Rattle.std.specs.Prelude.{◌≡◌, ◌⊎◌, ◌+◌, ◌-◌, ◌≤◌, ◌↔◌, Some, None, false, IfErr, IfOk, IsTrue, OnOk};
+ghost use Rattle.std.specs.Prelude.{◌≡◌, ◌⊎◌, ◌+◌, ◌-◌, ◌≤◌, ◌↔◌, Some, IfErr, IfOk, IsTrue};
 ghost use Rattle.lexical_util.specs.Number.{overflow_digits};
-ghost use Rattle.lexical_parse_integer.specs.CursorView.{IsSound, numeral_of};
+ghost use Rattle.lexical_parse_integer.specs.CursorView.{numeral_of};
 ghost use Rattle.lexical_parse_integer.specs.Grammar.{range_fault};
-ghost use Rattle.lexical_parse_integer.specs.Numeral.{digit_count, numeral_value};
-ghost use Rattle.lexical_parse_integer.specs.Reading.{GoesOn, Reads};
+ghost use Rattle.lexical_parse_integer.specs.Numeral.{digit_count};
+ghost use Rattle.lexical_parse_integer.specs.Reading.{GoesOn, IsReading, ReadsAll, ReadsOn};
 ghost use Rattle.lexical_parse_integer.specs.Turns.{AsksWords, turns_bound, digits_per_word};
 
 use crate::algorithm::digits::{read_rest, read_untested};
@@ -31,12 +31,8 @@ fn skips_tests(c: &Cursor<'_>, most: usize) -> bool {
 // Takes the digits that no test is needed for, in words where that is asked for.
 #[inline(always)]
 fn read_front<T: Integer>(c: &mut Cursor<'_>, value: T, negative: bool, no_multi_digit: bool) -> T
-    requires open { c.old.closed ≡ false }
-    requires sound { IsSound c.old }
-    requires minus { IsTrue negative → IsTrue T.TYPE.is_signed }
-    requires reads { Reads T.TYPE negative (numeral_of c.old) c.old.digits (T.number value) }
-    ensures reads { Reads T.TYPE negative (numeral_of c.old) c.new.digits (T.number result) }
-    ensures goes_on { GoesOn c.old c.new }
+    requires ready { IsReading T.TYPE negative c.old (T.number value) }
+    ensures on { ReadsOn T.TYPE negative c.old c.new (T.number result) }
     ensures each { IsTrue no_multi_digit → c.new.turns + c.old.digits ≡ c.old.turns + c.new.digits }
     ensures few { AsksWords T.BITS no_multi_digit c.old.format → c.old.radix ≤ 10
         → c.old.turns ≡ c.old.digits → (c.old.digits ≡ 0) ⊎ (digit_count (numeral_of c.old) ≤ 1)
@@ -63,17 +59,10 @@ pub(crate) fn read_digits<T: Integer>(
     negative: bool,
     no_multi_digit: bool,
 ) -> Result<T>
-    requires open { c.old.closed ≡ false }
-    requires sound { IsSound c.old }
-    requires minus { IsTrue negative → IsTrue T.TYPE.is_signed }
-    requires reads { Reads T.TYPE negative (numeral_of c.old) c.old.digits (T.number value) }
-    ensures value { IfOk result
-        (λ value. T.number value ≡ numeral_value negative (numeral_of c.old)) }
-    ensures fits { OnOk result (range_fault T.TYPE negative (numeral_of c.old) ≡ None) }
+    requires ready { IsReading T.TYPE negative c.old (T.number value) }
+    ensures all { IfOk result (λ value. ReadsAll T.TYPE negative c.old c.new (T.number value)) }
     ensures leaves { IfErr result (λ e. range_fault T.TYPE negative (numeral_of c.old) ≡ Some e) }
     ensures goes_on { GoesOn c.old c.new }
-    ensures at_end { OnOk result (c.new.position ≡ (numeral_of c.old).ends) }
-    ensures all { OnOk result (c.new.digits ≡ digit_count (numeral_of c.old)) }
     ensures each { IsTrue no_multi_digit → c.new.turns + c.old.digits ≡ c.old.turns + c.new.digits }
     ensures few { AsksWords T.BITS no_multi_digit c.old.format → c.old.radix ≤ 10
         → c.old.turns ≡ c.old.digits → (c.old.digits ≡ 0) ⊎ (digit_count (numeral_of c.old) ≤ 1)

@@ -1,10 +1,10 @@
 // Leading zeros, where the format forbids them.
-ghost use Rattle.std.specs.Prelude.{◌≡◌, ◌⊎◌, ◌+◌, ◌≤◌, false, None, Some, nat_lt, IfErr, IfOk, IsNone, OnOk};
+ghost use Rattle.std.specs.Prelude.{◌≡◌, ◌+◌, ◌≤◌, false, Some, nat_lt, IfErr, IfOk, IsNone};
 ghost use Rattle.std.specs.Option.{option_or};
 ghost use Rattle.lexical_parse_integer.specs.CursorView.{IsSound, numeral_of};
 ghost use Rattle.lexical_parse_integer.specs.Grammar.{range_fault, zero_fault};
 ghost use Rattle.lexical_parse_integer.specs.Numeral.{digit_count};
-ghost use Rattle.lexical_parse_integer.specs.Reading.{GoesOn, Reads};
+ghost use Rattle.lexical_parse_integer.specs.Reading.{GoesOn, IsAtNumeral, LooksAhead, ReadsFirst};
 
 use crate::algorithm::digits::join_checked;
 use crate::cursor::Cursor;
@@ -44,18 +44,10 @@ pub(crate) fn read_first<T: Integer>(
     negative: bool,
     is_prefixed: bool,
 ) -> Result<T>
-    requires open { c.old.closed ≡ false }
-    requires sound { IsSound c.old }
-    requires none { c.old.digits ≡ 0 }
-    ensures no_zeros { OnOk result (zero_fault c.old.format is_prefixed (numeral_of c.old) ≡ None) }
-    ensures reads { IfOk result
-        (λ value. Reads T.TYPE negative (numeral_of c.old) c.new.digits (T.number value)) }
-    ensures goes_on { GoesOn c.old c.new }
-    ensures turns { c.new.turns ≡ c.old.turns + c.new.digits }
-    ensures count { c.new.digits ≤ digit_count (numeral_of c.old) }
-    ensures one { IsNone c.old.format.digit_separator → c.new.digits ≤ 1 }
-    ensures lone { IsNone c.old.format.digit_separator
-        → OnOk result ((c.new.digits ≡ 0) ⊎ (digit_count (numeral_of c.old) ≤ 1)) }
+    requires front { IsAtNumeral c.old }
+    ensures first { IfOk result
+        (λ value. ReadsFirst T.TYPE negative is_prefixed c.old c.new (T.number value)) }
+    ensures ahead { LooksAhead c.old c.new }
     ensures fault { IfErr result
         (λ e. option_or (zero_fault c.old.format is_prefixed (numeral_of c.old))
         (range_fault T.TYPE negative (numeral_of c.old)) ≡ Some e) }

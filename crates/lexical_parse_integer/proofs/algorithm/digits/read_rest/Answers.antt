@@ -3,9 +3,8 @@ use Rattle.std.proofs.lemmas.Result.{err_from_is_err_and}
 use Rattle.lexical_parse_integer.specs.CursorView.{CursorView}
 use Rattle.lexical_parse_integer.proofs.reading.NumeralSteps.{goes_on_digit}
 use Rattle.lexical_parse_integer.proofs.reading.FirstDigit.{taken_count_from}
-use Rattle.lexical_parse_integer.proofs.reading.DigitLoop.{IsAll, digit_below, reads_next, reads_leaves, reads_end}
+use Rattle.lexical_parse_integer.proofs.reading.DigitLoop.{digit_below, reads_next, reads_leaves, reads_end}
 use Rattle.lexical_parse_integer.proofs.algorithm.digits.read_rest.Goals as goal
-use Rattle.lexical_parse_integer.proofs.algorithm.digits.read_rest.Given.{Over}
 
 pub join_checked-requires-clause-digit : goal.join_checked-requires-clause-digit
 join_checked-requires-clause-digit g c = digit_below _ _ c.in-Some.digit c.radix.result c.in-Some.ensures.step c.radix.ensures
@@ -32,20 +31,8 @@ loop-digit-preserved g c =
       sign = i.sign;
     }
 
-ended : (g : Over) (c : goal.In_default g) → IsAll g.T.Integer.TYPE c.args.negative c.args.c.now c.next_digit.new.self (g.T.Integer.number c.loop-digit.value)
-ended g c = reads_end _ c.args.negative c.args.c.now c.loop-digit.c c.next_digit.new.self _ c.loop-digit.invariant.goes_on c.in_default.ensures.step c.loop-digit.invariant.reads
-
-pub returns-clause-value : goal.returns-clause-value
-returns-clause-value g c = (ended g c).value
-
-pub returns-clause-fits : goal.returns-clause-fits
-returns-clause-fits g c = (ended g c).fits
-
-pub returns-clause-at_end : goal.returns-clause-at_end
-returns-clause-at_end g c = (ended g c).at_end
-
 pub returns-clause-all : goal.returns-clause-all
-returns-clause-all g c = (ended g c).all
+returns-clause-all g c = reads_end _ c.args.negative c.args.c.now c.loop-digit.c c.next_digit.new.self _ c.loop-digit.invariant.goes_on c.in_default.ensures.step c.loop-digit.invariant.reads
 
 pub returns-in_err-value-clause-count : goal.returns-in_err-value-clause-count
 returns-in_err-value-clause-count g c = taken_count_from c.args.c.now c.loop-digit.c c.next_digit.new.self c.in-Some.digit c.loop-digit.invariant.goes_on c.in-Some.ensures.step

@@ -3,7 +3,7 @@ use Rattle.std.specs.Prelude.{ℤ, pos}
 use Rattle.lexical_parse_integer.specs.CursorView.{CursorView}
 use Rattle.lexical_util.specs.Number.{mul_add}
 use Rattle.lexical_util.proofs.Room.{small_is_number}
-use Rattle.lexical_parse_integer.proofs.reading.NumeralSteps.{goes_on_digit}
+use Rattle.lexical_parse_integer.proofs.reading.NumeralSteps.{goes_on_digit, goes_on_end}
 use Rattle.lexical_parse_integer.proofs.reading.UntestedDigits.{JoinsDigit, digit_small, joins_digit}
 use Rattle.lexical_parse_integer.proofs.algorithm.digits.read_untested.Goals as goal
 use Rattle.lexical_parse_integer.proofs.algorithm.digits.read_untested.Given.{Over}
@@ -11,14 +11,14 @@ use Rattle.lexical_parse_integer.proofs.algorithm.digits.read_untested.Given.{Ov
 pub from_u32-requires : goal.from_u32-requires
 from_u32-requires g c =
     small_is_number _ _ c.in-Some.digit g.met.T.Integer.width_law
-    (digit_small c.args.c.now c.loop-radix.c c.next_digit.new.self c.in-Some.digit c.requires.sound c.loop-radix.invariant.goes_on c.in-Some.ensures.step)
+    (digit_small c.args.c.now c.loop-radix.c c.next_digit.new.self c.in-Some.digit c.requires.ready.sound c.loop-radix.invariant.goes_on c.in-Some.ensures.step)
 
 joined : (g : Over) (c : goal.In-Some g) (digit : ℤ) → digit ≡ pos c.in-Some.digit → JoinsDigit g.T.Integer.TYPE.bits g.T.Integer.TYPE.is_signed c.args.negative c.args.c.now c.next_digit.new.self (mul_add c.args.negative (g.T.Integer.number c.loop-radix.value) (g.T.Integer.number c.from_u32-radix.result) digit)
 joined g c digit is_digit =
     let i = c.loop-radix.invariant in
     let count = c.digits.ensures in
     joins_digit _ _ c.args.negative c.args.c.now c.loop-radix.c c.next_digit.new.self c.args.most c.in-Some.digit _ _ _
-    c.requires.sound i.goes_on c.in-Some.ensures.step c.requires.room c.requires.minus (omega (arith, c.loop-radix-test.true)) i.reads i.radix is_digit
+    c.requires.ready.sound i.goes_on c.in-Some.ensures.step c.requires.room c.requires.ready.minus (omega (arith, c.loop-radix-test.true)) i.reads i.radix is_digit
 
 pub mul_add-value-requires-clause-fits : goal.mul_add-value-requires-clause-fits
 mul_add-value-requires-clause-fits g c = (joined g c.before _ c.from_u32.ensures).fits
@@ -36,3 +36,15 @@ loop-radix-preserved g c =
       radix = i.radix;
       sign = i.sign;
     }
+
+pub returns-in-None-clause-on : goal.returns-in-None-clause-on
+returns-in-None-clause-on g c =
+    let i = c.loop-radix.invariant in
+    let digits : c.next_digit.new.self.digits ≡ c.loop-radix.c.digits = ap (λ (v : CursorView). v.digits) c.in-None.ensures.step.after in
+    record {
+      reads = rw digits i.reads;
+      goes_on = goes_on_end c.args.c.now c.loop-radix.c c.next_digit.new.self i.goes_on c.in-None.ensures.step c.in-None.ensures.sound;
+    }
+
+pub returns-clause-on : goal.returns-clause-on
+returns-clause-on g c = record { reads = c.loop-radix.invariant.reads; goes_on = c.loop-radix.invariant.goes_on }

@@ -1,10 +1,11 @@
-use Rattle.std.proofs.Common.{◌≡◌, ◌+◌, ◌^◌, ◌≤◌, ℕ, pos, refl, sym, ap, ◌∙◌, subst, arith, inr, None}
+use Rattle.std.proofs.Common.{◌≡◌, ◌+◌, ◌^◌, ◌≤◌, ◌<◌, ◌↔◌, ℕ, Bool, false, IsTrue, pos, refl, sym, ap, ◌∙◌, subst, arith, inl, inr, None}
 use Rattle.std.proofs.Math.Nat.{one-le-pow}
-use Rattle.std.proofs.lemmas.Bool.{false≢true}
+use Rattle.std.proofs.lemmas.Bool.{cases_lt, false≢true}
 use Rattle.std.proofs.lemmas.Int.{ints}
 use Rattle.lexical_util.specs.Format.{Format}
 use Rattle.lexical_util.specs.Number.{HasRoom, mul_add}
 use Rattle.lexical_parse_integer.specs.CursorView.{CursorView}
+use Rattle.lexical_parse_integer.specs.Reading.{GoesOn}
 use Rattle.lexical_parse_integer.specs.Turns.{digits_per_word}
 use Rattle.lexical_parse_integer.proofs.reading.Soundness.{none_from_IsNone}
 use Rattle.lexical_parse_integer.proofs.bound.TurnBound.{turn_of_word, word_some}
@@ -12,9 +13,13 @@ use Rattle.lexical_parse_integer.proofs.bound.WordSteps.{ReadsWord, reads_word, 
 use Rattle.lexical_parse_integer.proofs.algorithm.multi.read_words.Goals as goal
 use Rattle.lexical_parse_integer.proofs.algorithm.multi.read_words.Given.{Over}
 
+-- where the test for room fails
+no_room : (test : Bool) (digits word most : ℕ) → (IsTrue test ↔ (digits + word ≤ most)) → test ≡ false → most < digits + word
+no_room test digits word most says fails = elim (cases_lt most (digits + word)) [ inl l ↦ l | inr l ↦ absurd (false≢true (sym fails ∙ says.1 l)) ]
+
 pub mul_add-value-requires-clause-scale : goal.mul_add-value-requires-clause-scale
 mul_add-value-requires-clause-scale g c =
-    let two = c.requires.sound.radix.low in
+    let two = c.requires.ready.sound.radix.low in
     let one = one-le-pow (digits_per_word g.T.Integer.BITS) c.args.c.now.radix (omega arith) in
     rw c.loop-scale.invariant.scale (omega (arith, ints))
 
@@ -27,7 +32,7 @@ the_word g c =
     let le : c.digits.result + digits_per_word g.T.Integer.BITS ≤ c.args.most = c.has_room.ensures.0 c.loop-scale-test.true in
     let count = c.digits.ensures in
     let ten = c.requires.radix in
-    reads_word _ _ c.args.negative c.args.c.now c.loop-scale.c (digits_per_word g.T.Integer.BITS) c.args.most _ _ _ (word_some g.T.Integer.BITS) i.goes_on (omega arith) none room c.requires.minus (omega arith) (c.in-Some.ensures.digits.0 refl) i.reads
+    reads_word _ _ c.args.negative c.args.c.now c.loop-scale.c (digits_per_word g.T.Integer.BITS) c.args.most _ _ _ (word_some g.T.Integer.BITS) i.goes_on (omega arith) none room c.requires.ready.minus (omega arith) (c.in-Some.ensures.digits.0 refl) i.reads
     (i.scale ∙ ap (λ r. pos (r ^ digits_per_word g.T.Integer.BITS)) (sym same)) c.in-Some.ensures.value
 
 pub mul_add-value-requires-clause-fits : goal.mul_add-value-requires-clause-fits
@@ -57,10 +62,35 @@ loop-scale-preserved g c =
       sign = i.sign;
     }
 
-pub returns-in-None-clause-ended : goal.returns-in-None-clause-ended
-returns-in-None-clause-ended g c =
+pub returns-in-None : goal.returns-in-None
+returns-in-None g c =
     let i = c.loop-scale.invariant in
+    let same : c.try_parse_word.new.c ≡ c.loop-scale.c = c.in-None.ensures.moved in
     let none : c.loop-scale.c.format.digit_separator ≡ None = ap (λ (f : Format). f.digit_separator) i.goes_on.format ∙ none_from_IsNone _ c.requires.contiguous in
-    let digits : c.try_parse_word.new.c.digits ≡ c.loop-scale.c.digits = ap (λ (v : CursorView). v.digits) c.in-None.ensures.moved in
+    let digits : c.try_parse_word.new.c.digits ≡ c.loop-scale.c.digits = ap (λ (v : CursorView). v.digits) same in
+    let turns : c.try_parse_word.new.c.turns ≡ c.loop-scale.c.turns = ap (λ (v : CursorView). v.turns) same in
     let few = few_left_from c.args.c.now c.loop-scale.c (digits_per_word g.T.Integer.BITS) i.goes_on none (λ all. false≢true (c.in-None.ensures.digits.1 all)) in
-    inr (omega arith)
+    record {
+      words = record {
+        reads = rw digits i.reads;
+        goes_on = subst (GoesOn c.args.c.now) (sym same) i.goes_on;
+        turns = rw (digits, turns) i.turns;
+        within = rw digits i.within;
+        ended = inr (omega arith);
+      };
+    }
+
+pub returns : goal.returns
+returns g c =
+    let i = c.loop-scale.invariant in
+    let count = c.digits.ensures in
+    let full : c.args.most < c.digits.result + digits_per_word g.T.Integer.BITS = no_room _ _ _ _ c.has_room.ensures c.loop-scale-test.false in
+    record {
+      words = record {
+        reads = i.reads;
+        goes_on = i.goes_on;
+        turns = i.turns;
+        within = i.within;
+        ended = inl (omega arith);
+      };
+    }

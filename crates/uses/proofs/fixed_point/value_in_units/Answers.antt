@@ -1,5 +1,5 @@
 use Rattle.uses.proofs.Scaling.{scaled_fits, scaled_is, scaled_most}
-use Rattle.uses.proofs.fixed_point.scaled.Goals as goal
+use Rattle.uses.proofs.fixed_point.value_in_units.Goals as goal
 
 pub overflow_mul-result : goal.overflow_mul-result
 overflow_mul-result c = scaled_fits c.args.value c.pow.result c.args.exponent c.requires.value c.requires.exponent c.pow.ensures
