@@ -1,3 +1,5 @@
+# What make does here, by its targets.
+#
 # make run     builds the proved program where needed, and gives it standard input
 # make test    the gate: proves everything from nothing, and runs every test and must-fail edit
 # make devices runs the program alone over devices that refuse, which make test does too

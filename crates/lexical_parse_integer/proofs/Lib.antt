@@ -1,3 +1,4 @@
+-- The lemmas of the proofs, a file for each subject.
 pub mod Agreeing
 pub mod AsciiDigits
 pub mod Completed
@@ -7,6 +8,7 @@ pub mod CursorLemmas
 pub mod DigitTexts
 pub mod First
 pub mod FitLemmas
+pub mod FrontDigits
 pub mod FrontEnds
 pub mod Fronts
 pub mod InARow
