@@ -6,6 +6,9 @@
 # make lexint  the program alone, as crates/lexint/out/lexint
 # make install puts it into $(PREFIX)/bin
 # make rows    writes the theorems and tests of the worked rows anew from tools/rows.txt
+# make docs    writes the documents that are made from the source: docs/MAP.md, docs/CONTRACTS.md, code blocks
+# make check-docs  fails where one of them isn't as the source has it
+# make bench   measures the parsers beside others, and writes bench/results.tsv and docs/SPEED.md
 # make judge   tries the must-fail edits, many in one check, and holds each to the function that it changes
 # make test-judge  tests that
 # make must-not-compile  checks what the compiler or the prover has to refuse of programs that use the libraries
@@ -16,7 +19,7 @@ PREFIX ?= /usr/local
 PROGRAM := crates/lexint/out/lexint
 SOURCES := $(shell find crates -name out -prune -o -type f \( -name '*.rt' -o -name '*.antt' \) -print) crates.txt
 
-.PHONY: run test devices lexint install rows judge test-judge must-not-compile fuzz
+.PHONY: run test devices lexint install rows docs check-docs bench judge test-judge must-not-compile fuzz
 
 run: $(PROGRAM)
 	@./$(PROGRAM)
@@ -44,6 +47,19 @@ install: $(PROGRAM)
 rows:
 	@python3 tools/rows.py
 	@cd crates/rows && $(RT) fmt
+
+docs:
+	@python3 tools/documents.py
+
+check-docs:
+	@python3 tools/test_documents.py
+	@python3 tools/documents.py --check
+
+# BENCH is what bench/run.py is asked: make bench BENCH="--rounds 50 --no-counts".
+BENCH ?=
+
+bench:
+	@RT=$(RT) bench/run.py $(BENCH)
 
 # JUDGE is what judge_edits.py is asked: make judge JUDGE="--crate lexical_util --jobs 2".
 JUDGE ?=

@@ -162,6 +162,13 @@ def of_crate(top, crate):
     return found if len(found) > 2 else []
 
 
+def unnamed(top, crates, text):
+    """A complaint for each edit that the page doesn't name."""
+    paths = [it for crate in crates for it in sorted(glob.glob(os.path.join(glob.escape(top), "crates", crate, "must-fail", "*.edit")))]
+    return [f"{os.path.relpath(it, top)}: docs/CONTRACTS.md doesn't name it" for it in paths
+            if f"`{os.path.basename(it)[:-len('.edit')]}`" not in text]
+
+
 def page(top, crates):
     """The text of docs/CONTRACTS.md."""
     found = [

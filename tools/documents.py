@@ -108,8 +108,15 @@ def documents(top: str, faults: list[str]) -> dict[str, str]:
     pages = {"docs/MAP.md", "docs/CONTRACTS.md"}
     found = {path: with_blocks(top, path, faults) for path in files if path.endswith(".md") and path not in pages}
     found["docs/CONTRACTS.md"] = contracts_page.page(top, crates)
+    faults += contracts_page.unnamed(top, crates, found["docs/CONTRACTS.md"])
     found["docs/MAP.md"] = map_page.page(top, sorted({*files, *pages}), crates, faults)
     return found
+
+
+def old_ones(top: str, found: dict[str, str]) -> list[str]:
+    """The documents that aren't as the source has them."""
+    place = {path: os.path.join(top, path) for path in found}
+    return [path for path, text in found.items() if not os.path.isfile(place[path]) or edit_files.read(place[path]) != text]
 
 
 def main(arguments: list[str]) -> int:
@@ -117,18 +124,16 @@ def main(arguments: list[str]) -> int:
         print(__doc__)
         return 2
     faults: list[str] = []
-    count = 0
-    for path, text in documents(TOP, faults).items():
-        place = os.path.join(TOP, path)
-        if os.path.isfile(place) and edit_files.read(place) == text:
-            continue
-        if arguments:
-            faults.append(f"{path}: it isn't as the source has it: make docs writes it anew")
-        else:
-            count += 1
-            with open(place, "w", encoding="utf-8") as file:
-                file.write(text)
-    print("\n".join(faults + ([] if arguments else [f"{count} documents were written"])) or "documents are as written")
+    found = documents(TOP, faults)
+    old = old_ones(TOP, found)
+    if arguments:
+        faults += [f"{path}: it isn't as the source has it: make docs writes it anew" for path in old]
+    else:
+        for path in old:
+            with open(os.path.join(TOP, path), "w", encoding="utf-8") as file:
+                file.write(found[path])
+    said = f"{len(found)} documents looked at, {len(old)} " + ("old" if arguments else "written")
+    print("\n".join([*faults, said]))
     return 1 if faults else 0
 
 

@@ -1,4 +1,4 @@
-// What the README at the top shows, run.
+// What the README at the top shows, and that of the crate, run.
 use crate::{Error, FromLexical, FromLexicalWithOptions, NumberFormatBuilder, options};
 
 #[test]
@@ -17,4 +17,15 @@ fn shown(rt: HostRuntime) {
     assert_eq!(rt; fault, Err(Error::Overflow(19)));
     assert_eq!(rt; front, Ok((1234, 4)));
     assert_eq!(rt; byte, Ok(31));
+}
+
+#[test]
+fn crate_shown(rt: HostRuntime) {
+    let whole = u64::from_lexical(b"1234"); // Ok(1234)
+    let front = u64::from_lexical_partial(b"1234 }, {\"Key\""); // Ok((1234, 4))
+    let fault = i8::from_lexical(b"-129"); // Err(Error::Underflow(3))
+
+    assert_eq!(rt; whole, Ok(1234));
+    assert_eq!(rt; front, Ok((1234, 4)));
+    assert_eq!(rt; fault, Err(Error::Underflow(3)));
 }
