@@ -13,17 +13,28 @@ import callers
 HERE = os.path.dirname(os.path.abspath(__file__))
 TOP = os.path.dirname(HERE)
 CRATES = ("lexical_util", "lexical_parse_integer")
-DEBIAN = "/usr/share/cargo/registry"
+# lexical-core, where it is there to be compiled, and where it isn't.
+WITH_LEXICAL = """[dependencies]
+lexical-core = { version = "*", default-features = false, features = ["std"], optional = true }
+"""
+WITHOUT_LEXICAL = """[features]
+lexical-core = []
+"""
+CONFIG = """[source.crates-io]
+replace-with = "debian"
+
+[source.debian]
+directory = "{registry}"
+"""
+# Where Debian's packages put the sources of Rust crates.
+REGISTRY = os.environ.get("BENCH_REGISTRY", "/usr/share/cargo/registry")
 
 CARGO = """[package]
 name = "driver"
 version = "0.0.0"
 edition = "2024"
 
-[dependencies]
-{dependency}
-[features]
-lexical-core = []
+{lexical}
 
 [profile.release]
 opt-level = 3
@@ -64,12 +75,12 @@ def library(room: str) -> None:
 
 
 def copy(source: str, to: str) -> None:
-    """A crate, with the proofs that it has: what was removed from it is removed from an older copy too."""
+    """A crate, and at first the proofs that it has. What was removed from it is removed from an older copy too."""
     for part in ("src", "specs", "proofs"):
         shutil.rmtree(os.path.join(to, part), ignore_errors=True)
         shutil.copytree(os.path.join(source, part), os.path.join(to, part))
-    if os.path.isdir(os.path.join(source, "out")):
-        shutil.copytree(os.path.join(source, "out"), os.path.join(to, "out"), dirs_exist_ok=True)
+    if os.path.isdir(os.path.join(source, "out")) and not os.path.isdir(os.path.join(to, "out")):
+        shutil.copytree(os.path.join(source, "out"), os.path.join(to, "out"))
 
 
 def write(path: str, text: str) -> None:
@@ -86,15 +97,12 @@ def driver() -> tuple[str, list[str]]:
     run(["ar", "crs", "libpeers.a", "peers.o"], at)
     for name in ("main.rs", "peers.rs", "sets.rs"):
         shutil.copy(os.path.join(HERE, "driver", name), os.path.join(at, "src", name))
-    has_lexical = bool(glob.glob(f"{DEBIAN}/lexical-core-*"))
-    dependency = 'lexical-core = { version = "*", default-features = false, features = ["std"] }\n' if has_lexical else ""
-    write(os.path.join(at, "Cargo.toml"), CARGO.format(dependency=dependency).replace(
-        "lexical-core = []\n", "" if has_lexical else "lexical-core = []\n"))
+    has_lexical = bool(glob.glob(f"{REGISTRY}/lexical-core-*"))
+    write(os.path.join(at, "Cargo.toml"), CARGO.format(lexical=WITH_LEXICAL if has_lexical else WITHOUT_LEXICAL))
     os.makedirs(os.path.join(at, ".cargo"), exist_ok=True)
-    write(os.path.join(at, ".cargo", "config.toml"), f'[source.crates-io]\nreplace-with = "debian"\n\n[source.debian]\n'
-          f'directory = "{DEBIAN}"\n' if has_lexical else "")
-    words = ["cargo", "build", "--release", "--offline", "--quiet"] + (["--features", "lexical-core"] if has_lexical else [])
+    write(os.path.join(at, ".cargo", "config.toml"), CONFIG.format(registry=REGISTRY) if has_lexical else "")
+    words = ["cargo", "build", "--release", "--offline", "--quiet", *(["--features", "lexical-core"] if has_lexical else [])]
     flags = f"-C target-cpu=x86-64-v2 -L native={at} -l static=bench_calls -l static=peers -l stdc++"
     run(words, at, RUSTFLAGS=flags)
-    left_out = [] if has_lexical else [f"lexical-core: {DEBIAN} has none (Debian's librust-lexical-core-dev)"]
+    left_out = [] if has_lexical else [f"lexical-core: {REGISTRY} has none (Debian's librust-lexical-core-dev)"]
     return os.path.join(at, "target", "release", "driver"), left_out
