@@ -93,7 +93,7 @@ def driver() -> tuple[str, list[str]]:
     at = os.path.join(room(), "driver")
     os.makedirs(os.path.join(at, "src"), exist_ok=True)
     library(room())
-    run(["c++", "-std=gnu++20", "-O2", "-march=x86-64-v2", "-c", os.path.join(HERE, "driver", "peers.cpp"), "-o", "peers.o"], at)
+    run(["c++", "-std=gnu++20", "-O3", "-march=x86-64-v2", "-c", os.path.join(HERE, "driver", "peers.cpp"), "-o", "peers.o"], at)
     run(["ar", "crs", "libpeers.a", "peers.o"], at)
     for name in ("main.rs", "peers.rs", "sets.rs"):
         shutil.copy(os.path.join(HERE, "driver", name), os.path.join(at, "src", name))

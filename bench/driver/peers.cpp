@@ -19,10 +19,10 @@ std::uint64_t sum_of(const char *texts, const std::uint32_t *stops, std::size_t 
     return sum;
 }
 
-// Whole texts, by std::from_chars.
-template <class Value>
-std::uint64_t whole(const char *texts, const std::uint32_t *stops, std::size_t count, int radix, std::uint64_t low_bits) {
-    return sum_of<Value>(texts, stops, count, low_bits, [radix](const char *first, const char *last, Value &value) {
+// Whole texts, by std::from_chars in a radix that its compiler knows.
+template <class Value, int radix = 10>
+std::uint64_t whole(const char *texts, const std::uint32_t *stops, std::size_t count, std::uint64_t low_bits) {
+    return sum_of<Value>(texts, stops, count, low_bits, [](const char *first, const char *last, Value &value) {
         auto [stop, fault] = std::from_chars(first, last, value, radix);
         return fault == std::errc() && stop == last;
     });
@@ -41,14 +41,14 @@ LOOP(cpp_none) {
         return true;
     });
 }
-LOOP(cpp_u8) { return whole<std::uint8_t>(texts, stops, count, 10, all); }
-LOOP(cpp_u32) { return whole<std::uint32_t>(texts, stops, count, 10, all); }
-LOOP(cpp_u64) { return whole<std::uint64_t>(texts, stops, count, 10, all); }
-LOOP(cpp_u128) { return whole<unsigned __int128>(texts, stops, count, 10, all); }
-LOOP(cpp_i32) { return whole<std::int32_t>(texts, stops, count, 10, 0x7fffffff); }
-LOOP(cpp_i64) { return whole<std::int64_t>(texts, stops, count, 10, all_but_the_sign); }
-LOOP(cpp_i128) { return whole<__int128>(texts, stops, count, 10, all_but_the_sign); }
-LOOP(cpp_hex) { return whole<std::uint64_t>(texts, stops, count, 16, all); }
+LOOP(cpp_u8) { return whole<std::uint8_t>(texts, stops, count, all); }
+LOOP(cpp_u32) { return whole<std::uint32_t>(texts, stops, count, all); }
+LOOP(cpp_u64) { return whole<std::uint64_t>(texts, stops, count, all); }
+LOOP(cpp_u128) { return whole<unsigned __int128>(texts, stops, count, all); }
+LOOP(cpp_i32) { return whole<std::int32_t>(texts, stops, count, 0x7fffffff); }
+LOOP(cpp_i64) { return whole<std::int64_t>(texts, stops, count, all_but_the_sign); }
+LOOP(cpp_i128) { return whole<__int128>(texts, stops, count, all_but_the_sign); }
+LOOP(cpp_hex) { return whole<std::uint64_t, 16>(texts, stops, count, all); }
 
 LOOP(cpp_front) {
     return sum_of<std::uint64_t>(texts, stops, count, all, [](const char *first, const char *last, std::uint64_t &value) {
