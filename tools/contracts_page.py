@@ -75,7 +75,7 @@ def calls_of_file(file, text, public, handed):
         if header.startswith("pub trait"):
             is_public = is_seen
         else:
-            is_public = is_seen and bool(VISIBLE.search(code[line:it.head])) and " for " not in header
+            is_public = is_seen and bool(VISIBLE.search(text[line:it.head])) and " for " not in header
         found.append(Call(it.path(), doc_above(text, line), undented(text[line:it.body]), is_public))
     return found
 

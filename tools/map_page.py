@@ -17,8 +17,8 @@ WITHOUT_COMMENT = {
 }
 # How a line of a comment begins, by the file's ending; files of other endings begin it with `#`.
 SIGNS = {
-    ".rt": r"//[!/]?", ".antt": "--", ".rs": r"//[!/]?", ".c": r"/?\*+/?|//", ".h": r"/?\*+/?|//", ".cpp": r"/?\*+/?|//",
-    ".hpp": r"/?\*+/?|//", ".svg": "<!--", ".md": "", ".3": r"\.\\\"", ".1": r"\.\\\"",
+    ".rt": r"//[!/]?", ".antt": "--", ".rs": r"//[!/]?", ".c": "//", ".h": "//", ".cpp": "//", ".hpp": "//", ".svg": "<!--",
+    ".1": r"\.\\\"", ".3": r"\.\\\"",
 }
 OF_ONE_FUNCTION = ("Answers.antt", "Invariants.antt", "Proof.antt")
 
@@ -36,6 +36,8 @@ def comment_of(path: str) -> str | None:
     lines = [line for line in text.split("\n") if not line.startswith(("#!", "<?xml"))]
     if ending == ".md":
         return sentence(markdown_front(lines))
+    if text.startswith("/*"):
+        return sentence(re.sub(r"(?m)^[ \t]*\*+[ \t]?", "", text[2:text.find("*/")]).strip().split("\n\n")[0])
     if ending == ".txt" and not lines[0].startswith("#"):
         return sentence(lines[0])
     return sentence(comment_front(lines, SIGNS.get(ending, "#+")))
@@ -48,7 +50,7 @@ def comment_front(lines: list[str], sign: str) -> str:
         here = re.match(rf"(?:{sign})\s*(.*)", line)
         if not here or (found and not here[1]):
             break
-        found.append(re.sub(r"\s*(?:\*/|-->)$", "", here[1]))
+        found.append(re.sub(r"\s*-->$", "", here[1]))
     return " ".join(found)
 
 
@@ -60,8 +62,8 @@ def markdown_front(lines: list[str]) -> str:
 
 def sentence(text: str) -> str | None:
     """The first sentence, without its full stop and with no link."""
-    text = re.sub(r"\[([^\]]*)\]\([^)]*\)", r"\1", text.strip())
-    found = re.match(r"(.*?)(?:\.(?=\s+[A-Z`])|[.:]?\Z)", text, re.S)
+    text = " ".join(re.sub(r"\[([^\]]*)\]\([^)]*\)", r"\1", text).split())
+    found = re.match(r"(.*?)(?:\.(?=\s+[A-Z`])|[.:]?\Z)", text)
     return found[1].strip() or None if found else None
 
 
