@@ -95,7 +95,7 @@ def driver() -> tuple[str, list[str]]:
     library(room())
     run(["c++", "-std=gnu++20", "-O3", "-march=x86-64-v2", "-c", os.path.join(HERE, "driver", "peers.cpp"), "-o", "peers.o"], at)
     run(["ar", "crs", "libpeers.a", "peers.o"], at)
-    for name in ("main.rs", "peers.rs", "sets.rs"):
+    for name in ("main.rs", "peers.rs", "sets.rs", "texts.rs"):
         shutil.copy(os.path.join(HERE, "driver", name), os.path.join(at, "src", name))
     has_lexical = bool(glob.glob(f"{REGISTRY}/lexical-core-*"))
     write(os.path.join(at, "Cargo.toml"), CARGO.format(lexical=WITH_LEXICAL if has_lexical else WITHOUT_LEXICAL))

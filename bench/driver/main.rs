@@ -2,12 +2,13 @@
 //!
 //!     driver time COUNT ROUNDS SEED    prints `set, peer, nanoseconds a text, those of the empty loop`, a line each
 //!     driver once COUNT SEED SET PEER  runs one loop once, for a counter of instructions
-//!     driver list                      prints `set, peer, the loop's symbol`
+//!     driver list                      prints `set, peer, whose empty loop is taken off`, a line each
 //!
 //! A time is the least of all rounds. Each round runs every peer of a set once, so that a change of the machine's speed
 //! meets all of them.
 mod peers;
 mod sets;
+mod texts;
 
 use sets::{Peer, Set, Texts, empty_loops, sets};
 use std::hint::black_box;
@@ -36,7 +37,13 @@ fn times(peers: &[Peer], texts: &Texts, rounds: usize) -> Vec<f64> {
 fn hold_alike(set: &Set) {
     let wanted = run(&set.peers[0], &set.texts);
     for peer in &set.peers {
-        assert_eq!(run(peer, &set.texts), wanted, "{} answers otherwise on `{}`", peer.0, set.name);
+        assert_eq!(
+            run(peer, &set.texts),
+            wanted,
+            "{} answers otherwise on `{}`",
+            peer.0,
+            set.name
+        );
     }
 }
 
@@ -64,9 +71,14 @@ fn time(count: usize, rounds: usize, seed: u64) {
 }
 
 fn once(count: usize, seed: u64, name: &str, peer: &str) {
-    let set = sets(count, seed).into_iter().find(|set| set.name == name).expect("no such set");
+    let set = sets(count, seed)
+        .into_iter()
+        .find(|set| set.name == name)
+        .expect("no such set");
     let empty = empty_loops().into_iter().find(|it| peer == format!("loop of {}", it.0));
-    let found = empty.or_else(|| set.peers.iter().copied().find(|it| it.0 == peer)).expect("no such peer");
+    let found = empty
+        .or_else(|| set.peers.iter().copied().find(|it| it.0 == peer))
+        .expect("no such peer");
     black_box(run(&found, &set.texts));
 }
 
