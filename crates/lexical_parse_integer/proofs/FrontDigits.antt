@@ -51,12 +51,14 @@ sign_no_digit f t r (c ∷ cs) s signed = by_plus (c == 43) refl signed
         sign_is_no_digit r c cs s true none same
     by_minus true false is e = no_sign_no_digit f r (c ∷ cs) s e
     by_minus false d is e = no_sign_no_digit f r (c ∷ cs) s e
+
     by_forbidden : (b : Bool) → c ≡ 43 → cond b (Err (InvalidPositiveSign 0)) (Ok (false, 1)) ≡ Ok s → stops_after_digit r (c ∷ cs) s.1 ≡ false
     by_forbidden true plus e = cc
     by_forbidden false plus e =
         let none : digit c r ≡ None = rw plus refl in
         let same : (false, 1) ≡ s = cc in
         sign_is_no_digit r c cs s false none same
+
     by_plus : (a : Bool) → (c == 43) ≡ a → cond a (cond f.no_positive_mantissa_sign (Err (InvalidPositiveSign 0)) (Ok (false, 1))) (cond ((c == 45) && t.is_signed) (Ok (true, 1)) (no_sign f)) ≡ Ok s
         → stops_after_digit r (c ∷ cs) s.1 ≡ false
     by_plus true is e = by_forbidden f.no_positive_mantissa_sign (eqb-true c 43 is) e
@@ -97,6 +99,7 @@ tells_digits f t text h v k none plain head unprefixed told = behind (sign f t t
         let x : Numeral = numeral f text h.start h.radix in
         let front : first_fault_or (common_faults f t text h x ++ partial_faults f text x) (numeral_value h.is_minus x, x.stop) ≡ Ok (v, k) = rw is at told in
         ap (λ (w : ℤ × ℕ). w.1) (ok_told (common_faults f t text h x ++ partial_faults f text x) (numeral_value h.is_minus x, x.stop) (v, k) front)
+
     by_prefix : (s : Bool × ℕ) (p : Option ℕ) → sign f t text ≡ Ok s → head_behind f s p ≡ h → stops_after_digit f.mantissa_radix text k ≡ nat_lt 0 (digit_count (numeral f text h.start h.radix))
     by_prefix s None e is =
         let start : h.start ≡ s.1 = ap (λ (g : Head). g.start) (sym is) in
@@ -106,6 +109,7 @@ tells_digits f t text h v k none plain head unprefixed told = behind (sign f t t
         ap (λ (r : ℕ). stops_after_digit r text k) (sym radix) ∙ ap (λ (j : ℕ). stops_after_digit h.radix text j) (sym (stops head))
         ∙ numeral_tells f h.radix text h.start none plain low before
     by_prefix s (Some r) e is = let prefixed : true ≡ false = ap (λ (g : Head). g.is_prefixed) is ∙ unprefixed in cc
+
     behind : (r : Result (Bool × ℕ) Error) → sign f t text ≡ r → head_after f text r ≡ Ok h → stops_after_digit f.mantissa_radix text k ≡ nat_lt 0 (digit_count (numeral f text h.start h.radix))
     behind (Ok s) e at = let is : head_behind f s (prefix_radix f text s.1) ≡ h = cc in by_prefix s (prefix_radix f text s.1) e is
     behind (Err e) h at = cc
