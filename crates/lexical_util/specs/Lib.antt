@@ -1,4 +1,5 @@
 -- The definitions that contracts name, a file for each subject.
+pub mod Ascii
 pub mod Compare
 pub mod Digit
 pub mod Faults
