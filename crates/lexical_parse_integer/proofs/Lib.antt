@@ -1,7 +1,6 @@
 -- The proofs of the parsers, in folders by the step of the argument.
 pub mod bound
 pub mod ForCallers
-pub mod FrontDigits
 pub mod grammar
 pub mod lanes
 pub mod reading

@@ -1,6 +1,6 @@
 -- Of `front_digits`: the law is a lemma on the definitions.
 use Rattle.lexical_parse_integer.proofs.reading.Soundness.{none_from_IsNone}
-use Rattle.lexical_parse_integer.proofs.FrontDigits.{tells_digits}
+use Rattle.lexical_parse_integer.proofs.theorems.FrontDigits.{tells_digits}
 use Rattle.lexical_parse_integer.proofs.laws.grammar.front_digits.Goals as goal
 
 pub returns : goal.returns

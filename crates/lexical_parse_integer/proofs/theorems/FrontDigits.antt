@@ -14,8 +14,7 @@ use Rattle.lexical_parse_integer.specs.Head.{Head, head_after, head_behind, head
 use Rattle.lexical_parse_integer.specs.Numeral.{Numeral, digit_count, numeral_in, numeral_value}
 use Rattle.lexical_parse_integer.specs.Runs.{digit_at}
 use Rattle.lexical_parse_integer.specs.Stops.{stops_after_digit}
-use Rattle.lexical_parse_integer.proofs.theorems.CompleteByPartial.{sign_within}
-use Rattle.lexical_parse_integer.proofs.theorems.CompleteByPartial.{ok_told}
+use Rattle.lexical_parse_integer.proofs.theorems.CompleteByPartial.{ok_told, sign_within}
 use Rattle.lexical_parse_integer.proofs.theorems.DigitTexts.{stop_plain}
 use Rattle.lexical_parse_integer.proofs.grammar.DigitsInARow.{EndsRow, has_digit, numeral_in_a_row, row_count, row_ends, row_numeral}
 use Rattle.lexical_parse_integer.proofs.theorems.SettledAnswers.{digits_of_row}
