@@ -15,6 +15,7 @@ writes it.
 """
 from __future__ import annotations
 
+import fnmatch
 import os
 import re
 import sys
@@ -34,12 +35,13 @@ class Unfit(Exception):
 def files_of(top: str) -> list[str]:
     """Every file of the repository, but what .gitignore leaves out."""
     with open(os.path.join(top, ".gitignore"), encoding="utf-8") as file:
-        ignored = {line.strip().strip("/") for line in file if line.strip()} | {".git"}
+        ignored = [".git", *(line.strip().strip("/") for line in file if line.strip() and not line.startswith("#"))]
+    is_ours = lambda name: not any(fnmatch.fnmatch(name, pattern) for pattern in ignored)
     found = []
     for at, folders, names in os.walk(top):
-        folders[:] = sorted(it for it in folders if it not in ignored)
-        found += [os.path.relpath(os.path.join(at, name), top) for name in names if name not in ignored]
-    return sorted(path for path in found if path != ".git")
+        folders[:] = filter(is_ours, folders)
+        found += [os.path.relpath(os.path.join(at, name), top) for name in filter(is_ours, names)]
+    return sorted(found)
 
 
 def crates_of(top: str) -> list[str]:

@@ -57,11 +57,12 @@ fn shown(rt: HostRuntime) {
 }
 """
 FILES = {
-    ".gitignore": "out/\n",
+    ".gitignore": "out/\n*.o\n",
     "crates.txt": "# The crates.\nsmall:\n",
     "crates/small/src/lib.rt": SOURCE,
     "crates/small/src/inner.rt": "// Inside.\npub fn inner() {}\n",
     "crates/small/out/lib.rt": "no comment\n",
+    "made.o": "no comment\n",
     "crates/small/proofs/half/Answers.antt": "use nothing\n",
     "crates/small/must-fail/half_is_a_third.edit": "file: src/lib.rt\nold:     x / 2\nnew:     x / 3\n",
     "crates/small/must-fail/hidden_adds_two.edit": "file: src/lib.rt\nold:     x + 1\nnew:     x + 2\n",
@@ -117,7 +118,7 @@ def test_pages(top):
     holds("an edit of an impl is named", "`halved_is_whole`" in inside)
     holds("the map has the first sentence", "| `docs/GUIDE.md` | How to halve |" in page and "| `src/inner.rt` | Inside |" in page)
     holds("the map names proofs by function", "`proofs/PATH/` holds what is written of the proof of the function `PATH`: `half`." in page)
-    holds("the map has nothing that git ignores", "`out/" not in page)
+    holds("the map has nothing that git ignores", "`out/" not in page and "made.o" not in page)
     holds("a block is the function", f"```rust\n{HALF}\n```" in guide)
     holds("a block is a test's body", "```rust\nuse small::other::Other;\n\nlet one = half(3); // 1\n```" in guide)
     holds("all of them are old", set(documents.old_ones(top, found)) == {"docs/CONTRACTS.md", "docs/MAP.md", "docs/GUIDE.md"})
