@@ -64,8 +64,9 @@ def machine() -> str:
     """What it was measured on."""
     with open("/proc/cpuinfo", encoding="utf-8") as file:
         model = re.search(r"model name\s*:\s*(.*)", file.read())
+    load = os.getloadavg()[0]
     said = [f"{os.cpu_count()} cores of {model[1].strip() if model else 'an unknown processor'}",
-            f"load {os.getloadavg()[0]:.1f} at the start"]
+            f"load {load:.1f} at the start" + (", so that times are rough" if load > 1 else "")]
     for words in (["rustc", "--version"], ["c++", "--version"]):
         said.append(subprocess.run(words, capture_output=True, text=True).stdout.split("\n")[0])
     return ", ".join(said)
@@ -85,7 +86,7 @@ def main() -> int:
     driver, left_out = build.driver()
     on = machine()
     small = measured(driver, asked.small, asked.rounds, asked.seed)
-    large = measured(driver, asked.large, max(asked.rounds // 8, 5), asked.seed)
+    large = measured(driver, asked.large, max(asked.rounds // 4, 5), asked.seed)
     counts = {}
     if asked.no_counts:
         left_out.append("instructions: they were not asked for")
