@@ -1,3 +1,5 @@
+# What make does here, by its targets.
+#
 # make run     builds the proved program where needed, and gives it standard input
 # make test    the gate: proves everything from nothing, runs every test, and has every must-fail edit refused, many in
 #              one check
@@ -6,6 +8,9 @@
 # make lexint  the program alone, as crates/lexint/out/lexint
 # make install puts it into $(PREFIX)/bin
 # make rows    writes the theorems and tests of the worked rows anew from tools/rows.txt
+# make docs    writes the documents that are made from the source: docs/MAP.md, docs/CONTRACTS.md, code blocks
+# make check-docs  fails where one of them isn't as the source has it, which make test does too
+# make bench   measures the parsers beside others, and writes bench/results.tsv and docs/SPEED.md
 # make judge   tries the must-fail edits alone, many in one check, and holds each to the function that it changes
 # make test-judge  tests the judge and the gate, which make test does too
 # make must-not-compile  checks what the compiler or the prover has to refuse of programs that use the libraries, which
@@ -17,7 +22,7 @@ PREFIX ?= /usr/local
 PROGRAM := crates/lexint/out/lexint
 SOURCES := $(shell find crates -name out -prune -o -type f \( -name '*.rt' -o -name '*.antt' \) -print) crates.txt
 
-.PHONY: run test test-one-by-one devices lexint install rows judge test-judge must-not-compile fuzz
+.PHONY: run test test-one-by-one devices lexint install rows docs check-docs bench judge test-judge must-not-compile fuzz
 
 run: $(PROGRAM)
 	@./$(PROGRAM)
@@ -45,6 +50,19 @@ install: $(PROGRAM)
 rows:
 	@python3 tools/rows.py
 	@cd crates/rows && $(RT) fmt
+
+docs:
+	@python3 tools/documents.py
+
+check-docs:
+	@python3 tools/test_documents.py
+	@python3 tools/documents.py --check
+
+# BENCH is what bench/run.py is asked: make bench BENCH="--rounds 50 --no-counts".
+BENCH ?=
+
+bench:
+	@RT=$(RT) bench/run.py $(BENCH)
 
 # JUDGE is what judge_edits.py is asked: make judge JUDGE="--crate lexical_util --jobs 2".
 JUDGE ?=

@@ -8,6 +8,7 @@ earlier run kept is used, and nothing here changes. Its parts:
 
 rows      the worked rows stand everywhere as tools/rows.txt has them
 lanes     the word readers are lanes
+documents the documents that are made from the source are as the source has them
 proofs    `rt ci` without the must-fail edits: every crate and its tests are proved, every test and program runs
 edits     judge_edits.py on every must-fail edit, over libraries that are proved for it from nothing
 gate      tests of this script, in which no prover runs
@@ -149,8 +150,8 @@ class Gate:
     def run(self):
         """Runs all parts, and answers whether each of them passed."""
         self.say(f"gate begins: {len(self.crates)} crates, {self.edits} edits, {self.cores} processors")
-        parts = {"rows": (None, self.rows), "lanes": (None, self.word_readers), "proofs": (None, self.proofs),
-                 "edits": (None, self.all_edits), "gate": (None, self.tests_of_gate),
+        parts = {"rows": (None, self.rows), "lanes": (None, self.word_readers), "documents": (None, self.documents),
+                 "proofs": (None, self.proofs), "edits": (None, self.all_edits), "gate": (None, self.tests_of_gate),
                  "judge": (None, self.tests_of_judge),
                  "programs": (self.libraries_are_built, self.programs), "devices": (self.proofs_passed, self.devices)}
         if self.is_one_by_one:
@@ -160,7 +161,7 @@ class Gate:
             told = [it.result() for it in [pool.submit(self.part, name, *calls) for name, calls in parts.items()]]
         self.say("gate ends")
         for name, passed, seconds, text in told:
-            print(f"{name:9}{'passed' if passed else 'FAILED'} {seconds:5.0f} s  {text.splitlines()[-1]}")
+            print(f"{name:10}{'passed' if passed else 'FAILED'} {seconds:5.0f} s  {text.splitlines()[-1]}")
         failed = sum(not passed for _, passed, _, _ in told)
         print(f"{len(told) - failed} parts passed, {failed} failed", flush=True)
         return not failed
@@ -199,6 +200,10 @@ class Gate:
     def word_readers(self):
         self.tool("lanes.sh")
         return "the word readers are lanes"
+
+    def documents(self):
+        said = last_line(self.tool("documents.py", "--check"))
+        return f"{said}; tests: {last_line(self.tool('test_documents.py'))}"
 
     def proofs(self):
         """Runs `rt ci`, and says of each crate when it is proved."""

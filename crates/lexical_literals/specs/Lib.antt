@@ -1,2 +1,3 @@
+-- The definitions that contracts name, a file for each subject.
 pub mod TokenCallers
 pub mod Tokens

@@ -8,8 +8,11 @@ use Rattle.lexical_util.specs.Digit.{digit}
 use Rattle.lexical_util.specs.Format.{Format, standard}
 use Rattle.lexical_util.specs.Number.{IntegerType, IsNumber}
 use Rattle.lexical_parse_integer.specs.Grammar.{complete, partial}
+use Rattle.lexical_parse_integer.specs.Head.{Head, head_of}
+use Rattle.lexical_parse_integer.specs.Numeral.{digit_count, numeral_in}
 use Rattle.lexical_parse_integer.specs.Runs.{digit_at, separator_at, is_in_numeral, end_of, run_begin, run_stop}
 use Rattle.lexical_parse_integer.specs.Seeking.{HasNoDigit}
+use Rattle.lexical_parse_integer.specs.Stops.{stops_after_digit}
 use Rattle.lexical_parse_integer.specs.Value.{positional_value}
 
 -- ---- ends and runs
@@ -39,6 +42,16 @@ pub record IsLongestRun (format : Format) (text : List ℕ) (start place : ℕ) 
   pub longest_behind : (stop : ℕ) → place < stop → stop ≤ length text
       → ((at : ℕ) → place ≤ at → at < stop → separator_at format text at ≡ true)
       → stop ≤ run_stop format text place
+
+-- ---- fronts and their digits
+
+-- of a text without a prefix: a digit stands directly before the place of its front exactly where the numeral has one
+abbrev pub TellsDigits : Format → IntegerType → List ℕ → Type 0
+TellsDigits format type text = (head : Head) (value : ℤ) (place : ℕ)
+    → head_of format type text ≡ Ok head → head.is_prefixed ≡ false
+    → partial format type text ≡ Ok (value, place)
+    → stops_after_digit format.mantissa_radix text place
+    ≡ nat_lt 0 (digit_count (numeral_in format text head.start head.radix))
 
 -- ---- complete and partial
 

@@ -1,3 +1,4 @@
+-- The definitions that contracts name, a file for each subject.
 pub mod Affixes
 pub mod Answer
 pub mod CursorView
@@ -10,6 +11,7 @@ pub mod OptionsView
 pub mod Reading
 pub mod Runs
 pub mod Seeking
+pub mod Stops
 pub mod Tally
 pub mod Turns
 pub mod Value

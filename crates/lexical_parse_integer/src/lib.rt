@@ -9,6 +9,7 @@ pub mod laws;
 pub mod options;
 pub mod parse;
 mod seek;
+mod stop;
 mod turns;
 
 pub use api::{FromLexical, FromLexicalWithOptions};
@@ -17,6 +18,7 @@ pub use lexical_util::format::{self, NumberFormat, NumberFormatBuilder};
 pub use lexical_util::options::ParseOptions;
 pub use lexical_util::result::Result;
 pub use options::{Options, OptionsBuilder};
+pub use stop::stops_after_digit;
 
 #[cfg(test)]
 mod tests;

@@ -4,5 +4,6 @@ mod cursor;
 mod options;
 mod parsers;
 mod pins;
+mod readme;
 mod turns;
 mod words;

@@ -1,3 +1,4 @@
+-- The definitions that contracts name, a file for each subject.
 pub mod Ascii
 pub mod Compare
 pub mod Digit

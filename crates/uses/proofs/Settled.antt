@@ -9,7 +9,7 @@ use Rattle.lexical_util.specs.Number.{integer_type}
 use Rattle.lexical_parse_integer.specs.Grammar.{partial}
 use Rattle.lexical_parse_integer.specs.Runs.{digit_at}
 use Rattle.lexical_parse_integer.specs.Laws.{IsLocal, IsSettledAt, SameFront}
-use Rattle.uses.specs.Digits.{digit_before}
+use Rattle.lexical_parse_integer.specs.Stops.{stops_after_digit}
 use Rattle.uses.specs.Json.{IsFinal}
 
 -- texts with the same first bytes have the same byte at each place among them
@@ -28,7 +28,7 @@ same_inside count (x ∷ xs) [] same inside = cc
 same_inside zero (x ∷ xs) (y ∷ ys) same inside = omega arith
 same_inside (suc n) (x ∷ xs) (y ∷ ys) same inside = let rest = same_inside n xs ys (cc) (omega arith) in omega arith
 
-same_digit : (text other : List ℕ) (place : ℕ) → SameFront (suc place) text other → digit_before other place ≡ digit_before text place
+same_digit : (text other : List ℕ) (place : ℕ) → SameFront (suc place) text other → stops_after_digit 10 other place ≡ stops_after_digit 10 text place
 unfolding digit_at
 same_digit text other place same =
     ap (λ byte. nat_lt 0 place && is_some (option_and_then (λ c. digit c 10) byte)) (same_byte (suc place) (place - 1) text other same (omega arith))

@@ -8,7 +8,7 @@ use Rattle.lexical_util.specs.Format.{Format, standard}
 use Rattle.lexical_util.specs.Number.{number_if_fits, integer_type, mul_add}
 use Rattle.lexical_parse_integer.specs.Grammar.{partial}
 use Rattle.lexical_parse_integer.specs.Runs.{are_same}
-use Rattle.uses.specs.Digits.{digit_before}
+use Rattle.lexical_parse_integer.specs.Stops.{stops_after_digit}
 use Rattle.uses.specs.declared.fixed_point.FixedPointError.{FixedPointError}
 use Rattle.uses.specs.declared.fixed_point.FixedPointError.TheVariants.{Whole, Fraction, TooManyDigits, OutOfRange}
 
@@ -30,7 +30,7 @@ is_negative text = are_same (Some minus) (slice_get text 0)
 -- the whole part by the front of its text: at least one digit is there
 abbrev pub whole_by : List ℕ → Result (ℤ × ℕ) Error → Answer
 whole_by text (Ok (whole, end)) =
-    if digit_before text end then Ok (whole, end)
+    if stops_after_digit 10 text end then Ok (whole, end)
     else Err (Whole (InvalidDigit end))
 whole_by text (Err e) = Err (Whole e)
 

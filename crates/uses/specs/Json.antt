@@ -7,7 +7,7 @@ use Rattle.lexical_util.specs.Format.{json}
 use Rattle.lexical_util.specs.Number.{integer_type}
 use Rattle.lexical_parse_integer.specs.Grammar.{partial}
 use Rattle.lexical_parse_integer.specs.Laws.{SameFront}
-use Rattle.uses.specs.Digits.{digit_before}
+use Rattle.lexical_parse_integer.specs.Stops.{stops_after_digit}
 use Rattle.uses.specs.declared.json.Part.{Part}
 use Rattle.uses.specs.declared.json.Part.TheVariants.{Whole, Unfinished}
 use Rattle.uses.specs.declared.json.NumberError.{NumberError}
@@ -16,7 +16,7 @@ use Rattle.uses.specs.declared.json.NumberError.TheVariants.{NoDigit, OutOfRange
 -- what a front tells that ends before its text does
 abbrev pub part_behind : List ℕ → ℤ → ℕ → Result Part NumberError
 part_behind text value end =
-    if digit_before text end then Ok (Whole value end)
+    if stops_after_digit 10 text end then Ok (Whole value end)
     else Err (NoDigit end)
 
 -- what the partial answer of a text tells: a front that reaches the end may go on, and digits that are missing there may come

@@ -1,5 +1,5 @@
+-- The definitions that contracts name, a file for each subject.
 pub mod Config
-pub mod Digits
 pub mod Each
 pub mod FixedPoint
 pub mod FixedWidth

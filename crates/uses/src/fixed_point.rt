@@ -8,11 +8,11 @@ ghost use Rattle.lexical_parse_integer.specs.Answer.{with_place, view_of};
 ghost use Rattle.lexical_parse_integer.specs.Grammar.{partial};
 ghost use Rattle.uses.specs.FixedPoint.{fixed_point_in, fraction_at, fraction_behind, is_negative, unsigned, whole_in};
 
-use crate::digits::digit_before;
 use crate::narrow::as_i64;
 use lexical_parse_integer::laws::grammar::front_end;
 use lexical_parse_integer::{
     Error, FromLexical, FromLexicalWithOptions, NumberFormat, NumberFormatBuilder, options,
+    stops_after_digit,
 };
 
 /// Why a text doesn't begin with a fixed-point number. Places count bytes of the text from 0.
@@ -77,7 +77,7 @@ fn whole_part(text: &[u8]) -> Result<(i64, usize), FixedPointError>
     ensures { result ≡ whole_in text.now }
 {
     match i64::from_lexical_partial(text) {
-        Ok((whole, end)) if digit_before(text, end) => Ok((whole, end)),
+        Ok((whole, end)) if stops_after_digit(text, end, 10) => Ok((whole, end)),
         Ok((_, end)) => Err(FixedPointError::Whole(Error::InvalidDigit(end))),
         Err(error) => Err(FixedPointError::Whole(error)),
     }

@@ -3,9 +3,8 @@
 ghost use Rattle.std.specs.Prelude.{◌≡◌, ◌+◌, IfSome};
 ghost use Rattle.uses.specs.Json.{IsFinal, part_in, settled_at};
 
-use crate::digits::digit_before;
 use lexical_parse_integer::laws::grammar::locality;
-use lexical_parse_integer::{Error, FromLexicalWithOptions, format, options};
+use lexical_parse_integer::{Error, FromLexicalWithOptions, format, options, stops_after_digit};
 
 /// What a reader knows of the number that its input begins with.
 #[derive(Debug, Copy, Clone, PartialEq, Eq)]
@@ -41,7 +40,7 @@ pub fn integer_part(read: &[u8]) -> Result<Part, NumberError>
     locality();
     match i64::from_lexical_partial_with_options(read, &format::JSON, &options::STANDARD) {
         Ok((value, end)) if end < read.len() => {
-            if digit_before(read, end) {
+            if stops_after_digit(read, end, 10) {
                 Ok(Part::Whole { value, end })
             } else {
                 Err(NumberError::NoDigit(end))

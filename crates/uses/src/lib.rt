@@ -2,7 +2,6 @@
 #![tactic(auto)]
 
 pub mod config;
-mod digits;
 pub mod fixed_point;
 pub mod fixed_width;
 pub mod json;

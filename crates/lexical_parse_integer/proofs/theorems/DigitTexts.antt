@@ -50,7 +50,7 @@ head_is f t text s none unasked sign_is =
     by_zero false = refl
 
 -- without a suffix reading stops at the end
-stop_plain : (f : Format) (text : List ℕ) (start r count : ℕ) → f.base_suffix ≡ None → (row_numeral f text start r count).stop ≡ start + count
+pub stop_plain : (f : Format) (text : List ℕ) (start r count : ℕ) → f.base_suffix ≡ None → (row_numeral f text start r count).stop ≡ start + count
 unfolding suffix_at is_affix
 stop_plain f text start r count none = rw (none, and-false) refl
 

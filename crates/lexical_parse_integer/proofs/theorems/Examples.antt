@@ -13,6 +13,7 @@ use Rattle.lexical_parse_integer.specs.Laws.{IsNumeralOf, IsSettledAt, PadsZeros
 use Rattle.lexical_parse_integer.specs.Numeral.{digit_count, numeral_in}
 use Rattle.lexical_parse_integer.specs.Runs.{are_same, begin_of, is_in_numeral, digit_at, digits_between, end_of, flag_for, run_begin, run_passes, run_stop, separator_at}
 use Rattle.lexical_parse_integer.specs.Seeking.{HasNoDigit}
+use Rattle.lexical_parse_integer.specs.Stops.{stops_after_digit}
 use Rattle.lexical_parse_integer.specs.Turns.{HasFewTurns}
 use Rattle.lexical_parse_integer.proofs.theorems.Locality.{is_local}
 use Rattle.lexical_parse_integer.proofs.theorems.ReadBack.{digits_text, numeral_text, printed_is, reads_numerals, shortest_if}
@@ -30,6 +31,10 @@ i16 = integer_type 16 true
 -- separator `_`, between digits
 abbrev internal : Format
 internal = record standard { digit_separator = Some 95; integer_internal_digit_separator = true }
+
+-- separator `_`, behind the digits
+abbrev trailing : Format
+trailing = record standard { digit_separator = Some 95; integer_trailing_digit_separator = true }
 
 -- ---- runs and ends: in `1__2` the run at place 2 goes from 1 to before 3; two in a row don't pass
 run_of_two : (run_begin internal (49 ∷ 95 ∷ 95 ∷ 50 ∷ []) 0 2 ≡ 1) × (run_stop internal (49 ∷ 95 ∷ 95 ∷ 50 ∷ []) 2 ≡ 3)
@@ -57,6 +62,20 @@ full_front = (refl, refl)
 empty_front : (digit_at 10 (120 ∷ []) 0 ≡ None) × (partial standard u8 (120 ∷ []) ≡ Ok (pos 0, 0))
 unfolding partial numeral_in numeral_stop head_of sign prefix_radix marked_radix literal_radix suffix_at is_affix range_fault end_of is_in_numeral digits_between digit_at separator_at are_same
 empty_front = (refl, refl)
+
+-- ---- the front's digits: `1x` stops after a digit, and `+a` after none; behind the trailing separator of `1_` there is
+-- none though a digit was read
+after_digit : (partial standard u8 (49 ∷ 120 ∷ []) ≡ Ok (pos 1, 1)) × (stops_after_digit 10 (49 ∷ 120 ∷ []) 1 ≡ true)
+unfolding partial numeral_in numeral_stop head_of sign prefix_radix marked_radix literal_radix suffix_at is_affix range_fault end_of is_in_numeral run_passes flag_for begin_of digits_between digit_at separator_at are_same
+after_digit = (refl, refl)
+
+after_none : (partial standard u8 (43 ∷ 97 ∷ []) ≡ Ok (pos 0, 1)) × (stops_after_digit 10 (43 ∷ 97 ∷ []) 1 ≡ false)
+unfolding partial numeral_in numeral_stop head_of sign prefix_radix marked_radix literal_radix suffix_at is_affix range_fault end_of is_in_numeral run_passes flag_for begin_of digits_between digit_at separator_at are_same
+after_none = (refl, refl)
+
+after_separator : (partial trailing u8 (49 ∷ 95 ∷ []) ≡ Ok (pos 1, 2)) × (stops_after_digit 10 (49 ∷ 95 ∷ []) 2 ≡ false)
+unfolding partial numeral_in numeral_stop head_of sign prefix_radix marked_radix literal_radix suffix_at is_affix range_fault end_of is_in_numeral run_passes flag_for begin_of digits_between digit_at separator_at are_same
+after_separator = (refl, refl)
 
 -- ---- complete and partial: each of the sentences has a text
 

@@ -4,7 +4,7 @@
 ghost use Rattle.std.specs.Prelude.{◌≡◌, ◌≢◌, ◌<◌, ◌≤◌, ◌⊎◌, true, List, length, slice_get, IsNone, Ok, Some, ℕ, ℤ};
 ghost use Rattle.std.specs.Fmt.{signed_decimal};
 ghost use Rattle.lexical_parse_integer.specs.Grammar.{complete, partial};
-ghost use Rattle.lexical_parse_integer.specs.Laws.{Completes, IsGreatestEnd, IsLocal, IsLongestRun, IsNumeralOf, LeavesWithin, ReadsNumerals, ReadsPadded, Writes, WritesShortest, completion_of};
+ghost use Rattle.lexical_parse_integer.specs.Laws.{Completes, IsGreatestEnd, IsLocal, IsLongestRun, IsNumeralOf, LeavesWithin, ReadsNumerals, ReadsPadded, TellsDigits, Writes, WritesShortest, completion_of};
 ghost use Rattle.lexical_parse_integer.specs.Runs.{digit_at, separator_at};
 ghost use Rattle.lexical_util.specs.Digit.{IsRadix};
 ghost use Rattle.lexical_util.specs.Format.{Format};
@@ -63,6 +63,15 @@ pub fn front_end()
         (place digit : ℕ)
         → digit_at format.mantissa_radix text 0 ≡ Some digit
         → partial format type text ≡ Ok (value, place) → 0 < place }
+{}
+
+/// The front that is read of a text without a prefix has a digit exactly where one stands directly before its place,
+/// under a format without separator byte and suffix: what `stops_after_digit` answers is whether a digit was read.
+///
+/// Under the standard format the front of `+a` stops at 1, behind no digit, and has none.
+pub fn front_digits()
+    ensures { (format : Format) (type : IntegerType) (text : List ℕ)
+        → IsNone format.digit_separator → IsNone format.base_suffix → TellsDigits format type text }
 {}
 
 /// Under a valid format without a separator byte, a partial answer that is settled at a place is

@@ -1,3 +1,5 @@
+// The laws at examples, and callers that lean on them.
+
 ghost use Rattle.std.specs.Prelude.{◌≡◌, ◌<◌, ◌≤◌, Ok, length};
 ghost use Rattle.std.specs.Fmt.{decimal};
 ghost use Rattle.lexical_parse_integer.specs.Answer.{with_place, view_of};

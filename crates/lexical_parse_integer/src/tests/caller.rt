@@ -1,15 +1,19 @@
 // The callers that CALLING.md shows, proved and run.
 
-ghost use Rattle.std.specs.Prelude.{◌≡◌, ◌<◌, false, drop, Err, IfErr, IfNone, IfOk, IfSome, Ok, pos, slice_get, Some, ℕ};
+ghost use Rattle.std.specs.Prelude.{◌≡◌, ◌<◌, false, drop, Err, IfErr, IfNone, IfOk, IfSome, Ok, pos, slice_get, Some, true, ℕ};
 ghost use Rattle.lexical_parse_integer.specs.Answer.{view_of};
 ghost use Rattle.lexical_parse_integer.specs.Grammar.{complete, partial};
+ghost use Rattle.lexical_parse_integer.specs.Stops.{stops_after_digit};
 ghost use Rattle.lexical_util.specs.Format.{standard};
 ghost use Rattle.lexical_util.specs.Number.{integer_type};
 
 use crate::algorithm::algorithm_partial_on;
 use crate::cursor::Cursor;
 use crate::format::STANDARD;
-use crate::{Error, FromLexical, FromLexicalWithOptions, NumberFormatBuilder, Result, options};
+use crate::{
+    Error, FromLexical, FromLexicalWithOptions, NumberFormatBuilder, Result, options,
+    stops_after_digit,
+};
 
 /// A field that has to be a port: a number from 1 to 65535, and nothing else.
 pub fn port(field: &[u8]) -> Option<u16>
@@ -60,6 +64,22 @@ pub fn number_and_stopper(text: &[u8]) -> Result<(u32, Option<u8>)>
     Ok((number, c.first()))
 }
 
+/// The number that a line begins with, where it begins with one: a line without a digit has none.
+pub fn leading_number(line: &[u8]) -> Option<u32>
+    ensures found { IfSome result (λ number. (place : ℕ)
+        × (partial standard (integer_type 32 false) line.now ≡ Ok (pos number, place))
+        × (stops_after_digit 10 line.now place ≡ true)) }
+    ensures none { IfNone result (IfOk (partial standard (integer_type 32 false) line.now)
+        (λ found. stops_after_digit 10 line.now found.1 ≡ false)) }
+{
+    let (number, place) = u32::from_lexical_partial(line).ok()?;
+    if stops_after_digit(line, place, 10) {
+        Some(number)
+    } else {
+        None
+    }
+}
+
 #[test]
 fn callers(rt: HostRuntime) {
     assert_eq!(rt; port(b"8080"), Some(8080));
@@ -72,4 +92,12 @@ fn callers(rt: HostRuntime) {
     assert_eq!(rt; number_and_stopper(b"+"), Err(Error::Empty(1)));
     assert_eq!(rt; address(b"0x1F"), Ok(31));
     assert_eq!(rt; address(b"1f"), Ok(31));
+    assert_eq!(rt; leading_number(b"12,"), Some(12));
+    assert_eq!(rt; leading_number(b"0"), Some(0));
+    assert_eq!(rt; leading_number(b"x1"), None);
+    assert_eq!(rt; leading_number(b"+a"), None);
+    assert_eq!(rt; stops_after_digit(b"1f", 2, 16), true);
+    assert_eq!(rt; stops_after_digit(b"1f", 2, 10), false);
+    assert_eq!(rt; stops_after_digit(b"1f", 0, 10), false);
+    assert_eq!(rt; stops_after_digit(b"1f", 3, 16), false);
 }

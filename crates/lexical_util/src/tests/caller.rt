@@ -1,4 +1,4 @@
-// The caller that CALLING.md shows, proved and run.
+// The caller that CALLING.md shows, proved, and what the README shows, run.
 
 ghost use Rattle.std.specs.Prelude.{◌≡◌, ◌≤ℤ◌, false, pos};
 ghost use Rattle.std.specs.Option.{option_and_then, option_map};
@@ -22,4 +22,15 @@ pub fn pushed<T: Integer>(number: T, byte: u8, format: &NumberFormat) -> Option<
     let value = char_to_digit(byte, format.radix())?;
     let scale = T::from_u32(format.radix());
     number.checked_mul_add(scale, T::from_u32(value), false)
+}
+
+#[test]
+fn shown(rt: HostRuntime) {
+    let format = NumberFormatBuilder::new()
+        .mantissa_radix(16)
+        .base_prefix(Some(b'x'))
+        .build_strict();
+    let value = char_to_digit(b'F', format.radix()); // Some(15)
+
+    assert_eq!(rt; value, Some(15));
 }

@@ -1,4 +1,5 @@
-// Texts of a million bytes and of sixteen mebibytes.
+// Texts of a million bytes and of sixteen mebibytes. `rt try --test`, whose build tests each step, gives three of these
+// up at its limit of 60 seconds.
 use super::slow::{greatest, power};
 use super::whole::{Whole, answers};
 use lexical_parse_integer::format::STANDARD;

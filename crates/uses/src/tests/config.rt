@@ -1,3 +1,5 @@
+// Values of a configuration, and texts that are none.
+
 use crate::config::{ValueError, value};
 use lexical_parse_integer::Error;
 

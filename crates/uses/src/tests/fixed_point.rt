@@ -1,3 +1,5 @@
+// Prices and rates in units of the last digit, and texts that have none.
+
 use crate::fixed_point::{FixedPointError, fixed_point};
 use lexical_parse_integer::Error;
 

@@ -1,3 +1,5 @@
+// Rows of columns, and the first column that is not read.
+
 use crate::fixed_width::{RowError, values};
 use lexical_parse_integer::Error;
 

@@ -1,3 +1,5 @@
+// Numbers of a stream, before and after its buffer is cut.
+
 ghost use Rattle.std.specs.Prelude.{◌≡◌, ◌<◌, Some, length};
 ghost use Rattle.uses.specs.Json.{settled_at};
 

@@ -1,3 +1,5 @@
+// Ledgers and their totals, and the first line that has none.
+
 use crate::ledger::{Entry, LedgerError, LineError, total};
 use lexical_parse_integer::Error;
 

@@ -1,0 +1,108 @@
+"""Builds the driver: the measured library, proved in a tree of its own, and the peers that are there."""
+from __future__ import annotations
+
+import glob
+import os
+import shutil
+import subprocess
+import sys
+import tempfile
+
+import callers
+
+HERE = os.path.dirname(os.path.abspath(__file__))
+TOP = os.path.dirname(HERE)
+CRATES = ("lexical_util", "lexical_parse_integer")
+# lexical-core, where it is there to be compiled, and where it isn't.
+WITH_LEXICAL = """[dependencies]
+lexical-core = { version = "*", default-features = false, features = ["std"], optional = true }
+"""
+WITHOUT_LEXICAL = """[features]
+lexical-core = []
+"""
+CONFIG = """[source.crates-io]
+replace-with = "debian"
+
+[source.debian]
+directory = "{registry}"
+"""
+# Where Debian's packages put the sources of Rust crates.
+REGISTRY = os.environ.get("BENCH_REGISTRY", "/usr/share/cargo/registry")
+
+CARGO = """[package]
+name = "driver"
+version = "0.0.0"
+edition = "2024"
+
+{lexical}
+
+[profile.release]
+opt-level = 3
+codegen-units = 1
+lto = "fat"
+panic = "abort"
+"""
+
+
+def run(words: list[str], folder: str, **more: str) -> None:
+    """Runs a command, and ends this program where it fails."""
+    if subprocess.run(words, cwd=folder, env={**os.environ, **more}).returncode:
+        sys.exit(f"bench: {' '.join(words)} failed")
+
+
+def missing() -> list[str]:
+    """The programs that a measurement needs and that aren't there."""
+    return [name for name in (os.environ.get("RT", "rt"), "cargo", "c++", "ar") if not shutil.which(name)]
+
+
+def room() -> str:
+    """The folder that the build takes: outside of the repository, whose gate reads each file below it."""
+    return os.environ.get("BENCH_ROOM") or os.path.join(tempfile.gettempdir(), f"jadvolni-bench-{os.getuid()}")
+
+
+def library(room: str) -> None:
+    """The measured library, as `libbench_calls.a`."""
+    tree = os.path.join(room, "tree")
+    os.makedirs(os.path.join(tree, "crates", "bench_calls", "src"), exist_ok=True)
+    for crate in CRATES:
+        copy(os.path.join(TOP, "crates", crate), os.path.join(tree, "crates", crate))
+    write(os.path.join(tree, "crates.txt"), "lexical_util:\nlexical_parse_integer: lexical_util\n"
+          "bench_calls staticlib: lexical_util lexical_parse_integer\n")
+    folder = os.path.join(tree, "crates", "bench_calls")
+    write(os.path.join(folder, "src", "lib.rt"), callers.source())
+    run([os.environ.get("RT", "rt"), "lib"], folder)
+    shutil.copy(os.path.join(folder, "out", "libbench_calls.a"), os.path.join(room, "driver"))
+
+
+def copy(source: str, to: str) -> None:
+    """A crate, and at first the proofs that it has. What was removed from it is removed from an older copy too."""
+    for part in ("src", "specs", "proofs"):
+        shutil.rmtree(os.path.join(to, part), ignore_errors=True)
+        shutil.copytree(os.path.join(source, part), os.path.join(to, part))
+    if os.path.isdir(os.path.join(source, "out")) and not os.path.isdir(os.path.join(to, "out")):
+        shutil.copytree(os.path.join(source, "out"), os.path.join(to, "out"))
+
+
+def write(path: str, text: str) -> None:
+    with open(path, "w", encoding="utf-8") as file:
+        file.write(text)
+
+
+def driver() -> tuple[str, list[str]]:
+    """(the driver's path, what could not be measured and why)."""
+    at = os.path.join(room(), "driver")
+    os.makedirs(os.path.join(at, "src"), exist_ok=True)
+    library(room())
+    run(["c++", "-std=gnu++20", "-O3", "-march=x86-64-v2", "-c", os.path.join(HERE, "driver", "peers.cpp"), "-o", "peers.o"], at)
+    run(["ar", "crs", "libpeers.a", "peers.o"], at)
+    for name in ("main.rs", "peers.rs", "sets.rs", "texts.rs"):
+        shutil.copy(os.path.join(HERE, "driver", name), os.path.join(at, "src", name))
+    has_lexical = bool(glob.glob(f"{REGISTRY}/lexical-core-*"))
+    write(os.path.join(at, "Cargo.toml"), CARGO.format(lexical=WITH_LEXICAL if has_lexical else WITHOUT_LEXICAL))
+    os.makedirs(os.path.join(at, ".cargo"), exist_ok=True)
+    write(os.path.join(at, ".cargo", "config.toml"), CONFIG.format(registry=REGISTRY) if has_lexical else "")
+    words = ["cargo", "build", "--release", "--offline", "--quiet", *(["--features", "lexical-core"] if has_lexical else [])]
+    flags = f"-C target-cpu=x86-64-v2 -L native={at} -l static=bench_calls -l static=peers -l stdc++"
+    run(words, at, RUSTFLAGS=flags)
+    left_out = [] if has_lexical else [f"lexical-core: {REGISTRY} has none (Debian's librust-lexical-core-dev)"]
+    return os.path.join(at, "target", "release", "driver"), left_out

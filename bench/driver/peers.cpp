@@ -1,0 +1,88 @@
+// What C and C++ read integers with: loops over texts, each around one call.
+#include <cerrno>
+#include <charconv>
+#include <cstddef>
+#include <cstdint>
+#include <cstdlib>
+
+namespace {
+
+// A loop around one call: it is handed the text's bytes and answers whether there is a value.
+template <class Value, class Read>
+std::uint64_t sum_of(const char *texts, const std::uint32_t *stops, std::size_t count, std::uint64_t low_bits, Read read) {
+    std::uint64_t sum = 0;
+    for (std::size_t number = 1; number < count; number++) {
+        Value value{};
+        bool is_read = read(texts + stops[number - 1], texts + stops[number] - 1, value);
+        sum = sum * 31 + (is_read ? static_cast<std::uint64_t>(value) & low_bits : 1);
+    }
+    return sum;
+}
+
+// Whole texts, by std::from_chars in a radix that its compiler knows.
+template <class Value, int radix = 10>
+std::uint64_t whole(const char *texts, const std::uint32_t *stops, std::size_t count, std::uint64_t low_bits) {
+    return sum_of<Value>(texts, stops, count, low_bits, [](const char *first, const char *last, Value &value) {
+        auto [stop, fault] = std::from_chars(first, last, value, radix);
+        return fault == std::errc() && stop == last;
+    });
+}
+
+constexpr std::uint64_t all = ~std::uint64_t{0}, all_but_the_sign = all >> 1;
+
+}  // namespace
+
+extern "C" {
+#define LOOP(name) std::uint64_t name(const char *texts, std::size_t, const std::uint32_t *stops, std::size_t count)
+
+LOOP(cpp_none) {
+    return sum_of<std::uint64_t>(texts, stops, count, all, [](const char *first, const char *last, std::uint64_t &value) {
+        value = static_cast<std::uint64_t>(last - first);
+        return true;
+    });
+}
+LOOP(cpp_u8) { return whole<std::uint8_t>(texts, stops, count, all); }
+LOOP(cpp_u32) { return whole<std::uint32_t>(texts, stops, count, all); }
+LOOP(cpp_u64) { return whole<std::uint64_t>(texts, stops, count, all); }
+LOOP(cpp_u128) { return whole<unsigned __int128>(texts, stops, count, all); }
+LOOP(cpp_i32) { return whole<std::int32_t>(texts, stops, count, 0x7fffffff); }
+LOOP(cpp_i64) { return whole<std::int64_t>(texts, stops, count, all_but_the_sign); }
+LOOP(cpp_i128) { return whole<__int128>(texts, stops, count, all_but_the_sign); }
+LOOP(cpp_hex) { return whole<std::uint64_t, 16>(texts, stops, count, all); }
+
+LOOP(cpp_front) {
+    return sum_of<std::uint64_t>(texts, stops, count, all, [](const char *first, const char *last, std::uint64_t &value) {
+        return std::from_chars(first, last, value).ec == std::errc();
+    });
+}
+
+// The separators are left out by a copy.
+LOOP(cpp_separators) {
+    return sum_of<std::uint64_t>(texts, stops, count, all, [](const char *first, const char *last, std::uint64_t &value) {
+        char digits[64];
+        std::size_t size = 0;
+        for (; first < last && size < sizeof digits; first++)
+            if (*first != '_') digits[size++] = *first;
+        auto [stop, fault] = std::from_chars(digits, digits + size, value);
+        return fault == std::errc() && stop == digits + size;
+    });
+}
+
+LOOP(c_u64) {
+    return sum_of<std::uint64_t>(texts, stops, count, all, [](const char *first, const char *last, std::uint64_t &value) {
+        char *stop;
+        errno = 0;
+        value = std::strtoull(first, &stop, 10);
+        return stop == last && stop != first && errno == 0;
+    });
+}
+
+LOOP(c_hex) {
+    return sum_of<std::uint64_t>(texts, stops, count, all, [](const char *first, const char *last, std::uint64_t &value) {
+        char *stop;
+        errno = 0;
+        value = std::strtoull(first, &stop, 16);
+        return stop == last && stop != first && errno == 0;
+    });
+}
+}

@@ -1,0 +1,162 @@
+#!/usr/bin/env python3
+"""Tests of documents.py and of the two files that it stands on, over a small repository that it writes.
+
+Each of its breaks has to be seen: a document that is old, a file that doesn't say what it is, a marker that names
+nothing. Its last line is `N passed, M failed`.
+"""
+import os
+import sys
+import tempfile
+
+import documents
+
+SOURCE = """//! Halves of numbers.
+#![tactic(auto)]
+
+use crate::other::Other;
+
+/// Half of a number, rounded down.
+///
+/// `3` gives 1.
+pub fn half(x: u32) -> u32
+    ensures { result ≡ x / 2 }
+{
+    x / 2
+}
+
+// Nobody sees this.
+fn hidden(x: u32) -> u32
+    requires { x < 9 }
+    ensures value { result ≡ x + 1 }
+{
+    x + 1
+}
+
+/// What can be halved.
+pub trait Halved {
+    ghost whole: { Self → ℕ };
+
+    /// The half of it.
+    fn halved(&self) -> u32
+        ensures { result ≡ whole self.now / 2 };
+}
+
+impl Halved for u32 {
+    ghost whole = { λ x. x };
+
+    fn halved(&self) -> u32 {
+        *self / 2
+    }
+}
+
+#[test]
+fn shown(rt: HostRuntime) {
+    let one = half(3); // 1
+
+    assert_eq!(rt; one, 1);
+}
+"""
+FILES = {
+    ".gitignore": "out/\n*.o\n",
+    "crates.txt": "# The crates.\nsmall:\n",
+    "crates/small/src/lib.rt": SOURCE,
+    "crates/small/src/inner.rt": "// Inside.\npub fn inner() {}\n",
+    "crates/small/out/lib.rt": "no comment\n",
+    "made.o": "no comment\n",
+    "crates/small/proofs/half/Answers.antt": "use nothing\n",
+    "crates/small/must-fail/half_is_a_third.edit": "file: src/lib.rt\nold:     x / 2\nnew:     x / 3\n",
+    "crates/small/must-fail/hidden_adds_two.edit": "file: src/lib.rt\nold:     x + 1\nnew:     x + 2\n",
+    "crates/small/must-fail/halved_is_whole.edit": "file: src/lib.rt\nold:         *self / 2\nnew:         *self\n",
+    "docs/GUIDE.md": "# Guide\n\nHow to halve. And more.\n\n<!-- block: crates/small/src/lib.rt: half -->\n```rust\nold\n```\n\n"
+                     "<!-- block: crates/small/src/lib.rt: imports and body of shown as small -->\n```rust\n```\n",
+}
+HALF = """/// Half of a number, rounded down.
+///
+/// `3` gives 1.
+pub fn half(x: u32) -> u32
+    ensures { result ≡ x / 2 }
+{
+    x / 2
+}"""
+
+passed, failed = 0, 0
+
+
+def holds(what, is_so):
+    global passed, failed
+    passed, failed = passed + bool(is_so), failed + (not is_so)
+    if not is_so:
+        print(f"not so: {what}")
+
+
+def write(top, files):
+    for path, text in files.items():
+        os.makedirs(os.path.dirname(os.path.join(top, path)), exist_ok=True)
+        with open(os.path.join(top, path), "w", encoding="utf-8") as file:
+            file.write(text)
+
+
+def section(text, title):
+    return text.partition(f"`{title}`\n")[2].partition("\n#")[0]
+
+
+def test_pages(top):
+    faults = []
+    found = documents.documents(top, faults)
+    holds("no fault", faults == [])
+    contracts, page, guide = found["docs/CONTRACTS.md"], found["docs/MAP.md"], found["docs/GUIDE.md"]
+    half = section(contracts, "half")
+    holds("a public call has its clauses", "pub fn half(x: u32) -> u32\n    ensures { result ≡ x / 2 }\n```" in half)
+    holds("and the first paragraph of its comment", "Half of a number, rounded down.\n" in half and "gives 1" not in half)
+    holds("and its edits", "`half_is_a_third`" in half and "hidden_adds_two" not in half)
+    holds("no body stands there", "x / 2\n}" not in contracts)
+    inside = contracts.partition("### Inside")[2]
+    holds("what is private comes behind", "fn hidden" in inside and "`hidden_adds_two`" in inside and "fn half" not in inside)
+    holds("a private module's function isn't public", "inner()" not in contracts)
+    holds("a trait has its ghost items", "ghost whole: { Self → ℕ };" in section(contracts, "trait Halved"))
+    holds("a trait's call is public", "result ≡ whole self.now / 2" in section(contracts, "Halved::halved"))
+    holds("an edit of an impl is named", "`halved_is_whole`" in inside)
+    holds("the map has the first sentence", "| `docs/GUIDE.md` | How to halve |" in page and "| `src/inner.rt` | Inside |" in page)
+    holds("the map names proofs by function", "`proofs/PATH/` holds what is written of the proof of the function `PATH`: `half`." in page)
+    holds("the map has nothing that git ignores", "`out/" not in page and "made.o" not in page)
+    holds("a block is the function", f"```rust\n{HALF}\n```" in guide)
+    holds("a block is a test's body", "```rust\nuse small::other::Other;\n\nlet one = half(3); // 1\n```" in guide)
+    holds("all of them are old", set(documents.old_ones(top, found)) == {"docs/CONTRACTS.md", "docs/MAP.md", "docs/GUIDE.md"})
+    write(top, found)
+    faults = []
+    holds("written ones are not", documents.old_ones(top, documents.documents(top, faults)) == [] and faults == [])
+
+
+def test_breaks(top):
+    broken = {
+        "a changed clause": ({"crates/small/src/lib.rt": SOURCE.replace("≡ x / 2", "≡ x / 2 + 0")}, ["docs/CONTRACTS.md", "docs/GUIDE.md"]),
+        "a new edit": ({"crates/small/must-fail/more.edit": "file: src/lib.rt\nold:     x / 2\nnew:     x\n"},
+                       ["docs/CONTRACTS.md", "docs/MAP.md"]),
+        "a changed block": ({"docs/GUIDE.md": FILES["docs/GUIDE.md"]}, ["docs/GUIDE.md"]),
+    }
+    for what, (files, wanted) in broken.items():
+        with tempfile.TemporaryDirectory() as room:
+            write(room, FILES)
+            write(room, documents.documents(room, []))
+            write(room, files)
+            holds(what, sorted(documents.old_ones(room, documents.documents(room, []))) == wanted)
+    for what, path, text in (("a file without a comment", "crates/small/src/inner.rt", "pub fn inner() {}\n"),
+                             ("a marker that names nothing", "docs/GUIDE.md", FILES["docs/GUIDE.md"].replace(": half", ": third"))):
+        write(top, {path: text})
+        faults = []
+        documents.documents(top, faults)
+        holds(what, len(faults) == 1 and faults[0].startswith(path))
+        write(top, {path: FILES[path]})
+
+
+def main():
+    with tempfile.TemporaryDirectory() as top:
+        write(top, FILES)
+        test_pages(top)
+        test_breaks(top)
+    print(f"{passed} passed, {failed} failed")
+    return 1 if failed else 0
+
+
+if __name__ == "__main__":
+    sys.exit(main())
