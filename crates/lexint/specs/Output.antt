@@ -48,7 +48,7 @@ complete_text (Err fault) = fault_text fault
 
 -- `ok V PLACE` for a value and a place
 abbrev pub partial_text : Result (ℤ × ℕ) Error → List ℕ
-partial_text (Ok found) = codes "ok " ++ signed_numeral found.0 ++ codes " " ++ numeral found.1
+partial_text (Ok found) = codes "ok " ++ signed_numeral found.0 ++ place_text (Some found.1)
 partial_text (Err fault) = fault_text fault
 
 -- ---- tokens
@@ -62,7 +62,8 @@ kind_text (Fault fault) = codes "fault " ++ fault_name fault ++ place_text (plac
 
 -- what a token is, `START` and `STOP`
 abbrev pub token_text : TokenView → List ℕ
-token_text token = kind_text token.kind ++ codes " " ++ numeral token.start ++ codes " " ++ numeral token.stop
+token_text token =
+    kind_text token.kind ++ place_text (Some token.start) ++ place_text (Some token.stop)
 
 -- a line for each token, and then `end`
 abbrev pub tokens_text : List TokenView → List ℕ

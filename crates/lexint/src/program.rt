@@ -2,7 +2,7 @@
 
 ghost use Rattle.std.specs.Prelude.{◌≡◌, ◌++◌, [], OnOk, IfOk, IfSome, IsOkUnless, IsErrOf};
 ghost use Rattle.std.specs.Io.KnownBytes.{Appends, Keeps, IsAtEnd};
-ghost use Rattle.lexint.specs.Gather.{LosesFront};
+ghost use Rattle.lexint.specs.Gather.{GainsFront, Grows, LosesFront};
 ghost use Rattle.lexint.specs.Output.{output};
 
 use crate::answer::answer;
@@ -24,6 +24,7 @@ const CHUNK: usize = 65536;
 pub fn run<W: Write>(input: &[u8], out: &mut W) -> Result<(), RunError>
     ensures ok { OnOk result (Appends (W.contents out.old) (W.contents out.new)
         (output input.now)) }
+    ensures front { GainsFront (W.contents out.old) (W.contents out.new) (output input.now) }
     ensures fault { IsOkUnless result RunError.Write }
 {
     let mut batch = Batch::new();
@@ -76,6 +77,9 @@ pub fn run_with<R: Read, W: Write, B: Buffer>(
     requires { B.contents buffer ≡ [] }
     ensures ok { OnOk result (IfSome (R.remaining input.old) (λ all.
         Appends (W.contents out.old) (W.contents out.new) (output all))) }
+    ensures written { IfSome (R.remaining input.old) (λ all.
+        GainsFront (W.contents out.old) (W.contents out.new) (output all)) }
+    ensures grown { Grows (W.contents out.old) (W.contents out.new) }
     ensures end { OnOk result (IsAtEnd (R.remaining input.new)) }
     ensures all_read { IsErrOf result RunError.Write → IsAtEnd (R.remaining input.new) }
     ensures front { LosesFront (R.remaining input.old) (R.remaining input.new) }
@@ -107,6 +111,9 @@ pub fn run_from<R: Read, W: Write>(
 ) -> Result<(), RunError>
     ensures ok { OnOk result (IfSome (R.remaining input.old) (λ all.
         Appends (W.contents out.old) (W.contents out.new) (output all))) }
+    ensures written { IfSome (R.remaining input.old) (λ all.
+        GainsFront (W.contents out.old) (W.contents out.new) (output all)) }
+    ensures grown { Grows (W.contents out.old) (W.contents out.new) }
     ensures end { OnOk result (IsAtEnd (R.remaining input.new)) }
     ensures all_read { IsErrOf result RunError.Write → IsAtEnd (R.remaining input.new) }
     ensures front { LosesFront (R.remaining input.old) (R.remaining input.new) }
