@@ -20,7 +20,8 @@ const MOST_READS: u64 = 4_294_967_296;
 /// How many bytes one read asks for.
 const CHUNK: usize = 65536;
 
-/// Writes the answer lines of the input. Its one fault is `Write`, and it takes no memory.
+/// Writes the answer lines of the input. Its one fault is `Write`, after which a front of them was
+/// written. It takes no memory.
 pub fn run<W: Write>(input: &[u8], out: &mut W) -> Result<(), RunError>
     ensures ok { OnOk result (Appends (W.contents out.old) (W.contents out.new)
         (output input.now)) }
@@ -103,7 +104,7 @@ pub fn run_with<R: Read, W: Write, B: Buffer>(
 /// read counts, and is tried again. `Memory` is a refused growth of the input buffer. After both
 /// nothing was written, and the reader has lost what was read. `Write` is a refused write or
 /// flush; one that is interrupted, and a write that takes no byte, count as refused. After it the
-/// reader is at its end, and nothing is said of how much went out.
+/// reader is at its end, and a front of the answer lines was written: it isn't said how much.
 pub fn run_from<R: Read, W: Write>(
     alloc: Global,
     input: &mut R,
