@@ -3,12 +3,12 @@ use Rattle.std.proofs.lemmas.Result.{on_ok_weaker}
 use Rattle.lexint.proofs.Sending.{front_first, front_more, front_piece, front_second, gathers_more, sends_more, sends_piece}
 use Rattle.lexint.specs.Gather.{Sends}
 use Rattle.lexint.specs.Output.{token_text, tokens_text}
-use Rattle.lexical_literals.specs.Tokens.{TokenView, seen_token, tokens}
+use Rattle.lexical_literals.specs.Tokens.{TokenView, view_of_token, tokens}
 use Rattle.lexint.proofs.answer.tokens.put_tokens.Goals as goal
 
 pub loop-token-preserved : goal.loop-token-preserved
 loop-token-preserved g c =
-    let text = token_text (seen_token c.in-Some.token) in
+    let text = token_text (view_of_token c.in-Some.token) in
     let left : List TokenView → Type 0 = λ more.
     Sends (g.W.Write.contents c.args.out.now) (g.W.Write.contents c.loop-token.out) (c.args.batch.now ++ tokens_text (tokens c.args.source.now)) (c.loop-token.batch ++ tokens_text more) in
     sends_piece _ _ _ _ c.loop-token.batch _ (text ++ 10 ∷ []) (tokens_text c.next.new.self) (subst left c.in-Some.ensures.steps c.loop-token.invariant)
@@ -16,7 +16,7 @@ loop-token-preserved g c =
 
 pub returns-in_err-put_token-clause-front : goal.returns-in_err-put_token-clause-front
 returns-in_err-put_token-clause-front g c =
-    let text = token_text (seen_token c.in-Some.token) in
+    let text = token_text (view_of_token c.in-Some.token) in
     let left : List TokenView → Type 0 = λ more.
     Sends (g.W.Write.contents c.args.out.now) (g.W.Write.contents c.loop-token.out) (c.args.batch.now ++ tokens_text (tokens c.args.source.now)) (c.loop-token.batch ++ tokens_text more) in
     front_piece _ _ _ _ c.loop-token.batch (text ++ 10 ∷ []) (tokens_text c.next.new.self) (subst left c.in-Some.ensures.steps c.loop-token.invariant)
@@ -24,7 +24,7 @@ returns-in_err-put_token-clause-front g c =
 
 pub returns-in_err-put-clause-front : goal.returns-in_err-put-clause-front
 returns-in_err-put-clause-front g c =
-    let text = token_text (seen_token c.in-Some.token) in
+    let text = token_text (view_of_token c.in-Some.token) in
     let left : List TokenView → Type 0 = λ more.
     Sends (g.W.Write.contents c.args.out.now) (g.W.Write.contents c.loop-token.out) (c.args.batch.now ++ tokens_text (tokens c.args.source.now)) (c.loop-token.batch ++ tokens_text more) in
     front_piece _ _ _ _ c.loop-token.batch (text ++ 10 ∷ []) (tokens_text c.next.new.self) (subst left c.in-Some.ensures.steps c.loop-token.invariant)
