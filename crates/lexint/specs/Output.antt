@@ -4,8 +4,9 @@ use lib.IntN.{ℤ}
 use Rattle.lexical_parse_integer.specs.Grammar.{complete_if_valid, partial_if_valid}
 use Rattle.lexical_util.specs.declared.error.Error.{Error}
 use Rattle.lexical_util.specs.declared.error.Error.TheVariants.{Overflow, Underflow, InvalidDigit, Empty, MissingSign, InvalidPositiveSign, InvalidLeadingZeros, InvalidMantissaRadix, InvalidDigitSeparator, InvalidBasePrefix, InvalidBaseSuffix, InvalidPunctuation, InvalidLiteralPrefixes}
+use Rattle.lexical_util.specs.Ascii.{line_feed}
 use Rattle.lexical_util.specs.Faults.{place_of}
-use Rattle.lexint.specs.Change.{changed}
+use Rattle.lexint.specs.Change.{with_change}
 use Rattle.lexint.specs.Command.{Command, command_in, parse_complete, parse_partial, list_tokens, change, reset, type_of}
 use Rattle.lexint.specs.Lines.{lines}
 use Rattle.lexint.specs.Numeral.{numeral, signed_numeral}
@@ -68,7 +69,7 @@ token_text token =
 -- a line for each token, and then `end`
 abbrev pub tokens_text : List TokenView → List ℕ
 tokens_text [] = codes "end"
-tokens_text (token ∷ more) = token_text token ++ 10 ∷ [] ++ tokens_text more
+tokens_text (token ∷ more) = token_text token ++ line_feed ∷ [] ++ tokens_text more
 
 -- ---- lines
 
@@ -89,7 +90,7 @@ command_effect settings None = settings
 command_effect settings (Some (parse_complete type text)) = settings
 command_effect settings (Some (parse_partial type text)) = settings
 command_effect settings (Some (list_tokens text)) = settings
-command_effect settings (Some (change asked)) = changed asked settings
+command_effect settings (Some (change asked)) = with_change asked settings
 command_effect settings (Some reset) = standard_settings
 
 -- the answer to a line under the settings
@@ -117,12 +118,12 @@ answer_lines settings line = command_lines settings (command_in line)
 
 -- ---- output
 
--- for each line its answer and a line feed, joined in order, each under the settings that the lines
+-- for each line its answer and a line feed, in order, each under the settings that the lines
 -- before it leave
 abbrev pub answers : Settings → List (List ℕ) → List ℕ
 answers settings [] = []
 answers settings (line ∷ more) =
-    answer_of settings line ++ 10 ∷ [] ++ answers (settings_after settings line) more
+    answer_of settings line ++ line_feed ∷ [] ++ answers (settings_after settings line) more
 
 -- what the program writes for an input
 abbrev pub output : List ℕ → List ℕ

@@ -1,8 +1,9 @@
 //! One line's answer.
 
 ghost use Rattle.std.specs.Prelude.{◌≡◌, ◌∷◌, [], Some, ◌++◌, codes, OnOk, OnErr, IsOkUnless, option_map};
+ghost use Rattle.lexical_util.specs.Ascii.{line_feed};
 ghost use Rattle.lexical_util.specs.Faults.{place_of};
-ghost use Rattle.lexint.specs.Command.{seen_command};
+ghost use Rattle.lexint.specs.Command.{view_of_command};
 ghost use Rattle.lexint.specs.Gather.{GainsFront, Gathers};
 ghost use Rattle.lexint.specs.Numeral.{numeral, signed_numeral};
 ghost use Rattle.lexint.specs.Output.{answer_of, command_answer, command_effect, complete_text, fault_name, partial_text, place_text, settings_after};
@@ -29,9 +30,9 @@ pub fn answer<W: Write>(
     out: &mut W,
 ) -> Result<(), RunError>
     ensures ok { OnOk result (Gathers (W.contents out.old) batch.old (W.contents out.new) batch.new
-        (answer_of settings.old line.now ++ 10 ∷ [])) }
+        (answer_of settings.old line.now ++ line_feed ∷ [])) }
     ensures front { GainsFront (W.contents out.old) (W.contents out.new)
-        (batch.old ++ (answer_of settings.old line.now ++ 10 ∷ [])) }
+        (batch.old ++ (answer_of settings.old line.now ++ line_feed ∷ [])) }
     ensures settings { OnOk result (settings.new ≡ settings_after settings.old line.now) }
     ensures kept { OnErr result (settings.new ≡ settings.old) }
     ensures fault { IsOkUnless result RunError.Write }
@@ -51,9 +52,9 @@ fn tell<W: Write>(
     out: &mut W,
 ) -> Result<(), RunError>
     ensures ok { OnOk result (Gathers (W.contents out.old) batch.old (W.contents out.new) batch.new
-        (command_answer settings.now (option_map seen_command command.entry))) }
+        (command_answer settings.now (option_map view_of_command command.entry))) }
     ensures front { GainsFront (W.contents out.old) (W.contents out.new)
-        (batch.old ++ command_answer settings.now (option_map seen_command command.entry)) }
+        (batch.old ++ command_answer settings.now (option_map view_of_command command.entry)) }
     ensures fault { IsOkUnless result RunError.Write }
 {
     match command {
@@ -71,7 +72,7 @@ fn tell<W: Write>(
 
 // Sets what a command sets.
 fn obey(command: Option<Command<'_>>, settings: &mut Settings)
-    ensures { settings.new ≡ command_effect settings.old (option_map seen_command command.entry) }
+    ensures { settings.new ≡ command_effect settings.old (option_map view_of_command command.entry) }
 {
     match command {
         Some(Command::Change(change)) => settings.apply(change),

@@ -1,6 +1,7 @@
 //! Numbers as text, in a fixed array.
 
 ghost use Rattle.std.specs.Prelude.{◌≡◌, ◌≤◌, ◌<◌, ◌+◌, ◌-◌, ◌/◌, ◌%◌, ◌^◌, ◌∷◌, ◌++◌, drop, take};
+ghost use Rattle.lexical_util.specs.Ascii.{digit_zero};
 ghost use Rattle.lexint.specs.Numeral.{numeral, signed_numeral};
 
 use crate::number::Number;
@@ -60,7 +61,7 @@ fn put_pair(pair: u8, place: &mut [u8; MOST], end: usize)
     requires low { 2 ≤ end }
     requires high { end ≤ 40 }
     ensures written { drop (end - 2) place.new
-        ≡ (48 + pair / 10) ∷ (48 + pair % 10) ∷ drop end place.old }
+        ≡ (digit_zero + pair / 10) ∷ (digit_zero + pair % 10) ∷ drop end place.old }
     ensures kept { take (end - 2) place.new ≡ take (end - 2) place.old }
 {
     place[end - 1] = b'0' + pair % 10;
