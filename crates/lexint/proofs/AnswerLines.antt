@@ -68,8 +68,7 @@ complete_has_none (Err fault) = fault_has_none fault
 
 partial_has_none : (found : Result (ℤ × ℕ) Error) → HasNoFeed (partial_text found)
 partial_has_none (Ok found) =
-    both (codes "ok " ++ signed_numeral found.0 ++ codes " ") (numeral found.1)
-    (both (codes "ok " ++ signed_numeral found.0) (codes " ") (value_has_none found.0) refl) (numeral_has_none found.1)
+    both (codes "ok " ++ signed_numeral found.0) (place_text (Some found.1)) (value_has_none found.0) (place_has_none (Some found.1))
 partial_has_none (Err fault) = fault_has_none fault
 
 kind_has_none : (kind : Kind) → HasNoFeed (kind_text kind)
@@ -81,10 +80,9 @@ kind_has_none (Fault fault) =
 
 token_has_none : (token : TokenView) → HasNoFeed (token_text token)
 token_has_none token =
-    both (kind_text token.kind ++ codes " " ++ numeral token.start ++ codes " ") (numeral token.stop)
-    (both (kind_text token.kind ++ codes " " ++ numeral token.start) (codes " ")
-    (both (kind_text token.kind ++ codes " ") (numeral token.start) (both (kind_text token.kind) (codes " ") (kind_has_none token.kind) refl) (numeral_has_none token.start)) refl)
-    (numeral_has_none token.stop)
+    both (kind_text token.kind ++ place_text (Some token.start)) (place_text (Some token.stop))
+    (both (kind_text token.kind) (place_text (Some token.start)) (kind_has_none token.kind) (place_has_none (Some token.start)))
+    (place_has_none (Some token.stop))
 
 -- ---- lines
 

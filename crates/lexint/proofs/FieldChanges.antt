@@ -3,7 +3,7 @@ use Rattle.std.proofs.Common.{◌≡◌, ℕ, Bool, Option, None, Some, refl, if
 use Rattle.std.specs.Option.{unwrap_or}
 use Rattle.std.specs.Str.{bytes_eq}
 use Rattle.lexical_util.specs.Format.{Format}
-use Rattle.lexint.specs.Change.{changed, with_flag, with_mark}
+use Rattle.lexint.specs.Change.{with_change, with_flag, with_mark}
 use Rattle.lexint.specs.Field.{flag_name, mark_name}
 use Rattle.lexint.specs.Given.{flag_given, flag_value, is_required_digits, mark_given, mark_value, no_multi_digit_given, radix_given}
 use Rattle.lexint.specs.Settings.{Settings}
@@ -24,7 +24,7 @@ flag_leaves_radix : (flag : Flag) (value : Bool) (format : Format) → (with_fla
 flag_leaves_radix CaseSensitiveBasePrefix value format = refl
 flag_leaves_radix _ value format = refl
 
-pub radix_by : (change : Change) (settings : Settings) → (changed change settings).format.mantissa_radix ≡ unwrap_or (radix_given change) settings.format.mantissa_radix
+pub radix_by : (change : Change) (settings : Settings) → (with_change change settings).format.mantissa_radix ≡ unwrap_or (radix_given change) settings.format.mantissa_radix
 radix_by (set.MantissaRadix value) settings = refl
 radix_by (set.Mark mark value) settings = mark_leaves_radix mark value settings.format
 radix_by (set.Flag flag value) settings = flag_leaves_radix flag value settings.format
@@ -54,7 +54,7 @@ mark_after_required : (mark : Mark) (value : Bool) (format : Format) → mark_va
 mark_after_required DigitSeparator value format = refl
 mark_after_required _ value format = refl
 
-pub mark_by : (mark : Mark) (change : Change) (settings : Settings) → mark_value mark (changed change settings).format ≡ unwrap_or (mark_given mark change) (mark_value mark settings.format)
+pub mark_by : (mark : Mark) (change : Change) (settings : Settings) → mark_value mark (with_change change settings).format ≡ unwrap_or (mark_given mark change) (mark_value mark settings.format)
 mark_by mark (set.MantissaRadix value) settings = radix_leaves_mark mark value settings.format
 mark_by mark (set.Mark other value) settings = mark_after_mark mark other value settings.format
 mark_by mark (set.Flag flag value) settings = mark_after_flag mark flag value settings.format
@@ -103,7 +103,7 @@ flag_after_required : (flag : Flag) (value : Bool) (format : Format)
 flag_after_required CaseSensitiveBasePrefix value format = refl
 flag_after_required _ value format = refl
 
-pub flag_by : (flag : Flag) (change : Change) (settings : Settings) → flag_value flag (changed change settings).format ≡ unwrap_or (flag_given flag change) (flag_value flag settings.format)
+pub flag_by : (flag : Flag) (change : Change) (settings : Settings) → flag_value flag (with_change change settings).format ≡ unwrap_or (flag_given flag change) (flag_value flag settings.format)
 flag_by flag (set.MantissaRadix value) settings = flag_after_radix flag value settings.format
 flag_by flag (set.Mark mark value) settings = flag_after_mark flag mark value settings.format
 flag_by flag (set.Flag other value) settings = flag_after_flag flag other value settings.format
@@ -112,6 +112,6 @@ flag_by flag (set.NoMultiDigit value) settings = refl
 
 -- ---- the options
 
-pub no_multi_digit_by : (change : Change) (settings : Settings) → (changed change settings).no_multi_digit ≡ unwrap_or (no_multi_digit_given change) settings.no_multi_digit
+pub no_multi_digit_by : (change : Change) (settings : Settings) → (with_change change settings).no_multi_digit ≡ unwrap_or (no_multi_digit_given change) settings.no_multi_digit
 no_multi_digit_by (set.MantissaRadix value) settings = refl
 no_multi_digit_by _ settings = refl

@@ -4,8 +4,8 @@ use Rattle.std.specs.List.{after_last, cons_option, filter_map, fold}
 use Rattle.std.specs.Option.{option_and_then, option_map, unwrap_or}
 use Rattle.std.specs.Str.{bytes_eq}
 use Rattle.lexint.proofs.AfterLast.{is_none, at_first, at_none, at_rest}
-use Rattle.lexint.specs.Change.{changed}
-use Rattle.lexint.specs.Command.{Command, command_in, command_of, change_named, parts, parse_complete, parse_partial, list_tokens, change, reset, typed_in}
+use Rattle.lexint.specs.Change.{with_change}
+use Rattle.lexint.specs.Command.{Command, command_in, command_of, change_named, parts, parse_complete, parse_partial, list_tokens, change, reset, type_and_text}
 use Rattle.lexint.proofs.FieldChanges.{flag_by, mark_by, no_multi_digit_by, radix_by}
 use Rattle.lexint.specs.Given.{change_made, flag_given, flag_value, is_reset, last_of, mark_given, mark_value, no_multi_digit_given, radix_given, settings_left, IsAnsweredInTurn, LeavesLastGiven}
 use Rattle.lexint.specs.Output.{answer_of, answers, command_effect, settings_after}
@@ -49,18 +49,18 @@ cut_is_none : (cut : Option (List ℕ × List ℕ)) → IsNoReset (option_and_th
 cut_is_none None = tt
 cut_is_none (Some cut) =
     choice (bytes_eq cut.0 (codes "c")) (bytes_eq cut.0 (codes "p")) (bytes_eq cut.0 (codes "t")) (bytes_eq cut.0 (codes "f")) _ _ _ _
-    (complete_is_none (typed_in cut.1)) (partial_is_none (typed_in cut.1)) tt (change_is_none (change_named cut.1))
+    (complete_is_none (type_and_text cut.1)) (partial_is_none (type_and_text cut.1)) tt (change_is_none (change_named cut.1))
 
 -- ---- a field by its value in the settings, and what a change gives it
 
-module _ {A : Type 0} (value : Settings → A) (given : Change → Option A) (by_change : (c : Change) (s : Settings) → value (changed c s) ≡ unwrap_or (given c) (value s)) where
+module _ {A : Type 0} (value : Settings → A) (given : Change → Option A) (by_change : (c : Change) (s : Settings) → value (with_change c s) ≡ unwrap_or (given c) (value s)) where
   -- what a command gives
   abbrev of_command : Option Command → List A
   of_command command = filter_map given (cons_option (change_made command) [])
 
   -- what lines give, in order
-  abbrev pub given_by : List (List ℕ) → List A
-  given_by lines = filter_map given (filter_map (λ line. change_made (command_in line)) lines)
+  abbrev pub values_given : List (List ℕ) → List A
+  values_given lines = filter_map given (filter_map (λ line. change_made (command_in line)) lines)
 
   given_last : (o : Option A) (v : A) → unwrap_or o v ≡ last_of v (cons_option o [])
   given_last None v = refl
@@ -79,7 +79,7 @@ module _ {A : Type 0} (value : Settings → A) (given : Change → Option A) (by
   after_command s true o none = refl
   after_command s false o none = after_no_reset s o none
 
-  after_line : (s : Settings) (line : List ℕ) → value (settings_after s line) ≡ cond (is_reset line) (value standard_settings) (last_of (value s) (given_by (line ∷ [])))
+  after_line : (s : Settings) (line : List ℕ) → value (settings_after s line) ≡ cond (is_reset line) (value standard_settings) (last_of (value s) (values_given (line ∷ [])))
   unfolding settings_after
   after_line s line = after_command s (is_reset line) (option_and_then command_of (parts line)) (cut_is_none (parts line))
 
@@ -95,7 +95,7 @@ module _ {A : Type 0} (value : Settings → A) (given : Change → Option A) (by
 
   -- what lines give, from the value before them, or from the standard one behind a reset
   abbrev pub from_start : Bool → Settings → List (List ℕ) → A
-  from_start is_kept s lines = last_of (cond is_kept (value s) (value standard_settings)) (given_by lines)
+  from_start is_kept s lines = last_of (cond is_kept (value s) (value standard_settings)) (values_given lines)
 
   abbrev pub claim : Settings → List (List ℕ) → A
   claim s lines = from_start (is_none is_reset lines) s (after_last is_reset lines)
@@ -109,13 +109,13 @@ module _ {A : Type 0} (value : Settings → A) (given : Change → Option A) (by
   first_line s line lines true true none resets =
       let (more, rest, all) = at_first is_reset line lines none resets in
       let v : value (settings_after s line) ≡ value standard_settings =
-      after_line s line ∙ ap (λ x. cond x (value standard_settings) (last_of (value s) (given_by (line ∷ [])))) resets in
-      claim_is (settings_after s line) lines lines true none rest ∙ ap (λ x. last_of x (given_by lines)) v ∙ sym (claim_is s (line ∷ lines) lines false more all)
+      after_line s line ∙ ap (λ x. cond x (value standard_settings) (last_of (value s) (values_given (line ∷ [])))) resets in
+      claim_is (settings_after s line) lines lines true none rest ∙ ap (λ x. last_of x (values_given lines)) v ∙ sym (claim_is s (line ∷ lines) lines false more all)
   first_line s line lines true false none other =
       let (more, rest, all) = at_none is_reset line lines none other in
-      let v : value (settings_after s line) ≡ last_of (value s) (given_by (line ∷ [])) =
-      after_line s line ∙ ap (λ x. cond x (value standard_settings) (last_of (value s) (given_by (line ∷ [])))) other in
-      claim_is (settings_after s line) lines lines true none rest ∙ ap (λ x. last_of x (given_by lines)) v
+      let v : value (settings_after s line) ≡ last_of (value s) (values_given (line ∷ [])) =
+      after_line s line ∙ ap (λ x. cond x (value standard_settings) (last_of (value s) (values_given (line ∷ [])))) other in
+      claim_is (settings_after s line) lines lines true none rest ∙ ap (λ x. last_of x (values_given lines)) v
       ∙ sym (one_more (value s) (change_made (command_in line)) (filter_map (λ l. change_made (command_in l)) lines))
       ∙ sym (claim_is s (line ∷ lines) (line ∷ lines) true more all)
   first_line s line lines false r some is =
@@ -129,12 +129,12 @@ module _ {A : Type 0} (value : Settings → A) (given : Change → Option A) (by
       holds_given (settings_after s line) lines ∙ first_line s line lines (is_none is_reset lines) (is_reset line) refl refl
 
   -- from the standard settings on
-  pub holds_last : (lines : List (List ℕ)) → value (settings_left lines) ≡ last_of (value standard_settings) (given_by (after_last is_reset lines))
+  pub holds_last : (lines : List (List ℕ)) → value (settings_left lines) ≡ last_of (value standard_settings) (values_given (after_last is_reset lines))
   holds_last lines =
       holds_given standard_settings lines
       ∙ same (is_none is_reset lines)
     where
-      same : (b : Bool) → from_start b standard_settings (after_last is_reset lines) ≡ last_of (value standard_settings) (given_by (after_last is_reset lines))
+      same : (b : Bool) → from_start b standard_settings (after_last is_reset lines) ≡ last_of (value standard_settings) (values_given (after_last is_reset lines))
       same true = refl
       same false = refl
 

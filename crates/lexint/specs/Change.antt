@@ -37,18 +37,18 @@ with_flag IntegerConsecutiveDigitSeparator value format =
 with_flag LiteralPrefixes value format = record format { literal_prefixes = value }
 
 -- the settings after a change: the named field has the value, and each other is as before
-abbrev pub changed : Change → Settings → Settings
-changed (change.MantissaRadix value) settings =
+abbrev pub with_change : Change → Settings → Settings
+with_change (change.MantissaRadix value) settings =
     record settings { format = record settings.format { mantissa_radix = value } }
-changed (change.Mark mark value) settings =
+with_change (change.Mark mark value) settings =
     record settings { format = with_mark mark value settings.format }
-changed (change.Flag flag value) settings =
+with_change (change.Flag flag value) settings =
     record settings { format = with_flag flag value settings.format }
-changed (change.RequiredDigits value) settings =
+with_change (change.RequiredDigits value) settings =
     record settings {
       format = record settings.format {
         required_integer_digits = value;
         required_mantissa_digits = value;
       };
     }
-changed (change.NoMultiDigit value) settings = record settings { no_multi_digit = value }
+with_change (change.NoMultiDigit value) settings = record settings { no_multi_digit = value }

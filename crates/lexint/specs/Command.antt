@@ -1,6 +1,7 @@
 -- What a line asks for.
 use Rattle.std.specs.Prelude.{ℕ, ◌+◌, Bool, true, false, List, [], ◌∷◌, codes, Option, None, Some, if◌then◌else◌, ◌==◌, take, drop, find, option_and_then, option_map, position}
 use Rattle.std.specs.Str.{bytes_eq}
+use Rattle.lexical_util.specs.Ascii.{space}
 use Rattle.lexical_util.specs.Number.{IntegerType, integer_type}
 use Rattle.lexint.specs.Field.{change_in, field_named}
 use Rattle.lexint.specs.declared.command.TypeName.{TypeName}
@@ -62,21 +63,21 @@ pub data Command : Type 0 where
 
 -- whether a byte is a space
 abbrev pub is_space : ℕ → Bool
-is_space byte = byte == 32
+is_space byte = byte == space
 
 -- a text cut at its first space, which is in neither part
 abbrev pub parts : List ℕ → Option (List ℕ × List ℕ)
 parts text = option_map (λ end. (take end text, drop (end + 1) text)) (position is_space text)
 
--- the integer type that a text names, and what stands behind the name and a space
-abbrev pub typed_in : List ℕ → Option (TypeName × List ℕ)
-typed_in text =
+-- the integer type that a text names, and what comes after the name and a space
+abbrev pub type_and_text : List ℕ → Option (TypeName × List ℕ)
+type_and_text text =
     option_and_then (λ (name, rest). option_map (λ type. (type, rest)) (type_named name))
     (parts text)
 
 -- a parse of that text as that type
 abbrev pub parse_in : (TypeName → List ℕ → Command) → List ℕ → Option Command
-parse_in parse text = option_map (λ (type, rest). parse type rest) (typed_in text)
+parse_in parse text = option_map (λ (type, rest). parse type rest) (type_and_text text)
 
 -- the change of the field that a text names, to the value that stands behind the name and a space
 abbrev pub change_named : List ℕ → Option Change
@@ -101,9 +102,9 @@ command_in line =
 -- ---- the program's commands
 
 -- a command as the program has it, with its text
-abbrev pub seen_command : Asked → Command
-seen_command (asks.Complete type text) = parse_complete type text.now
-seen_command (asks.Partial type text) = parse_partial type text.now
-seen_command (asks.Tokens text) = list_tokens text.now
-seen_command (asks.Change setting) = change setting
-seen_command asks.Reset = reset
+abbrev pub view_of_command : Asked → Command
+view_of_command (asks.Complete type text) = parse_complete type text.now
+view_of_command (asks.Partial type text) = parse_partial type text.now
+view_of_command (asks.Tokens text) = list_tokens text.now
+view_of_command (asks.Change setting) = change setting
+view_of_command asks.Reset = reset

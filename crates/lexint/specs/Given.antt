@@ -3,6 +3,7 @@
 use Rattle.std.specs.Prelude.{◌≡◌, ℕ, Bool, true, List, [], ◌∷◌, ◌++◌, codes, Option, None, Some, ◌||◌, fold, if◌then◌else◌}
 use Rattle.std.specs.List.{after_last, filter_map}
 use Rattle.std.specs.Str.{bytes_eq}
+use Rattle.lexical_util.specs.Ascii.{line_feed}
 use Rattle.lexical_util.specs.Format.{Format, standard}
 use Rattle.lexint.specs.Command.{Command, command_in, parse_complete, parse_partial, list_tokens, change, reset}
 use Rattle.lexint.specs.Field.{flag_name, mark_name}
@@ -130,5 +131,5 @@ abbrev pub IsAnsweredInTurn : List (List ℕ) → List ℕ → List (List ℕ) �
 IsAnsweredInTurn before line after =
     answers standard_settings (before ++ line ∷ after)
     ≡ answers standard_settings before
-    ++ (answer_of (settings_left before) line ++ 10 ∷ []
+    ++ (answer_of (settings_left before) line ++ line_feed ∷ []
     ++ answers (settings_left (before ++ line ∷ [])) after)

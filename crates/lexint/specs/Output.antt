@@ -4,8 +4,9 @@ use lib.IntN.{ℤ}
 use Rattle.lexical_parse_integer.specs.Grammar.{complete_if_valid, partial_if_valid}
 use Rattle.lexical_util.specs.declared.error.Error.{Error}
 use Rattle.lexical_util.specs.declared.error.Error.TheVariants.{Overflow, Underflow, InvalidDigit, Empty, MissingSign, InvalidPositiveSign, InvalidLeadingZeros, InvalidMantissaRadix, InvalidDigitSeparator, InvalidBasePrefix, InvalidBaseSuffix, InvalidPunctuation, InvalidLiteralPrefixes}
+use Rattle.lexical_util.specs.Ascii.{line_feed}
 use Rattle.lexical_util.specs.Faults.{place_of}
-use Rattle.lexint.specs.Change.{changed}
+use Rattle.lexint.specs.Change.{with_change}
 use Rattle.lexint.specs.Command.{Command, command_in, parse_complete, parse_partial, list_tokens, change, reset, type_of}
 use Rattle.lexint.specs.Lines.{lines}
 use Rattle.lexint.specs.Numeral.{numeral, signed_numeral}
@@ -48,7 +49,7 @@ complete_text (Err fault) = fault_text fault
 
 -- `ok V PLACE` for a value and a place
 abbrev pub partial_text : Result (ℤ × ℕ) Error → List ℕ
-partial_text (Ok found) = codes "ok " ++ signed_numeral found.0 ++ codes " " ++ numeral found.1
+partial_text (Ok found) = codes "ok " ++ signed_numeral found.0 ++ place_text (Some found.1)
 partial_text (Err fault) = fault_text fault
 
 -- ---- tokens
@@ -63,12 +64,12 @@ kind_text (Fault fault) = codes "fault " ++ fault_name fault ++ place_text (plac
 -- what a token is, `START` and `STOP`
 abbrev pub token_text : TokenView → List ℕ
 token_text token =
-    kind_text token.kind ++ codes " " ++ numeral token.start ++ codes " " ++ numeral token.stop
+    kind_text token.kind ++ place_text (Some token.start) ++ place_text (Some token.stop)
 
 -- a line for each token, and then `end`
 abbrev pub tokens_text : List TokenView → List ℕ
 tokens_text [] = codes "end"
-tokens_text (token ∷ more) = token_text token ++ 10 ∷ [] ++ tokens_text more
+tokens_text (token ∷ more) = token_text token ++ line_feed ∷ [] ++ tokens_text more
 
 -- ---- lines
 
@@ -89,7 +90,7 @@ command_effect settings None = settings
 command_effect settings (Some (parse_complete type text)) = settings
 command_effect settings (Some (parse_partial type text)) = settings
 command_effect settings (Some (list_tokens text)) = settings
-command_effect settings (Some (change asked)) = changed asked settings
+command_effect settings (Some (change asked)) = with_change asked settings
 command_effect settings (Some reset) = standard_settings
 
 -- the answer to a line under the settings
@@ -117,12 +118,12 @@ answer_lines settings line = command_lines settings (command_in line)
 
 -- ---- output
 
--- for each line its answer and a line feed, joined in order, each under the settings that the lines
+-- for each line its answer and a line feed, in order, each under the settings that the lines
 -- before it leave
 abbrev pub answers : Settings → List (List ℕ) → List ℕ
 answers settings [] = []
 answers settings (line ∷ more) =
-    answer_of settings line ++ 10 ∷ [] ++ answers (settings_after settings line) more
+    answer_of settings line ++ line_feed ∷ [] ++ answers (settings_after settings line) more
 
 -- what the program writes for an input
 abbrev pub output : List ℕ → List ℕ

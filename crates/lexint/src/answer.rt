@@ -1,9 +1,10 @@
 //! One line's answer.
 
-ghost use Rattle.std.specs.Prelude.{◌≡◌, ◌∷◌, [], ◌++◌, codes, OnOk, OnErr, IsOkUnless, option_map};
+ghost use Rattle.std.specs.Prelude.{◌≡◌, ◌∷◌, [], Some, ◌++◌, codes, OnOk, OnErr, IsOkUnless, option_map};
+ghost use Rattle.lexical_util.specs.Ascii.{line_feed};
 ghost use Rattle.lexical_util.specs.Faults.{place_of};
-ghost use Rattle.lexint.specs.Command.{seen_command};
-ghost use Rattle.lexint.specs.Gather.{Gathers};
+ghost use Rattle.lexint.specs.Command.{view_of_command};
+ghost use Rattle.lexint.specs.Gather.{GainsFront, Gathers};
 ghost use Rattle.lexint.specs.Numeral.{numeral, signed_numeral};
 ghost use Rattle.lexint.specs.Output.{answer_of, command_answer, command_effect, complete_text, fault_name, partial_text, place_text, settings_after};
 
@@ -29,7 +30,9 @@ pub fn answer<W: Write>(
     out: &mut W,
 ) -> Result<(), RunError>
     ensures ok { OnOk result (Gathers (W.contents out.old) batch.old (W.contents out.new) batch.new
-        (answer_of settings.old line.now ++ 10 ∷ [])) }
+        (answer_of settings.old line.now ++ line_feed ∷ [])) }
+    ensures front { GainsFront (W.contents out.old) (W.contents out.new)
+        (batch.old ++ (answer_of settings.old line.now ++ line_feed ∷ [])) }
     ensures settings { OnOk result (settings.new ≡ settings_after settings.old line.now) }
     ensures kept { OnErr result (settings.new ≡ settings.old) }
     ensures fault { IsOkUnless result RunError.Write }
@@ -49,7 +52,9 @@ fn tell<W: Write>(
     out: &mut W,
 ) -> Result<(), RunError>
     ensures ok { OnOk result (Gathers (W.contents out.old) batch.old (W.contents out.new) batch.new
-        (command_answer settings.now (option_map seen_command command.entry))) }
+        (command_answer settings.now (option_map view_of_command command.entry))) }
+    ensures front { GainsFront (W.contents out.old) (W.contents out.new)
+        (batch.old ++ command_answer settings.now (option_map view_of_command command.entry)) }
     ensures fault { IsOkUnless result RunError.Write }
 {
     match command {
@@ -67,7 +72,7 @@ fn tell<W: Write>(
 
 // Sets what a command sets.
 fn obey(command: Option<Command<'_>>, settings: &mut Settings)
-    ensures { settings.new ≡ command_effect settings.old (option_map seen_command command.entry) }
+    ensures { settings.new ≡ command_effect settings.old (option_map view_of_command command.entry) }
 {
     match command {
         Some(Command::Change(change)) => settings.apply(change),
@@ -84,6 +89,8 @@ fn put_complete<W: Write>(
 ) -> Result<(), RunError>
     ensures ok { OnOk result (Gathers (W.contents out.old) batch.old (W.contents out.new) batch.new
         (complete_text answer)) }
+    ensures front { GainsFront (W.contents out.old) (W.contents out.new)
+        (batch.old ++ complete_text answer) }
     ensures fault { IsOkUnless result RunError.Write }
 {
     match answer {
@@ -100,6 +107,8 @@ fn put_partial<W: Write>(
 ) -> Result<(), RunError>
     ensures ok { OnOk result (Gathers (W.contents out.old) batch.old (W.contents out.new) batch.new
         (partial_text answer)) }
+    ensures front { GainsFront (W.contents out.old) (W.contents out.new)
+        (batch.old ++ partial_text answer) }
     ensures fault { IsOkUnless result RunError.Write }
 {
     match answer {
@@ -112,12 +121,12 @@ fn put_partial<W: Write>(
 fn put_value<W: Write>(value: &Number, batch: &mut Batch, out: &mut W) -> Result<(), RunError>
     ensures ok { OnOk result (Gathers (W.contents out.old) batch.old (W.contents out.new) batch.new
         (codes "ok " ++ signed_numeral value.now)) }
+    ensures front { GainsFront (W.contents out.old) (W.contents out.new)
+        (batch.old ++ (codes "ok " ++ signed_numeral value.now)) }
     ensures fault { IsOkUnless result RunError.Write }
 {
     put(b"ok ", batch, out)?;
-    let mut digits = [0u8; numeral::MOST];
-    let start = numeral::write_number(value, &mut digits);
-    put(&digits[start..], batch, out)
+    put_signed(value, batch, out)
 }
 
 // `ok V PLACE`.
@@ -128,7 +137,9 @@ fn put_found<W: Write>(
     out: &mut W,
 ) -> Result<(), RunError>
     ensures ok { OnOk result (Gathers (W.contents out.old) batch.old (W.contents out.new) batch.new
-        (codes "ok " ++ signed_numeral value.now ++ codes " " ++ numeral stop)) }
+        (codes "ok " ++ signed_numeral value.now ++ place_text (Some stop))) }
+    ensures front { GainsFront (W.contents out.old) (W.contents out.new)
+        (batch.old ++ (codes "ok " ++ signed_numeral value.now ++ place_text (Some stop))) }
     ensures fault { IsOkUnless result RunError.Write }
 {
     put_value(value, batch, out)?;
@@ -144,17 +155,32 @@ fn put_fault<W: Write>(
 ) -> Result<(), RunError>
     ensures ok { OnOk result (Gathers (W.contents out.old) batch.old (W.contents out.new) batch.new
         (word.now ++ fault_name fault ++ place_text (place_of fault))) }
+    ensures front { GainsFront (W.contents out.old) (W.contents out.new)
+        (batch.old ++ (word.now ++ fault_name fault ++ place_text (place_of fault))) }
     ensures fault { IsOkUnless result RunError.Write }
 {
     put(word, batch, out)?;
-    put(fault_name(fault).as_bytes(), batch, out)?;
+    put_name(fault, batch, out)?;
     put_place_of(fault, batch, out)
+}
+
+// The name of a fault.
+fn put_name<W: Write>(fault: Error, batch: &mut Batch, out: &mut W) -> Result<(), RunError>
+    ensures ok { OnOk result (Gathers (W.contents out.old) batch.old (W.contents out.new) batch.new
+        (fault_name fault)) }
+    ensures front { GainsFront (W.contents out.old) (W.contents out.new)
+        (batch.old ++ fault_name fault) }
+    ensures fault { IsOkUnless result RunError.Write }
+{
+    put(fault_name(fault).as_bytes(), batch, out)
 }
 
 // A space and the fault's place, where it has one.
 fn put_place_of<W: Write>(fault: Error, batch: &mut Batch, out: &mut W) -> Result<(), RunError>
     ensures ok { OnOk result (Gathers (W.contents out.old) batch.old (W.contents out.new) batch.new
         (place_text (place_of fault))) }
+    ensures front { GainsFront (W.contents out.old) (W.contents out.new)
+        (batch.old ++ place_text (place_of fault)) }
     ensures fault { IsOkUnless result RunError.Write }
 {
     match fault.index() {
@@ -167,16 +193,33 @@ fn put_place_of<W: Write>(fault: Error, batch: &mut Batch, out: &mut W) -> Resul
 fn put_place<W: Write>(place: usize, batch: &mut Batch, out: &mut W) -> Result<(), RunError>
     ensures ok { OnOk result (Gathers (W.contents out.old) batch.old (W.contents out.new) batch.new
         (codes " " ++ numeral place)) }
+    ensures front { GainsFront (W.contents out.old) (W.contents out.new)
+        (batch.old ++ (codes " " ++ numeral place)) }
     ensures fault { IsOkUnless result RunError.Write }
 {
     put(b" ", batch, out)?;
     put_numeral(place as u128, batch, out)
 }
 
-// The numeral of a number.
+// The numeral of a number, with its sign.
+fn put_signed<W: Write>(value: &Number, batch: &mut Batch, out: &mut W) -> Result<(), RunError>
+    ensures ok { OnOk result (Gathers (W.contents out.old) batch.old (W.contents out.new) batch.new
+        (signed_numeral value.now)) }
+    ensures front { GainsFront (W.contents out.old) (W.contents out.new)
+        (batch.old ++ signed_numeral value.now) }
+    ensures fault { IsOkUnless result RunError.Write }
+{
+    let mut digits = [0u8; numeral::MOST];
+    let start = numeral::write_number(value, &mut digits);
+    put(&digits[start..], batch, out)
+}
+
+// The numeral of a number from 0 up.
 fn put_numeral<W: Write>(number: u128, batch: &mut Batch, out: &mut W) -> Result<(), RunError>
     ensures ok { OnOk result (Gathers (W.contents out.old) batch.old (W.contents out.new) batch.new
         (numeral number)) }
+    ensures front { GainsFront (W.contents out.old) (W.contents out.new)
+        (batch.old ++ numeral number) }
     ensures fault { IsOkUnless result RunError.Write }
 {
     let mut digits = [0u8; numeral::MOST];

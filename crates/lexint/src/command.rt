@@ -1,7 +1,7 @@
 //! What a line asks for.
 
 ghost use Rattle.std.specs.Prelude.{◌≡◌, ◌<◌, length, IfSome, option_map, position};
-ghost use Rattle.lexint.specs.Command.{change_named, command_in, is_space, parts, seen_command, type_named, typed_in};
+ghost use Rattle.lexint.specs.Command.{change_named, command_in, is_space, parts, view_of_command, type_named, type_and_text};
 
 use crate::field::{Change, Field};
 
@@ -63,7 +63,7 @@ pub enum Command<'a> {
 impl<'a> Command<'a> {
     /// What the line asks for, and `None` where it is none of the kinds of line.
     pub fn of(line: &'a [u8]) -> Option<Command<'a>>
-        ensures { option_map seen_command result ≡ command_in line.now }
+        ensures { option_map view_of_command result ≡ command_in line.now }
     {
         if line == b"r".as_slice() {
             return Some(Command::Reset);
@@ -71,11 +71,11 @@ impl<'a> Command<'a> {
         let (letter, text) = parts(line)?;
         match letter {
             b"c" => {
-                let (name, text) = typed(text)?;
+                let (name, text) = type_and_text(text)?;
                 Some(Command::Complete(name, text))
             }
             b"p" => {
-                let (name, text) = typed(text)?;
+                let (name, text) = type_and_text(text)?;
                 Some(Command::Partial(name, text))
             }
             b"t" => Some(Command::Tokens(text)),
@@ -95,6 +95,7 @@ fn parts(text: &[u8]) -> Option<(&[u8], &[u8])>
     }
 }
 
+// The place of the first space.
 fn space_in(text: &[u8]) -> Option<usize>
     ensures place { result ≡ position is_space text.now }
     ensures within { IfSome result (λ end. end < length text.now) }
@@ -102,13 +103,15 @@ fn space_in(text: &[u8]) -> Option<usize>
     text.iter().position(|b| *b == b' ')
 }
 
-fn typed(text: &[u8]) -> Option<(TypeName, &[u8])>
-    ensures { option_map (λ typed. (typed.0, typed.1.now)) result ≡ typed_in text.now }
+// The integer type that a text names, and what comes after the name and a space.
+fn type_and_text(text: &[u8]) -> Option<(TypeName, &[u8])>
+    ensures { option_map (λ found. (found.0, found.1.now)) result ≡ type_and_text text.now }
 {
     let (name, text) = parts(text)?;
     Some((TypeName::named(name)?, text))
 }
 
+// The change that the text asks for: a field's name, a space, and its new value.
 fn change(text: &[u8]) -> Option<Change>
     ensures { result ≡ change_named text.now }
 {

@@ -1,10 +1,11 @@
 //! What the definitions of the program's output come to.
 
-ghost use Rattle.std.specs.Prelude.{◌≡◌, ℕ, List};
+ghost use Rattle.std.specs.Prelude.{◌≡◌, ℕ, ℤ, List};
 ghost use Rattle.std.specs.List.{flat_map, scan};
+ghost use Rattle.lexical_parse_integer.specs.Laws.{IsNumeralOf};
 ghost use Rattle.lexint.specs.Given.{IsAnsweredInTurn, LeavesLastGiven};
 ghost use Rattle.lexint.specs.Lines.{lines, pieces, without_empty_last};
-ghost use Rattle.lexint.specs.Numeral.{numeral, IsShortest};
+ghost use Rattle.lexint.specs.Numeral.{signed_numeral};
 ghost use Rattle.lexint.specs.Output.{answer_lines, output, settings_after};
 ghost use Rattle.lexint.specs.Settings.{standard_settings};
 
@@ -21,9 +22,10 @@ pub fn output_lines_are_those_of_the_answers()
         (scan settings_after answer_lines standard_settings (lines input)) }
 {}
 
-/// A numeral is the shortest text of digits that writes its number.
+/// What is printed of a number is its shortest numeral in radix 10, with a minus in front where it is
+/// below 0. So the parsers read it back.
 pub fn numeral_is_shortest()
-    ensures { (n : ℕ) → IsShortest (numeral n) n }
+    ensures { (number : ℤ) → IsNumeralOf 10 number (signed_numeral number) }
 {}
 
 /// Each line is answered under the settings that the lines before it leave, and of those each

@@ -1,12 +1,13 @@
 //! The lines of an input.
 
 ghost use Rattle.std.specs.Prelude.{◌≡◌, ◌≢◌, ℕ, ◌^◌, ◌<◌, ◌≤◌, length, slice_index};
+ghost use Rattle.lexical_util.specs.Ascii.{line_feed};
 
 /// The length of the first line: the place of the first line feed, or the end.
 pub fn line_end(bytes: &[u8]) -> usize
     ensures within { result ≤ length bytes.now }
-    ensures before { (k : ℕ) → k < result → slice_index bytes.now k ≢ 10 }
-    ensures found { result < length bytes.now → slice_index bytes.now result ≡ 10 }
+    ensures before { (k : ℕ) → k < result → slice_index bytes.now k ≢ line_feed }
+    ensures found { result < length bytes.now → slice_index bytes.now result ≡ line_feed }
     ensures room { length bytes.now < 2 ^ 64 }
 {
     for (i, b) in bytes.iter().enumerate() {

@@ -1,6 +1,7 @@
 //! Numbers as text, in a fixed array.
 
-ghost use Rattle.std.specs.Prelude.{◌≡◌, ◌≤◌, ◌<◌, ◌+◌, ◌-◌, ◌/◌, ◌%◌, ◌^◌, ◌∷◌, ◌++◌, drop};
+ghost use Rattle.std.specs.Prelude.{◌≡◌, ◌≤◌, ◌<◌, ◌+◌, ◌-◌, ◌/◌, ◌%◌, ◌^◌, ◌∷◌, ◌++◌, drop, take};
+ghost use Rattle.lexical_util.specs.Ascii.{digit_zero};
 ghost use Rattle.lexint.specs.Numeral.{numeral, signed_numeral};
 
 use crate::number::Number;
@@ -8,11 +9,13 @@ use crate::number::Number;
 /// The room that the longest numeral takes.
 pub const MOST: usize = 40;
 
-/// Writes the numeral so that it ends where the array does, and answers where it starts.
+/// Writes the numeral so that it ends where the array does, and answers where it starts. What comes
+/// before it in the array stays.
 pub fn write_numeral(n: u128, place: &mut [u8; MOST]) -> usize
     ensures within { result ≤ 40 }
     ensures room { 1 ≤ result }
     ensures written { drop result place.new ≡ numeral n }
+    ensures kept { take result place.new ≡ take result place.old }
 {
     let mut rest = n;
     let mut start = MOST;
@@ -30,9 +33,10 @@ fn write_front(n: u64, place: &mut [u8; MOST], end: usize) -> usize
     requires low { 2 ≤ end }
     requires high { end ≤ 40 }
     requires room { n < 10 ^ (end - 1) }
-    ensures within { result ≤ 40 }
+    ensures within { result ≤ end }
     ensures room { 1 ≤ result }
     ensures written { drop result place.new ≡ numeral n ++ drop end place.old }
+    ensures kept { take result place.new ≡ take result place.old }
 {
     let mut rest = n;
     let mut start = end;
@@ -56,7 +60,9 @@ fn put_pair(pair: u8, place: &mut [u8; MOST], end: usize)
     requires small { pair < 100 }
     requires low { 2 ≤ end }
     requires high { end ≤ 40 }
-    ensures { drop (end - 2) place.new ≡ (48 + pair / 10) ∷ (48 + pair % 10) ∷ drop end place.old }
+    ensures written { drop (end - 2) place.new
+        ≡ (digit_zero + pair / 10) ∷ (digit_zero + pair % 10) ∷ drop end place.old }
+    ensures kept { take (end - 2) place.new ≡ take (end - 2) place.old }
 {
     place[end - 1] = b'0' + pair % 10;
     place[end - 2] = b'0' + pair / 10;
@@ -66,6 +72,7 @@ fn put_pair(pair: u8, place: &mut [u8; MOST], end: usize)
 pub fn write_number(number: &Number, place: &mut [u8; MOST]) -> usize
     ensures within { result ≤ 40 }
     ensures written { drop result place.new ≡ signed_numeral number.now }
+    ensures kept { take result place.new ≡ take result place.old }
 {
     let start = write_numeral(number.size(), place);
     if !number.is_negative() {

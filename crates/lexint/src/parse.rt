@@ -22,8 +22,7 @@ trait Parsed: FromLexicalWithOptions<Options = Options> {
 // parser in here, rather than one in each arm of a `match`.
 #[inline(never)]
 fn complete_as<T: Parsed>(text: &[u8], settings: &Settings) -> Result<Number>
-    ensures { result ≡ complete_if_valid settings.now.format T.TYPE
-        text.now }
+    ensures { result ≡ complete_if_valid settings.now.format T.TYPE text.now }
 {
     let value = T::from_lexical_with_options(text, &settings.format(), settings.options())?;
     Ok(value.to_number())
@@ -33,8 +32,7 @@ fn complete_as<T: Parsed>(text: &[u8], settings: &Settings) -> Result<Number>
 // reading stopped.
 #[inline(never)]
 fn partial_as<T: Parsed>(text: &[u8], settings: &Settings) -> Result<(Number, usize)>
-    ensures { result ≡ partial_if_valid settings.now.format T.TYPE
-        text.now }
+    ensures { result ≡ partial_if_valid settings.now.format T.TYPE text.now }
 {
     let (value, stop) = T::from_lexical_partial_with_options(
         text,

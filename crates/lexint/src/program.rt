@@ -2,7 +2,7 @@
 
 ghost use Rattle.std.specs.Prelude.{◌≡◌, ◌++◌, [], OnOk, IfOk, IfSome, IsOkUnless, IsErrOf};
 ghost use Rattle.std.specs.Io.KnownBytes.{Appends, Keeps, IsAtEnd};
-ghost use Rattle.lexint.specs.Gather.{LosesFront};
+ghost use Rattle.lexint.specs.Gather.{GainsFront, Grows, LosesFront};
 ghost use Rattle.lexint.specs.Output.{output};
 
 use crate::answer::answer;
@@ -20,10 +20,12 @@ const MOST_READS: u64 = 4_294_967_296;
 /// How many bytes one read asks for.
 const CHUNK: usize = 65536;
 
-/// Writes the answer lines of the input. Its one fault is `Write`, and it takes no memory.
+/// Writes the answer lines of the input. Its one fault is `Write`, after which a front of them was
+/// written. It takes no memory.
 pub fn run<W: Write>(input: &[u8], out: &mut W) -> Result<(), RunError>
     ensures ok { OnOk result (Appends (W.contents out.old) (W.contents out.new)
         (output input.now)) }
+    ensures front { GainsFront (W.contents out.old) (W.contents out.new) (output input.now) }
     ensures fault { IsOkUnless result RunError.Write }
 {
     let mut batch = Batch::new();
@@ -76,6 +78,9 @@ pub fn run_with<R: Read, W: Write, B: Buffer>(
     requires { B.contents buffer ≡ [] }
     ensures ok { OnOk result (IfSome (R.remaining input.old) (λ all.
         Appends (W.contents out.old) (W.contents out.new) (output all))) }
+    ensures written { IfSome (R.remaining input.old) (λ all.
+        GainsFront (W.contents out.old) (W.contents out.new) (output all)) }
+    ensures grown { Grows (W.contents out.old) (W.contents out.new) }
     ensures end { OnOk result (IsAtEnd (R.remaining input.new)) }
     ensures all_read { IsErrOf result RunError.Write → IsAtEnd (R.remaining input.new) }
     ensures front { LosesFront (R.remaining input.old) (R.remaining input.new) }
@@ -99,7 +104,7 @@ pub fn run_with<R: Read, W: Write, B: Buffer>(
 /// read counts, and is tried again. `Memory` is a refused growth of the input buffer. After both
 /// nothing was written, and the reader has lost what was read. `Write` is a refused write or
 /// flush; one that is interrupted, and a write that takes no byte, count as refused. After it the
-/// reader is at its end, and nothing is said of how much went out.
+/// reader is at its end, and a front of the answer lines was written: it isn't said how much.
 pub fn run_from<R: Read, W: Write>(
     alloc: Global,
     input: &mut R,
@@ -107,6 +112,9 @@ pub fn run_from<R: Read, W: Write>(
 ) -> Result<(), RunError>
     ensures ok { OnOk result (IfSome (R.remaining input.old) (λ all.
         Appends (W.contents out.old) (W.contents out.new) (output all))) }
+    ensures written { IfSome (R.remaining input.old) (λ all.
+        GainsFront (W.contents out.old) (W.contents out.new) (output all)) }
+    ensures grown { Grows (W.contents out.old) (W.contents out.new) }
     ensures end { OnOk result (IsAtEnd (R.remaining input.new)) }
     ensures all_read { IsErrOf result RunError.Write → IsAtEnd (R.remaining input.new) }
     ensures front { LosesFront (R.remaining input.old) (R.remaining input.new) }

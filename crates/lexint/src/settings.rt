@@ -1,7 +1,7 @@
 //! What the lines so far have set.
 
 ghost use Rattle.std.specs.Prelude.{◌≡◌};
-ghost use Rattle.lexint.specs.Change.{changed, with_flag, with_mark};
+ghost use Rattle.lexint.specs.Change.{with_change, with_flag, with_mark};
 ghost use Rattle.lexint.specs.Settings.{standard_settings};
 
 use crate::field::{Change, Flag, Mark};
@@ -51,7 +51,7 @@ impl Settings {
     /// Sets a field to its new value, and changes no other. No value is refused: the format may
     /// become invalid.
     pub fn apply(&mut self, change: Change)
-        ensures { self.new ≡ changed change self.old }
+        ensures { self.new ≡ with_change change self.old }
     {
         let format = self.format;
         match change {

@@ -14,7 +14,7 @@ use std::alloc::Global;
 use std::process::Abort;
 
 /// What a run writes for an input.
-fn written(alloc: Global, input: &[u8]) -> Result<Vec<u8>, RunError> {
+fn output_of(alloc: Global, input: &[u8]) -> Result<Vec<u8>, RunError> {
     let mut out = Vec::new(alloc);
     run(input, &mut out)?;
     Ok(out)
@@ -27,7 +27,7 @@ fn each_has_output(
     rows: &[(&[u8], &[u8])],
 ) -> Result<(), RunError> {
     for (input, expected) in rows {
-        let out = written(alloc, input)?;
+        let out = output_of(alloc, input)?;
         assert_eq!(rt; out.as_slice(), *expected, "{}", input.escape_ascii());
     }
     Ok(())

@@ -1,7 +1,7 @@
 //! The answer to a line that asks for tokens.
 
 ghost use Rattle.std.specs.Prelude.{◌++◌, codes, OnOk, IsOkUnless};
-ghost use Rattle.lexint.specs.Gather.{Gathers};
+ghost use Rattle.lexint.specs.Gather.{GainsFront, Gathers};
 ghost use Rattle.lexint.specs.Numeral.{numeral};
 ghost use Rattle.lexint.specs.Output.{kind_text, token_text, tokens_text};
 ghost use Rattle.lexical_literals.specs.Tokens.{view_of_token, tokens};
@@ -16,6 +16,8 @@ use std::io::Write;
 pub fn put_tokens<W: Write>(source: &[u8], batch: &mut Batch, out: &mut W) -> Result<(), RunError>
     ensures ok { OnOk result (Gathers (W.contents out.old) batch.old (W.contents out.new) batch.new
         (tokens_text (tokens source.now))) }
+    ensures front { GainsFront (W.contents out.old) (W.contents out.new)
+        (batch.old ++ tokens_text (tokens source.now)) }
     ensures fault { IsOkUnless result RunError.Write }
 {
     for token in Tokens::new(source) {
@@ -29,6 +31,8 @@ pub fn put_tokens<W: Write>(source: &[u8], batch: &mut Batch, out: &mut W) -> Re
 fn put_token<W: Write>(token: &Token<'_>, batch: &mut Batch, out: &mut W) -> Result<(), RunError>
     ensures ok { OnOk result (Gathers (W.contents out.old) batch.old (W.contents out.new) batch.new
         (token_text (view_of_token token.now))) }
+    ensures front { GainsFront (W.contents out.old) (W.contents out.new)
+        (batch.old ++ token_text (view_of_token token.now)) }
     ensures fault { IsOkUnless result RunError.Write }
 {
     put_kind(&token.kind, batch, out)?;
@@ -40,6 +44,8 @@ fn put_token<W: Write>(token: &Token<'_>, batch: &mut Batch, out: &mut W) -> Res
 fn put_kind<W: Write>(kind: &Kind, batch: &mut Batch, out: &mut W) -> Result<(), RunError>
     ensures ok { OnOk result (Gathers (W.contents out.old) batch.old (W.contents out.new) batch.new
         (kind_text kind.now)) }
+    ensures front { GainsFront (W.contents out.old) (W.contents out.new)
+        (batch.old ++ kind_text kind.now) }
     ensures fault { IsOkUnless result RunError.Write }
 {
     match kind {
@@ -54,6 +60,8 @@ fn put_kind<W: Write>(kind: &Kind, batch: &mut Batch, out: &mut W) -> Result<(),
 fn put_number<W: Write>(value: u128, batch: &mut Batch, out: &mut W) -> Result<(), RunError>
     ensures ok { OnOk result (Gathers (W.contents out.old) batch.old (W.contents out.new) batch.new
         (codes "number " ++ numeral value)) }
+    ensures front { GainsFront (W.contents out.old) (W.contents out.new)
+        (batch.old ++ (codes "number " ++ numeral value)) }
     ensures fault { IsOkUnless result RunError.Write }
 {
     put(b"number ", batch, out)?;

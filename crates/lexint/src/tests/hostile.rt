@@ -1,7 +1,7 @@
 // Long inputs, and bytes that no line is made for.
 
 use super::devices::{BlockWriter, OneByteReader};
-use super::written;
+use super::output_of;
 use crate::program::{run, run_from};
 use std::alloc::{AllocError, Global};
 use std::test::Fail;
@@ -86,7 +86,7 @@ fn lines_of_mebibytes(rt: HostRuntime) -> Result<(), Fail> {
     ] {
         let count = MEBIBYTE.saturating_mul(mebibytes);
         let input = filled(rt.alloc(), front, filler, count, back)?;
-        let out = written(rt.alloc(), &input)?;
+        let out = output_of(rt.alloc(), &input)?;
         assert_eq!(rt; out.as_slice(), want.as_bytes(), "{front} {filler} {back}");
     }
     Ok(())
@@ -99,7 +99,7 @@ fn mebibytes_of_byte_255(rt: HostRuntime) -> Result<(), Fail> {
     add_times(&mut input, &[255; 1024], 10_240)?;
     input.push(b'\n')?;
     add_times(&mut input, &[255; 1024], 10_240)?;
-    let out = written(rt.alloc(), &input)?;
+    let out = output_of(rt.alloc(), &input)?;
     assert_eq!(rt; out.as_slice(), b"ok 0 0\nbad line\n".as_slice());
     Ok(())
 }
@@ -114,7 +114,7 @@ fn numerals_of_a_million_digits(rt: HostRuntime) -> Result<(), Fail> {
         ("p u32 ", "0", "12a", "ok 12 1000002\n"),
     ] {
         let input = filled(rt.alloc(), front, digit, MANY, back)?;
-        let out = written(rt.alloc(), &input)?;
+        let out = output_of(rt.alloc(), &input)?;
         assert_eq!(rt; out.as_slice(), want.as_bytes(), "{front} {digit} {back}");
     }
     Ok(())
@@ -147,7 +147,7 @@ fn fields_and_a_million_digits(rt: HostRuntime) -> Result<(), Fail> {
     ] {
         let before = format!(in rt.alloc(); "f {field}\n{front}")?;
         let input = filled(rt.alloc(), &before, digit, MANY, back)?;
-        let out = written(rt.alloc(), &input)?;
+        let out = output_of(rt.alloc(), &input)?;
         let answers = format!(in rt.alloc(); "ok\n{want}")?;
         assert_eq!(rt;
             out.as_slice(),
@@ -181,7 +181,7 @@ fn a_million_separators(rt: HostRuntime) -> Result<(), Fail> {
     ] {
         let before = format!(in rt.alloc(); "f digit_separator _\n{flag}{CONSECUTIVE}{front}")?;
         let input = filled(rt.alloc(), &before, filler, MANY, back)?;
-        let out = written(rt.alloc(), &input)?;
+        let out = output_of(rt.alloc(), &input)?;
         let answers = format!(in rt.alloc(); "ok\nok\nok\n{want}")?;
         assert_eq!(rt;
             out.as_slice(),
@@ -203,7 +203,7 @@ fn a_million_separators_in_a_row_are_refused(rt: HostRuntime) -> Result<(), Fail
     ] {
         let before = format!(in rt.alloc(); "f digit_separator _\n{flag}{front}")?;
         let input = filled(rt.alloc(), &before, "_", MANY, back)?;
-        let out = written(rt.alloc(), &input)?;
+        let out = output_of(rt.alloc(), &input)?;
         let answers = format!(in rt.alloc(); "ok\nok\n{want}")?;
         assert_eq!(rt; out.as_slice(), answers.as_bytes(), "{flag} {front} {back}");
     }
@@ -225,20 +225,20 @@ fn each_byte_in_a_line(rt: HostRuntime) -> Result<(), Fail> {
             b'0'..=b'9' => &two_digits,
             _ => b"err InvalidDigit 1\n",
         };
-        let out = written(rt.alloc(), &[byte])?;
+        let out = output_of(rt.alloc(), &[byte])?;
         assert_eq!(rt; out.as_slice(), alone.as_bytes(), "{byte}");
-        let out = written(rt.alloc(), &[b'r', byte])?;
+        let out = output_of(rt.alloc(), &[b'r', byte])?;
         assert_eq!(rt; out.as_slice(), behind.as_bytes(), "{byte}");
-        let out = written(rt.alloc(), &[b'c', b' ', b'u', b'8', b' ', b'1', byte])?;
+        let out = output_of(rt.alloc(), &[b'c', b' ', b'u', b'8', b' ', b'1', byte])?;
         assert_eq!(rt; out.as_slice(), after_digit, "{byte}");
-        let out = written(rt.alloc(), &[byte, b'c', b' ', b'u', b'8', b' ', b'1'])?;
+        let out = output_of(rt.alloc(), &[byte, b'c', b' ', b'u', b'8', b' ', b'1'])?;
         assert_eq!(rt; out.as_slice(), before.as_bytes(), "{byte}");
     }
     Ok(())
 }
 
 /// The line with another byte at that place.
-fn changed(alloc: Global, line: &str, place: usize, byte: u8) -> Result<Vec<u8>, AllocError> {
+fn with_byte(alloc: Global, line: &str, place: usize, byte: u8) -> Result<Vec<u8>, AllocError> {
     let mut changed = line.as_bytes().to_vec(alloc)?;
     if let Some(old) = changed.get_mut(place) {
         *old = byte;
@@ -257,7 +257,7 @@ fn bytes_0_and_255_in_lines(rt: HostRuntime) -> Result<(), Fail> {
     ] {
         for place in 0..line.len() {
             for byte in [0, 255] {
-                let out = written(rt.alloc(), &changed(rt.alloc(), line, place, byte)?)?;
+                let out = output_of(rt.alloc(), &with_byte(rt.alloc(), line, place, byte)?)?;
                 assert_eq!(rt; out.as_slice(), b"bad line\n".as_slice(), "{line} {place}");
             }
         }
@@ -278,7 +278,7 @@ fn bytes_0_and_255_in_texts(rt: HostRuntime) -> Result<(), Fail> {
         ("f base_suffix hh", 14, "bad line\n"),
     ] {
         for byte in [0, 255] {
-            let out = written(rt.alloc(), &changed(rt.alloc(), line, place, byte)?)?;
+            let out = output_of(rt.alloc(), &with_byte(rt.alloc(), line, place, byte)?)?;
             assert_eq!(rt; out.as_slice(), want.as_bytes(), "{line} {place} {byte}");
         }
     }

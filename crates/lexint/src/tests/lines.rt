@@ -1,6 +1,6 @@
 // Lines and their answers, each alone under the standard settings.
 
-use super::{each_has_output, written};
+use super::{each_has_output, output_of};
 use std::test::Fail;
 
 #[test]
@@ -113,7 +113,7 @@ fn other_lines_are_bad(rt: HostRuntime) -> Result<(), Fail> {
         b"t".as_slice(),
         b"\xff".as_slice(),
     ] {
-        let out = written(rt.alloc(), input)?;
+        let out = output_of(rt.alloc(), input)?;
         assert_eq!(rt; out.as_slice(), b"bad line\n".as_slice(), "{input:?}");
     }
     Ok(())
@@ -145,7 +145,7 @@ fn places_are_counted_far_into_a_line(rt: HostRuntime) -> Result<(), Fail> {
     let mut line = b"c u8 ".as_slice().to_vec(rt.alloc())?;
     line.extend_from_slice(&[b'0'; 1000])?;
     line.extend_from_slice(b"256")?;
-    let out = written(rt.alloc(), &line)?;
+    let out = output_of(rt.alloc(), &line)?;
     assert_eq!(rt; out.as_slice(), b"err Overflow 1002\n".as_slice());
     Ok(())
 }

@@ -1,15 +1,16 @@
-use Rattle.std.proofs.Common.{◌≡◌, ◌≤◌, ◌<◌, ◌^◌, ◌-◌, ◌++◌, drop, length}
+use Rattle.std.proofs.Common.{◌≡◌, ◌≤◌, ◌<◌, ◌^◌, ◌-◌, ◌++◌, drop, length, take}
 use Rattle.lexint.specs.Numeral.{numeral}
 use Rattle.lexint.proofs.numeral.write_front.Given as goal
 
 -- the digits written so far end the numeral, and there is room for the others
 abbrev pub invariant-loop-rest : goal.invariant-loop-rest
 invariant-loop-rest l = record {
-  within : l.start ≤ 40;
+  within : l.start ≤ l.end;
   some : 2 ≤ l.start;
   size : length l.place ≡ 40;
   room : l.rest < 10 ^ (l.start - 1);
   written : numeral l.n ++ drop l.end l.initial.place ≡ numeral l.rest ++ drop l.start l.place;
+  kept : take l.start l.place ≡ take l.start l.initial.place;
 }
 
 abbrev pub decreases-loop-rest : goal.decreases-loop-rest

@@ -1,7 +1,7 @@
 use Rattle.std.proofs.Common.{ℕ, ◌-◌, arith, refl}
-use Rattle.std.proofs.lemmas.List.{drop_all, append-nil, length-set}
+use Rattle.std.proofs.lemmas.List.{drop_all, append-nil, length-set, take-set}
 use Rattle.lexint.specs.Numeral.{numeral}
-use Rattle.lexint.proofs.NumeralSteps.{numeral_more, room_some, room_next}
+use Rattle.lexint.proofs.NumeralSteps.{kept_less, numeral_more, room_some, room_next}
 use Rattle.lexint.proofs.numeral.write_numeral.Goals as goal
 
 pub loop-rest-init : goal.loop-rest-init
@@ -11,6 +11,7 @@ loop-rest-init c = record {
   size = omega arith;
   room = omega arith;
   written = rw (drop_all 40 c.args.place.now (omega arith), append-nil) refl;
+  kept = refl;
 }
 
 pub loop-rest-preserved : goal.loop-rest-preserved
@@ -23,4 +24,10 @@ loop-rest-preserved c =
       size = omega (arith, length-set {A = ℕ});
       room = room_next l.rest (l.start - 1) l.invariant.room (omega arith);
       written = numeral_more (numeral c.args.n) l.rest l.start l.place (omega arith) (omega arith) (omega arith) l.invariant.written;
+      kept = kept_less _ l.place _ (l.start - 1) l.start (omega arith) l.invariant.kept (take-set l.place (l.start - 1) _);
     }
+
+pub returns-clause-kept : goal.returns-clause-kept
+returns-clause-kept c =
+    let l = c.loop-rest in
+    kept_less _ l.place _ c.write_front.result l.start c.write_front.ensures.within l.invariant.kept c.write_front.ensures.kept

@@ -1,4 +1,4 @@
-use Rattle.std.proofs.Common.{◌≡◌, ◌≤◌, ◌<◌, ◌^◌, ◌-◌, ◌++◌, drop, length}
+use Rattle.std.proofs.Common.{◌≡◌, ◌≤◌, ◌<◌, ◌^◌, ◌-◌, ◌++◌, drop, length, take}
 use Rattle.lexint.specs.Numeral.{numeral}
 use Rattle.lexint.proofs.numeral.write_numeral.Given as goal
 
@@ -10,6 +10,7 @@ invariant-loop-rest l = record {
   size : length l.place ≡ 40;
   room : l.rest < 10 ^ (l.start - 1);
   written : numeral l.n ≡ numeral l.rest ++ drop l.start l.place;
+  kept : take l.start l.place ≡ take l.start l.initial.place;
 }
 
 abbrev pub decreases-loop-rest : goal.decreases-loop-rest
