@@ -21,7 +21,9 @@ pub mod Locality
 pub mod NumeralLemmas
 pub mod Numerals
 pub mod Places
+pub mod PlainTexts
 pub mod PlainTurns
+pub mod PlainWords
 pub mod Progress
 pub mod RangeFaults
 pub mod SeenLemmas

@@ -15,11 +15,13 @@ mod head;
 mod lanes;
 mod multi;
 mod numeral;
+mod plain;
 mod words;
 mod zeros;
 
 use crate::algorithm::head::{is_prefix_alone, read_head};
 use crate::algorithm::numeral::read_digits;
+use crate::algorithm::plain::settled;
 use crate::algorithm::zeros::read_first;
 use crate::cursor::Cursor;
 use crate::options::Options;
@@ -144,7 +146,10 @@ pub fn algorithm_complete<T: Integer>(
     requires valid { IsNone (fault format.now) }
     ensures { seen T.number result ≡ complete format.now (integer_type T.BITS T.IS_SIGNED) bytes.now }
 {
-    algorithm_complete_on::<T>(&mut Cursor::new(bytes, format), options)
+    match settled::<T>(bytes, format) {
+        Some(value) => Ok(value),
+        None => algorithm_complete_on::<T>(&mut Cursor::new(bytes, format), options),
+    }
 }
 
 /// The integer that the front of the text stands for under a valid format, and the place at which reading stops.
