@@ -21,6 +21,7 @@ pub mod Locality
 pub mod NumeralLemmas
 pub mod Numerals
 pub mod Places
+pub mod PlainFronts
 pub mod PlainTexts
 pub mod PlainTurns
 pub mod PlainWords
@@ -29,6 +30,7 @@ pub mod RangeFaults
 pub mod SeenLemmas
 pub mod SettledRows
 pub mod ShorterFronts
+pub mod TableTexts
 pub mod Taking
 pub mod TurnBound
 pub mod TurnRows

@@ -20,7 +20,7 @@ fn limit<T: Integer>() -> u64
 
 // The value with the sign.
 #[inline(always)]
-fn with_sign<T: Integer>(value: T, negative: bool) -> T
+pub(super) fn with_sign<T: Integer>(value: T, negative: bool) -> T
     requires minus { IsTrue negative → IsTrue T.IS_SIGNED }
     requires positive { pos 0 ≤ℤ T.number value }
     requires fits { IsNumber (integer_type T.BITS T.IS_SIGNED) (T.number value) }
@@ -36,7 +36,7 @@ fn with_sign<T: Integer>(value: T, negative: bool) -> T
 
 // The value of a number of up to eight digits, where the type has it.
 #[inline(always)]
-fn value_to_8<T: Integer>(number: u32, negative: bool) -> Option<T>
+pub(super) fn value_to_8<T: Integer>(number: u32, negative: bool) -> Option<T>
     requires minus { IsTrue negative → IsTrue T.IS_SIGNED }
     requires small { number < 100000000 }
     ensures value { IfSome result (λ value. T.number value ≡ signed negative number) }
@@ -52,7 +52,7 @@ fn value_to_8<T: Integer>(number: u32, negative: bool) -> Option<T>
 
 // The value of a number of nine to sixteen digits, where the type has it.
 #[inline(always)]
-fn value_to_16<T: Integer>(high: u32, low: u32, negative: bool) -> Option<T>
+pub(super) fn value_to_16<T: Integer>(high: u32, low: u32, negative: bool) -> Option<T>
     requires minus { IsTrue negative → IsTrue T.IS_SIGNED }
     requires high { high < 100000000 }
     requires low { low < 100000000 }
