@@ -16,32 +16,32 @@ use Rattle.lexical_parse_integer.specs.Head.{Head, sign}
 use Rattle.lexical_parse_integer.specs.Numeral.{Numeral, digit_count, numeral_value}
 use Rattle.lexical_parse_integer.specs.Plain.{BeginsWith, IsBehind, IsPlain, raised}
 use Rattle.lexical_parse_integer.specs.Runs.{digit_at}
-use Rattle.lexical_parse_integer.specs.Value.{positional_value, signed}
+use Rattle.lexical_parse_integer.specs.Value.{positional_value, with_sign}
 use Rattle.lexical_parse_integer.specs.Words.{AreDigits, word_value}
-use Rattle.lexical_parse_integer.proofs.AsciiDigits.{ascii_from_digits, digit_to}
-use Rattle.lexical_parse_integer.proofs.DigitTexts.{head_is, stop_plain, take_row}
-use Rattle.lexical_parse_integer.proofs.Fronts.{fitting_fault}
-use Rattle.lexical_parse_integer.proofs.InARow.{EndsRow, has_digit, row, row_numeral}
-use Rattle.lexical_parse_integer.proofs.Numerals.{HaveDigits, digit_there, digits_size, first_digit, row_is}
-use Rattle.lexical_parse_integer.proofs.Places.{HoldsBetween}
+use Rattle.lexical_parse_integer.proofs.words.AsciiDigits.{ascii_from_digits, digit_to}
+use Rattle.lexical_parse_integer.proofs.theorems.DigitTexts.{head_is, stop_plain, take_row}
+use Rattle.lexical_parse_integer.proofs.grammar.FrontValues.{fitting_fault}
+use Rattle.lexical_parse_integer.proofs.grammar.DigitsInARow.{EndsRow, has_digit, row, row_numeral}
+use Rattle.lexical_parse_integer.proofs.theorems.ReadBack.{HaveDigits, digit_there, digits_size, first_digit, row_is}
+use Rattle.lexical_parse_integer.proofs.grammar.Stretches.{HoldsBetween}
 use Rattle.lexical_parse_integer.proofs.PlainTexts.{have_digits, rule_told, sign_of_digit_under, sign_of_minus_under}
 use Rattle.lexical_parse_integer.proofs.PlainWords.{raised_none}
-use Rattle.lexical_parse_integer.proofs.SettledRows.{partial_by, partial_row}
-use Rattle.lexical_parse_integer.proofs.ShorterFronts.{shorter_fronts_fit}
+use Rattle.lexical_parse_integer.proofs.theorems.SettledAnswers.{partial_by, partial_row}
+use Rattle.lexical_parse_integer.proofs.grammar.RangeOfFronts.{shorter_fronts_fit}
 
 -- so many digits behind the sign, and then none
 pub front_read_under : (f : Format) (t : IntegerType) (text : List ℕ) (s : Bool × ℕ) (n : ℕ) → IsPlain f → 1 ≤ f.mantissa_radix → sign f t text ≡ Ok s → 0 < n → s.1 + n ≤ length text →
     HoldsBetween (has_digit f.mantissa_radix text) s.1 (s.1 + n) → (s.1 + n < length text → has_digit f.mantissa_radix text (s.1 + n) ≡ false) →
     zero_fault f false (row_numeral f text s.1 f.mantissa_radix n) ≡ None →
-    is_number t (signed s.0 (positional_value f.mantissa_radix (row f.mantissa_radix text s.1 n))) ≡ true →
-    partial f t text ≡ Ok (signed s.0 (positional_value f.mantissa_radix (row f.mantissa_radix text s.1 n)), s.1 + n)
+    is_number t (with_sign s.0 (positional_value f.mantissa_radix (row f.mantissa_radix text s.1 n))) ≡ true →
+    partial f t text ≡ Ok (with_sign s.0 (positional_value f.mantissa_radix (row f.mantissa_radix text s.1 n)), s.1 + n)
 front_read_under f t text s n plain positive sign_is some within all stops no_zeros fits =
     let r : ℕ = f.mantissa_radix in
     let h : Head = record { is_minus = s.0; is_prefixed = false; start = s.1; radix = r } in
     let x : Numeral = row_numeral f text s.1 r n in
     let ends : EndsRow r text s.1 (s.1 + n) = record { low = omega arith; high = within; holds = all; fails = stops } in
     let count : digit_count x ≡ n = length-map-range_with_len (λ place. unwrap_or (digit_at r text place) 0) s.1 n in
-    let value : numeral_value s.0 x ≡ signed s.0 (positional_value r (row r text s.1 n)) = ap (λ (ds : List ℕ). signed s.0 (positional_value r ds)) (take_row r text s.1 n) in
+    let value : numeral_value s.0 x ≡ with_sign s.0 (positional_value r (row r text s.1 n)) = ap (λ (ds : List ℕ). with_sign s.0 (positional_value r ds)) (take_row r text s.1 n) in
     let fit = shorter_fronts_fit t s.0 x (digit_count x) positive (ap (is_number t) value ∙ fits) in
     let no_range : range_fault t s.0 x ≡ None = fitting_fault t s.0 x fit in
     let stop : x.stop ≡ s.1 + n = stop_plain f text s.1 r n plain.no_suffix in
@@ -49,7 +49,7 @@ front_read_under f t text s n plain positive sign_is some within all stops no_ze
     let zeros : zero_fault f false x ≡ None = no_zeros in
     let answer : partial_by f t text h x ≡ Ok (numeral_value s.0 x, x.stop) = rw (zeros, no_range, digits_there, and-false) refl in
     partial_row f t text h n plain.no_separator (head_is f t text s plain.no_prefix plain.no_literals sign_is) (omega arith) ends ∙ answer
-    ∙ ap (λ (z : ℤ). Ok (z, x.stop)) value ∙ ap (λ (k : ℕ). Ok (signed s.0 (positional_value r (row r text s.1 n)), k)) stop
+    ∙ ap (λ (z : ℤ). Ok (z, x.stop)) value ∙ ap (λ (k : ℕ). Ok (with_sign s.0 (positional_value r (row r text s.1 n)), k)) stop
 
 -- ---- the places of digits that stand behind the sign
 
@@ -85,7 +85,7 @@ front_between r text digits ds start n on all size j low high =
 values_in_front : (f : Format) (t : IntegerType) (text digits ds : List ℕ) (s : Bool × ℕ) (n : ℕ) → IsPlain f → 1 ≤ f.mantissa_radix → sign f t text ≡ Ok s → StandsFrom s.1 text digits → length text ≡ s.1 + length digits →
     HaveDigits f.mantissa_radix (take n digits) ds → 0 < n → n ≤ length digits → (n < length digits → is_some (digit (get_or digits n 0) f.mantissa_radix) ≡ false) →
     ((f.no_integer_leading_zeros && nat_le 2 (length ds)) && (slice_index ds 0 == 0)) ≡ false →
-    is_number t (signed s.0 (positional_value f.mantissa_radix ds)) ≡ true → partial f t text ≡ Ok (signed s.0 (positional_value f.mantissa_radix ds), s.1 + n)
+    is_number t (with_sign s.0 (positional_value f.mantissa_radix ds)) ≡ true → partial f t text ≡ Ok (with_sign s.0 (positional_value f.mantissa_radix ds), s.1 + n)
 values_in_front f t text digits ds s n plain positive sign_is on size all some within stops rule fits =
     let r : ℕ = f.mantissa_radix in
     let taken : length (take n digits) ≡ n = length-take-le n digits within in
@@ -93,8 +93,8 @@ values_in_front f t text digits ds s n plain positive sign_is on size all some w
     let same : row r text s.1 n ≡ ds = ap (row r text s.1) (sym count) ∙ row_is r text ds s.1 (λ k l. at_front r text digits ds s.1 n k on all l (omega arith)) in
     let no_zeros : zero_fault f false (row_numeral f text s.1 r n) ≡ None = zeros_told f (row r text s.1 n) ds _ same rule in
     front_read_under f t text s n plain positive sign_is some (omega arith) (front_between r text digits ds s.1 n on all count) (λ l. at_stop r text digits s.1 n on (omega arith) (stops (omega arith))) no_zeros
-    (ap (λ (es : List ℕ). is_number t (signed s.0 (positional_value r es))) same ∙ fits)
-    ∙ ap (λ (es : List ℕ). Ok (signed s.0 (positional_value r es), s.1 + n)) same
+    (ap (λ (es : List ℕ). is_number t (with_sign s.0 (positional_value r es))) same ∙ fits)
+    ∙ ap (λ (es : List ℕ). Ok (with_sign s.0 (positional_value r es), s.1 + n)) same
   where
     zeros_told : (f : Format) (es ds : List ℕ) (place : ℕ) → es ≡ ds → ((f.no_integer_leading_zeros && nat_le 2 (length ds)) && (slice_index ds 0 == 0)) ≡ false →
         fault_if (((f.no_integer_leading_zeros && not false) && nat_le 2 (length es)) && (slice_index es 0 == 0)) (InvalidLeadingZeros place) ≡ None
@@ -105,7 +105,7 @@ values_in_front f t text digits ds s n plain positive sign_is on size all some w
 -- digits at the front, behind a minus where the number is negative
 pub front_digits_read : (f : Format) (t : IntegerType) (b : Bool) (text digits ds : List ℕ) (n : ℕ) → IsPlain f → 1 ≤ f.mantissa_radix → IsBehind b t text digits → HaveDigits f.mantissa_radix (take n digits) ds → 0 < n → n ≤ length digits →
     (n < length digits → is_some (digit (get_or digits n 0) f.mantissa_radix) ≡ false) → ((f.no_integer_leading_zeros && nat_le 2 (length ds)) && (slice_index ds 0 == 0)) ≡ false →
-    is_number t (signed b (positional_value f.mantissa_radix ds)) ≡ true → partial f t text ≡ Ok (signed b (positional_value f.mantissa_radix ds), bool_byte b + n)
+    is_number t (with_sign b (positional_value f.mantissa_radix ds)) ≡ true → partial f t text ≡ Ok (with_sign b (positional_value f.mantissa_radix ds), bool_byte b + n)
 front_digits_read f t b text [] ds n plain positive behind all some within stops rule fits = absurd (omega arith)
 front_digits_read f t b text (c ∷ cs) ds zero plain positive behind all some within stops rule fits = absurd (omega arith)
 front_digits_read f t false text (c ∷ cs) ds (suc n) plain positive behind all some within stops rule fits =
@@ -142,8 +142,8 @@ begins_read f t negative text digits value count plain ten behind b =
     let ascii = ascii_from_digits 10 bytes (omega arith) digits_are in
     let ds : List ℕ = map (λ byte. byte - 48) bytes in
     let all : HaveDigits f.mantissa_radix bytes ds = subst (λ (r : ℕ). HaveDigits r bytes ds) (sym ten) (have_digits 10 bytes (omega arith) ascii) in
-    let value_is : signed negative (positional_value f.mantissa_radix ds) ≡ value = ap (λ (r : ℕ). signed negative (positional_value r ds)) ten ∙ ap (signed negative) (sym worth) ∙ sym w.worth in
+    let value_is : with_sign negative (positional_value f.mantissa_radix ds) ≡ value = ap (λ (r : ℕ). with_sign negative (positional_value r ds)) ten ∙ ap (with_sign negative) (sym worth) ∙ sym w.worth in
     let stops : (count < length digits → is_some (digit (get_or digits count 0) f.mantissa_radix) ≡ false) = λ l. ap (λ (r : ℕ). is_some (digit (get_or digits count 0) r)) ten ∙ b.stops l in
-    let fits : is_number t (signed negative (positional_value f.mantissa_radix ds)) ≡ true = ap (is_number t) (value_is ∙ w.worth) ∙ w.fits in
+    let fits : is_number t (with_sign negative (positional_value f.mantissa_radix ds)) ≡ true = ap (is_number t) (value_is ∙ w.worth) ∙ w.fits in
     front_digits_read f t negative text digits ds count plain (omega arith) behind all b.some b.within stops (rule_told f 10 bytes ascii b.rule) fits
     ∙ ap (λ (z : ℤ). Ok (z, bool_byte negative + count)) value_is

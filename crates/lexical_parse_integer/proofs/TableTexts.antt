@@ -12,11 +12,11 @@ use Rattle.lexical_util.specs.Format.{Format}
 use Rattle.lexical_util.specs.Number.{HasRoom, IntegerType, IsNumber, is_number, mul_add}
 use Rattle.lexical_parse_integer.specs.Grammar.{complete}
 use Rattle.lexical_parse_integer.specs.Plain.{IsBehind, IsPlain, StandsFor, WritesFront, keeps_zero_rule}
-use Rattle.lexical_parse_integer.specs.Value.{positional_value, signed}
-use Rattle.lexical_parse_integer.proofs.Fronts.{positional_value-push}
-use Rattle.lexical_parse_integer.proofs.Numerals.{HaveDigits, digit_below, digits_size}
+use Rattle.lexical_parse_integer.specs.Value.{positional_value, with_sign}
+use Rattle.lexical_parse_integer.proofs.grammar.FrontValues.{positional_value-push}
+use Rattle.lexical_parse_integer.proofs.theorems.ReadBack.{HaveDigits, digit_below, digits_size}
 use Rattle.lexical_parse_integer.proofs.PlainTexts.{digits_alone_read}
-use Rattle.lexical_parse_integer.proofs.WordTurns.{few_fit}
+use Rattle.lexical_parse_integer.proofs.bound.WordSteps.{few_fit}
 
 -- before the first byte
 pub nothing_read : (r : ℕ) (text : List ℕ) (value : ℤ) → value ≡ pos 0 → WritesFront r text 0 value
@@ -81,7 +81,7 @@ table_read f t r negative text digits value plain same radix behind some rule s 
     let all : HaveDigits r digits w.values = ap (map (λ byte. digit byte r)) (sym (take-length digits)) ∙ w.digits in
     let here : HaveDigits f.mantissa_radix digits w.values = subst (λ (n : ℕ). HaveDigits n digits w.values) (sym same) all in
     let low = radix.low in
-    let signed_is : signed negative (positional_value f.mantissa_radix w.values) ≡ value = ap (λ (n : ℕ). signed negative (positional_value n w.values)) same ∙ ap (λ (z : ℤ). if negative then neg_ℤ z else z) (sym w.worth) ∙ sym s.worth in
+    let signed_is : with_sign negative (positional_value f.mantissa_radix w.values) ≡ value = ap (λ (n : ℕ). with_sign negative (positional_value n w.values)) same ∙ ap (λ (z : ℤ). if negative then neg_ℤ z else z) (sym w.worth) ∙ sym s.worth in
     digits_alone_read f t negative text digits w.values plain (omega arith) behind here some (rule_in f r digits w.values all rule) (ap (is_number t) signed_is ∙ s.fits) ∙ ap Ok signed_is
 
 -- ---- what the parts of the code say

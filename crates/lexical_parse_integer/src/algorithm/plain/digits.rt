@@ -128,7 +128,8 @@ pub(super) fn numbers_to_16(text: &[u8], more: u8) -> Option<(u32, u32)>
     requires some { 8 < length text.now }
     requires few { length text.now ≤ 16 }
     requires more { get_or text.now 0 0 + more < 256 }
-    ensures writes { IfSome result (λ parts. WritesDecimal more text.now (parts.0 * 100000000 + parts.1)) }
+    ensures writes { IfSome result
+        (λ parts. WritesDecimal more text.now (parts.0 * 100000000 + parts.1)) }
     ensures high { IfSome result (λ parts. parts.0 < 100000000) }
     ensures low { IfSome result (λ parts. parts.1 < 100000000) }
 {
@@ -162,7 +163,9 @@ pub(super) fn number_of_front(text: &[u8]) -> Option<u32>
 pub(super) fn numbers_to_24(text: &[u8]) -> Option<(u32, u32, u32)>
     requires some { 8 < length text.now }
     requires few { length text.now ≤ 24 }
-    ensures writes { IfSome result (λ parts. WritesDecimal 0 text.now (parts.0 * 10000000000000000 + (parts.1 * 100000000 + parts.2))) }
+    ensures writes { IfSome result
+        (λ parts. WritesDecimal 0 text.now
+        (parts.0 * 10000000000000000 + (parts.1 * 100000000 + parts.2))) }
     ensures first { IfSome result (λ parts. parts.0 < 100000000) }
     ensures high { IfSome result (λ parts. parts.1 < 100000000) }
     ensures low { IfSome result (λ parts. parts.2 < 100000000) }

@@ -4,7 +4,6 @@
 // many they are is a guess by the bits of the word; what is answered was tested.
 ghost use Rattle.std.specs.Prelude.{◌≡◌, ◌<◌, ◌≤◌, IfSome, IsNone, IsTrue, get_or, length, take};
 ghost use Rattle.lexical_util.specs.Digit.{digit};
-ghost use Rattle.lexical_util.specs.Number.{integer_type};
 ghost use Rattle.lexical_parse_integer.specs.Plain.{WritesDecimal, WritesValue};
 
 use crate::algorithm::plain::digits::{
@@ -66,8 +65,8 @@ pub(super) fn count_of_digits(text: &[u8]) -> usize
 #[inline(always)]
 pub(super) fn value_of_digits<T: Integer>(digits: &[u8], negative: bool) -> Option<T>
     requires some { 1 ≤ length digits.now }
-    requires minus { IsTrue negative → IsTrue T.IS_SIGNED }
-    ensures { IfSome result (λ value. WritesValue (integer_type T.BITS T.IS_SIGNED) 0 negative digits.now (T.number value)) }
+    requires minus { IsTrue negative → IsTrue T.TYPE.is_signed }
+    ensures { IfSome result (λ value. WritesValue T.TYPE 0 negative digits.now (T.number value)) }
 {
     let n = digits.len();
     if n <= 8 {

@@ -2,7 +2,7 @@
 // that none of their numbers leaves the type: no step is tested.
 ghost use Rattle.std.specs.Prelude.{◌≡◌, ◌≤◌, IfSome, IsTrue, length};
 ghost use Rattle.lexical_util.specs.Digit.{IsRadix};
-ghost use Rattle.lexical_util.specs.Number.{HasRoom, IsNumber, integer_type};
+ghost use Rattle.lexical_util.specs.Number.{HasRoom, IsNumber};
 ghost use Rattle.lexical_parse_integer.specs.Plain.{StandsFor, WritesFront};
 
 use crate::algorithm::plain::values::with_sign;
@@ -14,8 +14,9 @@ use lexical_util::num::Integer;
 fn number_by_table<T: Integer>(digits: &[u8], radix: u32, most: usize) -> Option<T>
     requires radix { IsRadix radix }
     requires few { length digits.now ≤ most }
-    requires room { HasRoom (integer_type T.BITS T.IS_SIGNED) radix most }
-    ensures writes { IfSome result (λ value. WritesFront radix digits.now (length digits.now) (T.number value)) }
+    requires room { HasRoom T.TYPE radix most }
+    ensures writes { IfSome result
+        (λ value. WritesFront radix digits.now (length digits.now) (T.number value)) }
 {
     let scale = T::from_u32(radix);
     let mut value = T::ZERO;
@@ -32,8 +33,8 @@ fn number_by_table<T: Integer>(digits: &[u8], radix: u32, most: usize) -> Option
 #[inline(always)]
 pub(super) fn value_by_table<T: Integer>(digits: &[u8], radix: u32, negative: bool) -> Option<T>
     requires radix { IsRadix radix }
-    requires minus { IsTrue negative → IsTrue T.IS_SIGNED }
-    ensures { IfSome result (λ value. StandsFor (integer_type T.BITS T.IS_SIGNED) radix negative digits.now (T.number value)) }
+    requires minus { IsTrue negative → IsTrue T.TYPE.is_signed }
+    ensures { IfSome result (λ value. StandsFor T.TYPE radix negative digits.now (T.number value)) }
 {
     let most = T::overflow_digits(radix);
     if digits.len() > most {

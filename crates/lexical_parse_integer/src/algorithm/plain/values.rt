@@ -1,8 +1,8 @@
 // The values of decimal digits, where the type has them.
 ghost use Rattle.std.specs.Prelude.{◌≤ℤ◌, ◌∷◌, [], neg_ℤ, if◌then◌else◌, false, ◌≡◌, ◌+◌, ◌*◌, ◌<◌, ◌≤◌, IfSome, IsTrue, get_or, length, pos};
-ghost use Rattle.lexical_util.specs.Number.{IsNumber, integer_type, number_limit};
+ghost use Rattle.lexical_util.specs.Number.{IsNumber, number_limit};
 ghost use Rattle.lexical_parse_integer.specs.Plain.{WritesValue, minus_more};
-ghost use Rattle.lexical_parse_integer.specs.Value.{signed};
+ghost use Rattle.lexical_parse_integer.specs.Value.{with_sign};
 
 use crate::algorithm::plain::digits::{
     minus_more, number_to_3, number_to_8, numbers_to_16, numbers_to_24,
@@ -13,7 +13,7 @@ use lexical_util::num::Integer;
 #[inline(always)]
 fn limit<T: Integer>() -> u64
     requires { T.BITS ≤ 32 }
-    ensures { result ≡ number_limit (integer_type T.BITS T.IS_SIGNED) }
+    ensures { result ≡ number_limit T.TYPE }
 {
     1 << (T::BITS - u32::from(T::IS_SIGNED))
 }
@@ -21,11 +21,12 @@ fn limit<T: Integer>() -> u64
 // The value with the sign.
 #[inline(always)]
 pub(super) fn with_sign<T: Integer>(value: T, negative: bool) -> T
-    requires minus { IsTrue negative → IsTrue T.IS_SIGNED }
+    requires minus { IsTrue negative → IsTrue T.TYPE.is_signed }
     requires positive { pos 0 ≤ℤ T.number value }
-    requires fits { IsNumber (integer_type T.BITS T.IS_SIGNED) (T.number value) }
-    ensures value { T.number result ≡ (if negative then neg_ℤ (T.number value) else T.number value) }
-    ensures fits { IsNumber (integer_type T.BITS T.IS_SIGNED) (T.number result) }
+    requires fits { IsNumber T.TYPE (T.number value) }
+    ensures value { T.number result
+        ≡ (if negative then neg_ℤ (T.number value) else T.number value) }
+    ensures fits { IsNumber T.TYPE (T.number result) }
 {
     if negative {
         T::ZERO.mul_add(T::from_u32(1), value, true)
@@ -37,10 +38,10 @@ pub(super) fn with_sign<T: Integer>(value: T, negative: bool) -> T
 // The value of a number of up to eight digits, where the type has it.
 #[inline(always)]
 pub(super) fn value_to_8<T: Integer>(number: u32, negative: bool) -> Option<T>
-    requires minus { IsTrue negative → IsTrue T.IS_SIGNED }
+    requires minus { IsTrue negative → IsTrue T.TYPE.is_signed }
     requires small { number < 100000000 }
-    ensures value { IfSome result (λ value. T.number value ≡ signed negative number) }
-    ensures fits { IfSome result (λ value. IsNumber (integer_type T.BITS T.IS_SIGNED) (T.number value)) }
+    ensures value { IfSome result (λ value. T.number value ≡ with_sign negative number) }
+    ensures fits { IfSome result (λ value. IsNumber T.TYPE (T.number value)) }
 {
     if T::BITS < 32 {
         if number as u64 >= limit::<T>() {
@@ -53,11 +54,12 @@ pub(super) fn value_to_8<T: Integer>(number: u32, negative: bool) -> Option<T>
 // The value of a number of nine to sixteen digits, where the type has it.
 #[inline(always)]
 pub(super) fn value_to_16<T: Integer>(high: u32, low: u32, negative: bool) -> Option<T>
-    requires minus { IsTrue negative → IsTrue T.IS_SIGNED }
+    requires minus { IsTrue negative → IsTrue T.TYPE.is_signed }
     requires high { high < 100000000 }
     requires low { low < 100000000 }
-    ensures value { IfSome result (λ value. T.number value ≡ signed negative (high * 100000000 + low)) }
-    ensures fits { IfSome result (λ value. IsNumber (integer_type T.BITS T.IS_SIGNED) (T.number value)) }
+    ensures value { IfSome result
+        (λ value. T.number value ≡ with_sign negative (high * 100000000 + low)) }
+    ensures fits { IfSome result (λ value. IsNumber T.TYPE (T.number value)) }
 {
     if T::BITS <= 32 {
         let number = high as u64 * 100_000_000 + low as u64;
@@ -74,12 +76,14 @@ pub(super) fn value_to_16<T: Integer>(high: u32, low: u32, negative: bool) -> Op
 #[inline(always)]
 fn value_to_24<T: Integer>(first: u32, high: u32, low: u32, negative: bool) -> Option<T>
     requires bits { 32 < T.BITS }
-    requires minus { IsTrue negative → IsTrue T.IS_SIGNED }
+    requires minus { IsTrue negative → IsTrue T.TYPE.is_signed }
     requires first { first < 100000000 }
     requires high { high < 100000000 }
     requires low { low < 100000000 }
-    ensures value { IfSome result (λ value. T.number value ≡ signed negative (first * 10000000000000000 + (high * 100000000 + low))) }
-    ensures fits { IfSome result (λ value. IsNumber (integer_type T.BITS T.IS_SIGNED) (T.number value)) }
+    ensures value { IfSome result
+        (λ value. T.number value
+        ≡ with_sign negative (first * 10000000000000000 + (high * 100000000 + low))) }
+    ensures fits { IfSome result (λ value. IsNumber T.TYPE (T.number value)) }
 {
     let scale = T::from_u32(100_000_000);
     let front = T::from_u32(first).mul_add(scale, T::from_u32(high), false);
@@ -96,7 +100,7 @@ fn value_to_24<T: Integer>(first: u32, high: u32, low: u32, negative: bool) -> O
 // The value of one digit.
 #[inline(always)]
 pub(super) fn value_of_one<T: Integer>(byte: u8) -> Option<T>
-    ensures { IfSome result (λ value. WritesValue (integer_type T.BITS T.IS_SIGNED) 0 false (byte ∷ []) (T.number value)) }
+    ensures { IfSome result (λ value. WritesValue T.TYPE 0 false (byte ∷ []) (T.number value)) }
 {
     let digit = byte.wrapping_sub(b'0');
     if digit < 10 {
@@ -111,9 +115,10 @@ pub(super) fn value_of_one<T: Integer>(byte: u8) -> Option<T>
 pub(super) fn value_of<T: Integer>(text: &[u8], negative: bool) -> Option<T>
     requires some { 2 ≤ length text.now }
     requires few { length text.now ≤ 16 }
-    requires minus { IsTrue negative → IsTrue T.IS_SIGNED }
+    requires minus { IsTrue negative → IsTrue T.TYPE.is_signed }
     requires first { IsTrue negative → get_or text.now 0 0 ≡ 45 }
-    ensures { IfSome result (λ value. WritesValue (integer_type T.BITS T.IS_SIGNED) (minus_more negative) negative text.now (T.number value)) }
+    ensures { IfSome result
+        (λ value. WritesValue T.TYPE (minus_more negative) negative text.now (T.number value)) }
 {
     let n = text.len();
     let more = minus_more(negative);
@@ -136,8 +141,8 @@ pub(super) fn value_of<T: Integer>(text: &[u8], negative: bool) -> Option<T>
 pub(super) fn value_of_long<T: Integer>(digits: &[u8], negative: bool) -> Option<T>
     requires bits { 32 < T.BITS }
     requires some { 16 ≤ length digits.now }
-    requires minus { IsTrue negative → IsTrue T.IS_SIGNED }
-    ensures { IfSome result (λ value. WritesValue (integer_type T.BITS T.IS_SIGNED) 0 negative digits.now (T.number value)) }
+    requires minus { IsTrue negative → IsTrue T.TYPE.is_signed }
+    ensures { IfSome result (λ value. WritesValue T.TYPE 0 negative digits.now (T.number value)) }
 {
     if digits.len() > 24 {
         return None;

@@ -1,6 +1,6 @@
 use Rattle.std.proofs.Common.{◌≤◌, ◌^◌, arith}
 use Rattle.std.proofs.Math.Nat.{pow-le-pow_left}
-use Rattle.lexical_parse_integer.proofs.WordDigits.{half_word_number}
+use Rattle.lexical_parse_integer.proofs.words.WordsInTexts.{half_word_number}
 use Rattle.lexical_parse_integer.proofs.algorithm.multi.word_scale.Goals as goal
 
 pub pow-requires : goal.pow-requires

@@ -1,4 +1,4 @@
-use Rattle.lexical_parse_integer.proofs.PlainTurns.{beyond_eight, beyond_four, eight, four}
+use Rattle.lexical_parse_integer.proofs.bound.PlainNumbers.{beyond_eight, beyond_four, eight, four}
 use Rattle.lexical_parse_integer.proofs.laws.turns.complete_in_few_turns.Goals as goal
 
 pub returns-clause-eight : goal.returns-clause-eight
