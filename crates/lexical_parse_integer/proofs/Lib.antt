@@ -3,10 +3,7 @@ pub mod bound
 pub mod ForCallers
 pub mod grammar
 pub mod lanes
-pub mod PlainFronts
-pub mod PlainTexts
-pub mod PlainWords
+pub mod plain
 pub mod reading
-pub mod TableTexts
 pub mod theorems
 pub mod words

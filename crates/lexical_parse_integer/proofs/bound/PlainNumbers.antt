@@ -22,10 +22,10 @@ four_digits bits e = rw e refl
 abbrev digits_after : Format → List ℕ → Head → ℕ
 digits_after f text head = digit_count (numeral_in f text head.start head.radix)
 
--- the bound on the turns of a text whose head was read
-bound : (bits : ℕ) (s : Bool) (f : Format) (text : List ℕ) (turns : ℕ) → (AsksWords bits false f → HasFewTurns f (integer_type bits s) text turns) → IsNone f.digit_separator → 32 ≤ bits → (head : Head) → head_of f (integer_type bits s) text ≡ Ok head → head.radix ≤ 10
+-- the bound on the turns of a text whose head was read; a type's width has two names, which the laws of `Integer` tie
+bound : (width bits : ℕ) (same : width ≡ bits) (s : Bool) (f : Format) (text : List ℕ) (turns : ℕ) → (AsksWords width false f → HasFewTurns f (integer_type bits s) text turns) → IsNone f.digit_separator → 32 ≤ width → (head : Head) → head_of f (integer_type bits s) text ≡ Ok head → head.radix ≤ 10
     → turns ≤ turns_bound (digits_per_word bits) (overflow_digits (integer_type bits s) head.radix) (digits_after f text head)
-bound bits s f text turns few none wide head is ten = (rw is at few (record { multi = refl; wide = wide; contiguous = none })) ten
+bound width bits same s f text turns few none wide head is ten = (rw is at few (record { multi = refl; wide = wide; contiguous = none })) ten
 
 -- at most the digits that have room
 within : (w o d turns : ℕ) → turns ≤ turns_bound w o d → d ≤ o → turns ≤ d / w + d % w
@@ -41,26 +41,26 @@ beyond w o d turns few low =
     let h = rw all at few in
     omega arith
 
-pub eight : (bits : ℕ) (s : Bool) (f : Format) (text : List ℕ) (turns : ℕ) → (AsksWords bits false f → HasFewTurns f (integer_type bits s) text turns) → IsNone f.digit_separator → 64 ≤ bits → (head : Head) → head_of f (integer_type bits s) text ≡ Ok head → head.radix ≤ 10
+pub eight : (width bits : ℕ) (same : width ≡ bits) (s : Bool) (f : Format) (text : List ℕ) (turns : ℕ) → (AsksWords width false f → HasFewTurns f (integer_type bits s) text turns) → IsNone f.digit_separator → 64 ≤ width → (head : Head) → head_of f (integer_type bits s) text ≡ Ok head → head.radix ≤ 10
     → let d : ℕ = digits_after f text head in let o : ℕ = overflow_digits (integer_type bits s) head.radix in d ≤ o → turns ≤ d / 8 + d % 8
-eight bits s f text turns few none wide head is ten low =
-    let few_words : turns ≤ turns_bound (digits_per_word bits) (overflow_digits (integer_type bits s) head.radix) (digits_after f text head) = bound bits s f text turns few none (omega arith) head is ten in
-    within 8 _ _ _ (rw (eight_digits bits wide) at few_words) low
+eight width bits same s f text turns few none wide head is ten low =
+    let few_words : turns ≤ turns_bound (digits_per_word bits) (overflow_digits (integer_type bits s) head.radix) (digits_after f text head) = bound width bits same s f text turns few none (omega arith) head is ten in
+    within 8 _ _ _ (rw (eight_digits bits (omega arith)) at few_words) low
 
-pub four : (bits : ℕ) (s : Bool) (f : Format) (text : List ℕ) (turns : ℕ) → (AsksWords bits false f → HasFewTurns f (integer_type bits s) text turns) → IsNone f.digit_separator → bits ≡ 32 → (head : Head) → head_of f (integer_type bits s) text ≡ Ok head → head.radix ≤ 10
+pub four : (width bits : ℕ) (same : width ≡ bits) (s : Bool) (f : Format) (text : List ℕ) (turns : ℕ) → (AsksWords width false f → HasFewTurns f (integer_type bits s) text turns) → IsNone f.digit_separator → width ≡ 32 → (head : Head) → head_of f (integer_type bits s) text ≡ Ok head → head.radix ≤ 10
     → let d : ℕ = digits_after f text head in let o : ℕ = overflow_digits (integer_type bits s) head.radix in d ≤ o → turns ≤ d / 4 + d % 4
-four bits s f text turns few none wide head is ten low =
-    let few_words : turns ≤ turns_bound (digits_per_word bits) (overflow_digits (integer_type bits s) head.radix) (digits_after f text head) = bound bits s f text turns few none (omega arith) head is ten in
-    within 4 _ _ _ (rw (four_digits bits wide) at few_words) low
+four width bits same s f text turns few none wide head is ten low =
+    let few_words : turns ≤ turns_bound (digits_per_word bits) (overflow_digits (integer_type bits s) head.radix) (digits_after f text head) = bound width bits same s f text turns few none (omega arith) head is ten in
+    within 4 _ _ _ (rw (four_digits bits (omega arith)) at few_words) low
 
-pub beyond_eight : (bits : ℕ) (s : Bool) (f : Format) (text : List ℕ) (turns : ℕ) → (AsksWords bits false f → HasFewTurns f (integer_type bits s) text turns) → IsNone f.digit_separator → 64 ≤ bits → (head : Head) → head_of f (integer_type bits s) text ≡ Ok head → head.radix ≤ 10
+pub beyond_eight : (width bits : ℕ) (same : width ≡ bits) (s : Bool) (f : Format) (text : List ℕ) (turns : ℕ) → (AsksWords width false f → HasFewTurns f (integer_type bits s) text turns) → IsNone f.digit_separator → 64 ≤ width → (head : Head) → head_of f (integer_type bits s) text ≡ Ok head → head.radix ≤ 10
     → let d : ℕ = digits_after f text head in let o : ℕ = overflow_digits (integer_type bits s) head.radix in o ≤ d → turns ≤ o / 8 + o % 8 + (d - o)
-beyond_eight bits s f text turns few none wide head is ten low =
-    let few_words : turns ≤ turns_bound (digits_per_word bits) (overflow_digits (integer_type bits s) head.radix) (digits_after f text head) = bound bits s f text turns few none (omega arith) head is ten in
-    beyond 8 _ _ _ (rw (eight_digits bits wide) at few_words) low
+beyond_eight width bits same s f text turns few none wide head is ten low =
+    let few_words : turns ≤ turns_bound (digits_per_word bits) (overflow_digits (integer_type bits s) head.radix) (digits_after f text head) = bound width bits same s f text turns few none (omega arith) head is ten in
+    beyond 8 _ _ _ (rw (eight_digits bits (omega arith)) at few_words) low
 
-pub beyond_four : (bits : ℕ) (s : Bool) (f : Format) (text : List ℕ) (turns : ℕ) → (AsksWords bits false f → HasFewTurns f (integer_type bits s) text turns) → IsNone f.digit_separator → bits ≡ 32 → (head : Head) → head_of f (integer_type bits s) text ≡ Ok head → head.radix ≤ 10
+pub beyond_four : (width bits : ℕ) (same : width ≡ bits) (s : Bool) (f : Format) (text : List ℕ) (turns : ℕ) → (AsksWords width false f → HasFewTurns f (integer_type bits s) text turns) → IsNone f.digit_separator → width ≡ 32 → (head : Head) → head_of f (integer_type bits s) text ≡ Ok head → head.radix ≤ 10
     → let d : ℕ = digits_after f text head in let o : ℕ = overflow_digits (integer_type bits s) head.radix in o ≤ d → turns ≤ o / 4 + o % 4 + (d - o)
-beyond_four bits s f text turns few none wide head is ten low =
-    let few_words : turns ≤ turns_bound (digits_per_word bits) (overflow_digits (integer_type bits s) head.radix) (digits_after f text head) = bound bits s f text turns few none (omega arith) head is ten in
-    beyond 4 _ _ _ (rw (four_digits bits wide) at few_words) low
+beyond_four width bits same s f text turns few none wide head is ten low =
+    let few_words : turns ≤ turns_bound (digits_per_word bits) (overflow_digits (integer_type bits s) head.radix) (digits_after f text head) = bound width bits same s f text turns few none (omega arith) head is ten in
+    beyond 4 _ _ _ (rw (four_digits bits (omega arith)) at few_words) low

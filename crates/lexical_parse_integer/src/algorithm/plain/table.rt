@@ -5,7 +5,7 @@ ghost use Rattle.lexical_util.specs.Digit.{IsRadix};
 ghost use Rattle.lexical_util.specs.Number.{HasRoom, IsNumber};
 ghost use Rattle.lexical_parse_integer.specs.Plain.{StandsFor, WritesFront};
 
-use crate::algorithm::plain::values::with_sign;
+use crate::algorithm::plain::values::signed_value;
 use lexical_util::digit::char_to_digit;
 use lexical_util::num::Integer;
 
@@ -41,7 +41,7 @@ pub(super) fn value_by_table<T: Integer>(digits: &[u8], radix: u32, negative: bo
         return None;
     }
     match number_by_table::<T>(digits, radix, most) {
-        Some(value) => Some(with_sign::<T>(value, negative)),
+        Some(value) => Some(signed_value::<T>(value, negative)),
         None => None,
     }
 }

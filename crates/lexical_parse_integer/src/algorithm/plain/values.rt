@@ -20,7 +20,7 @@ fn limit<T: Integer>() -> u64
 
 // The value with the sign.
 #[inline(always)]
-pub(super) fn with_sign<T: Integer>(value: T, negative: bool) -> T
+pub(super) fn signed_value<T: Integer>(value: T, negative: bool) -> T
     requires minus { IsTrue negative → IsTrue T.TYPE.is_signed }
     requires positive { pos 0 ≤ℤ T.number value }
     requires fits { IsNumber T.TYPE (T.number value) }
@@ -48,7 +48,7 @@ pub(super) fn value_to_8<T: Integer>(number: u32, negative: bool) -> Option<T>
             return None;
         }
     }
-    Some(with_sign::<T>(T::from_u32(number), negative))
+    Some(signed_value::<T>(T::from_u32(number), negative))
 }
 
 // The value of a number of nine to sixteen digits, where the type has it.
@@ -66,10 +66,10 @@ pub(super) fn value_to_16<T: Integer>(high: u32, low: u32, negative: bool) -> Op
         if number >= limit::<T>() {
             return None;
         }
-        return Some(with_sign::<T>(T::from_u32(number as u32), negative));
+        return Some(signed_value::<T>(T::from_u32(number as u32), negative));
     }
     let value = T::from_u32(high).mul_add(T::from_u32(100_000_000), T::from_u32(low), false);
-    Some(with_sign::<T>(value, negative))
+    Some(signed_value::<T>(value, negative))
 }
 
 // The value of a number of sixteen to twenty-four digits, where the type has it.
@@ -89,10 +89,10 @@ fn value_to_24<T: Integer>(first: u32, high: u32, low: u32, negative: bool) -> O
     let front = T::from_u32(first).mul_add(scale, T::from_u32(high), false);
     if T::BITS > 64 {
         let value = front.mul_add(scale, T::from_u32(low), false);
-        return Some(with_sign::<T>(value, negative));
+        return Some(signed_value::<T>(value, negative));
     }
     match front.checked_mul_add(scale, T::from_u32(low), false) {
-        Some(value) => Some(with_sign::<T>(value, negative)),
+        Some(value) => Some(signed_value::<T>(value, negative)),
         None => None,
     }
 }

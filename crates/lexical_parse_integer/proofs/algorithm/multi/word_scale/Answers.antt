@@ -13,4 +13,6 @@ pub from_u32-requires-else-BITS-ge64 : goal.from_u32-requires-else-BITS-ge64
 from_u32-requires-else-BITS-ge64 g c =
     let most : c.args.radix ^ 4 ≤ 10 ^ 4 = pow-le-pow_left c.requires.radix 4 in
     let power = c.pow-else-BITS-ge64.ensures in
-    half_word_number _ _ _ g.met.T.Integer.width_law c.requires.bits (omega arith)
+    let wide = c.requires.bits in
+    let bits = g.met.T.Integer.bits_law in
+    half_word_number _ _ _ g.met.T.Integer.width_law (omega arith) (omega arith)

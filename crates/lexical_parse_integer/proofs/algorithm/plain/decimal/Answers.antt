@@ -1,5 +1,5 @@
 use Rattle.std.proofs.Common.{sym, ◌∙◌, arith}
-use Rattle.lexical_parse_integer.proofs.PlainTexts.{behind_is, behind_read, if_found, lowered, one_read, some_behind}
+use Rattle.lexical_parse_integer.proofs.plain.DigitsAlone.{behind_is, behind_read, if_found, lowered, one_read, some_behind}
 use Rattle.lexical_parse_integer.proofs.algorithm.plain.decimal.Goals as goal
 
 pub returns-then-n-eq1 : goal.returns-then-n-eq1

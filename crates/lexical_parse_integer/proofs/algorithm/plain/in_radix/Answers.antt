@@ -1,7 +1,7 @@
 use Rattle.std.proofs.Common.{◌<◌, ◌≡◌, length, sym, ◌∙◌, arith}
 use Rattle.std.specs.Prelude.{slice_range}
-use Rattle.lexical_parse_integer.proofs.PlainTexts.{behind_is, if_found}
-use Rattle.lexical_parse_integer.proofs.TableTexts.{some_bytes, table_read}
+use Rattle.lexical_parse_integer.proofs.plain.DigitsAlone.{behind_is, if_found}
+use Rattle.lexical_parse_integer.proofs.plain.DigitsByTable.{some_bytes, table_read}
 use Rattle.lexical_parse_integer.proofs.algorithm.plain.in_radix.Goals as goal
 
 pub returns : goal.returns

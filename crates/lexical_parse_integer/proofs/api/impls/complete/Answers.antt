@@ -1,4 +1,4 @@
-use Rattle.lexical_parse_integer.proofs.PlainTexts.{answered_if_valid}
+use Rattle.lexical_parse_integer.proofs.plain.DigitsAlone.{answered_if_valid}
 use Rattle.lexical_parse_integer.proofs.api.impls.complete.Goals as goal
 
 pub returns-in-Some : goal.returns-in-Some

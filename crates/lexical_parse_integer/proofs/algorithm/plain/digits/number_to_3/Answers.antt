@@ -1,5 +1,5 @@
 use Rattle.std.proofs.Common.{arith}
-use Rattle.lexical_parse_integer.proofs.PlainWords.{few_write}
+use Rattle.lexical_parse_integer.proofs.plain.WordsOfDigits.{few_write}
 use Rattle.lexical_parse_integer.proofs.algorithm.plain.digits.number_to_3.Goals as goal
 
 pub returns-then-first-middle-clause-writes : goal.returns-then-first-middle-clause-writes

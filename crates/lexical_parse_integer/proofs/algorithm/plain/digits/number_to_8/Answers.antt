@@ -1,5 +1,5 @@
 use Rattle.std.proofs.Common.{arith, refl}
-use Rattle.lexical_parse_integer.proofs.PlainWords.{holds_to_8, word_writes}
+use Rattle.lexical_parse_integer.proofs.plain.WordsOfDigits.{holds_to_8, word_writes}
 use Rattle.lexical_parse_integer.proofs.algorithm.plain.digits.number_to_8.Goals as goal
 
 pub overflow_add-last-2 : goal.overflow_add-last-2

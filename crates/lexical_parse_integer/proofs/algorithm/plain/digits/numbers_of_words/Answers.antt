@@ -1,5 +1,5 @@
 use Rattle.std.proofs.lemmas.Bool.{and_parts}
-use Rattle.lexical_parse_integer.proofs.PlainWords.{word_small}
+use Rattle.lexical_parse_integer.proofs.plain.WordsOfDigits.{word_small}
 use Rattle.lexical_parse_integer.proofs.algorithm.plain.digits.numbers_of_words.Goals as goal
 
 pub returns-then-is_8digits-clause-high_small : goal.returns-then-is_8digits-clause-high_small

@@ -1,5 +1,5 @@
 use Rattle.std.proofs.Common.{arith}
-use Rattle.lexical_parse_integer.proofs.PlainWords.{holds_front, words_write}
+use Rattle.lexical_parse_integer.proofs.plain.WordsOfDigits.{holds_front, words_write}
 use Rattle.lexical_parse_integer.proofs.algorithm.plain.digits.numbers_to_16.Goals as goal
 
 pub overflow_add-first-2 : goal.overflow_add-first-2

@@ -3,7 +3,7 @@ use Rattle.lexical_util.proofs.Room.{small_is_number}
 use Rattle.lexical_util.specs.Digit.{digit, digit_value}
 use Rattle.lexical_util.specs.Number.{mul_add}
 use Rattle.lexical_parse_integer.proofs.theorems.ReadBack.{digit_below}
-use Rattle.lexical_parse_integer.proofs.TableTexts.{next_fits, next_read}
+use Rattle.lexical_parse_integer.proofs.plain.DigitsByTable.{next_fits, next_read}
 use Rattle.lexical_parse_integer.proofs.algorithm.plain.table.number_by_table.Goals as goal
 
 pub from_u32-requires : goal.from_u32-requires

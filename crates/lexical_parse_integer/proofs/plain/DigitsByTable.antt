@@ -15,7 +15,7 @@ use Rattle.lexical_parse_integer.specs.Plain.{IsBehind, IsPlain, StandsFor, Writ
 use Rattle.lexical_parse_integer.specs.Value.{positional_value, with_sign}
 use Rattle.lexical_parse_integer.proofs.grammar.FrontValues.{positional_value-push}
 use Rattle.lexical_parse_integer.proofs.theorems.ReadBack.{HaveDigits, digit_below, digits_size}
-use Rattle.lexical_parse_integer.proofs.PlainTexts.{digits_alone_read}
+use Rattle.lexical_parse_integer.proofs.plain.DigitsAlone.{digits_alone_read}
 use Rattle.lexical_parse_integer.proofs.bound.WordSteps.{few_fit}
 
 -- before the first byte

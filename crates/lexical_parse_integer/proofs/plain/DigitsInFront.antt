@@ -24,8 +24,8 @@ use Rattle.lexical_parse_integer.proofs.grammar.FrontValues.{fitting_fault}
 use Rattle.lexical_parse_integer.proofs.grammar.DigitsInARow.{EndsRow, has_digit, row, row_numeral}
 use Rattle.lexical_parse_integer.proofs.theorems.ReadBack.{HaveDigits, digit_there, digits_size, first_digit, row_is}
 use Rattle.lexical_parse_integer.proofs.grammar.Stretches.{HoldsBetween}
-use Rattle.lexical_parse_integer.proofs.PlainTexts.{have_digits, rule_told, sign_of_digit_under, sign_of_minus_under}
-use Rattle.lexical_parse_integer.proofs.PlainWords.{raised_none}
+use Rattle.lexical_parse_integer.proofs.plain.DigitsAlone.{have_digits, rule_told, sign_of_digit_under, sign_of_minus_under}
+use Rattle.lexical_parse_integer.proofs.plain.WordsOfDigits.{raised_none}
 use Rattle.lexical_parse_integer.proofs.theorems.SettledAnswers.{partial_by, partial_row}
 use Rattle.lexical_parse_integer.proofs.grammar.RangeOfFronts.{shorter_fronts_fit}
 
