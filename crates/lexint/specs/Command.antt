@@ -71,8 +71,7 @@ parts text = option_map (λ end. (take end text, drop (end + 1) text)) (position
 -- the integer type that a text names, and what stands behind the name and a space
 abbrev pub typed_in : List ℕ → Option (TypeName × List ℕ)
 typed_in text =
-    option_and_then (λ (name, rest). option_map (λ type. (type, rest)) (type_named name))
-    (parts text)
+    option_and_then (λ (name, rest). option_map (λ type. (type, rest)) (type_named name)) (parts text)
 
 -- a parse of that text as that type
 abbrev pub parse_in : (TypeName → List ℕ → Command) → List ℕ → Option Command

@@ -62,8 +62,7 @@ kind_text (Fault fault) = codes "fault " ++ fault_name fault ++ place_text (plac
 
 -- what a token is, `START` and `STOP`
 abbrev pub token_text : TokenView → List ℕ
-token_text token =
-    kind_text token.kind ++ codes " " ++ numeral token.start ++ codes " " ++ numeral token.stop
+token_text token = kind_text token.kind ++ codes " " ++ numeral token.start ++ codes " " ++ numeral token.stop
 
 -- a line for each token, and then `end`
 abbrev pub tokens_text : List TokenView → List ℕ
@@ -103,10 +102,8 @@ settings_after settings line = command_effect settings (command_in line)
 -- the lines of the answer to a command: one for each token and `end`, or a single one
 abbrev pub command_lines : Settings → Option Command → List (List ℕ)
 command_lines settings None = command_answer settings None ∷ []
-command_lines settings (Some (parse_complete type text)) =
-    command_answer settings (Some (parse_complete type text)) ∷ []
-command_lines settings (Some (parse_partial type text)) =
-    command_answer settings (Some (parse_partial type text)) ∷ []
+command_lines settings (Some (parse_complete type text)) = command_answer settings (Some (parse_complete type text)) ∷ []
+command_lines settings (Some (parse_partial type text)) = command_answer settings (Some (parse_partial type text)) ∷ []
 command_lines settings (Some (list_tokens text)) = map token_text (tokens text) ++ codes "end" ∷ []
 command_lines settings (Some (change asked)) = command_answer settings (Some (change asked)) ∷ []
 command_lines settings (Some reset) = command_answer settings (Some reset) ∷ []

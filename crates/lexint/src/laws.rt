@@ -17,8 +17,7 @@ pub fn lines_are_pieces()
 /// is a single line, or, where tokens are asked for, a line for each token and `end`.
 pub fn output_lines_are_those_of_the_answers()
     ensures { (input : List ℕ) → lines (output input)
-        ≡ flat_map (λ answer. answer)
-        (scan settings_after answer_lines standard_settings (lines input)) }
+        ≡ flat_map (λ answer. answer) (scan settings_after answer_lines standard_settings (lines input)) }
 {}
 
 /// A numeral is the shortest text of digits that writes its number.
