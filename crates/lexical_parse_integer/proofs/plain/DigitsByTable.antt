@@ -41,9 +41,12 @@ next_read r k d text value next w more is step =
       below = omega (arith, push, p, up, spread, low);
     }
 
+never : (b : Bool) → false ≡ true → b ≡ true
+never b e = cc
+
 -- so few digits that none of their numbers leaves the type
 pub front_fits : (t : IntegerType) (r o k : ℕ) (text : List ℕ) (value : ℤ) → HasRoom t r o → 1 ≤ r → k ≤ o → WritesFront r text k value → IsNumber t value
-front_fits t r o k text value room positive few w = ap (is_number t) w.worth ∙ few_fit t false r o (positional_value r w.values) k room cc positive few w.below
+front_fits t r o k text value room positive few w = ap (is_number t) w.worth ∙ few_fit t false r o (positional_value r w.values) k room (never t.is_signed) positive few w.below
 
 -- ---- the whole text
 

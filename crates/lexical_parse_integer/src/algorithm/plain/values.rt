@@ -12,7 +12,7 @@ use lexical_util::num::Integer;
 // How many numbers from 0 up a type has.
 #[inline(always)]
 fn limit<T: Integer>() -> u64
-    requires { T.BITS ≤ 32 }
+    requires { T.TYPE.bits ≤ 32 }
     ensures { result ≡ number_limit T.TYPE }
 {
     1 << (T::BITS - u32::from(T::IS_SIGNED))
@@ -37,7 +37,7 @@ pub(super) fn signed_value<T: Integer>(value: T, negative: bool) -> T
 
 // The value of a number of up to eight digits, where the type has it.
 #[inline(always)]
-pub(super) fn value_to_8<T: Integer>(number: u32, negative: bool) -> Option<T>
+fn value_to_8<T: Integer>(number: u32, negative: bool) -> Option<T>
     requires minus { IsTrue negative → IsTrue T.TYPE.is_signed }
     requires small { number < 100000000 }
     ensures value { IfSome result (λ value. T.number value ≡ with_sign negative number) }
@@ -53,7 +53,7 @@ pub(super) fn value_to_8<T: Integer>(number: u32, negative: bool) -> Option<T>
 
 // The value of a number of nine to sixteen digits, where the type has it.
 #[inline(always)]
-pub(super) fn value_to_16<T: Integer>(high: u32, low: u32, negative: bool) -> Option<T>
+fn value_to_16<T: Integer>(high: u32, low: u32, negative: bool) -> Option<T>
     requires minus { IsTrue negative → IsTrue T.TYPE.is_signed }
     requires high { high < 100000000 }
     requires low { low < 100000000 }
@@ -75,7 +75,7 @@ pub(super) fn value_to_16<T: Integer>(high: u32, low: u32, negative: bool) -> Op
 // The value of a number of sixteen to twenty-four digits, where the type has it.
 #[inline(always)]
 fn value_to_24<T: Integer>(first: u32, high: u32, low: u32, negative: bool) -> Option<T>
-    requires bits { 32 < T.BITS }
+    requires bits { 32 < T.TYPE.bits }
     requires minus { IsTrue negative → IsTrue T.TYPE.is_signed }
     requires first { first < 100000000 }
     requires high { high < 100000000 }
@@ -139,7 +139,7 @@ pub(super) fn value_of<T: Integer>(text: &[u8], negative: bool) -> Option<T>
 // held in place.
 #[inline(never)]
 pub(super) fn value_of_long<T: Integer>(digits: &[u8], negative: bool) -> Option<T>
-    requires bits { 32 < T.BITS }
+    requires bits { 32 < T.TYPE.bits }
     requires some { 16 ≤ length digits.now }
     requires minus { IsTrue negative → IsTrue T.TYPE.is_signed }
     ensures { IfSome result (λ value. WritesValue T.TYPE 0 negative digits.now (T.number value)) }
