@@ -1,4 +1,4 @@
-use Rattle.std.proofs.Common.{◌<◌, ◌≡◌, length, sym, ◌∙◌, arith}
+use Rattle.std.proofs.Common.{◌<◌, length, sym, ◌∙◌}
 use Rattle.std.specs.Prelude.{slice_range}
 use Rattle.lexical_parse_integer.proofs.plain.DigitsAlone.{behind_is, if_found}
 use Rattle.lexical_parse_integer.proofs.plain.DigitsByTable.{some_bytes, table_read}

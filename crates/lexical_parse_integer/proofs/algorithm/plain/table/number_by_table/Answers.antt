@@ -1,4 +1,4 @@
-use Rattle.std.proofs.Common.{◌≡◌, ◌<◌, ◌≤◌, get_or, length, pos, sym, ap, ◌∙◌, arith, Some, false}
+use Rattle.std.proofs.Common.{◌≡◌, ◌<◌, ◌≤◌, get_or, pos, sym, ap, ◌∙◌, arith, Some, false}
 use Rattle.lexical_util.proofs.Room.{small_is_number}
 use Rattle.lexical_util.specs.Digit.{digit, digit_value}
 use Rattle.lexical_util.specs.Number.{mul_add}
