@@ -3,6 +3,7 @@
 //! The names are those of the upstream crate's hidden module of that name; here they are documented, since a reader
 //! written by hand can use them.
 ghost use Rattle.std.specs.Prelude.{◌≡◌, ◌&&◌, ◌||◌, ◌==◌, Err, IfErr, IfOk, IsNone, IsTrue, OnOk, is_some, length};
+ghost use Rattle.lexical_util.specs.Format.{standard};
 ghost use Rattle.lexical_util.specs.Validity.{fault};
 ghost use Rattle.lexical_parse_integer.specs.Answer.{with_place, view_of};
 ghost use Rattle.lexical_parse_integer.specs.Grammar.{complete, digits_required, partial};
@@ -14,17 +15,19 @@ mod head;
 mod lanes;
 mod multi;
 mod numeral;
+pub(crate) mod plain;
 mod words;
 mod zeros;
 
 use crate::algorithm::head::{is_prefix_alone, read_head};
 use crate::algorithm::numeral::read_digits;
+use crate::algorithm::plain::settled;
 use crate::algorithm::zeros::read_first;
 use crate::cursor::Cursor;
-use crate::options::Options;
+use crate::options::{self, Options};
 pub use head::parse_sign;
 use lexical_util::error::Error;
-use lexical_util::format::NumberFormat;
+use lexical_util::format::{self, NumberFormat};
 use lexical_util::num::Integer;
 use lexical_util::result::Result;
 pub use multi::{try_parse_4digits, try_parse_8digits};
@@ -149,7 +152,32 @@ pub fn algorithm_complete<T: Integer>(
     requires valid { IsNone (fault format.now) }
     ensures { view_of T.number result ≡ complete format.now T.TYPE bytes.now }
 {
+    match settled::<T>(bytes, format) {
+        Some(value) => Ok(value),
+        None => complete_over_cursor::<T>(bytes, format, options),
+    }
+}
+
+// The way of all texts. It stays out of line, so that the way of most is small enough to be held in place.
+#[inline(never)]
+fn complete_over_cursor<T: Integer>(
+    bytes: &[u8],
+    format: &NumberFormat,
+    options: &Options,
+) -> Result<T>
+    requires valid { IsNone (fault format.now) }
+    ensures { view_of T.number result ≡ complete format.now T.TYPE bytes.now }
+{
     algorithm_complete_on::<T>(&mut Cursor::new(bytes, format), options)
+}
+
+// The same under the standard format, whose fields the compiler then folds into the code.
+#[inline(never)]
+pub(crate) fn standard_over_cursor<T: Integer>(bytes: &[u8]) -> Result<T>
+    ensures { view_of T.number result ≡ complete standard T.TYPE bytes.now }
+{
+    let mut c = Cursor::new(bytes, &format::STANDARD);
+    algorithm_complete_on::<T>(&mut c, &options::STANDARD)
 }
 
 /// The integer that the front of the text stands for under a valid format, and the place at which reading stops.

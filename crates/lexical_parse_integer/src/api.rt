@@ -6,7 +6,8 @@ ghost use Rattle.lexical_parse_integer.specs.Grammar.{complete, complete_if_vali
 
 mod impls;
 
-use crate::algorithm::{algorithm_complete, algorithm_partial};
+use crate::algorithm::plain::settled;
+use crate::algorithm::{algorithm_partial, standard_over_cursor};
 use crate::options;
 use lexical_util::format::{self, NumberFormat};
 use lexical_util::num::Integer;
@@ -20,7 +21,10 @@ pub trait FromLexical: Integer {
     fn from_lexical(bytes: &[u8]) -> Result<Self>
         ensures { view_of Self.number result ≡ complete standard Self.TYPE bytes.now }
     {
-        algorithm_complete::<Self>(bytes, &format::STANDARD, &options::STANDARD)
+        match settled::<Self>(bytes, &format::STANDARD) {
+            Some(value) => Ok(value),
+            None => standard_over_cursor::<Self>(bytes),
+        }
     }
 
     /// The integer that the front of the text stands for, and the place at which reading stopped.

@@ -8,6 +8,7 @@ mod formats;
 mod hostile_formats;
 mod hostile_words;
 mod huge;
+mod lengths;
 mod literals;
 mod long;
 mod radixes;

@@ -108,7 +108,7 @@ front_below r ds (suc m) digits h =
     let spread : suc (positional_value r (take m ds)) * r ≡ positional_value r (take m ds) * r + r = grind arith in
     omega (arith, e, p, up, spread)
 
-few_fit : (type : IntegerType) (negative : Bool) (r o n m : ℕ) → HasRoom type r o → (negative ≡ true → type.is_signed ≡ true) → 1 ≤ r → m ≤ o → n < r ^ m → IsNumber type (with_sign negative n)
+pub few_fit : (type : IntegerType) (negative : Bool) (r o n m : ℕ) → HasRoom type r o → (negative ≡ true → type.is_signed ≡ true) → 1 ≤ r → m ≤ o → n < r ^ m → IsNumber type (with_sign negative n)
 few_fit type true r o n m room may one le small =
     let up = pow-le-pow_right {n = r} one le in
     let top = ltb-true (r ^ o - 1) (number_limit type) room.greatest in

@@ -18,6 +18,7 @@ use Rattle.lexical_parse_integer.specs.Grammar.{common_faults, complete, complet
 use Rattle.lexical_parse_integer.specs.Head.{Head, head_of, sign, head_behind}
 use Rattle.lexical_parse_integer.specs.Laws.{with_radix}
 use Rattle.lexical_parse_integer.specs.Numeral.{Numeral, digit_count, front_value, numeral_value}
+use Rattle.lexical_parse_integer.specs.Plain.{IsPlain}
 use Rattle.lexical_parse_integer.specs.Runs.{are_same, digit_at}
 use Rattle.lexical_parse_integer.specs.Value.{positional_value, with_sign}
 use Rattle.lexical_parse_integer.proofs.theorems.CompleteByPartial.{sign_within}
@@ -40,7 +41,7 @@ unfolding complete
 complete_row f t text h count none head low ends = rw (head, numeral_in_a_row f text h.start h.radix count none low ends) refl
 
 -- without a prefix the head is the sign
-head_is : (f : Format) (t : IntegerType) (text : List ℕ) (s : Bool × ℕ) → f.base_prefix ≡ None → f.literal_prefixes ≡ false → sign f t text ≡ Ok s → head_of f t text ≡ Ok (record { is_minus = s.0; is_prefixed = false; start = s.1; radix = f.mantissa_radix })
+pub head_is : (f : Format) (t : IntegerType) (text : List ℕ) (s : Bool × ℕ) → f.base_prefix ≡ None → f.literal_prefixes ≡ false → sign f t text ≡ Ok s → head_of f t text ≡ Ok (record { is_minus = s.0; is_prefixed = false; start = s.1; radix = f.mantissa_radix })
 unfolding head_of prefix_radix marked_radix is_affix
 head_is f t text s none unasked sign_is =
     rw (sign_is, none, unasked) (by_zero (are_same (Some 48) (slice_get text s.1)))
@@ -55,14 +56,15 @@ unfolding suffix_at is_affix
 stop_plain f text start r count none = rw (none, and-false) refl
 
 -- all digits of a row
-take_row : (r : ℕ) (text : List ℕ) (start count : ℕ) → take (length (row r text start count)) (row r text start count) ≡ row r text start count
+pub take_row : (r : ℕ) (text : List ℕ) (start count : ℕ) → take (length (row r text start count)) (row r text start count) ≡ row r text start count
 take_row r text start count = take_all (length (row r text start count)) (row r text start count) (omega arith)
 
--- digits alone behind the sign are read
-pub digits_read : (r : ℕ) (t : IntegerType) (text : List ℕ) (s : Bool × ℕ) → 1 ≤ r → sign (with_radix r) t text ≡ Ok s → s.1 < length text → HoldsBetween (has_digit r text) s.1 (length text) →
-    is_number t (with_sign s.0 (rest_value r text s.1)) ≡ true → complete (with_radix r) t text ≡ Ok (with_sign s.0 (rest_value r text s.1))
-digits_read r t text s positive sign_is some all fits =
-    let f : Format = with_radix r in
+-- digits alone behind the sign are read, under each format without marks whose zero rule they keep
+pub digits_read_under : (f : Format) (t : IntegerType) (text : List ℕ) (s : Bool × ℕ) → IsPlain f → 1 ≤ f.mantissa_radix → sign f t text ≡ Ok s → s.1 < length text → HoldsBetween (has_digit f.mantissa_radix text) s.1 (length text) →
+    zero_fault f false (row_numeral f text s.1 f.mantissa_radix (length text - s.1)) ≡ None →
+    is_number t (with_sign s.0 (rest_value f.mantissa_radix text s.1)) ≡ true → complete f t text ≡ Ok (with_sign s.0 (rest_value f.mantissa_radix text s.1))
+digits_read_under f t text s plain positive sign_is some all no_zeros fits =
+    let r : ℕ = f.mantissa_radix in
     let n : ℕ = length text - s.1 in
     let h : Head = record { is_minus = s.0; is_prefixed = false; start = s.1; radix = r } in
     let x : Numeral = row_numeral f text s.1 r n in
@@ -72,11 +74,21 @@ digits_read r t text s positive sign_is some all fits =
     let value : numeral_value s.0 x ≡ with_sign s.0 (rest_value r text s.1) = ap (λ (ds : List ℕ). with_sign s.0 (positional_value r ds)) (take_row r text s.1 n) in
     let fit = shorter_fronts_fit t s.0 x (digit_count x) positive (ap (is_number t) value ∙ fits) in
     let no_range : range_fault t s.0 x ≡ None = fitting_fault t s.0 x fit in
-    let stop : x.stop ≡ s.1 + n = stop_plain f text s.1 r n refl in
+    let stop : x.stop ≡ s.1 + n = stop_plain f text s.1 r n plain.no_suffix in
     let over : nat_lt x.stop (length text) ≡ false = le-ltb x.stop (length text) (omega arith) in
     let digits_there : (digit_count x == 0) ≡ false = ne_eqb (digit_count x) 0 (λ e. omega arith) in
-    let answer : complete_by f t text h x ≡ Ok (numeral_value s.0 x) = rw (no_range, over, digits_there) refl in
-    complete_row f t text h n refl (head_is f t text s refl refl sign_is) (omega arith) ends ∙ answer ∙ ap (λ (z : ℤ). Ok z) value
+    let zeros : zero_fault f false x ≡ None = no_zeros in
+    let answer : complete_by f t text h x ≡ Ok (numeral_value s.0 x) = rw (zeros, no_range, over, digits_there, and-false) refl in
+    complete_row f t text h n plain.no_separator (head_is f t text s plain.no_prefix plain.no_literals sign_is) (omega arith) ends ∙ answer ∙ ap (λ (z : ℤ). Ok z) value
+
+-- a format of another radix has no marks
+plain_with_radix : (r : ℕ) → IsPlain (with_radix r)
+plain_with_radix r = record { no_separator = refl; no_prefix = refl; no_suffix = refl; no_literals = refl; no_sign = refl }
+
+-- digits alone behind the sign are read
+pub digits_read : (r : ℕ) (t : IntegerType) (text : List ℕ) (s : Bool × ℕ) → 1 ≤ r → sign (with_radix r) t text ≡ Ok s → s.1 < length text → HoldsBetween (has_digit r text) s.1 (length text) →
+    is_number t (with_sign s.0 (rest_value r text s.1)) ≡ true → complete (with_radix r) t text ≡ Ok (with_sign s.0 (rest_value r text s.1))
+digits_read r t text s positive sign_is some all fits = digits_read_under (with_radix r) t text s (plain_with_radix r) positive sign_is some all refl fits
 
 -- ---- what a value tells of the text
 

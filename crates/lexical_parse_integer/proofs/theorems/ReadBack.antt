@@ -40,7 +40,7 @@ HaveDigits r bytes ds = map (λ byte. digit byte r) bytes ≡ map Some ds
 pub digits_size : (r : ℕ) (bytes ds : List ℕ) → HaveDigits r bytes ds → length bytes ≡ length ds
 digits_size r bytes ds all = sym (length-map bytes (λ byte. digit byte r)) ∙ ap length all ∙ length-map ds Some
 
-digit_there : (r : ℕ) (bytes ds : List ℕ) (k : ℕ) → HaveDigits r bytes ds → k < length ds → option_and_then (λ byte. digit byte r) (slice_get bytes k) ≡ Some (get_or ds k 0)
+pub digit_there : (r : ℕ) (bytes ds : List ℕ) (k : ℕ) → HaveDigits r bytes ds → k < length ds → option_and_then (λ byte. digit byte r) (slice_get bytes k) ≡ Some (get_or ds k 0)
 digit_there r [] [] k all l = absurd (omega arith)
 digit_there r [] (d ∷ ds) k all l = cc
 digit_there r (c ∷ cs) [] k all l = cc
@@ -49,12 +49,12 @@ digit_there r (c ∷ cs) (d ∷ ds) (suc k) all l =
     let more : map (λ byte. digit byte r) cs ≡ map Some ds = cc in
     digit_there r cs ds k more (omega arith)
 
-digit_at_there : (r : ℕ) (text bytes ds : List ℕ) (start k : ℕ) → GoesOnWith text start bytes → HaveDigits r bytes ds → k < length ds → digit_at r text (start + k) ≡ Some (get_or ds k 0)
+pub digit_at_there : (r : ℕ) (text bytes ds : List ℕ) (start k : ℕ) → GoesOnWith text start bytes → HaveDigits r bytes ds → k < length ds → digit_at r text (start + k) ≡ Some (get_or ds k 0)
 unfolding digit_at
 digit_at_there r text bytes ds start k on all l = ap (option_and_then (λ byte. digit byte r)) (on.at k) ∙ digit_there r bytes ds k all l
 
 -- the row of digits that stand there
-row_is : (r : ℕ) (text ds : List ℕ) (start : ℕ) → ((k : ℕ) → k < length ds → digit_at r text (start + k) ≡ Some (get_or ds k 0)) → row r text start (length ds) ≡ ds
+pub row_is : (r : ℕ) (text ds : List ℕ) (start : ℕ) → ((k : ℕ) → k < length ds → digit_at r text (start + k) ≡ Some (get_or ds k 0)) → row r text start (length ds) ≡ ds
 row_is r text [] start at = refl
 row_is r text (d ∷ ds) start at =
     let here : digit_at r text start ≡ Some d = ap (digit_at r text) (let e : start ≡ start + 0 = omega arith in e) ∙ at 0 (omega arith) in
@@ -83,7 +83,7 @@ written_read r t n text bytes s positive sign_is on writes fits =
 
 -- ---- the sign of a text that begins with a digit, and of one with a minus
 
-no_sign_byte : (r c d : ℕ) → digit c r ≡ Some d → ((c == 43) ≡ false) × ((c == 45) ≡ false)
+pub no_sign_byte : (r c d : ℕ) → digit c r ≡ Some d → ((c == 43) ≡ false) × ((c == 45) ≡ false)
 no_sign_byte r c d is = (
   ne_eqb c 43 (λ e. let none : digit c r ≡ None = ap (λ (b : ℕ). digit b r) e in cc),
   ne_eqb c 45 (λ e. let none : digit c r ≡ None = ap (λ (b : ℕ). digit b r) e in cc),
@@ -101,14 +101,14 @@ sign_of_minus r t cs is_signed = rw is_signed refl
 
 -- ---- the law
 
-first_digit : (r c : ℕ) (cs ds : List ℕ) → HaveDigits r (c ∷ cs) ds → (d : ℕ) × (digit c r ≡ Some d)
+pub first_digit : (r c : ℕ) (cs ds : List ℕ) → HaveDigits r (c ∷ cs) ds → (d : ℕ) × (digit c r ≡ Some d)
 first_digit r c cs [] all = cc
 first_digit r c cs (d ∷ ds) all = (d, cc)
 
-from_first : (text : List ℕ) → GoesOnWith text 0 text
+pub from_first : (text : List ℕ) → GoesOnWith text 0 text
 from_first text = record { at = λ k. ap (slice_get text) (omega arith); size = omega arith }
 
-from_second : (c : ℕ) (bytes : List ℕ) → GoesOnWith (c ∷ bytes) 1 bytes
+pub from_second : (c : ℕ) (bytes : List ℕ) → GoesOnWith (c ∷ bytes) 1 bytes
 from_second c bytes = record { at = λ k. ap (slice_get (c ∷ bytes)) (let e : 1 + k ≡ suc k = omega arith in e); size = omega arith }
 
 unsigned_read : (r : ℕ) (t : IntegerType) (n : ℕ) (text : List ℕ) → 1 ≤ r → IsNumber t (pos n) → Writes r n text → complete (with_radix r) t text ≡ Ok (pos n)
@@ -169,7 +169,7 @@ digits_some r n low = by_list (digits_of r (suc n)) (number_digits_of r (suc n) 
     by_list (d ∷ ds) h = omega arith
 
 -- a digit is below the radix
-digit_below : (r : ℕ) (o : Option ℕ) (d : ℕ) → value_if_below r o ≡ Some d → d < r
+pub digit_below : (r : ℕ) (o : Option ℕ) (d : ℕ) → value_if_below r o ≡ Some d → d < r
 digit_below r None d e = cc
 digit_below r (Some v) d e = by_test (nat_lt v r) refl e
   where

@@ -3,7 +3,10 @@ ghost use Rattle.std.specs.Prelude.{◌≡◌};
 ghost use Rattle.lexical_parse_integer.specs.Answer.{with_place, view_of};
 ghost use Rattle.lexical_parse_integer.specs.Grammar.{complete_if_valid, partial_if_valid};
 
+use crate::algorithm::algorithm_complete_on;
+use crate::algorithm::plain::settled;
 use crate::api::{FromLexical, FromLexicalWithOptions};
+use crate::cursor::Cursor;
 use crate::options::Options;
 use crate::parse::ParseInteger;
 use lexical_util::format::NumberFormat;
@@ -12,12 +15,27 @@ use lexical_util::result::Result;
 
 // The complete answer under a format that may be invalid.
 #[inline(always)]
-fn complete<T: ParseInteger>(bytes: &[u8], format: &NumberFormat, options: &Options) -> Result<T>
+fn complete<T: Integer>(bytes: &[u8], format: &NumberFormat, options: &Options) -> Result<T>
+    ensures { view_of T.number result ≡ complete_if_valid format.now T.TYPE bytes.now }
+{
+    match settled::<T>(bytes, format) {
+        Some(value) => Ok(value),
+        None => complete_if_valid::<T>(bytes, format, options),
+    }
+}
+
+// The same for every text: one call, out of line, for all that is left.
+#[inline(never)]
+fn complete_if_valid<T: Integer>(
+    bytes: &[u8],
+    format: &NumberFormat,
+    options: &Options,
+) -> Result<T>
     ensures { view_of T.number result ≡ complete_if_valid format.now T.TYPE bytes.now }
 {
     match format.error() {
-        Some(fault) => Err(fault),
-        None => T::parse_complete(bytes, format, options),
+        Some(invalid) => Err(invalid),
+        None => algorithm_complete_on::<T>(&mut Cursor::new(bytes, format), options),
     }
 }
 

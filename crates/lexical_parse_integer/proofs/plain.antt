@@ -1,0 +1,4 @@
+-- Texts of digits alone under formats without marks: for the answers of `algorithm::plain`.
+pub mod DigitsAlone
+pub mod DigitsByTable
+pub mod WordsOfDigits

@@ -1,0 +1,187 @@
+// The numbers that decimal digits write, by words of eight bytes: digits 0 fill up a word that the text doesn't, and no
+// branch hangs on a digit. A minus in front is raised to the digit 0, so that no branch waits for the sign either.
+ghost use Rattle.std.specs.Prelude.{◌≡◌, ◌+◌, ◌*◌, ◌<◌, ◌≤◌, ◌^◌, ◌%◌, IfSome, get_or, length, slice_range};
+ghost use Rattle.lexical_parse_integer.specs.Plain.{WritesDecimal, bytes_number, minus_more};
+ghost use Rattle.lexical_parse_integer.specs.Words.{AreDigits, word_bytes, word_value};
+
+use crate::algorithm::words::{is_8digits, parse_8digits};
+
+// Eight digits 0.
+const ZEROS: u64 = 0x3030_3030_3030_3030;
+
+// What is added to a minus to make it the digit 0.
+#[inline(always)]
+pub(super) fn minus_more(negative: bool) -> u8
+    ensures { result ≡ minus_more negative }
+{
+    3 * u8::from(negative)
+}
+
+// Eight bytes of a text.
+#[inline(always)]
+fn word_at(text: &[u8], at: usize) -> u64
+    requires { at + 8 ≤ length text.now }
+    ensures { result ≡ bytes_number (slice_range text.now at (at + 8)) }
+{
+    let t = &text[at..at + 8];
+    u64::from_le_bytes([t[0], t[1], t[2], t[3], t[4], t[5], t[6], t[7]])
+}
+
+// Four bytes of a text.
+#[inline(always)]
+fn half_at(text: &[u8], at: usize) -> u64
+    requires { at + 4 ≤ length text.now }
+    ensures { result ≡ bytes_number (slice_range text.now at (at + 4)) }
+{
+    let t = &text[at..at + 4];
+    u32::from_le_bytes([t[0], t[1], t[2], t[3]]) as u64
+}
+
+// The digits 0 that fill a word below a shift.
+#[inline(always)]
+fn zeros_below(shift: u32) -> u64
+    requires { shift < 64 }
+    ensures { result ≡ 3472328296227680304 % 2 ^ shift }
+{
+    ZEROS & ((1 << shift) - 1)
+}
+
+// The number that a word of eight digits writes.
+#[inline(always)]
+fn number_of_word(word: u64) -> Option<u32>
+    ensures digits { IfSome result (λ number. AreDigits 10 (word_bytes 8 word)) }
+    ensures value { IfSome result (λ number. number ≡ word_value 10 (word_bytes 8 word)) }
+    ensures small { IfSome result (λ number. number < 100000000) }
+{
+    if is_8digits(word, 10) {
+        Some(parse_8digits(word, 10) as u32)
+    } else {
+        None
+    }
+}
+
+// The numbers that two words of eight digits write; one test says whether they are digits.
+#[inline(always)]
+fn numbers_of_words(high: u64, low: u64) -> Option<(u32, u32)>
+    ensures high_digits { IfSome result (λ parts. AreDigits 10 (word_bytes 8 high)) }
+    ensures high_value { IfSome result (λ parts. parts.0 ≡ word_value 10 (word_bytes 8 high)) }
+    ensures high_small { IfSome result (λ parts. parts.0 < 100000000) }
+    ensures low_digits { IfSome result (λ parts. AreDigits 10 (word_bytes 8 low)) }
+    ensures low_value { IfSome result (λ parts. parts.1 ≡ word_value 10 (word_bytes 8 low)) }
+    ensures low_small { IfSome result (λ parts. parts.1 < 100000000) }
+{
+    if is_8digits(high, 10) & is_8digits(low, 10) {
+        let high_number = parse_8digits(high, 10) as u32;
+        let low_number = parse_8digits(low, 10) as u32;
+        Some((high_number, low_number))
+    } else {
+        None
+    }
+}
+
+// What the first and the middle one of two or three digits are worth; the last is worth 1, and the middle one of two
+// is the last.
+static FIRST: [u32; 4] = [0, 0, 10, 100];
+
+static MIDDLE: [u32; 4] = [0, 0, 0, 10];
+
+// The number of two or three digits.
+#[inline(always)]
+pub(super) fn number_to_3(text: &[u8], more: u8) -> Option<u32>
+    requires some { 2 ≤ length text.now }
+    requires few { length text.now ≤ 3 }
+    requires more { get_or text.now 0 0 + more < 256 }
+    ensures writes { IfSome result (λ number. WritesDecimal more text.now number) }
+    ensures small { IfSome result (λ number. number < 1000) }
+{
+    let n = text.len();
+    let first = (text[0] + more).wrapping_sub(b'0');
+    let middle = text[1].wrapping_sub(b'0');
+    let last = text[n - 1].wrapping_sub(b'0');
+    if (first < 10) & (middle < 10) & (last < 10) {
+        Some(first as u32 * FIRST[n] + middle as u32 * MIDDLE[n] + last as u32)
+    } else {
+        None
+    }
+}
+
+// The number of four to eight digits: the first four and the last four, which overlap.
+#[inline(always)]
+pub(super) fn number_to_8(text: &[u8], more: u8) -> Option<u32>
+    requires some { 4 ≤ length text.now }
+    requires few { length text.now ≤ 8 }
+    requires more { get_or text.now 0 0 + more < 256 }
+    ensures writes { IfSome result (λ number. WritesDecimal more text.now number) }
+    ensures small { IfSome result (λ number. number < 100000000) }
+{
+    let n = text.len();
+    let shift = 64 - 8 * n as u32;
+    let last = half_at(text, n - 4) << 32;
+    let first = (half_at(text, 0) << shift) & 0xffff_ffff;
+    number_of_word(last + first + ((more as u64) << shift) + zeros_below(shift))
+}
+
+// The numbers of the last eight of nine to sixteen digits, and of those before: of the first eight bytes, those that
+// are among the last eight too are shifted out.
+#[inline(always)]
+pub(super) fn numbers_to_16(text: &[u8], more: u8) -> Option<(u32, u32)>
+    requires some { 8 < length text.now }
+    requires few { length text.now ≤ 16 }
+    requires more { get_or text.now 0 0 + more < 256 }
+    ensures writes { IfSome result
+        (λ parts. WritesDecimal more text.now (parts.0 * 100000000 + parts.1)) }
+    ensures high { IfSome result (λ parts. parts.0 < 100000000) }
+    ensures low { IfSome result (λ parts. parts.1 < 100000000) }
+{
+    let n = text.len();
+    let shift = 128 - 8 * n as u32;
+    let first = (word_at(text, 0) + more as u64) << shift;
+    numbers_of_words(first + zeros_below(shift), word_at(text, n - 8))
+}
+
+// The number of one to eight digits, the front of a longer text.
+#[inline(always)]
+fn number_of_front(text: &[u8]) -> Option<u32>
+    requires some { 1 ≤ length text.now }
+    requires few { length text.now ≤ 8 }
+    ensures writes { IfSome result (λ number. WritesDecimal 0 text.now number) }
+    ensures small { IfSome result (λ number. number < 100000000) }
+{
+    let n = text.len();
+    if n == 1 {
+        let digit = text[0].wrapping_sub(b'0');
+        return if digit < 10 { Some(digit as u32) } else { None };
+    }
+    if n <= 3 {
+        return number_to_3(text, 0);
+    }
+    number_to_8(text, 0)
+}
+
+// The numbers of nine to twenty-four digits: of the last sixteen, eight by eight, and of those before.
+#[inline(always)]
+pub(super) fn numbers_to_24(text: &[u8]) -> Option<(u32, u32, u32)>
+    requires some { 8 < length text.now }
+    requires few { length text.now ≤ 24 }
+    ensures writes { IfSome result
+        (λ parts. WritesDecimal 0 text.now
+        (parts.0 * 10000000000000000 + (parts.1 * 100000000 + parts.2))) }
+    ensures first { IfSome result (λ parts. parts.0 < 100000000) }
+    ensures high { IfSome result (λ parts. parts.1 < 100000000) }
+    ensures low { IfSome result (λ parts. parts.2 < 100000000) }
+{
+    let n = text.len();
+    if n <= 16 {
+        return match numbers_to_16(text, 0) {
+            Some((high, low)) => Some((0, high, low)),
+            None => None,
+        };
+    }
+    match (
+        number_of_front(&text[..n - 16]),
+        numbers_to_16(&text[n - 16..], 0),
+    ) {
+        (Some(first), Some((high, low))) => Some((first, high, low)),
+        _ => None,
+    }
+}

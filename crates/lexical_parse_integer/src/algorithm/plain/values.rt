@@ -1,0 +1,152 @@
+// The values of decimal digits, where the type has them.
+ghost use Rattle.std.specs.Prelude.{◌≤ℤ◌, ◌∷◌, [], neg_ℤ, if◌then◌else◌, false, ◌≡◌, ◌+◌, ◌*◌, ◌<◌, ◌≤◌, IfSome, IsTrue, get_or, length, pos};
+ghost use Rattle.lexical_util.specs.Number.{IsNumber, number_limit};
+ghost use Rattle.lexical_parse_integer.specs.Plain.{WritesValue, minus_more};
+ghost use Rattle.lexical_parse_integer.specs.Value.{with_sign};
+
+use crate::algorithm::plain::digits::{
+    minus_more, number_to_3, number_to_8, numbers_to_16, numbers_to_24,
+};
+use lexical_util::num::Integer;
+
+// How many numbers from 0 up a type has.
+#[inline(always)]
+fn limit<T: Integer>() -> u64
+    requires { T.TYPE.bits ≤ 32 }
+    ensures { result ≡ number_limit T.TYPE }
+{
+    1 << (T::BITS - u32::from(T::IS_SIGNED))
+}
+
+// The value with the sign.
+#[inline(always)]
+pub(super) fn signed_value<T: Integer>(value: T, negative: bool) -> T
+    requires minus { IsTrue negative → IsTrue T.TYPE.is_signed }
+    requires positive { pos 0 ≤ℤ T.number value }
+    requires fits { IsNumber T.TYPE (T.number value) }
+    ensures value { T.number result
+        ≡ (if negative then neg_ℤ (T.number value) else T.number value) }
+    ensures fits { IsNumber T.TYPE (T.number result) }
+{
+    if negative {
+        T::ZERO.mul_add(T::from_u32(1), value, true)
+    } else {
+        value
+    }
+}
+
+// The value of a number of up to eight digits, where the type has it.
+#[inline(always)]
+fn value_to_8<T: Integer>(number: u32, negative: bool) -> Option<T>
+    requires minus { IsTrue negative → IsTrue T.TYPE.is_signed }
+    requires small { number < 100000000 }
+    ensures value { IfSome result (λ value. T.number value ≡ with_sign negative number) }
+    ensures fits { IfSome result (λ value. IsNumber T.TYPE (T.number value)) }
+{
+    if T::BITS < 32 {
+        if number as u64 >= limit::<T>() {
+            return None;
+        }
+    }
+    Some(signed_value::<T>(T::from_u32(number), negative))
+}
+
+// The value of a number of nine to sixteen digits, where the type has it.
+#[inline(always)]
+fn value_to_16<T: Integer>(high: u32, low: u32, negative: bool) -> Option<T>
+    requires minus { IsTrue negative → IsTrue T.TYPE.is_signed }
+    requires high { high < 100000000 }
+    requires low { low < 100000000 }
+    ensures value { IfSome result
+        (λ value. T.number value ≡ with_sign negative (high * 100000000 + low)) }
+    ensures fits { IfSome result (λ value. IsNumber T.TYPE (T.number value)) }
+{
+    if T::BITS <= 32 {
+        let number = high as u64 * 100_000_000 + low as u64;
+        if number >= limit::<T>() {
+            return None;
+        }
+        return Some(signed_value::<T>(T::from_u32(number as u32), negative));
+    }
+    let value = T::from_u32(high).mul_add(T::from_u32(100_000_000), T::from_u32(low), false);
+    Some(signed_value::<T>(value, negative))
+}
+
+// The value of a number of sixteen to twenty-four digits, where the type has it.
+#[inline(always)]
+fn value_to_24<T: Integer>(first: u32, high: u32, low: u32, negative: bool) -> Option<T>
+    requires bits { 32 < T.TYPE.bits }
+    requires minus { IsTrue negative → IsTrue T.TYPE.is_signed }
+    requires first { first < 100000000 }
+    requires high { high < 100000000 }
+    requires low { low < 100000000 }
+    ensures value { IfSome result
+        (λ value. T.number value
+        ≡ with_sign negative (first * 10000000000000000 + (high * 100000000 + low))) }
+    ensures fits { IfSome result (λ value. IsNumber T.TYPE (T.number value)) }
+{
+    let scale = T::from_u32(100_000_000);
+    let front = T::from_u32(first).mul_add(scale, T::from_u32(high), false);
+    if T::BITS > 64 {
+        let value = front.mul_add(scale, T::from_u32(low), false);
+        return Some(signed_value::<T>(value, negative));
+    }
+    match front.checked_mul_add(scale, T::from_u32(low), false) {
+        Some(value) => Some(signed_value::<T>(value, negative)),
+        None => None,
+    }
+}
+
+// The value of one digit.
+#[inline(always)]
+pub(super) fn value_of_one<T: Integer>(byte: u8) -> Option<T>
+    ensures { IfSome result (λ value. WritesValue T.TYPE 0 false (byte ∷ []) (T.number value)) }
+{
+    let digit = byte.wrapping_sub(b'0');
+    if digit < 10 {
+        Some(T::from_u32(digit as u32))
+    } else {
+        None
+    }
+}
+
+// The value of two to sixteen digits, of which the first may be a minus.
+#[inline(always)]
+pub(super) fn value_of<T: Integer>(text: &[u8], negative: bool) -> Option<T>
+    requires some { 2 ≤ length text.now }
+    requires few { length text.now ≤ 16 }
+    requires minus { IsTrue negative → IsTrue T.TYPE.is_signed }
+    requires first { IsTrue negative → get_or text.now 0 0 ≡ 45 }
+    ensures { IfSome result
+        (λ value. WritesValue T.TYPE (minus_more negative) negative text.now (T.number value)) }
+{
+    let n = text.len();
+    let more = minus_more(negative);
+    if n <= 3 {
+        return value_to_8::<T>(number_to_3(text, more)?, negative);
+    }
+    if n <= 8 {
+        return value_to_8::<T>(number_to_8(text, more)?, negative);
+    }
+    if T::BITS < 32 {
+        return None;
+    }
+    let (high, low) = numbers_to_16(text, more)?;
+    value_to_16::<T>(high, low, negative)
+}
+
+// The value of sixteen digits and more. It stays out of line, so that the parser of shorter texts is small enough to be
+// held in place.
+#[inline(never)]
+pub(super) fn value_of_long<T: Integer>(digits: &[u8], negative: bool) -> Option<T>
+    requires bits { 32 < T.TYPE.bits }
+    requires some { 16 ≤ length digits.now }
+    requires minus { IsTrue negative → IsTrue T.TYPE.is_signed }
+    ensures { IfSome result (λ value. WritesValue T.TYPE 0 negative digits.now (T.number value)) }
+{
+    if digits.len() > 24 {
+        return None;
+    }
+    let (first, high, low) = numbers_to_24(digits)?;
+    value_to_24::<T>(first, high, low, negative)
+}
