@@ -13,6 +13,7 @@ INTERNAL = b"integer_internal_digit_separator true"
 LEADING = b"integer_leading_digit_separator true"
 TRAILING = b"integer_trailing_digit_separator true"
 CONSECUTIVE = b"integer_consecutive_digit_separator true"
+BEHIND = b"integer_prefix_digit_separator true"
 PREFIX, PREFIX_CASE = b"base_prefix x", b"case_sensitive_base_prefix true"
 SUFFIX, SUFFIX_CASE = b"base_suffix h", b"case_sensitive_base_suffix true"
 NO_ZEROS = b"no_integer_leading_zeros true"
@@ -46,7 +47,13 @@ LITERALS = [
     [LITERAL], [LITERAL, NO_ZEROS], [LITERAL, PREFIX_CASE, OPTIONAL], [LITERAL, SUFFIX],
     [LITERAL, SUFFIX, SEPARATOR, INTERNAL, LEADING, TRAILING, CONSECUTIVE, NO_ZEROS], [LITERAL, PREFIX],
 ]
-FORMATS = PLAIN + AFFIXES + SIGNS_AND_ZEROS + RUNS + MIXED + LITERALS
+# separators behind a prefix, by their own flag
+BEHIND_PREFIX = [
+    [PREFIX, SEPARATOR, BEHIND], [PREFIX, SEPARATOR, BEHIND, INTERNAL, SUFFIX, NO_ZEROS],
+    [PREFIX, SEPARATOR, BEHIND, TRAILING, CONSECUTIVE, OPTIONAL], [LITERAL, SEPARATOR, BEHIND, INTERNAL, SUFFIX],
+    [SEPARATOR, BEHIND, OPTIONAL],
+]
+FORMATS = PLAIN + AFFIXES + SIGNS_AND_ZEROS + RUNS + MIXED + LITERALS + BEHIND_PREFIX
 
 
 def texts(longest: int) -> Iterator[bytes]:

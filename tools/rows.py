@@ -40,6 +40,7 @@ FLAGS = {
     "no-plus": "no_positive_mantissa_sign",
     "sign-required": "required_mantissa_sign",
     "no-leading-zeros": "no_integer_leading_zeros",
+    "behind-prefix": "integer_prefix_digit_separator",
     "literal-prefixes": "literal_prefixes",
 }
 BYTES = {"separator": "digit_separator", "prefix": "base_prefix", "suffix": "base_suffix"}

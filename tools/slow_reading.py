@@ -58,6 +58,7 @@ class Format:
     integer_internal_digit_separator: bool = False
     integer_trailing_digit_separator: bool = False
     integer_consecutive_digit_separator: bool = False
+    integer_prefix_digit_separator: bool = False
     literal_prefixes: bool = False
 
 
@@ -203,11 +204,10 @@ def run_passes(form: Format, text: bytes, region: Region, run: range) -> bool:
     behind = run.stop < len(text) and digit(text[run.stop], region.radix) is not None
     if before and behind:
         return form.integer_internal_digit_separator
-    if behind:
-        return form.integer_leading_digit_separator
     if before:
         return form.integer_trailing_digit_separator
-    return form.integer_leading_digit_separator or form.integer_trailing_digit_separator
+    leading = form.integer_leading_digit_separator or (region.prefixed and form.integer_prefix_digit_separator)
+    return leading if behind else leading or form.integer_trailing_digit_separator
 
 
 def end_of(form: Format, text: bytes, region: Region) -> int:

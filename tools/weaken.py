@@ -442,10 +442,6 @@ SAME = [
         ("run_begin", "begin_of (separator_at format text) start place",
          ["begin_of (separator_at format text) (start - 1) place"]),
         ("passes", "run_begin format text start place", ["run_begin format text (start - 1) place"]),
-        ("passes", "run_passes format radix text start (run_begin format text start place) (run_stop format text place)",
-         ["run_passes format radix text (start - 1) (run_begin format text start place) (run_stop format text place)"]),
-        ("belongs", "passes format radix text start place", ["passes format radix text (start - 1) place"]),
-        ("end_of", "belongs format radix text start", ["belongs format radix text (start - 1)"]),
         ("places", "digits_between radix text start (end_of format radix text start)",
          ["digits_between radix text (start - 1) (end_of format radix text start)"]),
         ("run_passes", "nat_lt start from",
@@ -454,6 +450,9 @@ SAME = [
         ("run_begin", "begin_of (separator_at format text) start place",
          ["begin_of (separator_at format text) (start + 1) place"]),
         ("passes", "run_begin format text start place", ["run_begin format text (start + 1) place"])]),
+    ("a run with no digit before it that the numeral comes to begins where the region does", [
+        ("run_passes", "flag_for format start ((nat_lt start from) && (is_some (digit_at radix text (from - 1)))) (is_some (digit_at radix text to))",
+         ["flag_for format from ((nat_lt start from) && (is_some (digit_at radix text (from - 1)))) (is_some (digit_at radix text to))"])]),
     ("where another byte than a digit stands before a run in the region, the numeral ends before that byte", [
         ("run_passes", "(nat_lt start from) && (is_some (digit_at radix text (from - 1)))",
          ["(nat_lt start from) || (is_some (digit_at radix text (from - 1)))"]),

@@ -18,6 +18,7 @@ pub record Format : Type 0 where
   pub integer_internal_digit_separator : Bool
   pub integer_trailing_digit_separator : Bool
   pub integer_consecutive_digit_separator : Bool
+  pub integer_prefix_digit_separator : Bool
   pub literal_prefixes : Bool
 
 -- radix 10, and a digit is required
@@ -38,6 +39,7 @@ standard = record {
   integer_internal_digit_separator = false;
   integer_trailing_digit_separator = false;
   integer_consecutive_digit_separator = false;
+  integer_prefix_digit_separator = false;
   literal_prefixes = false;
 }
 

@@ -35,6 +35,7 @@ pub struct NumberFormat {
     integer_internal_digit_separator: bool,
     integer_trailing_digit_separator: bool,
     integer_consecutive_digit_separator: bool,
+    integer_prefix_digit_separator: bool,
     literal_prefixes: bool,
     // These stand last because the derived equality is proved in this order alone.
     digit_separator: Option<u8>,
@@ -63,6 +64,7 @@ impl Model for NumberFormat {
       integer_internal_digit_separator = a.integer_internal_digit_separator;
       integer_trailing_digit_separator = a.integer_trailing_digit_separator;
       integer_consecutive_digit_separator = a.integer_consecutive_digit_separator;
+      integer_prefix_digit_separator = a.integer_prefix_digit_separator;
       literal_prefixes = a.literal_prefixes;
     } };
 
@@ -82,6 +84,7 @@ impl Model for NumberFormat {
       integer_internal_digit_separator = a.integer_internal_digit_separator;
       integer_trailing_digit_separator = a.integer_trailing_digit_separator;
       integer_consecutive_digit_separator = a.integer_consecutive_digit_separator;
+      integer_prefix_digit_separator = a.integer_prefix_digit_separator;
       literal_prefixes = a.literal_prefixes;
     } };
 }
@@ -103,6 +106,7 @@ pub const STANDARD: NumberFormat = NumberFormat {
     integer_internal_digit_separator: false,
     integer_trailing_digit_separator: false,
     integer_consecutive_digit_separator: false,
+    integer_prefix_digit_separator: false,
     literal_prefixes: false,
 };
 
@@ -141,8 +145,8 @@ impl NumberFormat {
 
     /// The byte that may stand among the digits and counts for nothing, as `_` in `1_000`.
     ///
-    /// It is matched exactly, also where it is a letter. The four `integer_` flags say where it may
-    /// stand; with none of them it may stand nowhere, and without a separator they have no effect.
+    /// It is matched exactly, also where it is a letter. The `integer_` flags say where it may stand;
+    /// with none of them it may stand nowhere, and without a separator they have no effect.
     #[inline(always)]
     pub fn digit_separator(&self) -> Option<u8>
         ensures { result ≡ self.now.digit_separator }
@@ -280,6 +284,15 @@ impl NumberFormat {
         ensures { result ≡ self.now.integer_consecutive_digit_separator }
     {
         self.integer_consecutive_digit_separator
+    }
+
+    /// Whether separators may stand directly behind a prefix, as in `0x_1F`: a run of them with no digit before it is
+    /// judged there as if `integer_leading_digit_separator` were set. Without a prefix this has no effect.
+    #[inline(always)]
+    pub fn integer_prefix_digit_separator(&self) -> bool
+        ensures { result ≡ self.now.integer_prefix_digit_separator }
+    {
+        self.integer_prefix_digit_separator
     }
 
     /// Whether the text may choose its radix: a `0x`, `0o` or `0b` directly after the sign is a prefix, and makes the

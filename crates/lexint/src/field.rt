@@ -28,6 +28,7 @@ pub enum Flag {
     IntegerInternalDigitSeparator,
     IntegerTrailingDigitSeparator,
     IntegerConsecutiveDigitSeparator,
+    IntegerPrefixDigitSeparator,
     LiteralPrefixes,
 }
 
@@ -83,13 +84,14 @@ impl Flag {
             Flag::IntegerInternalDigitSeparator => "integer_internal_digit_separator",
             Flag::IntegerTrailingDigitSeparator => "integer_trailing_digit_separator",
             Flag::IntegerConsecutiveDigitSeparator => "integer_consecutive_digit_separator",
+            Flag::IntegerPrefixDigitSeparator => "integer_prefix_digit_separator",
             Flag::LiteralPrefixes => "literal_prefixes",
         }
     }
 }
 
 /// Every field.
-const FIELDS: [Field; 18] = [
+const FIELDS: [Field; 19] = [
     Field::MantissaRadix,
     Field::Mark(Mark::DigitSeparator),
     Field::Mark(Mark::BasePrefix),
@@ -106,6 +108,7 @@ const FIELDS: [Field; 18] = [
     Field::Flag(Flag::IntegerInternalDigitSeparator),
     Field::Flag(Flag::IntegerTrailingDigitSeparator),
     Field::Flag(Flag::IntegerConsecutiveDigitSeparator),
+    Field::Flag(Flag::IntegerPrefixDigitSeparator),
     Field::Flag(Flag::LiteralPrefixes),
     Field::NoMultiDigit,
 ];

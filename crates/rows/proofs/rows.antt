@@ -1,6 +1,7 @@
 -- Worked rows, a file for each subject.
 -- Written by tools/rows.py from tools/rows.txt: make rows writes it anew.
 pub mod Affixes
+pub mod Behind
 pub mod Ends
 pub mod Flags
 pub mod Formats

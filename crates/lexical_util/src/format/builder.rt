@@ -251,6 +251,25 @@ impl NumberFormatBuilder {
         self
     }
 
+    /// Sets whether separators may stand directly behind a prefix:
+    ///
+    /// ```rust
+    /// // 0x_1F and 0x1_F, but not _1F.
+    /// let format = NumberFormatBuilder::new()
+    ///     .literal_prefixes(true)
+    ///     .digit_separator(Some(b'_'))
+    ///     .integer_internal_digit_separator(true)
+    ///     .integer_prefix_digit_separator(true)
+    ///     .build_strict();
+    /// ```
+    #[inline]
+    pub fn integer_prefix_digit_separator(mut self, value: bool) -> Self
+        ensures { result ≡ record self { integer_prefix_digit_separator = value } }
+    {
+        self.format.integer_prefix_digit_separator = value;
+        self
+    }
+
     /// Sets whether the text may choose its radix by `0x`, `0o` or `0b`.
     #[inline]
     pub fn literal_prefixes(mut self, value: bool) -> Self

@@ -5,7 +5,7 @@ use crate::format::{JSON, NumberFormat, NumberFormatBuilder, STANDARD};
 use std::test::Fail;
 
 // The flags of a format, in the order of the setters below.
-fn flags_of(format: &NumberFormat) -> [bool; 12] {
+fn flags_of(format: &NumberFormat) -> [bool; 13] {
     [
         format.case_sensitive_base_prefix(),
         format.case_sensitive_base_suffix(),
@@ -18,6 +18,7 @@ fn flags_of(format: &NumberFormat) -> [bool; 12] {
         format.integer_internal_digit_separator(),
         format.integer_trailing_digit_separator(),
         format.integer_consecutive_digit_separator(),
+        format.integer_prefix_digit_separator(),
         format.literal_prefixes(),
     ]
 }
@@ -25,7 +26,7 @@ fn flags_of(format: &NumberFormat) -> [bool; 12] {
 #[test]
 fn each_flag_alone(rt: HostRuntime) -> Result<(), Fail> {
     let bare = NumberFormatBuilder::new().required_digits(false);
-    assert_eq!(rt; flags_of(&bare.build_strict()), [false; 12]);
+    assert_eq!(rt; flags_of(&bare.build_strict()), [false; 13]);
     assert!(rt; !bare.build_strict().required_digits());
     for (i, builder) in [
         bare.case_sensitive_base_prefix(true),
@@ -39,12 +40,13 @@ fn each_flag_alone(rt: HostRuntime) -> Result<(), Fail> {
         bare.integer_internal_digit_separator(true),
         bare.integer_trailing_digit_separator(true),
         bare.integer_consecutive_digit_separator(true),
+        bare.integer_prefix_digit_separator(true),
         bare.literal_prefixes(true),
     ]
     .iter()
     .enumerate()
     {
-        let mut want = [false; 12];
+        let mut want = [false; 13];
         want[i] = true;
         let format = builder.build_unchecked();
         assert_eq!(rt; flags_of(&format), want, "flag {i}");
@@ -94,7 +96,7 @@ fn other_setters(rt: HostRuntime) {
 #[test]
 fn ready_made_formats(rt: HostRuntime) {
     let digits_required = [
-        false, false, false, true, false, false, false, false, false, false, false, false,
+        false, false, false, true, false, false, false, false, false, false, false, false, false,
     ];
     for (format, radix) in [
         (STANDARD, 10),

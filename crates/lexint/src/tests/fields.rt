@@ -124,6 +124,10 @@ fn each_separator_flag_is_in_force(rt: HostRuntime) -> Result<(), Fail> {
                 b"f digit_separator _\nf integer_trailing_digit_separator true\nf integer_consecutive_digit_separator true\np i64 1__\n",
                 b"ok\nok\nok\nok 1 3\n",
             ),
+            (
+                b"f literal_prefixes true\nf digit_separator _\nf integer_prefix_digit_separator true\np i64 0x_1_\np i64 _1\n",
+                b"ok\nok\nok\nok 1 4\nerr Empty 0\n",
+            ),
         ],
     )?;
     Ok(())

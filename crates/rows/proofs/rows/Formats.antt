@@ -183,6 +183,9 @@ broken_literals_15 = refl
 broken_literals_16 : fault (record standard { literal_prefixes = true; digit_separator = Some 103; base_suffix = Some 121 }) ≡ None
 broken_literals_16 = refl
 
+broken_literals_17 : fault (record standard { digit_separator = Some 95; integer_prefix_digit_separator = true }) ≡ None
+broken_literals_17 = refl
+
 -- ---- formats that break no rule
 
 valid_1 : fault standard ≡ None

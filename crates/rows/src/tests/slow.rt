@@ -23,6 +23,7 @@ struct Head {
 struct Region<'a> {
     text: &'a [u8],
     format: NumberFormat,
+    is_prefixed: bool,
     start: usize,
     radix: u32,
 }
@@ -148,14 +149,13 @@ impl Region<'_> {
         let (first, last) = self.run(place);
         let is_before = first > 0 && self.digit_at(first - 1).is_some();
         let is_behind = self.digit_at(last.saturating_add(1)).is_some();
+        let is_leading = format.integer_leading_digit_separator()
+            || (self.is_prefixed && format.integer_prefix_digit_separator());
         let is_placed = match (is_before, is_behind) {
             (true, true) => format.integer_internal_digit_separator(),
-            (false, true) => format.integer_leading_digit_separator(),
+            (false, true) => is_leading,
             (true, false) => format.integer_trailing_digit_separator(),
-            (false, false) => {
-                format.integer_leading_digit_separator()
-                    || format.integer_trailing_digit_separator()
-            }
+            (false, false) => is_leading || format.integer_trailing_digit_separator(),
         };
         is_placed && (first == last || format.integer_consecutive_digit_separator())
     }
@@ -266,6 +266,7 @@ pub(super) fn read(
     let region = Region {
         text,
         format: *format,
+        is_prefixed: head.is_prefixed,
         start: head.start,
         radix: head.radix,
     };
