@@ -1,5 +1,6 @@
 pub mod Agreeing
 pub mod AsciiDigits
+pub mod BehindPrefix
 pub mod Completed
 pub mod Completing
 pub mod Counts

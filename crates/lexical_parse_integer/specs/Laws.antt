@@ -1,5 +1,5 @@
 -- What the definitions of the grammar come to, and the laws of the parsers' answers.
-use Rattle.std.specs.Prelude.{◌≡◌, ◌↔◌, ℕ, suc, ◌+◌, ◌≤◌, ◌<◌, Bool, true, false, List, ◌∷◌, ◌++◌, length, take, map, replicate, nat_lt, if◌then◌else◌, ℤ, pos, negsuc, Some, IsSome, Result, Ok, Err}
+use Rattle.std.specs.Prelude.{◌≡◌, ◌↔◌, ℕ, suc, ◌+◌, ◌≤◌, ◌<◌, Bool, true, false, ◌||◌, List, ◌∷◌, ◌++◌, length, take, map, replicate, nat_lt, if◌then◌else◌, ℤ, pos, negsuc, Some, IsSome, Result, Ok, Err}
 use Rattle.std.specs.Bool.{⊤}
 use Rattle.lexical_util.specs.declared.error.Error.{Error}
 use Rattle.lexical_util.specs.declared.error.Error.TheVariants.{Empty, InvalidDigit, Overflow, Underflow}
@@ -30,6 +30,19 @@ pub record IsLongestRun (format : Format) (text : List ℕ) (start place : ℕ) 
   pub separators : (at : ℕ) → run_begin format text start place ≤ at → at < run_stop format text place → separator_at format text at ≡ true
   pub longest_before : (begin : ℕ) → start ≤ begin → begin ≤ place → ((at : ℕ) → begin ≤ at → at < place → separator_at format text at ≡ true) → run_begin format text start place ≤ begin
   pub longest_behind : (stop : ℕ) → place < stop → stop ≤ length text → ((at : ℕ) → place ≤ at → at < stop → separator_at format text at ≡ true) → stop ≤ run_stop format text place
+
+-- ---- separators behind a prefix
+
+-- a format with its flag for separators behind a prefix made one for leading separators
+abbrev pub with_leading_behind_prefix : Format → Format
+with_leading_behind_prefix format = record format {
+  integer_leading_digit_separator = format.integer_leading_digit_separator || format.integer_prefix_digit_separator;
+  integer_prefix_digit_separator = false;
+}
+
+-- a format without that flag
+abbrev pub without_prefix_flag : Format → Format
+without_prefix_flag format = record format { integer_prefix_digit_separator = false }
 
 -- ---- complete and partial
 

@@ -1,11 +1,14 @@
 //! What the definitions of the grammar come to, over every format, type and text.
 //!
 //! These calls do nothing. A proof that needs one of these laws calls it and has its clauses.
-ghost use Rattle.std.specs.Prelude.{◌≡◌, ◌≢◌, ◌<◌, ◌≤◌, ◌⊎◌, true, List, length, slice_get, IsNone, Ok, Some, ℕ, ℤ};
+ghost use Rattle.std.specs.Prelude.{◌≡◌, ◌≢◌, ◌<◌, ◌≤◌, ◌⊎◌, false, true, Bool, List, is_some, length, slice_get, IsNone, Ok, Some, ℕ, ℤ};
 ghost use Rattle.std.specs.Fmt.{signed_decimal};
+ghost use Rattle.lexical_parse_integer.specs.Affixes.{prefix_radix};
 ghost use Rattle.lexical_parse_integer.specs.Grammar.{complete, partial};
-ghost use Rattle.lexical_parse_integer.specs.Laws.{Completes, IsGreatestEnd, IsLocal, IsLongestRun, IsNumeralOf, LeavesWithin, ReadsNumerals, ReadsPadded, Writes, WritesShortest, completed};
-ghost use Rattle.lexical_parse_integer.specs.Runs.{digit_at, separator_at};
+ghost use Rattle.lexical_parse_integer.specs.Head.{Head, head_of, sign};
+ghost use Rattle.lexical_parse_integer.specs.Laws.{Completes, IsGreatestEnd, IsLocal, IsLongestRun, IsNumeralOf, LeavesWithin, ReadsNumerals, ReadsPadded, Writes, WritesShortest, completed, with_leading_behind_prefix, without_prefix_flag};
+ghost use Rattle.lexical_parse_integer.specs.Numeral.{numeral};
+ghost use Rattle.lexical_parse_integer.specs.Runs.{digit_at, is_behind_prefix, separator_at};
 ghost use Rattle.lexical_util.specs.Digit.{IsRadix};
 ghost use Rattle.lexical_util.specs.Format.{Format};
 ghost use Rattle.lexical_util.specs.Number.{IntegerType, IsNumber};
@@ -30,6 +33,19 @@ pub fn longest_run(bytes: &[u8], format: &NumberFormat, start: usize, place: usi
     requires within { start ≤ place }
     requires separator { separator_at format.now bytes.now place ≡ true }
     ensures { IsLongestRun format.now bytes.now start place }
+{}
+
+/// A region starts at 2 or later exactly where a prefix stands behind the sign. There separators are judged as under a
+/// format that has the flag for leading separators where either flag is set, and elsewhere as under one without the
+/// flag for separators behind a prefix.
+pub fn prefixes()
+    ensures place { (format : Format) (type : IntegerType) (text : List ℕ) (sign_read : Bool × ℕ) (head : Head)
+        → sign format type text ≡ Ok sign_read → head_of format type text ≡ Ok head
+        → is_behind_prefix head.start ≡ is_some (prefix_radix format text sign_read.1) }
+    ensures behind { (format : Format) (text : List ℕ) (start radix : ℕ) → is_behind_prefix start ≡ true
+        → numeral format text start radix ≡ numeral (with_leading_behind_prefix format) text start radix }
+    ensures elsewhere { (format : Format) (text : List ℕ) (start radix : ℕ) → is_behind_prefix start ≡ false
+        → numeral format text start radix ≡ numeral (without_prefix_flag format) text start radix }
 {}
 
 /// Where a value leaves its type, it does so at a place within the text.
