@@ -21,6 +21,7 @@ OPTIONAL = b"required_digits false"
 INTEGER = b"required_integer_digits true"
 SIGN, NO_PLUS = b"required_mantissa_sign true", b"no_positive_mantissa_sign true"
 LITERAL = b"literal_prefixes true"
+OCTAL = b"literal_octal_zero true"
 
 PLAIN = [[b"mantissa_radix %d" % radix] for radix in (10, 2, 8, 9, 16, 36)]
 AFFIXES = [
@@ -53,7 +54,14 @@ BEHIND_PREFIX = [
     [PREFIX, SEPARATOR, BEHIND, TRAILING, CONSECUTIVE, OPTIONAL], [LITERAL, SEPARATOR, BEHIND, INTERNAL, SUFFIX],
     [SEPARATOR, BEHIND, OPTIONAL],
 ]
-FORMATS = PLAIN + AFFIXES + SIGNS_AND_ZEROS + RUNS + MIXED + LITERALS + BEHIND_PREFIX
+# a zero in front that makes a numeral octal
+OCTALS = [
+    [OCTAL], [OCTAL, NO_ZEROS, OPTIONAL], [OCTAL, PREFIX, SUFFIX],
+    [OCTAL, LITERAL, SEPARATOR, INTERNAL, BEHIND, NO_ZEROS],
+    [OCTAL, SEPARATOR, LEADING, TRAILING, CONSECUTIVE, SUFFIX], [OCTAL, SEPARATOR, SIGN],
+    [OCTAL, b"mantissa_radix 8"],
+]
+FORMATS = PLAIN + AFFIXES + SIGNS_AND_ZEROS + RUNS + MIXED + LITERALS + BEHIND_PREFIX + OCTALS
 
 
 def texts(longest: int) -> Iterator[bytes]:

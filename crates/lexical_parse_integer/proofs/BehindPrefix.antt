@@ -15,16 +15,16 @@ use Rattle.lexical_parse_integer.proofs.Whole.{sign_short}
 
 -- ---- where a region starts
 
-start_by : (f : Format) (s : Bool × ℕ) (p : Option ℕ) → s.1 ≤ 1 → is_behind_prefix (head_behind f s p).start ≡ is_some p
-start_by f s None short = let n = s.1 in let low : n ≤ 1 = short in let t : nat_le 2 n ≡ false = grind (arith, nat_tests) in t
-start_by f s (Some r) short = let n = s.1 in let t : nat_le 2 (n + 2) ≡ true = grind (arith, nat_tests) in t
+start_by : (f : Format) (text : List ℕ) (s : Bool × ℕ) (p : Option ℕ) → s.1 ≤ 1 → is_behind_prefix (head_behind f text s p).start ≡ is_some p
+start_by f text s None short = let n = s.1 in let low : n ≤ 1 = short in let t : nat_le 2 n ≡ false = grind (arith, nat_tests) in t
+start_by f text s (Some r) short = let n = s.1 in let t : nat_le 2 (n + 2) ≡ true = grind (arith, nat_tests) in t
 
 pub starts_behind_prefix : (f : Format) (t : IntegerType) (text : List ℕ) (s : Bool × ℕ) (head : Head) → sign f t text ≡ Ok s → head_of f t text ≡ Ok head → is_behind_prefix head.start ≡ is_some (prefix_radix f text s.1)
 unfolding head_of
 starts_behind_prefix f t text s head signed is =
-    let is' : ◌≡◌ {A = Result Head Error} (Ok (head_behind f s (prefix_radix f text s.1))) (Ok head) = rw signed at is in
-    let same : head_behind f s (prefix_radix f text s.1) ≡ head = cc in
-    ap (λ (h : Head). is_behind_prefix h.start) (sym same) ∙ start_by f s (prefix_radix f text s.1) (sign_short f t text s signed)
+    let is' : ◌≡◌ {A = Result Head Error} (Ok (head_behind f text s (prefix_radix f text s.1))) (Ok head) = rw signed at is in
+    let same : head_behind f text s (prefix_radix f text s.1) ≡ head = cc in
+    ap (λ (h : Head). is_behind_prefix h.start) (sym same) ∙ start_by f text s (prefix_radix f text s.1) (sign_short f t text s signed)
 
 -- ---- numerals that end at the same place
 

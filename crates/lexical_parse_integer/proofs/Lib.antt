@@ -21,6 +21,7 @@ pub mod Lists
 pub mod Locality
 pub mod NumeralLemmas
 pub mod Numerals
+pub mod OctalZeros
 pub mod Places
 pub mod PlainTurns
 pub mod Progress

@@ -32,9 +32,9 @@ pub record IsOver (text : List ℕ) (under : Format) (cursor : CursorView) : Typ
   pub format : cursor.format ≡ under
   pub sound : IsSound cursor
 
--- sign and prefix are read
-pub record IsAtHead (under : Format) (type : IntegerType) (text : List ℕ) (is_minus is_prefixed : Bool) (cursor : CursorView) : Type 0 where
-  pub head_is : head_of under type text ≡ Ok (record { is_minus = is_minus; is_prefixed = is_prefixed; start = cursor.start; radix = cursor.radix })
+-- sign and prefix are read, or what else marks the radix
+pub record IsAtHead (under : Format) (type : IntegerType) (text : List ℕ) (is_minus is_marked : Bool) (cursor : CursorView) : Type 0 where
+  pub head_is : head_of under type text ≡ Ok (record { is_minus = is_minus; is_marked = is_marked; start = cursor.start; radix = cursor.radix })
   pub bytes : cursor.bytes ≡ text
   pub format : cursor.format ≡ under
   pub at_start : cursor.position ≡ cursor.start
@@ -48,7 +48,7 @@ pub record IsRead (under : Format) (type : IntegerType) (text : List ℕ) (value
   pub head : Head
   pub head_is : head_of under type text ≡ Ok head
   pub no_prefix_fault : prefix_fault text head ≡ None
-  pub no_zero_fault : zero_fault under head.is_prefixed (numeral under text head.start head.radix) ≡ None
+  pub no_zero_fault : zero_fault under head.is_marked (numeral under text head.start head.radix) ≡ None
   pub no_range_fault : range_fault type head.is_minus (numeral under text head.start head.radix) ≡ None
   pub value_is : value ≡ numeral_value head.is_minus (numeral under text head.start head.radix)
   pub bytes : cursor.bytes ≡ text

@@ -34,9 +34,10 @@ HaveSameFields format other =
     × ((format.integer_consecutive_digit_separator ≡ other.integer_consecutive_digit_separator)
     × ((format.integer_prefix_digit_separator ≡ other.integer_prefix_digit_separator)
     × ((format.literal_prefixes ≡ other.literal_prefixes)
+    × ((format.literal_octal_zero ≡ other.literal_octal_zero)
     × ((format.digit_separator ≡ other.digit_separator)
     × ((format.base_prefix ≡ other.base_prefix)
-    × (format.base_suffix ≡ other.base_suffix))))))))))))))))
+    × (format.base_suffix ≡ other.base_suffix)))))))))))))))))
 
 same_from_fields : (format other : Format) → HaveSameFields format other → format ≡ other
 same_from_fields format other same = λ i. record {
@@ -54,13 +55,14 @@ same_from_fields format other same = λ i. record {
   integer_consecutive_digit_separator = same.1.1.1.1.1.1.1.1.1.1.1.0 i;
   integer_prefix_digit_separator = same.1.1.1.1.1.1.1.1.1.1.1.1.0 i;
   literal_prefixes = same.1.1.1.1.1.1.1.1.1.1.1.1.1.0 i;
-  digit_separator = same.1.1.1.1.1.1.1.1.1.1.1.1.1.1.0 i;
-  base_prefix = same.1.1.1.1.1.1.1.1.1.1.1.1.1.1.1.0 i;
-  base_suffix = same.1.1.1.1.1.1.1.1.1.1.1.1.1.1.1.1 i;
+  literal_octal_zero = same.1.1.1.1.1.1.1.1.1.1.1.1.1.1.0 i;
+  digit_separator = same.1.1.1.1.1.1.1.1.1.1.1.1.1.1.1.0 i;
+  base_prefix = same.1.1.1.1.1.1.1.1.1.1.1.1.1.1.1.1.0 i;
+  base_suffix = same.1.1.1.1.1.1.1.1.1.1.1.1.1.1.1.1.1 i;
 }
 
 fields_from_same : (format other : Format) → format ≡ other → HaveSameFields format other
-fields_from_same format other e = subst (HaveSameFields format) e (refl, (refl, (refl, (refl, (refl, (refl, (refl, (refl, (refl, (refl, (refl, (refl, (refl, (refl, (refl, (refl, refl))))))))))))))))
+fields_from_same format other e = subst (HaveSameFields format) e (refl, (refl, (refl, (refl, (refl, (refl, (refl, (refl, (refl, (refl, (refl, (refl, (refl, (refl, (refl, (refl, (refl, refl)))))))))))))))))
 
 -- the derived test, in the order of the struct's fields
 abbrev pub format_eq : Format → Format → Bool
@@ -79,9 +81,10 @@ format_eq format other =
     && (beq format.integer_consecutive_digit_separator other.integer_consecutive_digit_separator
     && (beq format.integer_prefix_digit_separator other.integer_prefix_digit_separator
     && (beq format.literal_prefixes other.literal_prefixes
+    && (beq format.literal_octal_zero other.literal_octal_zero
     && (option_eq ◌==◌ format.digit_separator other.digit_separator
     && (option_eq ◌==◌ format.base_prefix other.base_prefix
-    && (option_eq ◌==◌ format.base_suffix other.base_suffix))))))))))))))))
+    && (option_eq ◌==◌ format.base_suffix other.base_suffix)))))))))))))))))
 
 -- it says whether two formats are equal
 pub format_eq_decides : (format other : Format) → Decides (format_eq format other) (format ≡ other)
@@ -101,6 +104,7 @@ format_eq_decides format other =
     (both (booleans_Decides _ _)
     (both (booleans_Decides _ _)
     (both (booleans_Decides _ _)
+    (both (booleans_Decides _ _)
     (both (mark_Decides _ _)
     (both (mark_Decides _ _)
-    (mark_Decides _ _)))))))))))))))))
+    (mark_Decides _ _))))))))))))))))))

@@ -20,6 +20,7 @@ pub record Format : Type 0 where
   pub integer_consecutive_digit_separator : Bool
   pub integer_prefix_digit_separator : Bool
   pub literal_prefixes : Bool
+  pub literal_octal_zero : Bool
 
 -- radix 10, and a digit is required
 abbrev pub standard : Format
@@ -41,6 +42,7 @@ standard = record {
   integer_consecutive_digit_separator = false;
   integer_prefix_digit_separator = false;
   literal_prefixes = false;
+  literal_octal_zero = false;
 }
 
 -- the integers of JSON: a digit is required, no plus is read, and no zero stands in front of another digit

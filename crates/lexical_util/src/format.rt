@@ -37,6 +37,7 @@ pub struct NumberFormat {
     integer_consecutive_digit_separator: bool,
     integer_prefix_digit_separator: bool,
     literal_prefixes: bool,
+    literal_octal_zero: bool,
     // These stand last because the derived equality is proved in this order alone.
     digit_separator: Option<u8>,
     base_prefix: Option<u8>,
@@ -66,6 +67,7 @@ impl Model for NumberFormat {
       integer_consecutive_digit_separator = a.integer_consecutive_digit_separator;
       integer_prefix_digit_separator = a.integer_prefix_digit_separator;
       literal_prefixes = a.literal_prefixes;
+      literal_octal_zero = a.literal_octal_zero;
     } };
 
     ghost inverse = { λ a. record {
@@ -86,6 +88,7 @@ impl Model for NumberFormat {
       integer_consecutive_digit_separator = a.integer_consecutive_digit_separator;
       integer_prefix_digit_separator = a.integer_prefix_digit_separator;
       literal_prefixes = a.literal_prefixes;
+      literal_octal_zero = a.literal_octal_zero;
     } };
 }
 
@@ -108,6 +111,7 @@ pub const STANDARD: NumberFormat = NumberFormat {
     integer_consecutive_digit_separator: false,
     integer_prefix_digit_separator: false,
     literal_prefixes: false,
+    literal_octal_zero: false,
 };
 
 /// Integers as JSON writes them (RFC 8259, section 6): [`STANDARD`] without a plus, and without a zero
@@ -245,7 +249,7 @@ impl NumberFormat {
     }
 
     /// Whether a zero in front of another digit is refused (`Error::InvalidLeadingZeros`): `01` is,
-    /// `0` isn't. Zeros after a prefix are never refused.
+    /// `0` isn't. Zeros after a prefix, and in a numeral that a zero makes octal, are never refused.
     #[inline(always)]
     pub fn no_integer_leading_zeros(&self) -> bool
         ensures { result ≡ self.now.no_integer_leading_zeros }
@@ -305,6 +309,16 @@ impl NumberFormat {
         self.literal_prefixes
     }
 
+    /// Whether a zero in front makes a numeral octal, as in C: where a `0` stands directly after the sign, with an ASCII
+    /// digit or the separator directly behind it, the radix in force is 8, and that zero is the numeral's first digit.
+    /// `0777` is 511, and `0` is 0. A prefix that stands there is read as a prefix.
+    #[inline(always)]
+    pub fn literal_octal_zero(&self) -> bool
+        ensures { result ≡ self.now.literal_octal_zero }
+    {
+        self.literal_octal_zero
+    }
+
     /// The first rule that the format breaks, and `None` where it is valid.
     ///
     /// 1. The radix is from 2 to 36; else `InvalidMantissaRadix`.
@@ -314,8 +328,9 @@ impl NumberFormat {
     /// 4. A suffix is such a byte; else `InvalidBaseSuffix`.
     /// 5. No two of the three are alike, that is the same byte or the same letter in two cases; else
     ///    `InvalidPunctuation`.
-    /// 6. Where literal prefixes are asked for, the radix is 10, the format has no prefix of its own, and separator and
-    ///    suffix are neither digits of radix 16 nor `x`, `o` or `b`, in either case; else `InvalidLiteralPrefixes`.
+    /// 6. Where literal prefixes or octal zeros are asked for, the radix is 10; and where literal prefixes are, the format
+    ///    has no prefix of its own, and separator and suffix are neither digits of radix 16 nor `x`, `o` or `b`, in
+    ///    either case; else `InvalidLiteralPrefixes`.
     ///
     /// The first rule is that of the Rust crate `lexical-util`; the others, and which fault each has,
     /// are this crate's own.
@@ -344,17 +359,18 @@ impl NumberFormat {
         }
     }
 
-    // Whether literal prefixes are asked for where they can't be told apart.
+    // Whether literal prefixes or octal zeros are asked for where they can't be told apart.
     #[inline(always)]
     fn has_unfit_literals(&self) -> bool
         ensures { result ≡ has_unfit_literals self.now }
     {
         let are_asked_for = self.literal_prefixes;
-        are_asked_for
-            && (self.mantissa_radix != 10
-                || self.has_base_prefix()
-                || is_unfit_beside_literals(self.digit_separator)
-                || is_unfit_beside_literals(self.base_suffix))
+        let chooses_radix = are_asked_for || self.literal_octal_zero;
+        (chooses_radix && self.mantissa_radix != 10)
+            || (are_asked_for
+                && (self.has_base_prefix()
+                    || is_unfit_beside_literals(self.digit_separator)
+                    || is_unfit_beside_literals(self.base_suffix)))
     }
 
     /// Whether the format breaks no rule, so that `error` answers `None`.

@@ -30,6 +30,7 @@ pub enum Flag {
     IntegerConsecutiveDigitSeparator,
     IntegerPrefixDigitSeparator,
     LiteralPrefixes,
+    LiteralOctalZero,
 }
 
 /// What an `f` line can set.
@@ -86,12 +87,13 @@ impl Flag {
             Flag::IntegerConsecutiveDigitSeparator => "integer_consecutive_digit_separator",
             Flag::IntegerPrefixDigitSeparator => "integer_prefix_digit_separator",
             Flag::LiteralPrefixes => "literal_prefixes",
+            Flag::LiteralOctalZero => "literal_octal_zero",
         }
     }
 }
 
 /// Every field.
-const FIELDS: [Field; 19] = [
+const FIELDS: [Field; 20] = [
     Field::MantissaRadix,
     Field::Mark(Mark::DigitSeparator),
     Field::Mark(Mark::BasePrefix),
@@ -110,6 +112,7 @@ const FIELDS: [Field; 19] = [
     Field::Flag(Flag::IntegerConsecutiveDigitSeparator),
     Field::Flag(Flag::IntegerPrefixDigitSeparator),
     Field::Flag(Flag::LiteralPrefixes),
+    Field::Flag(Flag::LiteralOctalZero),
     Field::NoMultiDigit,
 ];
 

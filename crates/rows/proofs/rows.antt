@@ -6,6 +6,7 @@ pub mod Ends
 pub mod Flags
 pub mod Formats
 pub mod Literals
+pub mod Octal
 pub mod Radixes
 pub mod Separators
 pub mod Signs

@@ -3,3 +3,4 @@ mod fixed_point;
 mod fixed_width;
 mod json;
 mod ledger;
+mod source;

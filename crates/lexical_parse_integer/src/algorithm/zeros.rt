@@ -42,21 +42,21 @@ fn has_more(c: &mut Cursor<'_>) -> bool
 pub(crate) fn read_first<T: Integer>(
     c: &mut Cursor<'_>,
     negative: bool,
-    is_prefixed: bool,
+    is_marked: bool,
 ) -> Result<T>
     requires open { c.old.closed ≡ false }
     requires sound { IsSound c.old }
     requires none { c.old.digits ≡ 0 }
-    ensures no_zeros { OnOk result (zero_fault c.old.format is_prefixed (numeral_of c.old) ≡ None) }
+    ensures no_zeros { OnOk result (zero_fault c.old.format is_marked (numeral_of c.old) ≡ None) }
     ensures reads { IfOk result (λ value. Reads (integer_type T.BITS T.IS_SIGNED) negative (numeral_of c.old) c.new.digits (T.number value)) }
     ensures goes_on { GoesOn c.old c.new }
     ensures turns { c.new.turns ≡ c.old.turns + c.new.digits }
     ensures count { c.new.digits ≤ digit_count (numeral_of c.old) }
     ensures one { IsNone c.old.format.digit_separator → c.new.digits ≤ 1 }
     ensures lone { IsNone c.old.format.digit_separator → OnOk result ((c.new.digits ≡ 0) ⊎ (digit_count (numeral_of c.old) ≤ 1)) }
-    ensures fault { IfErr result (λ e. option_or (zero_fault c.old.format is_prefixed (numeral_of c.old)) (range_fault (integer_type T.BITS T.IS_SIGNED) negative (numeral_of c.old)) ≡ Some e) }
+    ensures fault { IfErr result (λ e. option_or (zero_fault c.old.format is_marked (numeral_of c.old)) (range_fault (integer_type T.BITS T.IS_SIGNED) negative (numeral_of c.old)) ≡ Some e) }
 {
-    if is_prefixed || !c.format().no_integer_leading_zeros() {
+    if is_marked || !c.format().no_integer_leading_zeros() {
         return Ok(T::ZERO);
     }
     if c.is_contiguous() && c.first() != Some(b'0') {

@@ -279,6 +279,25 @@ impl NumberFormatBuilder {
         self
     }
 
+    /// Sets whether a zero in front makes a numeral octal:
+    ///
+    /// ```rust
+    /// // C's integers: 511, 0777, 0x1FF and 1'000.
+    /// let format = NumberFormatBuilder::new()
+    ///     .literal_prefixes(true)
+    ///     .literal_octal_zero(true)
+    ///     .digit_separator(Some(b'\''))
+    ///     .integer_internal_digit_separator(true)
+    ///     .build_strict();
+    /// ```
+    #[inline]
+    pub fn literal_octal_zero(mut self, value: bool) -> Self
+        ensures { result ≡ record self { literal_octal_zero = value } }
+    {
+        self.format.literal_octal_zero = value;
+        self
+    }
+
     /// Whether the format is valid as it is so far (`NumberFormat::error` has the rules).
     #[inline]
     pub fn is_valid(&self) -> bool

@@ -45,6 +45,16 @@ are_refused(&rt, Error::InvalidPunctuation, &[NumberFormatBuilder::new().literal
 are_valid(&rt, &[NumberFormatBuilder::new().literal_prefixes(true).digit_separator(Some(b'_')).base_suffix(Some(b'u')),NumberFormatBuilder::new().literal_prefixes(true),NumberFormatBuilder::new().literal_prefixes(true).digit_separator(Some(b'g')).base_suffix(Some(b'y')),NumberFormatBuilder::new().digit_separator(Some(b'_')).integer_prefix_digit_separator(true),]);
 }
 
+// Octal zeros ask for radix 10, and for nothing else.
+#[test]
+fn broken_octal_zeros(rt: HostRuntime) {
+are_valid(&rt, &[NumberFormatBuilder::new().literal_octal_zero(true),NumberFormatBuilder::new().literal_octal_zero(true).literal_prefixes(true),NumberFormatBuilder::new().literal_octal_zero(true).base_prefix(Some(b'x')).digit_separator(Some(b'_')).base_suffix(Some(b'h')),NumberFormatBuilder::new().literal_octal_zero(true).digit_separator(Some(b'a')).base_suffix(Some(b'b')),NumberFormatBuilder::new().literal_octal_zero(true).base_prefix(Some(b'o')),]);
+are_refused(&rt, Error::InvalidLiteralPrefixes, &[NumberFormatBuilder::new().literal_octal_zero(true).mantissa_radix(8),NumberFormatBuilder::new().literal_octal_zero(true).mantissa_radix(9),NumberFormatBuilder::new().literal_octal_zero(true).mantissa_radix(11),NumberFormatBuilder::new().literal_octal_zero(true).mantissa_radix(16),NumberFormatBuilder::new().literal_octal_zero(true).literal_prefixes(true).mantissa_radix(16),NumberFormatBuilder::new().literal_octal_zero(true).literal_prefixes(true).base_suffix(Some(b'b')),NumberFormatBuilder::new().literal_octal_zero(true).literal_prefixes(true).base_prefix(Some(b'd')),]);
+are_refused(&rt, Error::InvalidPunctuation, &[NumberFormatBuilder::new().literal_octal_zero(true).mantissa_radix(16).base_prefix(Some(b'x')).base_suffix(Some(b'X')),]);
+are_refused(&rt, Error::InvalidMantissaRadix, &[NumberFormatBuilder::new().literal_octal_zero(true).mantissa_radix(37),]);
+are_refused(&rt, Error::InvalidBaseSuffix, &[NumberFormatBuilder::new().literal_octal_zero(true).mantissa_radix(16).base_suffix(Some(b'f')),]);
+}
+
 // Formats that break no rule.
 #[test]
 fn valid(rt: HostRuntime) {

@@ -14,6 +14,7 @@ pub(super) type Number = (bool, u128);
 struct Head {
     is_negative: bool,
     is_prefixed: bool,
+    is_octal: bool,
     start: usize,
     radix: u32,
 }
@@ -94,20 +95,33 @@ fn prefixed(text: &[u8], format: &NumberFormat, place: usize) -> Option<u32> {
     None
 }
 
+// Whether the zero at this place makes the numeral octal.
+fn is_octal_zero(text: &[u8], format: &NumberFormat, place: usize) -> bool {
+    let behind = text.get(place.saturating_add(1)).copied();
+    let is_joined = match behind {
+        Some(byte) => digit_of(byte, 10).is_some() || behind == format.digit_separator(),
+        None => false,
+    };
+    format.literal_octal_zero() && text.get(place).copied() == Some(b'0') && is_joined
+}
+
 fn head_of(text: &[u8], format: &NumberFormat, is_signed: bool) -> Result<Head> {
     let (is_negative, place) = sign(text, format, is_signed)?;
+    let is_octal = is_octal_zero(text, format, place);
     let head = match prefixed(text, format, place) {
         Some(radix) => Head {
             is_negative,
             is_prefixed: true,
+            is_octal: false,
             start: place.saturating_add(2),
             radix,
         },
         None => Head {
             is_negative,
             is_prefixed: false,
+            is_octal,
             start: place,
-            radix: format.radix(),
+            radix: if is_octal { 8 } else { format.radix() },
         },
     };
     Ok(head)
@@ -271,7 +285,7 @@ pub(super) fn read(
         radix: head.radix,
     };
     let numeral = region.numeral();
-    if format.no_integer_leading_zeros() && !head.is_prefixed {
+    if format.no_integer_leading_zeros() && !head.is_prefixed && !head.is_octal {
         if numeral.count >= 2 && numeral.digits[0] == 0 {
             return Err(Error::InvalidLeadingZeros(numeral.places[0]));
         }

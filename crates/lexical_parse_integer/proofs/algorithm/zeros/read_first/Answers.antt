@@ -14,10 +14,10 @@ use Rattle.lexical_parse_integer.proofs.algorithm.zeros.read_first.Goals.{else-i
 pub returns-then-ne-clause-no_zeros : goal.returns-then-ne-clause-no_zeros
 returns-then-ne-clause-no_zeros g c =
     let none = none_from_IsNone _ (c.is_contiguous.ensures.0 c.if-is_contiguous.true) in
-    no_zero_here c.args.c.now c.args.is_prefixed c.requires.sound c.requires.open none c.requires.none (λ zero. let t = rw (c.first.ensures ∙ zero) at c.if-ne.ensures in false≢true (sym t))
+    no_zero_here c.args.c.now c.args.is_marked c.requires.sound c.requires.open none c.requires.none (λ zero. let t = rw (c.first.ensures ∙ zero) at c.if-ne.ensures in false≢true (sym t))
 
 pub returns-in-None-clause-no_zeros : goal.returns-in-None-clause-no_zeros
-returns-in-None-clause-no_zeros g c = no_digit_no_zeros c.args.c.now c.next_digit.new.self c.args.is_prefixed c.requires.sound c.requires.open c.requires.none c.in-None.ensures.step
+returns-in-None-clause-no_zeros g c = no_digit_no_zeros c.args.c.now c.next_digit.new.self c.args.is_marked c.requires.sound c.requires.open c.requires.none c.in-None.ensures.step
 
 pub returns-then-has_more-clause-fault : goal.returns-then-has_more-clause-fault
 returns-then-has_more-clause-fault g c =
@@ -25,7 +25,7 @@ returns-then-has_more-clause-fault g c =
     let behind : c.next_digit.new.self.position ≡ c.in-Some.ensures.step.place + 1 = ap (λ (v : CursorView). v.position) c.in-Some.ensures.step.after in
     ap (λ z. option_or z (range_fault (integer_type g.T.Integer.BITS g.T.Integer.IS_SIGNED) c.args.negative (numeral_of c.args.c.now)))
     (leading_zeros c.args.c.now c.next_digit.new.self c.in-Some.digit c.requires.sound c.requires.open c.requires.none c.in-Some.ensures.step c.in-Some.ensures.sound
-    c.args.is_prefixed _ c.if-digit-eq0.true (cc (c.no_integer_leading_zeros.ensures, c.format.ensures)) c.if-is_prefixed.false (omega arith) c.if-has_more.ensures.answer)
+    c.args.is_marked _ c.if-digit-eq0.true (cc (c.no_integer_leading_zeros.ensures, c.format.ensures)) c.if-is_marked.false (omega arith) c.if-has_more.ensures.answer)
 
 pub returns-then-digit-eq0-clause-reads : goal.returns-then-digit-eq0-clause-reads
 returns-then-digit-eq0-clause-reads g c =
@@ -36,7 +36,7 @@ join_checked-requires-clause-digit g c = digit_below _ _ c.in-Some.digit c.radix
 
 pub returns-clause-no_zeros : goal.returns-clause-no_zeros
 returns-clause-no_zeros g c =
-    IfOk-weaker c.join_checked.result _ _ (λ x h. other_first c.args.c.now c.next_digit.new.self c.in-Some.digit c.args.is_prefixed c.requires.sound c.requires.open c.requires.none c.in-Some.ensures.step c.if-digit-eq0.false) c.join_checked.ensures.fits
+    IfOk-weaker c.join_checked.result _ _ (λ x h. other_first c.args.c.now c.next_digit.new.self c.in-Some.digit c.args.is_marked c.requires.sound c.requires.open c.requires.none c.in-Some.ensures.step c.if-digit-eq0.false) c.join_checked.ensures.fits
 
 pub returns-clause-reads : goal.returns-clause-reads
 returns-clause-reads g c =
@@ -46,7 +46,7 @@ pub returns-clause-fault : goal.returns-clause-fault
 returns-clause-fault g c =
     let at = c.cursor-place.ensures.place in
     let behind : c.next_digit.new.self.position ≡ c.in-Some.ensures.step.place + 1 = ap (λ (v : CursorView). v.position) c.in-Some.ensures.step.after in
-    MatchResult-weaker c.join_checked.result c.join_checked.ensures.leaves (λ x h. h) (λ e h. leaves_first _ c.args.negative c.args.is_prefixed c.args.c.now c.next_digit.new.self c.in-Some.digit c.radix.result _ _ e c.requires.sound c.requires.open c.requires.none c.in-Some.ensures.step c.if-digit-eq0.false (ap g.T.Integer.number c.ZERO-2.ensures ∙ g.met.T.Integer.zero_law) c.radix.ensures (omega arith) h.0 h.1)
+    MatchResult-weaker c.join_checked.result c.join_checked.ensures.leaves (λ x h. h) (λ e h. leaves_first _ c.args.negative c.args.is_marked c.args.c.now c.next_digit.new.self c.in-Some.digit c.radix.result _ _ e c.requires.sound c.requires.open c.requires.none c.in-Some.ensures.step c.if-digit-eq0.false (ap g.T.Integer.number c.ZERO-2.ensures ∙ g.met.T.Integer.zero_law) c.radix.ensures (omega arith) h.0 h.1)
 
 pub returns-then-digit-eq0-clause-count : goal.returns-then-digit-eq0-clause-count
 returns-then-digit-eq0-clause-count g c =
