@@ -10,7 +10,7 @@ use Rattle.lexical_parse_integer.specs.Affixes.{numeral_stop, prefix_radix, suff
 use Rattle.lexical_parse_integer.specs.Head.{Head, head_behind, head_of, sign}
 use Rattle.lexical_parse_integer.specs.Laws.{with_leading_behind_prefix, without_prefix_flag}
 use Rattle.lexical_parse_integer.specs.Numeral.{Numeral, numeral}
-use Rattle.lexical_parse_integer.specs.Runs.{are_same, belongs, digit_at, digits_between, end_of, flag_for, is_behind_prefix, leading_in_force, passes, run_begin, run_passes, run_stop, separator_at, stop_of}
+use Rattle.lexical_parse_integer.specs.Runs.{belongs, digit_at, digits_between, end_of, flag_for, is_behind_prefix, leading_in_force, run_begin, run_passes, run_stop, separator_at, stop_of}
 use Rattle.lexical_parse_integer.proofs.Whole.{sign_short}
 
 -- ---- where a region starts
