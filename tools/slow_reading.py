@@ -189,8 +189,8 @@ def region_of(form: Format, text: bytes, place: int) -> Region:
             for known, radix in LITERAL_RADIXES:
                 if matches(letter, known, form.case_sensitive_base_prefix):
                     return Region(place + 2, True, radix)
-        if form.literal_octal_zero and (letter in b"0123456789" or letter == form.digit_separator):
-            return Region(place, False, 8, octal=True)
+    if form.literal_octal_zero and text[place:place + 1] == b"0":
+        return Region(place, False, 8, octal=True)
     return Region(place, False, form.mantissa_radix)
 
 

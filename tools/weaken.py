@@ -469,7 +469,9 @@ SAME = [
         ("digits_between", "to - from", ["(to + 1) - from", "to - (from - 1)"]),
         ("places", "end_of format radix text start", ["(end_of format radix text start) + 1"])]),
     ("a zero has one case", [
-        ("prefix_radix", "are_same (Some 48) (slice_get text place)", ["are_alike (Some 48) (slice_get text place)"])]),
+        ("prefix_radix", "are_same (Some 48) (slice_get text place)", ["are_alike (Some 48) (slice_get text place)"]),
+        ("octal_zero_at", "are_same (Some 48) (slice_get text place)",
+         ["are_alike (Some 48) (slice_get text place)"])]),
     ("no answer speaks of this field", [
         ("numeral", "start = start", ANY), ("numeral", "ends = end_of format radix text start", ANY)]),
     ("each of these places holds a digit", [
@@ -482,7 +484,7 @@ SAME = [
     ("one digit alone is a number of each type, and one digit more than there are changes no value", [
         ("first_outside", "range_with_len 0 (digit_count numeral)", ["range_with_len 1 (digit_count numeral)"])]),
     ("the two faults are never there together, or they are the same fault", [
-        ("common_faults", "(prefix_fault text head) ∷ ..", ["(zero_fault format head.is_prefixed numeral) ∷ .."]),
+        ("common_faults", "(prefix_fault text head) ∷ ..", ["(zero_fault format head.is_marked numeral) ∷ .."]),
         ("partial", "(common_faults format type text head numeral) ++ (partial_faults format text numeral)",
          ["(partial_faults format text numeral) ++ (common_faults format type text head numeral)"])]),
     ("a numeral without digits is followed by no suffix, and without separators it ends where it starts", [

@@ -10,7 +10,7 @@ use Rattle.lexical_util.specs.Number.{IntegerType}
 use Rattle.lexical_parse_integer.specs.Affixes.{is_affix, marked_radix, octal_zero_at, prefix_radix, suffix_at}
 use Rattle.lexical_parse_integer.specs.Head.{sign, sign_by}
 use Rattle.lexical_parse_integer.specs.Laws.{SameFront}
-use Rattle.lexical_parse_integer.specs.Runs.{are_same, digit_at, separator_at}
+use Rattle.lexical_parse_integer.specs.Runs.{are_same, digit_at}
 use Rattle.lexical_parse_integer.proofs.InARow.{row}
 use Rattle.lexical_parse_integer.proofs.OctalZeros.{is_zero}
 
@@ -67,24 +67,10 @@ agree_prefix f n k text other same l deep = by_zero (are_same (Some 48) (slice_g
         let e' : are_same (Some 48) (slice_get other k) ≡ false = ap (are_same (Some 48)) (sym (same k l)) ∙ e in
         rw (e, e') refl
 
-no_zero : (x y z : Bool) → ((x && false) && y) ≡ ((x && false) && z)
-no_zero true y z = refl
-no_zero false y z = refl
-
--- so does an octal zero
-pub agree_octal : (f : Format) (n k : ℕ) (text other : List ℕ) → Agree n text other → k < n → (slice_get text k ≡ Some 48 → k + 1 < n) → octal_zero_at f text k ≡ octal_zero_at f other k
-unfolding octal_zero_at digit_at separator_at
-agree_octal f n k text other same l deep = by_zero (are_same (Some 48) (slice_get text k)) refl
-  where
-    by_zero : (b : Bool) → are_same (Some 48) (slice_get text k) ≡ b → octal_zero_at f text k ≡ octal_zero_at f other k
-    unfolding octal_zero_at digit_at separator_at
-    by_zero true e =
-        let next = same (k + 1) (deep (is_zero (slice_get text k) e)) in
-        let here = same k l in
-        rw (here, next) refl
-    by_zero false e =
-        let e' : are_same (Some 48) (slice_get other k) ≡ false = ap (are_same (Some 48)) (sym (same k l)) ∙ e in
-        rw (e, e') (no_zero f.literal_octal_zero _ _)
+-- an octal zero hangs on the byte at its place
+pub agree_octal : (f : Format) (n k : ℕ) (text other : List ℕ) → Agree n text other → k < n → octal_zero_at f text k ≡ octal_zero_at f other k
+unfolding octal_zero_at
+agree_octal f n k text other same l = ap (λ o. f.literal_octal_zero && are_same (Some 48) o) (same k l)
 
 -- digits in a row that both have
 pub agree_row : (r n start count : ℕ) (text other : List ℕ) → Agree n text other → start + count ≤ n → row r text start count ≡ row r other start count

@@ -172,7 +172,7 @@ local_by f t none valid text other k settled front = by_sign (sign f t text) ref
         let far : IsReach h.radix text h.start count k = reach f t text h count k ends settles in
         let behind = sign_reach f text s p count k (radix_least f text s p valid refl) ends far in
         let prefix = agree_prefix f (k + 1) s.1 text other same (omega (arith, behind.0)) (λ byte. let deep = behind.1 byte in omega arith) in
-        let octal = agree_octal f (k + 1) s.1 text other same (omega (arith, behind.0)) (λ byte. let deep = behind.1 byte in omega arith) in
+        let octal = agree_octal f (k + 1) s.1 text other same (omega (arith, behind.0)) in
         let head : head_of f t other ≡ Ok h = head_behind_sign f t other s (sign_same ∙ signed) ∙ ap Ok (same_head f text other s (prefix_radix f other s.1) (sym octal)) ∙ ap (λ (q : Option ℕ). Ok (head_behind f text s q)) (sym prefix) in
         same_answer f t text other k h none same count ends settles far head ∙ sym whole
 

@@ -1,8 +1,8 @@
 -- Prefix, octal zero and suffix of a numeral.
-use Rattle.std.specs.Prelude.{ℕ, ◌+◌, Bool, false, ◌&&◌, ◌||◌, ◌==◌, nat_lt, if◌then◌else◌, List, length, Option, Some, None, is_some, slice_get}
+use Rattle.std.specs.Prelude.{ℕ, ◌+◌, Bool, false, ◌&&◌, ◌==◌, nat_lt, if◌then◌else◌, List, length, Option, Some, None, slice_get}
 use Rattle.lexical_util.specs.Format.{Format}
 use Rattle.lexical_util.specs.Validity.{lower}
-use Rattle.lexical_parse_integer.specs.Runs.{are_same, digit_at, end_of, places, separator_at}
+use Rattle.lexical_parse_integer.specs.Runs.{are_same, end_of, places}
 
 -- whether a byte matches a prefix or suffix, with or without regard to ASCII case
 unfoldable pub matches : Bool → ℕ → ℕ → Bool
@@ -34,11 +34,9 @@ unfoldable pub prefix_radix : Format → List ℕ → ℕ → Option ℕ
 prefix_radix format text place =
     if are_same (Some 48) (slice_get text place) then marked_radix format (slice_get text (place + 1)) else None
 
--- whether an octal zero stands at a place: a zero, and directly behind it an ASCII digit or a separator
+-- whether a zero stands at a place, and the format says that one in front makes a numeral octal
 unfoldable pub octal_zero_at : Format → List ℕ → ℕ → Bool
-octal_zero_at format text place =
-    (format.literal_octal_zero && are_same (Some 48) (slice_get text place))
-    && (is_some (digit_at 10 text (place + 1)) || separator_at format text (place + 1))
+octal_zero_at format text place = format.literal_octal_zero && are_same (Some 48) (slice_get text place)
 
 -- the radix in force in a region without a prefix: 8 where an octal zero stands at its start, and else the format's
 abbrev pub bare_radix : Format → List ℕ → ℕ → ℕ

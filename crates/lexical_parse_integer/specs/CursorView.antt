@@ -62,7 +62,7 @@ pub record IsSound (cursor : CursorView) : Type 0 where
   pub suffix_separator : IsSuffixNoSeparator cursor.format cursor.bytes
   -- no prefix has changed the radix, but an octal zero at the start may have
   pub in_force : cursor.start ≤ 1
-    → (cursor.radix ≡ cursor.format.mantissa_radix) ⊎ (cursor.radix ≡ bare_radix cursor.format cursor.bytes cursor.start)
+      → (cursor.radix ≡ cursor.format.mantissa_radix) ⊎ (cursor.radix ≡ bare_radix cursor.format cursor.bytes cursor.start)
   pub after_start : cursor.start ≤ cursor.position
   pub within : cursor.position ≤ length cursor.bytes
   pub turns : cursor.turns ≤ cursor.digits

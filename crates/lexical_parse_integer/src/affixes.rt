@@ -2,7 +2,6 @@
 ghost use Rattle.std.specs.Prelude.{◌≡◌};
 ghost use Rattle.lexical_parse_integer.specs.Affixes.{is_affix, literal_radix, marked_radix, matches, octal_zero_at, prefix_radix, suffix_at};
 
-use crate::seek::{digit_at, separator_at};
 use lexical_util::format::NumberFormat;
 
 #[inline(always)]
@@ -41,16 +40,13 @@ pub(crate) fn suffix_at(bytes: &[u8], format: &NumberFormat, place: usize) -> bo
     )
 }
 
-// Whether an octal zero stands at a place: a zero, and directly behind it an ASCII digit or a separator.
+// Whether a zero stands at a place, and the format says that one in front makes a numeral octal.
 #[inline(always)]
 #[tactic(auto, unfolding(crate::specs::Affixes::octal_zero_at, crate::specs::Runs::are_same))]
 pub(crate) fn octal_zero_at(bytes: &[u8], format: &NumberFormat, place: usize) -> bool
     ensures { result ≡ octal_zero_at format.now bytes.now place }
 {
-    format.literal_octal_zero()
-        && place < bytes.len()
-        && bytes[place] == b'0'
-        && (digit_at(bytes, 10, place + 1).is_some() || separator_at(bytes, format, place + 1))
+    format.literal_octal_zero() && place < bytes.len() && bytes[place] == b'0'
 }
 
 // The radix that the letter of a literal prefix puts in force.

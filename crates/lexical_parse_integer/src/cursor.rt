@@ -212,8 +212,8 @@ impl<'a> Cursor<'a> {
     /// Puts 8 in force where an octal zero stands at the position, and answers whether one does. The cursor stays, since
     /// that zero is the numeral's first digit.
     ///
-    /// An octal zero is a `0` with an ASCII digit or the separator directly behind it, where the format has
-    /// `literal_octal_zero`. The position has to be where the region starts, at most 1, and no digit may have been read.
+    /// An octal zero is a `0` where the format has `literal_octal_zero`; a prefix has to be looked for before. The
+    /// position has to be where the region starts, at most 1, and no digit may have been read.
     #[inline(always)]
     pub fn read_octal_zero(&mut self) -> bool
         requires front { self.old.position ≤ 1 }

@@ -16,7 +16,7 @@ pub(crate) enum Found {
 
 #[inline(always)]
 #[tactic(auto, unfolding(crate::specs::Runs::digit_at))]
-pub(crate) fn digit_at(bytes: &[u8], radix: u32, place: usize) -> Option<u32>
+fn digit_at(bytes: &[u8], radix: u32, place: usize) -> Option<u32>
     requires { IsRadix radix }
     ensures { result ≡ digit_at radix bytes.now place }
 {
@@ -29,7 +29,7 @@ pub(crate) fn digit_at(bytes: &[u8], radix: u32, place: usize) -> Option<u32>
 
 #[inline(always)]
 #[tactic(auto, unfolding(crate::specs::Runs::separator_at, crate::specs::Runs::are_same))]
-pub(crate) fn separator_at(bytes: &[u8], format: &NumberFormat, place: usize) -> bool
+fn separator_at(bytes: &[u8], format: &NumberFormat, place: usize) -> bool
     ensures { result ≡ separator_at format.now bytes.now place }
 {
     match format.digit_separator() {

@@ -1,7 +1,7 @@
 -- What a format's validity says of its radix, and of the bytes that separator, prefix and suffix match. A byte
 -- matches a mark where it is the same but for ASCII case, and so in particular where it is the mark.
 use Rattle.std.proofs.Common.{◌≡◌, ◌∙◌, ℕ, Bool, true, false, not, is_some, leb, Option, Some, None, if◌then◌else◌, refl, sym, ap, arith}
-use Rattle.std.specs.Prelude.{◌==◌, ◌≢◌, ◌≤◌, nat_lt}
+use Rattle.std.specs.Prelude.{◌==◌, ◌≢◌, ◌≤◌, ◌||◌, ◌&&◌, nat_lt}
 use Rattle.std.proofs.lemmas.Bool.{eq-eqb, false≢true, ltb-false, ltb-true, or_parts}
 use Rattle.std.proofs.lemmas.Bool.Decides.{nat_tests}
 use Rattle.lexical_util.specs.declared.error.Error.{Error}

@@ -309,9 +309,8 @@ impl NumberFormat {
         self.literal_prefixes
     }
 
-    /// Whether a zero in front makes a numeral octal, as in C: where a `0` stands directly after the sign, with an ASCII
-    /// digit or the separator directly behind it, the radix in force is 8, and that zero is the numeral's first digit.
-    /// `0777` is 511, and `0` is 0. A prefix that stands there is read as a prefix.
+    /// Whether a zero in front makes a numeral octal, as in C: where a `0` stands directly after the sign, and is no part
+    /// of a prefix, the radix in force is 8, and that zero is the numeral's first digit. `0777` is 511, and `0` is 0.
     #[inline(always)]
     pub fn literal_octal_zero(&self) -> bool
         ensures { result ≡ self.now.literal_octal_zero }

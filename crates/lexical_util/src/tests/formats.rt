@@ -98,7 +98,8 @@ fn other_setters(rt: HostRuntime) {
 #[test]
 fn ready_made_formats(rt: HostRuntime) {
     let digits_required = [
-        false, false, false, true, false, false, false, false, false, false, false, false, false, false,
+        false, false, false, true, false, false, false, false, false, false, false, false, false,
+        false,
     ];
     for (format, radix) in [
         (STANDARD, 10),

@@ -36,7 +36,7 @@ i64 = integer_type 64 true
 abbrev minus : ℕ → ℤ
 minus size = neg_ℤ (pos size)
 
--- ---- a zero with a digit behind it puts 8 in force, and is the numeral's first digit
+-- ---- a zero in front puts 8 in force, and is the numeral's first digit
 
 -- 7 * 64 + 7 * 8 + 7
 octal_zero_1 : complete (record standard { literal_octal_zero = true }) u32 (codes "0777") ≡ Ok (pos 511)
@@ -120,7 +120,7 @@ octal_zero_20 : complete (record standard { literal_octal_zero = true }) u32 (co
 unfolding complete partial numeral head_of sign range_fault begin_of digit_at are_same separator_at flag_for run_passes belongs end_of digits_between matches is_affix literal_radix marked_radix octal_zero_at prefix_radix suffix_at numeral_stop
 octal_zero_20 = refl
 
--- ---- a separator behind the zero makes it octal too, whether it passes or not
+-- ---- a separator behind the zero is judged as one behind any digit
 
 octal_zero_beside_separators_1 : complete (record standard { literal_octal_zero = true; digit_separator = Some 95; integer_internal_digit_separator = true }) u32 (codes "0_7") ≡ Ok (pos 7)
 unfolding complete partial numeral head_of sign range_fault begin_of digit_at are_same separator_at flag_for run_passes belongs end_of digits_between matches is_affix literal_radix marked_radix octal_zero_at prefix_radix suffix_at numeral_stop

@@ -3,7 +3,7 @@
 use super::{complete_with, partial_with};
 use lexical_parse_integer::{Error, NumberFormatBuilder};
 
-// A zero with a digit behind it puts 8 in force, and is the numeral's first digit.
+// A zero in front puts 8 in force, and is the numeral's first digit.
 #[test]
 fn octal_zero(rt: HostRuntime) {
 let format = NumberFormatBuilder::new().literal_octal_zero(true).build_unchecked();
@@ -13,7 +13,7 @@ partial_with::<u32>(&rt, &format, &[(b"08", Ok((0, 1))),(b"0;", Ok((0, 1))),]);
 partial_with::<u64>(&rt, &format, &[(b"0789", Ok((7, 2))),(b"012345678", Ok((342391, 8))),]);
 }
 
-// A separator behind the zero makes it octal too, whether it passes or not.
+// A separator behind the zero is judged as one behind any digit.
 #[test]
 fn octal_zero_beside_separators(rt: HostRuntime) {
 let format = NumberFormatBuilder::new().literal_octal_zero(true).digit_separator(Some(b'_')).integer_internal_digit_separator(true).build_unchecked();

@@ -97,12 +97,7 @@ fn prefixed(text: &[u8], format: &NumberFormat, place: usize) -> Option<u32> {
 
 // Whether the zero at this place makes the numeral octal.
 fn is_octal_zero(text: &[u8], format: &NumberFormat, place: usize) -> bool {
-    let behind = text.get(place.saturating_add(1)).copied();
-    let is_joined = match behind {
-        Some(byte) => digit_of(byte, 10).is_some() || behind == format.digit_separator(),
-        None => false,
-    };
-    format.literal_octal_zero() && text.get(place).copied() == Some(b'0') && is_joined
+    format.literal_octal_zero() && text.get(place).copied() == Some(b'0')
 }
 
 fn head_of(text: &[u8], format: &NumberFormat, is_signed: bool) -> Result<Head> {
