@@ -427,7 +427,6 @@ SAME = [
          ["(lower byte) + 1", "(lower byte) - 1", "lower (byte + 1)", "lower (byte - 1)", "word_length byte"])]),
     ("nothing stands behind the text's last byte: no separator, no digit, and no prefix behind a zero there", [
         ("stop_of", "to - from", ["to", "(to + 1) - from", "to - (from - 1)"]),
-        ("are_same", "false", ["true"]),
         ("run_stop", "length text", ["(length text) + 1"]),
         ("end_of", "length text", ["(length text) + 1"])]),
     ("the place is a separator, so the run around it is that around the next place too, or passes it by", [
