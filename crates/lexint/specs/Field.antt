@@ -59,7 +59,8 @@ fields =
     ∷ field.Flag NoIntegerLeadingZeros
     ∷ field.Flag IntegerLeadingDigitSeparator ∷ field.Flag IntegerInternalDigitSeparator
     ∷ field.Flag IntegerTrailingDigitSeparator ∷ field.Flag IntegerConsecutiveDigitSeparator
-    ∷ field.Flag IntegerPrefixDigitSeparator ∷ field.Flag LiteralPrefixes ∷ field.Flag LiteralOctalZero
+    ∷ field.Flag IntegerPrefixDigitSeparator ∷ field.Flag LiteralPrefixes
+    ∷ field.Flag LiteralOctalZero
     ∷ field.NoMultiDigit ∷ []
 
 -- the field of a name

@@ -23,7 +23,9 @@ begins_with_o text = starts_with nat_eq text (codes "0o") || starts_with nat_eq 
 
 -- the `u64` of a literal of C
 abbrev pub c_in : List ℕ → Result ℤ Error
-c_in text = if begins_with_o text then Err (InvalidDigit 1) else complete c_format (integer_type 64 false) text
+c_in text =
+    if begins_with_o text then Err (InvalidDigit 1)
+    else complete c_format (integer_type 64 false) text
 
 -- literals of Python, but for zeros in front: `511`, `0o777`, `0x_1FF`, `0b101`, with `_` between digits, and no sign
 abbrev pub padded_format : Format

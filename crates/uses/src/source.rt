@@ -2,7 +2,7 @@
 //! and `0x_1F` is a literal of Python alone.
 
 ghost use Rattle.std.specs.Prelude.{◌≡◌, pos, true, Some};
-ghost use Rattle.lexical_parse_integer.specs.Answer.{seen};
+ghost use Rattle.lexical_parse_integer.specs.Answer.{view_of};
 ghost use Rattle.uses.specs.Source.{begins_with_o, c_format, c_in, padded_format, python_format, python_in, zero_or};
 ghost use Rattle.lexical_parse_integer.specs.Grammar.{complete};
 ghost use Rattle.lexical_util.specs.Format.{standard};
@@ -14,7 +14,9 @@ use lexical_parse_integer::{
 
 // Radix 10, or 16, 8 or 2 behind `0x`, `0o` or `0b`, with this separator between digits, and no sign.
 fn marked(separator: u8) -> NumberFormatBuilder
-    ensures { result ≡ record standard { no_positive_mantissa_sign = true; digit_separator = Some separator; integer_internal_digit_separator = true; literal_prefixes = true } }
+    ensures { result ≡ record standard { no_positive_mantissa_sign = true;
+        digit_separator = Some separator; integer_internal_digit_separator = true;
+        literal_prefixes = true } }
 {
     NumberFormatBuilder::new()
         .no_positive_mantissa_sign(true)
@@ -61,7 +63,7 @@ fn begins_with_o(text: &[u8]) -> bool
 ///
 /// `0777` is 511, `0x1FF` too, and `1'000` is 1000. `08` and `0o7` give `InvalidDigit(1)`.
 pub fn c(text: &[u8]) -> Result<u64>
-    ensures { seen pos result ≡ c_in text.now }
+    ensures { view_of pos result ≡ c_in text.now }
 {
     if begins_with_o(text) {
         return Err(Error::InvalidDigit(1));
@@ -71,7 +73,8 @@ pub fn c(text: &[u8]) -> Result<u64>
 
 // 0 where the text is one of zeros alone, and else the fault.
 fn zero_or(fault: Error, text: &[u8]) -> Result<u64>
-    ensures { seen pos result ≡ zero_or fault (complete padded_format (integer_type 64 false) text.now) }
+    ensures { view_of pos result
+        ≡ zero_or fault (complete padded_format (integer_type 64 false) text.now) }
 {
     match u64::from_lexical_with_options(text, &padded_format(), &options::STANDARD) {
         Ok(0) => Ok(0),
@@ -85,7 +88,7 @@ fn zero_or(fault: Error, text: &[u8]) -> Result<u64>
 ///
 /// `0x_1FF` is 511, and `00` is 0. `0777` gives `InvalidLeadingZeros(0)`, and `_1` `InvalidDigit(0)`.
 pub fn python(text: &[u8]) -> Result<u64>
-    ensures { seen pos result ≡ python_in text.now }
+    ensures { view_of pos result ≡ python_in text.now }
 {
     match u64::from_lexical_with_options(text, &python_format(), &options::STANDARD) {
         Err(Error::InvalidLeadingZeros(place)) => zero_or(Error::InvalidLeadingZeros(place), text),

@@ -6,8 +6,8 @@ ghost use Rattle.std.specs.Fmt.{signed_decimal};
 ghost use Rattle.lexical_parse_integer.specs.Affixes.{prefix_radix};
 ghost use Rattle.lexical_parse_integer.specs.Grammar.{complete, partial};
 ghost use Rattle.lexical_parse_integer.specs.Head.{Head, head_of, sign};
-ghost use Rattle.lexical_parse_integer.specs.Laws.{Completes, IsGreatestEnd, IsLocal, IsLongestRun, IsNumeralOf, LeavesWithin, ReadsNumerals, ReadsPadded, Writes, WritesShortest, completed, with_leading_behind_prefix, without_prefix_flag};
-ghost use Rattle.lexical_parse_integer.specs.Numeral.{numeral};
+ghost use Rattle.lexical_parse_integer.specs.Laws.{Completes, IsGreatestEnd, IsLocal, IsLongestRun, IsNumeralOf, LeavesWithin, ReadsNumerals, ReadsPadded, Writes, WritesShortest, completion_of, with_leading_behind_prefix, without_prefix_flag};
+ghost use Rattle.lexical_parse_integer.specs.Numeral.{numeral_in};
 ghost use Rattle.lexical_parse_integer.specs.Runs.{digit_at, is_behind_prefix, separator_at};
 ghost use Rattle.lexical_util.specs.Digit.{IsRadix};
 ghost use Rattle.lexical_util.specs.Format.{Format};
@@ -39,13 +39,18 @@ pub fn longest_run(bytes: &[u8], format: &NumberFormat, start: usize, place: usi
 /// format that has the flag for leading separators where either flag is set, and elsewhere as under one without the
 /// flag for separators behind a prefix.
 pub fn prefixes()
-    ensures place { (format : Format) (type : IntegerType) (text : List ℕ) (sign_read : Bool × ℕ) (head : Head)
+    ensures place { (format : Format) (type : IntegerType) (text : List ℕ) (sign_read : Bool × ℕ)
+        (head : Head)
         → sign format type text ≡ Ok sign_read → head_of format type text ≡ Ok head
         → is_behind_prefix head.start ≡ is_some (prefix_radix format text sign_read.1) }
-    ensures behind { (format : Format) (text : List ℕ) (start radix : ℕ) → is_behind_prefix start ≡ true
-        → numeral format text start radix ≡ numeral (with_leading_behind_prefix format) text start radix }
-    ensures elsewhere { (format : Format) (text : List ℕ) (start radix : ℕ) → is_behind_prefix start ≡ false
-        → numeral format text start radix ≡ numeral (without_prefix_flag format) text start radix }
+    ensures behind { (format : Format) (text : List ℕ) (start radix : ℕ)
+        → is_behind_prefix start ≡ true
+        → numeral_in format text start radix
+        ≡ numeral_in (with_leading_behind_prefix format) text start radix }
+    ensures elsewhere { (format : Format) (text : List ℕ) (start radix : ℕ)
+        → is_behind_prefix start ≡ false
+        → numeral_in format text start radix
+        ≡ numeral_in (without_prefix_flag format) text start radix }
 {}
 
 /// Where a value leaves its type, it does so at a place within the text.
@@ -63,7 +68,7 @@ pub fn range_faults()
 /// `complete_and_partial`.
 pub fn complete_by_partial()
     ensures answer { (format : Format) (type : IntegerType) (text : List ℕ)
-        → complete format type text ≡ completed (length text) (partial format type text) }
+        → complete format type text ≡ completion_of (length text) (partial format type text) }
     ensures sentences { (format : Format) (type : IntegerType) (text : List ℕ)
         → Completes (length text) (complete format type text) (partial format type text) }
 {}
@@ -75,7 +80,8 @@ pub fn complete_by_partial()
 pub fn front_end()
     ensures within { (format : Format) (type : IntegerType) (text : List ℕ) (value : ℤ) (place : ℕ)
         → partial format type text ≡ Ok (value, place) → place ≤ length text }
-    ensures some { (format : Format) (type : IntegerType) (text : List ℕ) (value : ℤ) (place digit : ℕ)
+    ensures some { (format : Format) (type : IntegerType) (text : List ℕ) (value : ℤ)
+        (place digit : ℕ)
         → digit_at format.mantissa_radix text 0 ≡ Some digit
         → partial format type text ≡ Ok (value, place) → 0 < place }
 {}

@@ -1,6 +1,6 @@
 use Rattle.std.proofs.Common.{◌≡◌, ap, ◌∙◌, sym}
 use Rattle.lexical_parse_integer.specs.CursorView.{CursorView}
-use Rattle.lexical_parse_integer.proofs.CursorLemmas.{IsSound-octal}
+use Rattle.lexical_parse_integer.proofs.reading.Soundness.{IsSound-octal}
 use Rattle.lexical_parse_integer.proofs.cursor.Cursor.read_octal_zero.Goals as goal
 
 pub invariant_of-self : goal.invariant_of-self

@@ -1,4 +1,4 @@
-use Rattle.lexical_parse_integer.proofs.BehindPrefix.{behind_prefix_same, elsewhere_same, starts_behind_prefix}
+use Rattle.lexical_parse_integer.proofs.theorems.BehindPrefix.{behind_prefix_same, elsewhere_same, starts_behind_prefix}
 use Rattle.lexical_parse_integer.proofs.laws.grammar.prefixes.Goals as goal
 
 pub returns-clause-place : goal.returns-clause-place
