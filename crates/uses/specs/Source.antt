@@ -3,15 +3,20 @@ use Rattle.std.specs.Prelude.{ℕ, true, false, ◌||◌, List, codes, Some, if�
 use Rattle.std.specs.List.{starts_with}
 use Rattle.lexical_util.specs.declared.error.Error.{Error}
 use Rattle.lexical_util.specs.declared.error.Error.TheVariants.{InvalidDigit, InvalidLeadingZeros}
+use Rattle.lexical_util.specs.Ascii.{underscore}
 use Rattle.lexical_util.specs.Format.{Format, standard}
 use Rattle.lexical_util.specs.Number.{integer_type}
 use Rattle.lexical_parse_integer.specs.Grammar.{complete}
+
+-- the apostrophe as a byte
+abbrev pub apostrophe : ℕ
+apostrophe = 39
 
 -- literals of C23: `511`, `0777`, `0x1FF`, `0b101`, with `'` between digits, and no sign; `0o` is read too
 abbrev pub c_format : Format
 c_format = record standard {
   no_positive_mantissa_sign = true;
-  digit_separator = Some 39;
+  digit_separator = Some apostrophe;
   integer_internal_digit_separator = true;
   literal_prefixes = true;
   literal_octal_zero = true;
@@ -31,7 +36,7 @@ c_in text =
 abbrev pub padded_format : Format
 padded_format = record standard {
   no_positive_mantissa_sign = true;
-  digit_separator = Some 95;
+  digit_separator = Some underscore;
   integer_internal_digit_separator = true;
   integer_prefix_digit_separator = true;
   literal_prefixes = true;
