@@ -13,7 +13,7 @@ use Rattle.lexical_util.specs.declared.error.Error.{Error}
 use Rattle.lexical_util.specs.declared.error.Error.TheVariants.{InvalidDigit, Empty}
 use Rattle.lexical_util.specs.Format.{Format}
 use Rattle.lexical_util.specs.Number.{IntegerType, is_number}
-use Rattle.lexical_parse_integer.specs.Affixes.{is_affix, marked_radix, prefix_radix, suffix_at}
+use Rattle.lexical_parse_integer.specs.Affixes.{is_affix, marked_radix, octal_zero_at, prefix_radix, suffix_at}
 use Rattle.lexical_parse_integer.specs.Grammar.{common_faults, complete, complete_faults, fault_if, first_fault_or, first_outside, lacks_digits, prefix_fault, range_error, range_fault, zero_fault}
 use Rattle.lexical_parse_integer.specs.Head.{Head, head_of, sign, head_behind}
 use Rattle.lexical_parse_integer.specs.Laws.{with_radix}
@@ -42,9 +42,9 @@ complete_row f t text h count none head low ends = rw (head, numeral_in_a_row f 
 
 -- without a prefix the head is the sign
 head_is : (f : Format) (t : IntegerType) (text : List ℕ) (s : Bool × ℕ) → f.base_prefix ≡ None → f.literal_prefixes ≡ false → f.literal_octal_zero ≡ false → sign f t text ≡ Ok s → head_of f t text ≡ Ok (record { is_minus = s.0; is_marked = false; start = s.1; radix = f.mantissa_radix })
-unfolding head_of prefix_radix marked_radix is_affix
-head_is f t text s none unasked plain with_sign =
-    rw (with_sign, none, unasked) (by_zero (are_same (Some 48) (slice_get text s.1)))
+unfolding head_of octal_zero_at prefix_radix marked_radix is_affix
+head_is f t text s none unasked plain sign_is =
+    rw (sign_is, none, unasked) (by_zero (are_same (Some 48) (slice_get text s.1)))
   where
     by_zero : (zero : Bool) → ◌≡◌ {A = Result Head Error} (Ok (head_behind f text s (cond zero None None))) (Ok (record { is_minus = s.0; is_marked = false; start = s.1; radix = f.mantissa_radix }))
     by_zero true = rw (not_asked f text s.1 plain) refl
