@@ -1,5 +1,5 @@
 -- Integer literals of programming languages: which text is which number.
-use Rattle.std.specs.Prelude.{ℕ, true, false, ◌||◌, List, codes, Some, if◌then◌else◌, ℤ, pos, Result, Ok, Err, nat_eq}
+use Rattle.std.specs.Prelude.{ℕ, zero, Bool, true, false, ◌||◌, List, codes, Some, if◌then◌else◌, ℤ, pos, Result, Ok, Err, nat_eq}
 use Rattle.std.specs.List.{starts_with}
 use Rattle.lexical_util.specs.declared.error.Error.{Error}
 use Rattle.lexical_util.specs.declared.error.Error.TheVariants.{InvalidDigit, InvalidLeadingZeros}
@@ -48,7 +48,7 @@ python_format = record padded_format { no_integer_leading_zeros = true }
 
 -- 0 where that is what was read, and else a fault
 abbrev pub zero_or : Error → Result ℤ Error → Result ℤ Error
-zero_or fault (Ok (pos 0)) = Ok (pos 0)
+zero_or fault (Ok (pos zero)) = Ok (pos 0)
 zero_or fault answer = Err fault
 
 -- zeros may stand in front of zeros alone

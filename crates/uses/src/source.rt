@@ -1,7 +1,7 @@
 //! Integer literals of C and of Python, as their references write them: `0777` is octal in C and a fault in Python,
 //! and `0x_1F` is a literal of Python alone.
 
-ghost use Rattle.std.specs.Prelude.{◌≡◌, pos, true, Some};
+ghost use Rattle.std.specs.Prelude.{◌≡◌, false, pos, true, Some};
 ghost use Rattle.lexical_parse_integer.specs.Answer.{view_of};
 ghost use Rattle.uses.specs.Source.{begins_with_o, c_format, c_in, padded_format, python_format, python_in, zero_or};
 ghost use Rattle.lexical_parse_integer.specs.Grammar.{complete};
