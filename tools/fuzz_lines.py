@@ -21,7 +21,7 @@ LETTERS = b"xXxXoObBdDhHuULlfnNzZ$#\0~@`[{"
 SUFFIXES = b"hHhHuULlnNdDbBfFzZ%#\0~@`[{"
 SEPARATOR_FLAGS = tuple(flag for flag in FLAG_FIELDS if flag.endswith("_digit_separator"))
 FLAGS = FLAG_FIELDS + ("required_digits", "no_multi_digit")
-OTHER_FLAGS = tuple(flag for flag in FLAGS if flag not in SEPARATOR_FLAGS + ("literal_prefixes",))
+OTHER_FLAGS = tuple(flag for flag in FLAGS if flag not in SEPARATOR_FLAGS + ("literal_prefixes", "literal_octal_zero"))
 FIELDS = FLAGS + BYTE_FIELDS + ("mantissa_radix", "radix", "")
 ALL_BYTES = bytes(range(256))
 # the neighbours of digits, letters and ASCII, digits with the high bit set, and what is often a separator or a sign
@@ -30,6 +30,7 @@ DOUBTFUL_BYTES = (ODD_BYTES, LETTERS, SUFFIXES, SEPARATORS, ALL_BYTES)
 BAD_VALUES = (b"", b"none ", b"None", b"TRUE", b"true ", b"falsee", b"1", b"no", b"hh", b"-0", b"256", b"0x10", b"1e1",
               b"+", b"99999999999999999999", b"\xff\xff")
 TO_MUTATE = (b"r", b"c u8 12", b"p i128 0x1F", b"c usize ", b"f base_prefix x", b"f literal_prefixes true", b"t 0x1",
+             b"f literal_octal_zero true",
              b"f mantissa_radix 16", b"", b" ", b"c", b"p", b"f", b"t")
 LITERALS = {2: ord("b"), 8: ord("o"), 16: ord("x")}
 MANY_SIGNS = (b"+-", b"--", b"-+", b"_-", b"+ ")
@@ -61,6 +62,7 @@ class Lines:
         self.radix = 10
         self.bytes: Dict[str, Optional[int]] = {}
         self.literal = False
+        self.octal = False
 
     def batch(self) -> List[bytes]:
         """A batch: `r`, fields, and then texts with other lines among them."""
@@ -74,7 +76,7 @@ class Lines:
 
     def reset(self) -> bytes:
         """The line that sets all fields back."""
-        self.radix, self.bytes, self.literal = 10, dict.fromkeys(BYTE_FIELDS), False
+        self.radix, self.bytes, self.literal, self.octal = 10, dict.fromkeys(BYTE_FIELDS), False, False
         return b"r"
 
     def often(self, percent: float) -> bool:
@@ -116,7 +118,11 @@ class Lines:
 
     def literal_fields(self) -> List[bytes]:
         """Fields of a format whose texts choose the radix."""
-        lines = [self.set_flag("literal_prefixes", True)]
+        both = ("literal_octal_zero", "literal_prefixes")
+        flags = self.chance.choice((both[:1], both[1:], both))
+        lines = [self.set_flag(flag, True) for flag in flags]
+        if "literal_prefixes" not in flags and self.often(30):
+            lines.append(self.set_byte("base_prefix", self.fit_byte(LETTERS)))
         if self.often(50):
             lines += self.separator_fields(b"__'., zZ")
         if self.often(30):
@@ -136,7 +142,7 @@ class Lines:
 
     def doubtful_fields(self) -> List[bytes]:
         """Fields that may make a format invalid, by one rule or by several."""
-        lines = [self.set_flag("literal_prefixes", True)] if self.often(40) else []
+        lines = [self.set_flag(flag, True) for flag in ("literal_prefixes", "literal_octal_zero") if self.often(30)]
         if self.often(40):
             lines.append(self.set_radix(self.chance.choice(RADIXES + ODD_RADIXES)))
         for field in BYTE_FIELDS:
@@ -184,6 +190,8 @@ class Lines:
         """A line that sets a flag."""
         if flag == "literal_prefixes":
             self.literal = value
+        if flag == "literal_octal_zero":
+            self.octal = value
         return b"f %s %s" % (flag.encode(), b"true" if value else b"false")
 
     def any_field(self) -> bytes:
@@ -266,6 +274,9 @@ class Lines:
         if self.literal and self.often(75):
             radix = self.chance.choice((2, 8, 16))
             return b"0" + self.near(LITERALS[radix]), radix
+        if self.octal and self.often(60):
+            separator = self.bytes["digit_separator"]
+            return b"0" + (b"" if separator is None or self.often(70) else bytes([separator])), 8
         byte = self.bytes["base_prefix"]
         if byte is None or self.often(45):
             return (b"0x" if self.often(2) else b""), self.radix

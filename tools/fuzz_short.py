@@ -13,6 +13,7 @@ INTERNAL = b"integer_internal_digit_separator true"
 LEADING = b"integer_leading_digit_separator true"
 TRAILING = b"integer_trailing_digit_separator true"
 CONSECUTIVE = b"integer_consecutive_digit_separator true"
+BEHIND = b"integer_prefix_digit_separator true"
 PREFIX, PREFIX_CASE = b"base_prefix x", b"case_sensitive_base_prefix true"
 SUFFIX, SUFFIX_CASE = b"base_suffix h", b"case_sensitive_base_suffix true"
 NO_ZEROS = b"no_integer_leading_zeros true"
@@ -20,6 +21,7 @@ OPTIONAL = b"required_digits false"
 INTEGER = b"required_integer_digits true"
 SIGN, NO_PLUS = b"required_mantissa_sign true", b"no_positive_mantissa_sign true"
 LITERAL = b"literal_prefixes true"
+OCTAL = b"literal_octal_zero true"
 
 PLAIN = [[b"mantissa_radix %d" % radix] for radix in (10, 2, 8, 9, 16, 36)]
 AFFIXES = [
@@ -46,7 +48,20 @@ LITERALS = [
     [LITERAL], [LITERAL, NO_ZEROS], [LITERAL, PREFIX_CASE, OPTIONAL], [LITERAL, SUFFIX],
     [LITERAL, SUFFIX, SEPARATOR, INTERNAL, LEADING, TRAILING, CONSECUTIVE, NO_ZEROS], [LITERAL, PREFIX],
 ]
-FORMATS = PLAIN + AFFIXES + SIGNS_AND_ZEROS + RUNS + MIXED + LITERALS
+# separators behind a prefix, by their own flag
+BEHIND_PREFIX = [
+    [PREFIX, SEPARATOR, BEHIND], [PREFIX, SEPARATOR, BEHIND, INTERNAL, SUFFIX, NO_ZEROS],
+    [PREFIX, SEPARATOR, BEHIND, TRAILING, CONSECUTIVE, OPTIONAL], [LITERAL, SEPARATOR, BEHIND, INTERNAL, SUFFIX],
+    [SEPARATOR, BEHIND, OPTIONAL],
+]
+# a zero in front that makes a numeral octal
+OCTALS = [
+    [OCTAL], [OCTAL, NO_ZEROS, OPTIONAL], [OCTAL, PREFIX, SUFFIX],
+    [OCTAL, LITERAL, SEPARATOR, INTERNAL, BEHIND, NO_ZEROS],
+    [OCTAL, SEPARATOR, LEADING, TRAILING, CONSECUTIVE, SUFFIX], [OCTAL, SEPARATOR, SIGN],
+    [OCTAL, b"mantissa_radix 8"],
+]
+FORMATS = PLAIN + AFFIXES + SIGNS_AND_ZEROS + RUNS + MIXED + LITERALS + BEHIND_PREFIX + OCTALS
 
 
 def texts(longest: int) -> Iterator[bytes]:

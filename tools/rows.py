@@ -40,7 +40,9 @@ FLAGS = {
     "no-plus": "no_positive_mantissa_sign",
     "sign-required": "required_mantissa_sign",
     "no-leading-zeros": "no_integer_leading_zeros",
+    "behind-prefix": "integer_prefix_digit_separator",
     "literal-prefixes": "literal_prefixes",
+    "octal-zero": "literal_octal_zero",
 }
 BYTES = {"separator": "digit_separator", "prefix": "base_prefix", "suffix": "base_suffix"}
 STANDARD, JSON = (), ("json",)
@@ -220,7 +222,8 @@ WORDS = [
     ("Rattle.lexical_util.specs.Format", ["standard", "json"]),
     ("Rattle.lexical_util.specs.Number", ["IntegerType", "integer_type"]),
     ("Rattle.lexical_util.specs.Validity", ["fault"]),
-    (CRATE_WORDS + "Affixes", "is_affix literal_radix marked_radix matches numeral_stop prefix_radix suffix_at".split()),
+    (CRATE_WORDS + "Affixes", ("is_affix literal_radix marked_radix matches numeral_stop octal_zero_at prefix_radix "
+                              "suffix_at").split()),
     (CRATE_WORDS + "Grammar", "complete complete_if_valid partial partial_if_valid range_fault".split()),
     (CRATE_WORDS + "Head", ["head_of", "sign"]),
     (CRATE_WORDS + "Numeral", ["numeral_in"]),
@@ -229,7 +232,8 @@ WORDS = [
 ]
 # the definitions that the theorem of a parse opens
 OPENED = ("complete partial numeral_in head_of sign range_fault begin_of digit_at are_same separator_at flag_for "
-          "run_passes is_in_numeral end_of digits_between matches is_affix literal_radix marked_radix prefix_radix suffix_at numeral_stop")
+          "run_passes is_in_numeral end_of digits_between matches is_affix literal_radix marked_radix octal_zero_at "
+          "prefix_radix suffix_at numeral_stop")
 
 
 def antt_value(name, value):

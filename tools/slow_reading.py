@@ -58,7 +58,9 @@ class Format:
     integer_internal_digit_separator: bool = False
     integer_trailing_digit_separator: bool = False
     integer_consecutive_digit_separator: bool = False
+    integer_prefix_digit_separator: bool = False
     literal_prefixes: bool = False
+    literal_octal_zero: bool = False
 
 
 STANDARD = Format()
@@ -120,11 +122,13 @@ def punctuation_is_shared(form: Format) -> bool:
 
 def literal_prefixes_clash(form: Format) -> bool:
     """Whether the text may choose its radix, and another field doesn't go with that."""
+    if (form.literal_prefixes or form.literal_octal_zero) and form.mantissa_radix != 10:
+        return True
     if not form.literal_prefixes:
         return False
     beside = [byte for byte in (form.digit_separator, form.base_suffix) if byte is not None]
     taken = any(digit(byte, 16) is not None or in_small(byte) in b"xob" for byte in beside)
-    return form.mantissa_radix != 10 or form.base_prefix is not None or taken
+    return form.base_prefix is not None or taken
 
 
 def format_fault(form: Format) -> Optional[Fault]:
@@ -166,11 +170,13 @@ LITERAL_RADIXES = ((ord("x"), 16), (ord("o"), 8), (ord("b"), 2))
 
 
 class Region(NamedTuple):
-    """Where the numeral's region starts, whether a prefix stands before it, and the radix in force."""
+    """Where the numeral's region starts, whether a prefix stands before it, the radix in force, and whether a zero at
+    its start makes it octal."""
 
     start: int
     prefixed: bool
     radix: int
+    octal: bool = False
 
 
 def region_of(form: Format, text: bytes, place: int) -> Region:
@@ -183,6 +189,8 @@ def region_of(form: Format, text: bytes, place: int) -> Region:
             for known, radix in LITERAL_RADIXES:
                 if matches(letter, known, form.case_sensitive_base_prefix):
                     return Region(place + 2, True, radix)
+    if form.literal_octal_zero and text[place:place + 1] == b"0":
+        return Region(place, False, 8, octal=True)
     return Region(place, False, form.mantissa_radix)
 
 
@@ -203,11 +211,10 @@ def run_passes(form: Format, text: bytes, region: Region, run: range) -> bool:
     behind = run.stop < len(text) and digit(text[run.stop], region.radix) is not None
     if before and behind:
         return form.integer_internal_digit_separator
-    if behind:
-        return form.integer_leading_digit_separator
     if before:
         return form.integer_trailing_digit_separator
-    return form.integer_leading_digit_separator or form.integer_trailing_digit_separator
+    leading = form.integer_leading_digit_separator or (region.prefixed and form.integer_prefix_digit_separator)
+    return leading if behind else leading or form.integer_trailing_digit_separator
 
 
 def end_of(form: Format, text: bytes, region: Region) -> int:
@@ -252,7 +259,8 @@ def value_of(reading: Reading) -> int:
 
 def zero_fault(form: Format, reading: Reading) -> Optional[Fault]:
     """The fault of a zero in front of another digit."""
-    if form.no_integer_leading_zeros and not reading.region.prefixed and len(reading.digits) > 1:
+    is_marked = reading.region.prefixed or reading.region.octal
+    if form.no_integer_leading_zeros and not is_marked and len(reading.digits) > 1:
         place, worth = reading.digits[0]
         return Fault("InvalidLeadingZeros", place) if worth == 0 else None
     return None

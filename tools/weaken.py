@@ -427,7 +427,6 @@ SAME = [
          ["(lower_case byte) + 1", "(lower_case byte) - 1", "lower_case (byte + 1)", "lower_case (byte - 1)", "digits_per_word byte"])]),
     ("nothing stands behind the text's last byte: no separator, no digit, and no prefix behind a zero there", [
         ("stop_of", "to - from", ["to", "(to + 1) - from", "to - (from - 1)"]),
-        ("are_same", "false", ["true"]),
         ("run_stop", "length text", ["(length text) + 1"]),
         ("end_of", "length text", ["(length text) + 1"])]),
     ("the place is a separator, so the run around it is that around the next place too, or passes it by", [
@@ -442,10 +441,6 @@ SAME = [
         ("run_begin", "begin_of (separator_at format text) start place",
          ["begin_of (separator_at format text) (start - 1) place"]),
         ("is_in_passing_run", "run_begin format text start place", ["run_begin format text (start - 1) place"]),
-        ("is_in_passing_run", "run_passes format radix text start (run_begin format text start place) (run_stop format text place)",
-         ["run_passes format radix text (start - 1) (run_begin format text start place) (run_stop format text place)"]),
-        ("is_in_numeral", "is_in_passing_run format radix text start place", ["is_in_passing_run format radix text (start - 1) place"]),
-        ("end_of", "is_in_numeral format radix text start", ["is_in_numeral format radix text (start - 1)"]),
         ("places", "digits_between radix text start (end_of format radix text start)",
          ["digits_between radix text (start - 1) (end_of format radix text start)"]),
         ("run_passes", "nat_lt start from",
@@ -454,6 +449,9 @@ SAME = [
         ("run_begin", "begin_of (separator_at format text) start place",
          ["begin_of (separator_at format text) (start + 1) place"]),
         ("is_in_passing_run", "run_begin format text start place", ["run_begin format text (start + 1) place"])]),
+    ("a run with no digit before it that the numeral comes to begins where the region does", [
+        ("run_passes", "flag_for format start ((nat_lt start from) && (is_some (digit_at radix text (from - 1)))) (is_some (digit_at radix text to))",
+         ["flag_for format from ((nat_lt start from) && (is_some (digit_at radix text (from - 1)))) (is_some (digit_at radix text to))"])]),
     ("where another byte than a digit stands before a run in the region, the numeral ends before that byte", [
         ("run_passes", "(nat_lt start from) && (is_some (digit_at radix text (from - 1)))",
          ["(nat_lt start from) || (is_some (digit_at radix text (from - 1)))"]),
@@ -470,7 +468,9 @@ SAME = [
         ("digits_between", "to - from", ["(to + 1) - from", "to - (from - 1)"]),
         ("places", "end_of format radix text start", ["(end_of format radix text start) + 1"])]),
     ("a zero has one case", [
-        ("prefix_radix", "are_same (Some 48) (slice_get text place)", ["are_alike (Some 48) (slice_get text place)"])]),
+        ("prefix_radix", "are_same (Some 48) (slice_get text place)", ["are_alike (Some 48) (slice_get text place)"]),
+        ("octal_zero_at", "are_same (Some 48) (slice_get text place)",
+         ["are_alike (Some 48) (slice_get text place)"])]),
     ("no answer speaks of this field", [
         ("numeral_in", "start = start", ANY), ("numeral_in", "ends = end_of format radix text start", ANY)]),
     ("each of these places holds a digit", [
@@ -483,7 +483,7 @@ SAME = [
     ("one digit alone is a number of each type, and one digit more than there are changes no value", [
         ("first_outside", "range_with_len 0 (digit_count numeral)", ["range_with_len 1 (digit_count numeral)"])]),
     ("the two faults are never there together, or they are the same fault", [
-        ("common_faults", "(prefix_fault text head) ∷ ..", ["(zero_fault format head.is_prefixed numeral) ∷ .."]),
+        ("common_faults", "(prefix_fault text head) ∷ ..", ["(zero_fault format head.is_marked numeral) ∷ .."]),
         ("partial", "(common_faults format type text head numeral) ++ (partial_faults format text numeral)",
          ["(partial_faults format text numeral) ++ (common_faults format type text head numeral)"])]),
     ("a numeral without digits is followed by no suffix, and without separators it ends where it starts", [

@@ -19,7 +19,7 @@ partial_within f t text v k = behind (sign f t text) refl
     behind : (r : Result (Bool × ℕ) Error) → sign f t text ≡ r →
         after_head {A = ℤ × ℕ} (head_after f text r) (λ h. let x = numeral_in f text h.start h.radix in first_fault_or (common_faults f t text h x ++ partial_faults f text x) (numeral_value h.is_minus x, x.stop)) ≡ Ok (v, k) → k ≤ length text
     behind (Ok s) e told =
-        let h : Head = head_behind f s (prefix_radix f text s.1) in
+        let h : Head = head_behind f text s (prefix_radix f text s.1) in
         let x : Numeral = numeral_in f text h.start h.radix in
         let low : h.start ≤ length text = head_within f text s _ (sign_within f t text s e) refl in
         let within : x.stop ≤ length text = numeral_within f text h.start h.radix low in

@@ -5,6 +5,7 @@ pub mod DigitsRead
 pub mod FirstDigit
 pub mod FormatBytes
 pub mod NumeralSteps
+pub mod OctalZeros
 pub mod ParserAnswers
 pub mod Soundness
 pub mod UntestedDigits

@@ -1,4 +1,4 @@
--- Prefix and suffix of a numeral.
+-- Prefix, octal zero and suffix of a numeral.
 use Rattle.std.specs.Prelude.{ℕ, ◌+◌, Bool, false, ◌&&◌, ◌==◌, nat_lt, if◌then◌else◌, List, length, Option, Some, None, slice_get}
 use Rattle.lexical_util.specs.Ascii.{digit_zero, letter_b, letter_o, letter_x}
 use Rattle.lexical_util.specs.Format.{Format}
@@ -38,6 +38,15 @@ unfoldable pub prefix_radix : Format → List ℕ → ℕ → Option ℕ
 prefix_radix format text place =
     if are_same (Some digit_zero) (slice_get text place)
     then marked_radix format (slice_get text (place + 1)) else None
+
+-- whether a zero stands at a place, and the format says that one in front makes a numeral octal
+unfoldable pub octal_zero_at : Format → List ℕ → ℕ → Bool
+octal_zero_at format text place =
+    format.literal_octal_zero && are_same (Some digit_zero) (slice_get text place)
+
+-- the radix in force in a region without a prefix: 8 where an octal zero stands at its start, and else the format's
+abbrev pub bare_radix : Format → List ℕ → ℕ → ℕ
+bare_radix format text start = if octal_zero_at format text start then 8 else format.mantissa_radix
 
 -- whether the suffix stands at a place
 unfoldable pub suffix_at : Format → List ℕ → ℕ → Bool

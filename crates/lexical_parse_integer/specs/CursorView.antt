@@ -1,9 +1,9 @@
 -- What contracts see of a cursor, and what its calls do.
-use Rattle.std.specs.Prelude.{◌≡◌, ℕ, ◌+◌, ◌≤◌, ◌<◌, Bool, true, false, List, length, ◌&&◌, nat_lt, Option, Some, None, IsNone, IsSome}
+use Rattle.std.specs.Prelude.{◌≡◌, ◌⊎◌, ℕ, ◌+◌, ◌≤◌, ◌<◌, Bool, true, false, List, length, ◌&&◌, nat_lt, Option, Some, None, IsNone, IsSome}
 use Rattle.lexical_util.specs.Digit.{IsRadix}
 use Rattle.lexical_util.specs.Format.{Format}
 use Rattle.lexical_util.specs.Validity.{fault}
-use Rattle.lexical_parse_integer.specs.Affixes.{suffix_at, numeral_stop}
+use Rattle.lexical_parse_integer.specs.Affixes.{bare_radix, suffix_at, numeral_stop}
 use Rattle.lexical_parse_integer.specs.Numeral.{Numeral, numeral_in}
 use Rattle.lexical_parse_integer.specs.Runs.{digit_at, separator_at, end_of, places, digits_between}
 use Rattle.lexical_parse_integer.specs.Seeking.{IsSeparatorNoDigit, IsAtRunStart, HasNoDigit}
@@ -63,8 +63,10 @@ pub record IsSound (cursor : CursorView) : Type 0 where
   pub separator : IsSeparatorNoDigit cursor.format cursor.radix cursor.bytes
   pub suffix_digit : IsSuffixNoDigit cursor.format cursor.radix cursor.bytes
   pub suffix_separator : IsSuffixNoSeparator cursor.format cursor.bytes
-  -- no prefix has changed the radix
-  pub in_force : cursor.start ≤ 1 → cursor.radix ≡ cursor.format.mantissa_radix
+  -- no prefix has changed the radix, but an octal zero at the start may have
+  pub in_force : cursor.start ≤ 1
+      → (cursor.radix ≡ cursor.format.mantissa_radix)
+      ⊎ (cursor.radix ≡ bare_radix cursor.format cursor.bytes cursor.start)
   pub after_start : cursor.start ≤ cursor.position
   pub within : cursor.position ≤ length cursor.bytes
   pub turns : cursor.turns ≤ cursor.digits

@@ -17,16 +17,16 @@ use Rattle.lexical_parse_integer.specs.Numeral.{Numeral, numeral_in, digit_count
 abbrev pub fault_if : Bool → Error → Option Error
 fault_if is_wrong error = if is_wrong then Some error else None
 
--- the text ends behind its prefix
+-- the text ends behind its prefix (behind the place of an octal zero it goes on)
 abbrev pub prefix_fault : List ℕ → Head → Option Error
 prefix_fault text head =
-    fault_if (head.is_prefixed && (head.start == length text)) (Empty (length text))
+    fault_if (head.is_marked && (head.start == length text)) (Empty (length text))
 
--- the numeral has two digits or more, of which the first is 0, and no prefix, and the format forbids that
+-- the numeral has two digits or more, of which the first is 0, and nothing marks its radix, and the format forbids that
 abbrev pub zero_fault : Format → Bool → Numeral → Option Error
-zero_fault format is_prefixed numeral =
-    fault_if (((format.no_integer_leading_zeros && not is_prefixed)
-    && nat_le 2 (digit_count numeral)) && (slice_index numeral.digits 0 == 0))
+zero_fault format is_marked numeral =
+    fault_if (((format.no_integer_leading_zeros && not is_marked) && nat_le 2 (digit_count numeral))
+    && (slice_index numeral.digits 0 == 0))
     (InvalidLeadingZeros (slice_index numeral.places 0))
 
 -- the fault of a value that leaves the type at a place
@@ -64,7 +64,7 @@ first_fault_or (Some error ∷ faults) value = Err error
 -- the faults that both parsers have, in their order
 abbrev pub common_faults : Format → IntegerType → List ℕ → Head → Numeral → List (Option Error)
 common_faults format type text head numeral =
-    prefix_fault text head ∷ zero_fault format head.is_prefixed numeral
+    prefix_fault text head ∷ zero_fault format head.is_marked numeral
     ∷ range_fault type head.is_minus numeral ∷ []
 
 -- those that the complete parser has after them

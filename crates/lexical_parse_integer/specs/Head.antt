@@ -5,7 +5,7 @@ use Rattle.lexical_util.specs.declared.error.Error.{Error}
 use Rattle.lexical_util.specs.declared.error.Error.TheVariants.{MissingSign, InvalidPositiveSign}
 use Rattle.lexical_util.specs.Format.{Format}
 use Rattle.lexical_util.specs.Number.{IntegerType}
-use Rattle.lexical_parse_integer.specs.Affixes.{prefix_radix}
+use Rattle.lexical_parse_integer.specs.Affixes.{bare_radix, octal_zero_at, prefix_radix}
 
 -- what a text without a sign gives
 abbrev pub no_sign : Format → Result (Bool × ℕ) Error
@@ -23,24 +23,25 @@ sign_by format type (Some byte) =
 unfoldable pub sign : Format → IntegerType → List ℕ → Result (Bool × ℕ) Error
 sign format type text = sign_by format type (slice_get text 0)
 
--- Whether a text has a minus and a prefix, where the region of its numeral starts, and the radix in force there.
+-- Whether a text has a minus, whether a prefix or an octal zero marks its radix, where the region of its numeral
+-- starts, and the radix in force there.
 pub record Head : Type 0 where
   pub is_minus : Bool
-  pub is_prefixed : Bool
+  pub is_marked : Bool
   pub start : ℕ
   pub radix : ℕ
 
 -- the head of a text with this sign, and with a prefix that puts a radix in force, or none
-abbrev pub head_behind : Format → Bool × ℕ → Option ℕ → Head
-head_behind format sign_read None = record {
+abbrev pub head_behind : Format → List ℕ → Bool × ℕ → Option ℕ → Head
+head_behind format text sign_read None = record {
   is_minus = sign_read.0;
-  is_prefixed = false;
+  is_marked = octal_zero_at format text sign_read.1;
   start = sign_read.1;
-  radix = format.mantissa_radix;
+  radix = bare_radix format text sign_read.1;
 }
-head_behind format sign_read (Some radix) = record {
+head_behind format text sign_read (Some radix) = record {
   is_minus = sign_read.0;
-  is_prefixed = true;
+  is_marked = true;
   start = sign_read.1 + 2;
   radix = radix;
 }
@@ -48,7 +49,7 @@ head_behind format sign_read (Some radix) = record {
 -- the head of a text by what its sign is
 abbrev pub head_after : Format → List ℕ → Result (Bool × ℕ) Error → Result Head Error
 head_after format text (Ok sign_read) =
-    Ok (head_behind format sign_read (prefix_radix format text sign_read.1))
+    Ok (head_behind format text sign_read (prefix_radix format text sign_read.1))
 head_after format text (Err error) = Err error
 
 -- what stands before the numeral of a text, or the fault of its sign

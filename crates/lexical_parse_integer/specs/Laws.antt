@@ -1,5 +1,5 @@
 -- What the definitions of the grammar come to, and the laws of the parsers' answers.
-use Rattle.std.specs.Prelude.{◌≡◌, ◌↔◌, ℕ, suc, ◌+◌, ◌≤◌, ◌<◌, Bool, true, false, List, ◌∷◌, ◌++◌, length, take, map, replicate, nat_lt, if◌then◌else◌, ℤ, pos, negsuc, Some, IsSome, Result, Ok, Err}
+use Rattle.std.specs.Prelude.{◌≡◌, ◌↔◌, ℕ, suc, ◌+◌, ◌≤◌, ◌<◌, Bool, true, false, ◌||◌, List, ◌∷◌, ◌++◌, length, take, map, replicate, nat_lt, if◌then◌else◌, ℤ, pos, negsuc, Some, IsSome, Result, Ok, Err}
 use Rattle.std.specs.Bool.{⊤}
 use Rattle.lexical_util.specs.Ascii.{digit_zero, minus}
 use Rattle.lexical_util.specs.declared.error.Error.{Error}
@@ -45,13 +45,27 @@ pub record IsLongestRun (format : Format) (text : List ℕ) (start place : ℕ) 
 
 -- ---- fronts and their digits
 
--- of a text without a prefix: a digit stands directly before the place of its front exactly where the numeral has one
+-- of a text with neither a prefix nor an octal zero: a digit stands directly before the place of its front exactly
+-- where the numeral has one
 abbrev pub TellsDigits : Format → IntegerType → List ℕ → Type 0
 TellsDigits format type text = (head : Head) (value : ℤ) (place : ℕ)
-    → head_of format type text ≡ Ok head → head.is_prefixed ≡ false
+    → head_of format type text ≡ Ok head → head.is_marked ≡ false
     → partial format type text ≡ Ok (value, place)
     → stops_after_digit format.mantissa_radix text place
     ≡ nat_lt 0 (digit_count (numeral_in format text head.start head.radix))
+-- ---- separators behind a prefix
+
+-- a format with its flag for separators behind a prefix made one for leading separators
+abbrev pub with_leading_behind_prefix : Format → Format
+with_leading_behind_prefix format = record format {
+  integer_leading_digit_separator = format.integer_leading_digit_separator
+  || format.integer_prefix_digit_separator;
+  integer_prefix_digit_separator = false;
+}
+
+-- a format without that flag
+abbrev pub without_prefix_flag : Format → Format
+without_prefix_flag format = record format { integer_prefix_digit_separator = false }
 
 -- ---- complete and partial
 

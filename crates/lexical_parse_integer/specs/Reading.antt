@@ -56,10 +56,10 @@ pub record LooksAhead (old new : CursorView) : Type 0 where
   pub one : IsNone old.format.digit_separator → new.digits ≤ 1
 
 -- there is no zero too many in front, and a value is that of what was read: without a separator that is nothing, or all
-pub record ReadsFirst (type : IntegerType) (is_minus is_prefixed : Bool) (old new : CursorView)
+pub record ReadsFirst (type : IntegerType) (is_minus is_marked : Bool) (old new : CursorView)
     (value : ℤ) : Type 0 where
   pub reads : Reads type is_minus (numeral_of old) new.digits value
-  pub no_zeros : zero_fault old.format is_prefixed (numeral_of old) ≡ None
+  pub no_zeros : zero_fault old.format is_marked (numeral_of old) ≡ None
   pub lone : IsNone old.format.digit_separator
       → (new.digits ≡ 0) ⊎ (digit_count (numeral_of old) ≤ 1)
 
@@ -87,13 +87,13 @@ pub record IsOver (text : List ℕ) (under : Format) (cursor : CursorView) : Typ
   pub format : cursor.format ≡ under
   pub sound : IsSound cursor
 
--- sign and prefix are read
+-- sign and prefix are read, or what else marks the radix
 pub record IsAtHead (under : Format) (type : IntegerType) (text : List ℕ)
-    (is_minus is_prefixed : Bool) (cursor : CursorView) : Type 0 where
+    (is_minus is_marked : Bool) (cursor : CursorView) : Type 0 where
   pub head_is : head_of under type text
       ≡ Ok (record {
         is_minus = is_minus;
-        is_prefixed = is_prefixed;
+        is_marked = is_marked;
         start = cursor.start;
         radix = cursor.radix;
       })
@@ -111,8 +111,8 @@ pub record IsRead (under : Format) (type : IntegerType) (text : List ℕ) (value
   pub head : Head
   pub head_is : head_of under type text ≡ Ok head
   pub no_prefix_fault : prefix_fault text head ≡ None
-  pub no_zero_fault : zero_fault under head.is_prefixed
-      (numeral_in under text head.start head.radix) ≡ None
+  pub no_zero_fault : zero_fault under head.is_marked (numeral_in under text head.start head.radix)
+      ≡ None
   pub no_range_fault : range_fault type head.is_minus (numeral_in under text head.start head.radix)
       ≡ None
   pub value_is : value ≡ numeral_value head.is_minus (numeral_in under text head.start head.radix)

@@ -1,6 +1,6 @@
 -- Digits and separators in a text: which separators pass, where the numeral ends, and where its digits stand.
 -- The radix is the one in force, and the numeral's region goes from start to the text's end.
-use Rattle.std.specs.Prelude.{ℕ, ◌+◌, ◌-◌, Bool, true, false, ◌&&◌, ◌||◌, ◌==◌, nat_lt, List, length, filter, Option, Some, None, option_and_then, is_some, slice_get}
+use Rattle.std.specs.Prelude.{ℕ, ◌+◌, ◌-◌, Bool, true, false, ◌&&◌, ◌||◌, ◌==◌, nat_lt, nat_le, List, length, filter, Option, Some, None, option_and_then, is_some, slice_get}
 use Rattle.std.specs.List.{range_with_len, prefix_len, suffix_len}
 use Rattle.lexical_util.specs.Format.{Format}
 use Rattle.lexical_util.specs.Digit.{digit}
@@ -42,20 +42,30 @@ run_begin format text start place = begin_of (separator_at format text) start pl
 abbrev pub run_stop : Format → List ℕ → ℕ → ℕ
 run_stop format text place = stop_of (separator_at format text) place (length text)
 
+-- whether a region starts behind a prefix, which has two bytes: before a region without one stands a sign at most
+abbrev pub is_behind_prefix : ℕ → Bool
+is_behind_prefix start = nat_le 2 start
+
+-- whether leading runs may stand in a region: everywhere by the one flag, and behind a prefix by the other too
+abbrev pub leading_in_force : Format → ℕ → Bool
+leading_in_force format start =
+    format.integer_leading_digit_separator
+    || (format.integer_prefix_digit_separator && is_behind_prefix start)
+
 -- the flag that a run needs, by whether a digit stands before it in the region, and whether one stands behind it
-unfoldable pub flag_for : Format → Bool → Bool → Bool
-flag_for format true true = format.integer_internal_digit_separator
-flag_for format false true = format.integer_leading_digit_separator
-flag_for format true false = format.integer_trailing_digit_separator
-flag_for format false false =
-    format.integer_leading_digit_separator || format.integer_trailing_digit_separator
+unfoldable pub flag_for : Format → ℕ → Bool → Bool → Bool
+flag_for format start true true = format.integer_internal_digit_separator
+flag_for format start false true = leading_in_force format start
+flag_for format start true false = format.integer_trailing_digit_separator
+flag_for format start false false =
+    leading_in_force format start || format.integer_trailing_digit_separator
 
 -- whether the run from one place to before another passes: it is one separator long or more are allowed, and the
 -- flag that its neighbours ask for is set
 unfoldable pub run_passes : Format → ℕ → List ℕ → ℕ → ℕ → ℕ → Bool
 run_passes format radix text start from to =
     (format.integer_consecutive_digit_separator || (to == from + 1))
-    && flag_for format (nat_lt start from && is_some (digit_at radix text (from - 1)))
+    && flag_for format start (nat_lt start from && is_some (digit_at radix text (from - 1)))
     (is_some (digit_at radix text to))
 
 -- whether the run of the separator at a place passes

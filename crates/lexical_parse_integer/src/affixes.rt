@@ -1,6 +1,6 @@
-// Prefix and suffix at a place of a text.
+// Prefix, octal zero and suffix at a place of a text.
 ghost use Rattle.std.specs.Prelude.{◌≡◌};
-ghost use Rattle.lexical_parse_integer.specs.Affixes.{is_affix, literal_radix, marked_radix, matches, prefix_radix, suffix_at};
+ghost use Rattle.lexical_parse_integer.specs.Affixes.{is_affix, literal_radix, marked_radix, matches, octal_zero_at, prefix_radix, suffix_at};
 
 use lexical_util::format::NumberFormat;
 
@@ -38,6 +38,15 @@ pub(crate) fn suffix_at(bytes: &[u8], format: &NumberFormat, place: usize) -> bo
         format.base_suffix(),
         bytes.get(place).copied(),
     )
+}
+
+// Whether a zero stands at a place, and the format says that one in front makes a numeral octal.
+#[inline(always)]
+#[tactic(auto, unfolding(crate::specs::Affixes::octal_zero_at, crate::specs::Runs::are_same))]
+pub(crate) fn octal_zero_at(bytes: &[u8], format: &NumberFormat, place: usize) -> bool
+    ensures { result ≡ octal_zero_at format.now bytes.now place }
+{
+    format.literal_octal_zero() && place < bytes.len() && bytes[place] == b'0'
 }
 
 // The radix that the letter of a literal prefix puts in force.

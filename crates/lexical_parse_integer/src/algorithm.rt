@@ -46,12 +46,12 @@ fn read<T: Integer>(c: &mut Cursor<'_>, no_multi_digit: bool) -> Result<T>
     ensures few { AsksWords T.BITS no_multi_digit c.old.format
         → HasFewTurns c.old.format T.TYPE c.old.bytes c.new.turns }
 {
-    let (negative, is_prefixed) = read_head::<T>(c)?;
+    let (negative, is_marked) = read_head::<T>(c)?;
     c.sound();
-    if is_prefix_alone(c, is_prefixed) {
+    if is_prefix_alone(c, is_marked) {
         return Err(Error::Empty(c.buffer_length()));
     }
-    let first = read_first::<T>(c, negative, is_prefixed)?;
+    let first = read_first::<T>(c, negative, is_marked)?;
     let value = read_digits::<T>(c, first, negative, no_multi_digit)?;
     c.read_suffix();
     Ok(value)

@@ -2,7 +2,7 @@
 //!
 //! A cursor borrows the text and keeps the format. It goes forward alone, and lends no more of the text than the
 //! next word. The parsers of [`algorithm`](crate::algorithm) stand on its calls; a reader written by hand can too:
-//! after `new` come `step_sign`, `read_prefix`, the digits by `next_digit` or `take_digits`, and `read_suffix`, each
+//! after `new` come `step_sign`, `read_prefix`, `read_octal_zero`, the digits by `next_digit` or `take_digits`, and `read_suffix`, each
 //! where it is wanted.
 //!
 //! Contracts see a cursor as a record: the text, the format, the radix in force, where the numeral's region starts,
@@ -11,10 +11,10 @@
 ghost use Rattle.std.specs.Prelude.{◌≡◌, ◌+◌, ◌<◌, ◌≤◌, ◌↔◌, ◌⊎◌, IsTrue, IsNone, MatchOption, Some, false, true, if◌then◌else◌, is_some, length, slice_get, slice_range};
 ghost use Rattle.lexical_util.specs.Ascii.{minus, plus};
 ghost use Rattle.lexical_util.specs.Validity.{fault};
-ghost use Rattle.lexical_parse_integer.specs.Affixes.{numeral_stop, prefix_radix};
+ghost use Rattle.lexical_parse_integer.specs.Affixes.{numeral_stop, octal_zero_at, prefix_radix};
 ghost use Rattle.lexical_parse_integer.specs.CursorView.{AreDigitsAhead, IsSound, ReachesEnd, TakesDigit, behind_prefix, closes, numeral_end};
 
-use crate::affixes::{prefix_radix, suffix_at};
+use crate::affixes::{octal_zero_at, prefix_radix, suffix_at};
 use crate::seek::{Found, seek};
 use crate::turns::Turns;
 use lexical_util::format::NumberFormat;
@@ -241,6 +241,26 @@ impl<'a> Cursor<'a> {
                 true
             }
         }
+    }
+
+    /// Puts 8 in force where an octal zero stands at the position, and answers whether one does. The cursor stays, since
+    /// that zero is the numeral's first digit.
+    ///
+    /// An octal zero is a `0` where the format has `literal_octal_zero`; a prefix has to be looked for before. The
+    /// position has to be where the region starts, at most 1, and no digit may have been read.
+    #[inline(always)]
+    pub fn read_octal_zero(&mut self) -> bool
+        requires front { self.old.position ≤ 1 }
+        requires at_start { self.old.position ≡ self.old.start }
+        requires no_digit { self.old.digits ≡ 0 }
+        ensures answer { result ≡ octal_zero_at self.old.format self.old.bytes self.old.position }
+        ensures after { self.new ≡ (if result then record self.old { radix = 8 } else self.old) }
+    {
+        if !octal_zero_at(self.bytes, &self.format, self.position) {
+            return false;
+        }
+        self.radix = 8;
+        true
     }
 
     /// Takes the next digit of the numeral, behind separators that pass, and answers its value; `None` where no

@@ -2,7 +2,7 @@
 // registers.
 ghost use Rattle.std.specs.Prelude.{◌≡◌, ◌≤◌, ◌<◌, None, length};
 ghost use Rattle.lexical_util.specs.Digit.{IsRadix};
-ghost use Rattle.lexical_parse_integer.specs.Runs.{digit_at, end_of, flag_for, run_passes, run_stop, separator_at};
+ghost use Rattle.lexical_parse_integer.specs.Runs.{digit_at, end_of, flag_for, leading_in_force, run_passes, run_stop, separator_at};
 ghost use Rattle.lexical_parse_integer.specs.Seeking.{Finds, IsAtRunStart, IsSeparatorNoDigit};
 
 use lexical_util::digit::char_to_digit;
@@ -51,17 +51,26 @@ fn run_stop(bytes: &[u8], format: &NumberFormat, place: usize) -> usize
     stop
 }
 
+// Whether leading runs may stand in the region: a region that starts at 2 or later starts behind a prefix.
+#[inline(always)]
+fn leading_in_force(format: &NumberFormat, start: usize) -> bool
+    ensures { result ≡ leading_in_force format.now start }
+{
+    format.integer_leading_digit_separator()
+        || (format.integer_prefix_digit_separator() && start >= 2)
+}
+
 #[inline(always)]
 #[tactic(auto, unfolding(crate::specs::Runs::flag_for))]
-fn flag_for(format: &NumberFormat, before: bool, after: bool) -> bool
-    ensures { result ≡ flag_for format.now before after }
+fn flag_for(format: &NumberFormat, start: usize, before: bool, after: bool) -> bool
+    ensures { result ≡ flag_for format.now start before after }
 {
     match (before, after) {
         (true, true) => format.integer_internal_digit_separator(),
-        (false, true) => format.integer_leading_digit_separator(),
+        (false, true) => leading_in_force(format, start),
         (true, false) => format.integer_trailing_digit_separator(),
         (false, false) => {
-            format.integer_leading_digit_separator() || format.integer_trailing_digit_separator()
+            leading_in_force(format, start) || format.integer_trailing_digit_separator()
         }
     }
 }
@@ -84,7 +93,7 @@ fn run_passes(
     let before = start < from && digit_at(bytes, radix, from - 1).is_some();
     let after = digit_at(bytes, radix, to).is_some();
     (format.integer_consecutive_digit_separator() || to - from == 1)
-        && flag_for(format, before, after)
+        && flag_for(format, start, before, after)
 }
 
 // What stands behind the run of separators at `position`, where there is one and no digit stands there. A run is

@@ -32,10 +32,12 @@ HaveSameFields format other =
     × ((format.integer_internal_digit_separator ≡ other.integer_internal_digit_separator)
     × ((format.integer_trailing_digit_separator ≡ other.integer_trailing_digit_separator)
     × ((format.integer_consecutive_digit_separator ≡ other.integer_consecutive_digit_separator)
+    × ((format.integer_prefix_digit_separator ≡ other.integer_prefix_digit_separator)
     × ((format.literal_prefixes ≡ other.literal_prefixes)
+    × ((format.literal_octal_zero ≡ other.literal_octal_zero)
     × ((format.digit_separator ≡ other.digit_separator)
     × ((format.base_prefix ≡ other.base_prefix)
-    × (format.base_suffix ≡ other.base_suffix)))))))))))))))
+    × (format.base_suffix ≡ other.base_suffix)))))))))))))))))
 
 same_from_fields : (format other : Format) → HaveSameFields format other → format ≡ other
 same_from_fields format other
@@ -43,8 +45,8 @@ same_from_fields format other
     (required_integer_digits, (required_mantissa_digits, (no_positive_mantissa_sign,
     (required_mantissa_sign, (no_integer_leading_zeros, (integer_leading_digit_separator,
     (integer_internal_digit_separator, (integer_trailing_digit_separator,
-    (integer_consecutive_digit_separator, (literal_prefixes, (digit_separator, (base_prefix,
-    base_suffix))))))))))))))) = λ i. record {
+    (integer_consecutive_digit_separator, (integer_prefix_digit_separator, (literal_prefixes,
+    (literal_octal_zero, (digit_separator, (base_prefix, base_suffix))))))))))))))))) = λ i. record {
   mantissa_radix = mantissa_radix i;
   case_sensitive_base_prefix = case_sensitive_base_prefix i;
   case_sensitive_base_suffix = case_sensitive_base_suffix i;
@@ -57,14 +59,16 @@ same_from_fields format other
   integer_internal_digit_separator = integer_internal_digit_separator i;
   integer_trailing_digit_separator = integer_trailing_digit_separator i;
   integer_consecutive_digit_separator = integer_consecutive_digit_separator i;
+  integer_prefix_digit_separator = integer_prefix_digit_separator i;
   literal_prefixes = literal_prefixes i;
+  literal_octal_zero = literal_octal_zero i;
   digit_separator = digit_separator i;
   base_prefix = base_prefix i;
   base_suffix = base_suffix i;
 }
 
 fields_from_same : (format other : Format) → format ≡ other → HaveSameFields format other
-fields_from_same format other e = subst (HaveSameFields format) e (refl, (refl, (refl, (refl, (refl, (refl, (refl, (refl, (refl, (refl, (refl, (refl, (refl, (refl, (refl, refl)))))))))))))))
+fields_from_same format other e = subst (HaveSameFields format) e (refl, (refl, (refl, (refl, (refl, (refl, (refl, (refl, (refl, (refl, (refl, (refl, (refl, (refl, (refl, (refl, (refl, refl)))))))))))))))))
 
 -- the derived test, in the order of the struct's fields
 abbrev pub format_eq : Format → Format → Bool
@@ -81,10 +85,12 @@ format_eq format other =
     && (beq format.integer_internal_digit_separator other.integer_internal_digit_separator
     && (beq format.integer_trailing_digit_separator other.integer_trailing_digit_separator
     && (beq format.integer_consecutive_digit_separator other.integer_consecutive_digit_separator
+    && (beq format.integer_prefix_digit_separator other.integer_prefix_digit_separator
     && (beq format.literal_prefixes other.literal_prefixes
+    && (beq format.literal_octal_zero other.literal_octal_zero
     && (option_eq ◌==◌ format.digit_separator other.digit_separator
     && (option_eq ◌==◌ format.base_prefix other.base_prefix
-    && (option_eq ◌==◌ format.base_suffix other.base_suffix)))))))))))))))
+    && (option_eq ◌==◌ format.base_suffix other.base_suffix)))))))))))))))))
 
 -- it says whether two formats are equal
 pub format_eq_decides : (format other : Format) → Decides (format_eq format other) (format ≡ other)
@@ -103,6 +109,8 @@ format_eq_decides format other =
     (both (booleans_Decides _ _)
     (both (booleans_Decides _ _)
     (both (booleans_Decides _ _)
+    (both (booleans_Decides _ _)
+    (both (booleans_Decides _ _)
     (both (mark_Decides _ _)
     (both (mark_Decides _ _)
-    (mark_Decides _ _))))))))))))))))
+    (mark_Decides _ _))))))))))))))))))

@@ -1,7 +1,7 @@
 -- What a format's validity says of its radix, and of the bytes that separator, prefix and suffix match. A byte
 -- matches a mark where it is the same but for ASCII case, and so in particular where it is the mark.
 use Rattle.std.proofs.Common.{◌≡◌, ◌∙◌, ℕ, Bool, true, false, not, is_some, leb, Option, Some, None, if◌then◌else◌, refl, sym, ap, arith}
-use Rattle.std.specs.Prelude.{◌==◌, ◌≢◌, ◌≤◌, nat_lt}
+use Rattle.std.specs.Prelude.{◌==◌, ◌≢◌, ◌≤◌, ◌||◌, ◌&&◌, nat_lt}
 use Rattle.std.proofs.lemmas.Bool.{eq-eqb, false≢true, ltb-false, ltb-true, or_parts}
 use Rattle.std.proofs.lemmas.Bool.Decides.{nat_tests}
 use Rattle.lexical_util.specs.declared.error.Error.{Error}
@@ -93,18 +93,18 @@ suffix_no_separator format suffix byte valid is_set alike =
 
 -- ---- literal prefixes
 
--- a digit of a radix up to 16 is one of 16
-digit_below_16 : (radix byte : ℕ) → radix ≤ 16 → digit byte 16 ≡ None → digit byte radix ≡ None
-digit_below_16 radix byte small none = by_value (digit_value byte) none
+-- a digit of a radix is one of each greater radix
+pub digit_below : (most radix byte : ℕ) → radix ≤ most → digit byte most ≡ None → digit byte radix ≡ None
+digit_below most radix byte small none = by_value (digit_value byte) none
   where
-    by_value : (value : Option ℕ) → value_if_below 16 value ≡ None → value_if_below radix value ≡ None
+    by_value : (value : Option ℕ) → value_if_below most value ≡ None → value_if_below radix value ≡ None
     by_value None h = refl
-    by_value (Some value) h = by_tests (nat_lt value 16) (nat_lt value radix) refl refl h
+    by_value (Some value) h = by_tests (nat_lt value most) (nat_lt value radix) refl refl h
       where
-        by_tests : (wide narrow : Bool) → nat_lt value 16 ≡ wide → nat_lt value radix ≡ narrow → (if wide then Some value else None) ≡ None
+        by_tests : (wide narrow : Bool) → nat_lt value most ≡ wide → nat_lt value radix ≡ narrow → (if wide then Some value else None) ≡ None
             → (if narrow then Some value else None) ≡ None
         by_tests true narrow w n e = cc
-        by_tests false true w n e = let less = ltb-true value radix n in let more = ltb-false value 16 w in absurd (omega arith)
+        by_tests false true w n e = let less = ltb-true value radix n in let more = ltb-false value most w in absurd (omega arith)
         by_tests false false w n e = refl
 
 fit_beside_literals : (set : Option ℕ) (mark byte : ℕ) → is_unfit_beside_literals set ≡ false → set ≡ Some mark → lower_case byte ≡ lower_case mark → digit byte 16 ≡ None
@@ -117,19 +117,36 @@ literals_fit : (format : Format) → fault format ≡ None → format.literal_pr
     → (is_unfit_beside_literals format.digit_separator ≡ false) × (is_unfit_beside_literals format.base_suffix ≡ false)
 literals_fit format valid asked =
     let all : has_unfit_literals format ≡ false = (passes_rules format valid).literals in
-    let rules = rw asked at all in
-    let past_radix = (or_parts (not (format.mantissa_radix == 10)) _ rules).1 in
-    let past_prefix = (or_parts (is_some format.base_prefix) _ past_radix).1 in
+    let beside = (or_parts ((format.literal_prefixes || format.literal_octal_zero) && not (format.mantissa_radix == 10)) _ all).1 in
+    let rules = rw asked at beside in
+    let past_prefix = (or_parts (is_some format.base_prefix) _ rules).1 in
     or_parts (is_unfit_beside_literals format.digit_separator) _ past_prefix
 
 -- what matches the separator is no digit of a radix that a literal prefix puts in force
 pub separator_no_literal_digit : (format : Format) (separator byte radix : ℕ) → fault format ≡ None → format.literal_prefixes ≡ true → radix ≤ 16
     → format.digit_separator ≡ Some separator → lower_case byte ≡ lower_case separator → digit byte radix ≡ None
 separator_no_literal_digit format separator byte radix valid asked small is_set alike =
-    digit_below_16 radix byte small (fit_beside_literals _ separator byte (literals_fit format valid asked).0 is_set alike)
+    digit_below 16 radix byte small (fit_beside_literals _ separator byte (literals_fit format valid asked).0 is_set alike)
 
 -- what matches the suffix is none either
 pub suffix_no_literal_digit : (format : Format) (suffix byte radix : ℕ) → fault format ≡ None → format.literal_prefixes ≡ true → radix ≤ 16
     → format.base_suffix ≡ Some suffix → lower_case byte ≡ lower_case suffix → digit byte radix ≡ None
 suffix_no_literal_digit format suffix byte radix valid asked small is_set alike =
-    digit_below_16 radix byte small (fit_beside_literals _ suffix byte (literals_fit format valid asked).1 is_set alike)
+    digit_below 16 radix byte small (fit_beside_literals _ suffix byte (literals_fit format valid asked).1 is_set alike)
+
+-- ---- octal zeros
+
+-- the radix beside octal zeros
+pub octal_zero_radix : (format : Format) → fault format ≡ None → format.literal_octal_zero ≡ true → format.mantissa_radix ≡ 10
+octal_zero_radix format valid asked =
+    let radix = format.mantissa_radix in
+    let all : has_unfit_literals format ≡ false = (passes_rules format valid).literals in
+    let first = (or_parts ((format.literal_prefixes || format.literal_octal_zero) && not (radix == 10)) _ all).0 in
+    let ten : (radix == 10) ≡ true = by_flags format.literal_prefixes format.literal_octal_zero (radix == 10) asked first in
+    grind (arith, nat_tests)
+  where
+    by_flags : (prefixes zero ten : Bool) → zero ≡ true → ((prefixes || zero) && not ten) ≡ false → ten ≡ true
+    by_flags prefixes false ten a e = cc
+    by_flags prefixes true true a e = refl
+    by_flags true true false a e = cc
+    by_flags false true false a e = cc

@@ -18,7 +18,9 @@ pub record Format : Type 0 where
   pub integer_internal_digit_separator : Bool
   pub integer_trailing_digit_separator : Bool
   pub integer_consecutive_digit_separator : Bool
+  pub integer_prefix_digit_separator : Bool
   pub literal_prefixes : Bool
+  pub literal_octal_zero : Bool
 
 -- radix 10, and a digit is required
 abbrev pub standard : Format
@@ -38,7 +40,9 @@ standard = record {
   integer_internal_digit_separator = false;
   integer_trailing_digit_separator = false;
   integer_consecutive_digit_separator = false;
+  integer_prefix_digit_separator = false;
   literal_prefixes = false;
+  literal_octal_zero = false;
 }
 
 -- the integers of JSON: a digit is required, no plus is read, and no zero stands in front of another digit

@@ -44,13 +44,13 @@ abbrev pub is_unfit_beside_literals : Option ℕ → Bool
 is_unfit_beside_literals None = false
 is_unfit_beside_literals (Some byte) = is_some (digit byte 16) || is_literal_letter byte
 
--- literal prefixes are asked for beside another radix than 10, a prefix of the format's own, or an unfit separator
--- or suffix
+-- literal prefixes or octal zeros are asked for beside another radix than 10, or literal prefixes beside a prefix of
+-- the format's own, or an unfit separator or suffix
 abbrev pub has_unfit_literals : Format → Bool
 has_unfit_literals format =
-    format.literal_prefixes
-    && (not (format.mantissa_radix == 10)
-    || (is_some format.base_prefix
+    ((format.literal_prefixes || format.literal_octal_zero) && not (format.mantissa_radix == 10))
+    || (format.literal_prefixes
+    && (is_some format.base_prefix
     || (is_unfit_beside_literals format.digit_separator
     || is_unfit_beside_literals format.base_suffix)))
 

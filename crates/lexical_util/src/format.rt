@@ -35,7 +35,9 @@ pub struct NumberFormat {
     integer_internal_digit_separator: bool,
     integer_trailing_digit_separator: bool,
     integer_consecutive_digit_separator: bool,
+    integer_prefix_digit_separator: bool,
     literal_prefixes: bool,
+    literal_octal_zero: bool,
     // These stand last because the derived equality is proved in this order alone.
     digit_separator: Option<u8>,
     base_prefix: Option<u8>,
@@ -63,7 +65,9 @@ impl Model for NumberFormat {
       integer_internal_digit_separator = a.integer_internal_digit_separator;
       integer_trailing_digit_separator = a.integer_trailing_digit_separator;
       integer_consecutive_digit_separator = a.integer_consecutive_digit_separator;
+      integer_prefix_digit_separator = a.integer_prefix_digit_separator;
       literal_prefixes = a.literal_prefixes;
+      literal_octal_zero = a.literal_octal_zero;
     } };
 
     ghost inverse = { λ a. record {
@@ -82,7 +86,9 @@ impl Model for NumberFormat {
       integer_internal_digit_separator = a.integer_internal_digit_separator;
       integer_trailing_digit_separator = a.integer_trailing_digit_separator;
       integer_consecutive_digit_separator = a.integer_consecutive_digit_separator;
+      integer_prefix_digit_separator = a.integer_prefix_digit_separator;
       literal_prefixes = a.literal_prefixes;
+      literal_octal_zero = a.literal_octal_zero;
     } };
 }
 
@@ -103,7 +109,9 @@ pub const STANDARD: NumberFormat = NumberFormat {
     integer_internal_digit_separator: false,
     integer_trailing_digit_separator: false,
     integer_consecutive_digit_separator: false,
+    integer_prefix_digit_separator: false,
     literal_prefixes: false,
+    literal_octal_zero: false,
 };
 
 /// Integers as JSON writes them (RFC 8259, section 6): [`STANDARD`] without a plus, and without a zero
@@ -141,8 +149,8 @@ impl NumberFormat {
 
     /// The byte that may stand among the digits and counts for nothing, as `_` in `1_000`.
     ///
-    /// It is matched exactly, also where it is a letter. The four `integer_` flags say where it may
-    /// stand; with none of them it may stand nowhere, and without a separator they have no effect.
+    /// It is matched exactly, also where it is a letter. The `integer_` flags say where it may stand;
+    /// with none of them it may stand nowhere, and without a separator they have no effect.
     #[inline(always)]
     pub fn digit_separator(&self) -> Option<u8>
         ensures { result ≡ self.now.digit_separator }
@@ -241,7 +249,7 @@ impl NumberFormat {
     }
 
     /// Whether a zero in front of another digit is refused (`Error::InvalidLeadingZeros`): `01` is,
-    /// `0` isn't. Zeros after a prefix are never refused.
+    /// `0` isn't. Zeros after a prefix, and in a numeral that a zero makes octal, are never refused.
     #[inline(always)]
     pub fn no_integer_leading_zeros(&self) -> bool
         ensures { result ≡ self.now.no_integer_leading_zeros }
@@ -282,6 +290,15 @@ impl NumberFormat {
         self.integer_consecutive_digit_separator
     }
 
+    /// Whether separators may stand directly behind a prefix, as in `0x_1F`: a run of them with no digit before it is
+    /// judged there as if `integer_leading_digit_separator` were set. Without a prefix this has no effect.
+    #[inline(always)]
+    pub fn integer_prefix_digit_separator(&self) -> bool
+        ensures { result ≡ self.now.integer_prefix_digit_separator }
+    {
+        self.integer_prefix_digit_separator
+    }
+
     /// Whether the text may choose its radix: a `0x`, `0o` or `0b` directly after the sign is a prefix, and makes the
     /// radix in force 16, 8 or 2. Either letter case is matched, unless `case_sensitive_base_prefix` is set: then the
     /// small letters alone. Without such a prefix the radix is 10.
@@ -290,6 +307,15 @@ impl NumberFormat {
         ensures { result ≡ self.now.literal_prefixes }
     {
         self.literal_prefixes
+    }
+
+    /// Whether a zero in front makes a numeral octal, as in C: where a `0` stands directly after the sign, and is no part
+    /// of a prefix, the radix in force is 8, and that zero is the numeral's first digit. `0777` is 511, and `0` is 0.
+    #[inline(always)]
+    pub fn literal_octal_zero(&self) -> bool
+        ensures { result ≡ self.now.literal_octal_zero }
+    {
+        self.literal_octal_zero
     }
 
     /// The first rule that the format breaks, and `None` where it is valid.
@@ -301,8 +327,9 @@ impl NumberFormat {
     /// 4. A suffix is such a byte; else `InvalidBaseSuffix`.
     /// 5. No two of the three are alike, that is the same byte or the same letter in two cases; else
     ///    `InvalidPunctuation`.
-    /// 6. Where literal prefixes are asked for, the radix is 10, the format has no prefix of its own, and separator and
-    ///    suffix are neither digits of radix 16 nor `x`, `o` or `b`, in either case; else `InvalidLiteralPrefixes`.
+    /// 6. Where literal prefixes or octal zeros are asked for, the radix is 10; and where literal prefixes are, the format
+    ///    has no prefix of its own, and separator and suffix are neither digits of radix 16 nor `x`, `o` or `b`, in
+    ///    either case; else `InvalidLiteralPrefixes`.
     ///
     /// The first rule is that of the Rust crate `lexical-util`; the others, and which fault each has,
     /// are this crate's own.
@@ -331,17 +358,18 @@ impl NumberFormat {
         }
     }
 
-    // Whether literal prefixes are asked for where they can't be told apart.
+    // Whether literal prefixes or octal zeros are asked for where they can't be told apart.
     #[inline(always)]
     fn has_unfit_literals(&self) -> bool
         ensures { result ≡ has_unfit_literals self.now }
     {
         let are_asked_for = self.literal_prefixes;
-        are_asked_for
-            && (self.mantissa_radix != 10
-                || self.has_base_prefix()
-                || is_unfit_beside_literals(self.digit_separator)
-                || is_unfit_beside_literals(self.base_suffix))
+        let chooses_radix = are_asked_for || self.literal_octal_zero;
+        (chooses_radix && self.mantissa_radix != 10)
+            || (are_asked_for
+                && (self.has_base_prefix()
+                    || is_unfit_beside_literals(self.digit_separator)
+                    || is_unfit_beside_literals(self.base_suffix)))
     }
 
     /// Whether the format breaks no rule, so that `error` answers `None`.

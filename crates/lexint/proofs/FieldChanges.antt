@@ -10,7 +10,7 @@ use Rattle.lexint.specs.Settings.{Settings}
 use Rattle.lexint.specs.declared.field.Mark.{Mark}
 use Rattle.lexint.specs.declared.field.Mark.TheVariants.{DigitSeparator, BasePrefix, BaseSuffix}
 use Rattle.lexint.specs.declared.field.Flag.{Flag}
-use Rattle.lexint.specs.declared.field.Flag.TheVariants.{CaseSensitiveBasePrefix, CaseSensitiveBaseSuffix, RequiredIntegerDigits, RequiredMantissaDigits, NoPositiveMantissaSign, RequiredMantissaSign, NoIntegerLeadingZeros, IntegerLeadingDigitSeparator, IntegerInternalDigitSeparator, IntegerTrailingDigitSeparator, IntegerConsecutiveDigitSeparator, LiteralPrefixes}
+use Rattle.lexint.specs.declared.field.Flag.TheVariants.{CaseSensitiveBasePrefix, CaseSensitiveBaseSuffix, RequiredIntegerDigits, RequiredMantissaDigits, NoPositiveMantissaSign, RequiredMantissaSign, NoIntegerLeadingZeros, IntegerLeadingDigitSeparator, IntegerInternalDigitSeparator, IntegerTrailingDigitSeparator, IntegerConsecutiveDigitSeparator, IntegerPrefixDigitSeparator, LiteralPrefixes, LiteralOctalZero}
 use Rattle.lexint.specs.declared.field.Change.{Change}
 use Rattle.lexint.specs.declared.field.Change.TheVariants as set
 
@@ -79,7 +79,9 @@ flag_after_mark IntegerLeadingDigitSeparator DigitSeparator value format = refl
 flag_after_mark IntegerInternalDigitSeparator DigitSeparator value format = refl
 flag_after_mark IntegerTrailingDigitSeparator DigitSeparator value format = refl
 flag_after_mark IntegerConsecutiveDigitSeparator DigitSeparator value format = refl
+flag_after_mark IntegerPrefixDigitSeparator DigitSeparator value format = refl
 flag_after_mark LiteralPrefixes DigitSeparator value format = refl
+flag_after_mark LiteralOctalZero DigitSeparator value format = refl
 flag_after_mark _ _ value format = refl
 
 flag_after_flag : (flag other : Flag) (value : Bool) (format : Format)
@@ -95,7 +97,9 @@ flag_after_flag IntegerLeadingDigitSeparator CaseSensitiveBasePrefix value forma
 flag_after_flag IntegerInternalDigitSeparator CaseSensitiveBasePrefix value format = refl
 flag_after_flag IntegerTrailingDigitSeparator CaseSensitiveBasePrefix value format = refl
 flag_after_flag IntegerConsecutiveDigitSeparator CaseSensitiveBasePrefix value format = refl
+flag_after_flag IntegerPrefixDigitSeparator CaseSensitiveBasePrefix value format = refl
 flag_after_flag LiteralPrefixes CaseSensitiveBasePrefix value format = refl
+flag_after_flag LiteralOctalZero CaseSensitiveBasePrefix value format = refl
 flag_after_flag _ _ value format = refl
 
 flag_after_required : (flag : Flag) (value : Bool) (format : Format)

@@ -5,7 +5,7 @@ use Rattle.lexint.specs.Settings.{Settings}
 use Rattle.lexint.specs.declared.field.Mark.{Mark}
 use Rattle.lexint.specs.declared.field.Mark.TheVariants.{DigitSeparator, BasePrefix, BaseSuffix}
 use Rattle.lexint.specs.declared.field.Flag.{Flag}
-use Rattle.lexint.specs.declared.field.Flag.TheVariants.{CaseSensitiveBasePrefix, CaseSensitiveBaseSuffix, RequiredIntegerDigits, RequiredMantissaDigits, NoPositiveMantissaSign, RequiredMantissaSign, NoIntegerLeadingZeros, IntegerLeadingDigitSeparator, IntegerInternalDigitSeparator, IntegerTrailingDigitSeparator, IntegerConsecutiveDigitSeparator, LiteralPrefixes}
+use Rattle.lexint.specs.declared.field.Flag.TheVariants.{CaseSensitiveBasePrefix, CaseSensitiveBaseSuffix, RequiredIntegerDigits, RequiredMantissaDigits, NoPositiveMantissaSign, RequiredMantissaSign, NoIntegerLeadingZeros, IntegerLeadingDigitSeparator, IntegerInternalDigitSeparator, IntegerTrailingDigitSeparator, IntegerConsecutiveDigitSeparator, IntegerPrefixDigitSeparator, LiteralPrefixes, LiteralOctalZero}
 use Rattle.lexint.specs.declared.field.Change.{Change}
 use Rattle.lexint.specs.declared.field.Change.TheVariants as change
 
@@ -34,7 +34,10 @@ with_flag IntegerTrailingDigitSeparator value format =
     record format { integer_trailing_digit_separator = value }
 with_flag IntegerConsecutiveDigitSeparator value format =
     record format { integer_consecutive_digit_separator = value }
+with_flag IntegerPrefixDigitSeparator value format =
+    record format { integer_prefix_digit_separator = value }
 with_flag LiteralPrefixes value format = record format { literal_prefixes = value }
+with_flag LiteralOctalZero value format = record format { literal_octal_zero = value }
 
 -- the settings after a change: the named field has the value, and each other is as before
 abbrev pub with_change : Change → Settings → Settings

@@ -9,7 +9,7 @@ use Rattle.lexical_parse_integer.specs.Grammar.{complete}
 use Rattle.lexint.specs.declared.field.Mark.{Mark}
 use Rattle.lexint.specs.declared.field.Mark.TheVariants.{DigitSeparator, BasePrefix, BaseSuffix}
 use Rattle.lexint.specs.declared.field.Flag.{Flag}
-use Rattle.lexint.specs.declared.field.Flag.TheVariants.{CaseSensitiveBasePrefix, CaseSensitiveBaseSuffix, RequiredIntegerDigits, RequiredMantissaDigits, NoPositiveMantissaSign, RequiredMantissaSign, NoIntegerLeadingZeros, IntegerLeadingDigitSeparator, IntegerInternalDigitSeparator, IntegerTrailingDigitSeparator, IntegerConsecutiveDigitSeparator, LiteralPrefixes}
+use Rattle.lexint.specs.declared.field.Flag.TheVariants.{CaseSensitiveBasePrefix, CaseSensitiveBaseSuffix, RequiredIntegerDigits, RequiredMantissaDigits, NoPositiveMantissaSign, RequiredMantissaSign, NoIntegerLeadingZeros, IntegerLeadingDigitSeparator, IntegerInternalDigitSeparator, IntegerTrailingDigitSeparator, IntegerConsecutiveDigitSeparator, IntegerPrefixDigitSeparator, LiteralPrefixes, LiteralOctalZero}
 use Rattle.lexint.specs.declared.field.Field.{Field}
 use Rattle.lexint.specs.declared.field.Field.TheVariants as field
 use Rattle.lexint.specs.declared.field.Change.{Change}
@@ -36,7 +36,9 @@ flag_name IntegerLeadingDigitSeparator = codes "integer_leading_digit_separator"
 flag_name IntegerInternalDigitSeparator = codes "integer_internal_digit_separator"
 flag_name IntegerTrailingDigitSeparator = codes "integer_trailing_digit_separator"
 flag_name IntegerConsecutiveDigitSeparator = codes "integer_consecutive_digit_separator"
+flag_name IntegerPrefixDigitSeparator = codes "integer_prefix_digit_separator"
 flag_name LiteralPrefixes = codes "literal_prefixes"
+flag_name LiteralOctalZero = codes "literal_octal_zero"
 
 -- the name of a field
 abbrev pub field_name : Field → List ℕ
@@ -57,7 +59,8 @@ fields =
     ∷ field.Flag NoIntegerLeadingZeros
     ∷ field.Flag IntegerLeadingDigitSeparator ∷ field.Flag IntegerInternalDigitSeparator
     ∷ field.Flag IntegerTrailingDigitSeparator ∷ field.Flag IntegerConsecutiveDigitSeparator
-    ∷ field.Flag LiteralPrefixes
+    ∷ field.Flag IntegerPrefixDigitSeparator ∷ field.Flag LiteralPrefixes
+    ∷ field.Flag LiteralOctalZero
     ∷ field.NoMultiDigit ∷ []
 
 -- the field of a name

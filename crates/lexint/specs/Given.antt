@@ -12,7 +12,7 @@ use Rattle.lexint.specs.Settings.{Settings, standard_settings}
 use Rattle.lexint.specs.declared.field.Mark.{Mark}
 use Rattle.lexint.specs.declared.field.Mark.TheVariants.{DigitSeparator, BasePrefix, BaseSuffix}
 use Rattle.lexint.specs.declared.field.Flag.{Flag}
-use Rattle.lexint.specs.declared.field.Flag.TheVariants.{CaseSensitiveBasePrefix, CaseSensitiveBaseSuffix, RequiredIntegerDigits, RequiredMantissaDigits, NoPositiveMantissaSign, RequiredMantissaSign, NoIntegerLeadingZeros, IntegerLeadingDigitSeparator, IntegerInternalDigitSeparator, IntegerTrailingDigitSeparator, IntegerConsecutiveDigitSeparator, LiteralPrefixes}
+use Rattle.lexint.specs.declared.field.Flag.TheVariants.{CaseSensitiveBasePrefix, CaseSensitiveBaseSuffix, RequiredIntegerDigits, RequiredMantissaDigits, NoPositiveMantissaSign, RequiredMantissaSign, NoIntegerLeadingZeros, IntegerLeadingDigitSeparator, IntegerInternalDigitSeparator, IntegerTrailingDigitSeparator, IntegerConsecutiveDigitSeparator, IntegerPrefixDigitSeparator, LiteralPrefixes, LiteralOctalZero}
 use Rattle.lexint.specs.declared.field.Change.{Change}
 use Rattle.lexint.specs.declared.field.Change.TheVariants as set
 
@@ -37,7 +37,9 @@ flag_value IntegerLeadingDigitSeparator format = format.integer_leading_digit_se
 flag_value IntegerInternalDigitSeparator format = format.integer_internal_digit_separator
 flag_value IntegerTrailingDigitSeparator format = format.integer_trailing_digit_separator
 flag_value IntegerConsecutiveDigitSeparator format = format.integer_consecutive_digit_separator
+flag_value IntegerPrefixDigitSeparator format = format.integer_prefix_digit_separator
 flag_value LiteralPrefixes format = format.literal_prefixes
+flag_value LiteralOctalZero format = format.literal_octal_zero
 
 -- ---- what a change gives a field
 

@@ -28,7 +28,9 @@ pub enum Flag {
     IntegerInternalDigitSeparator,
     IntegerTrailingDigitSeparator,
     IntegerConsecutiveDigitSeparator,
+    IntegerPrefixDigitSeparator,
     LiteralPrefixes,
+    LiteralOctalZero,
 }
 
 /// What an `f` line can set.
@@ -83,13 +85,15 @@ impl Flag {
             Flag::IntegerInternalDigitSeparator => "integer_internal_digit_separator",
             Flag::IntegerTrailingDigitSeparator => "integer_trailing_digit_separator",
             Flag::IntegerConsecutiveDigitSeparator => "integer_consecutive_digit_separator",
+            Flag::IntegerPrefixDigitSeparator => "integer_prefix_digit_separator",
             Flag::LiteralPrefixes => "literal_prefixes",
+            Flag::LiteralOctalZero => "literal_octal_zero",
         }
     }
 }
 
 /// Every field.
-const FIELDS: [Field; 18] = [
+const FIELDS: [Field; 20] = [
     Field::MantissaRadix,
     Field::Mark(Mark::DigitSeparator),
     Field::Mark(Mark::BasePrefix),
@@ -106,7 +110,9 @@ const FIELDS: [Field; 18] = [
     Field::Flag(Flag::IntegerInternalDigitSeparator),
     Field::Flag(Flag::IntegerTrailingDigitSeparator),
     Field::Flag(Flag::IntegerConsecutiveDigitSeparator),
+    Field::Flag(Flag::IntegerPrefixDigitSeparator),
     Field::Flag(Flag::LiteralPrefixes),
+    Field::Flag(Flag::LiteralOctalZero),
     Field::NoMultiDigit,
 ];
 

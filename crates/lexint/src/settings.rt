@@ -91,6 +91,8 @@ fn with_flag(flag: Flag, value: bool, format: NumberFormatBuilder) -> NumberForm
         Flag::IntegerInternalDigitSeparator => format.integer_internal_digit_separator(value),
         Flag::IntegerTrailingDigitSeparator => format.integer_trailing_digit_separator(value),
         Flag::IntegerConsecutiveDigitSeparator => format.integer_consecutive_digit_separator(value),
+        Flag::IntegerPrefixDigitSeparator => format.integer_prefix_digit_separator(value),
         Flag::LiteralPrefixes => format.literal_prefixes(value),
+        Flag::LiteralOctalZero => format.literal_octal_zero(value),
     }
 }

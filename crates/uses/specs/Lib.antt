@@ -5,3 +5,4 @@ pub mod FixedPoint
 pub mod FixedWidth
 pub mod Json
 pub mod Ledger
+pub mod Source

@@ -7,5 +7,6 @@ pub mod fixed_width;
 pub mod json;
 pub mod ledger;
 mod narrow;
+pub mod source;
 #[cfg(test)]
 mod tests;

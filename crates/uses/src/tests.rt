@@ -5,3 +5,4 @@ mod fixed_point;
 mod fixed_width;
 mod json;
 mod ledger;
+mod source;

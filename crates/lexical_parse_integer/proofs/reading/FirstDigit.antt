@@ -177,7 +177,7 @@ leaves_first t b p v w d r place value e s open_now none k other is same at faul
 digit_48 : (r : ℕ) → 2 ≤ r → digit 48 r ≡ Some 0
 digit_48 r two = let t : nat_lt 0 r ≡ true = lt-ltb 0 r (omega arith) in rw t refl
 
-zero_ahead : (r : ℕ) (b : List ℕ) (k : ℕ) → 2 ≤ r → slice_get b k ≡ Some 48 → digit_at r b k ≡ Some 0
+pub zero_ahead : (r : ℕ) (b : List ℕ) (k : ℕ) → 2 ≤ r → slice_get b k ≡ Some 48 → digit_at r b k ≡ Some 0
 unfolding digit_at
 zero_ahead r b k two e = ap (option_and_then (λ c. digit c r)) e ∙ digit_48 r two
 

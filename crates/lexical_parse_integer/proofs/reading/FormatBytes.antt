@@ -7,9 +7,10 @@ use Rattle.lexical_util.specs.declared.error.Error.{Error}
 use Rattle.lexical_util.specs.Digit.{IsRadix, digit}
 use Rattle.lexical_util.specs.Format.{Format}
 use Rattle.lexical_util.specs.Validity.{fault, lower_case}
-use Rattle.lexical_util.proofs.Valid.{separator_no_digit, separator_no_literal_digit, suffix_no_digit, suffix_no_literal_digit, suffix_no_separator, valid_radix}
-use Rattle.lexical_parse_integer.specs.Affixes.{is_affix, literal_radix, marked_radix, matches, prefix_radix}
+use Rattle.lexical_util.proofs.Valid.{digit_below, octal_zero_radix, separator_no_digit, separator_no_literal_digit, suffix_no_digit, suffix_no_literal_digit, suffix_no_separator, valid_radix}
+use Rattle.lexical_parse_integer.specs.Affixes.{is_affix, literal_radix, marked_radix, matches, octal_zero_at, prefix_radix}
 use Rattle.lexical_parse_integer.specs.Runs.{are_same}
+use Rattle.lexical_parse_integer.proofs.reading.OctalZeros.{octal_asked}
 
 -- what the format's validity gives a cursor under a radix in force
 pub record IsFit (format : Format) (radix : ℕ) : Type 0 where
@@ -88,3 +89,16 @@ fits_prefix f text place r valid here = by_zero (are_same (Some 48) (slice_get t
     by_zero : (zero : Bool) → cond zero (marked_radix f (slice_get text (place + 1))) None ≡ Some r → IsFit f r
     by_zero true e = fits_marked f (slice_get text (place + 1)) r valid e
     by_zero false e = cc
+
+-- the radix that an octal zero puts in force
+pub fits_octal : (f : Format) (text : List ℕ) (place : ℕ) → IsNone (fault f) → octal_zero_at f text place ≡ true → IsFit f 8
+fits_octal f text place is_none here =
+    let valid = none_from_is_none (fault f) is_none in
+    let ten : f.mantissa_radix ≡ 10 = octal_zero_radix f valid (octal_asked f text place here) in
+    let fit = fits f is_none in
+    record {
+      is_radix = record { low = omega arith; high = omega arith };
+      separator = λ s e. digit_below f.mantissa_radix 8 s (omega arith) (fit.separator s e);
+      suffix_digit = λ m c e t. digit_below f.mantissa_radix 8 c (omega arith) (fit.suffix_digit m c e t);
+      suffix_separator = fit.suffix_separator;
+    }

@@ -1,19 +1,20 @@
 -- The answers of the two parsers, from what was read: for `algorithm::head`, `read` and the two calls on a cursor.
 use Rattle.std.proofs.Common.{◌≡◌, ℕ, ◌+◌, ◌≤◌, ◌<◌, Bool, false, true, cond, ◌&&◌, ◌||◌, List, [], ◌∷◌, length, is_some, Option, Some, None, Ok, Err, Result, refl, sym, ap, ◌∙◌, subst, arith, inl, inr, ◌⊎◌}
-use Rattle.std.specs.Prelude.{◌↔◌, IsTrue, ℤ, nat_lt, ◌==◌}
+use Rattle.std.specs.Prelude.{◌↔◌, IsTrue, ℤ, nat_lt, slice_get, ◌==◌}
 use Rattle.std.specs.Option.{option_or}
 use Rattle.std.proofs.lemmas.Bool.{lt-ltb, le-ltb, cases_lt, false≢true}
 use Rattle.lexical_util.specs.declared.error.Error.{Error}
 use Rattle.lexical_util.specs.declared.error.Error.TheVariants.{InvalidDigit, Empty, MissingSign, InvalidPositiveSign}
-use Rattle.lexical_parse_integer.specs.Affixes.{numeral_stop, prefix_radix}
+use Rattle.lexical_parse_integer.specs.Affixes.{bare_radix, numeral_stop, octal_zero_at, prefix_radix}
 use Rattle.lexical_parse_integer.specs.CursorView.{CursorView, behind_prefix, IsSound, numeral_end, numeral_of}
 use Rattle.lexical_parse_integer.specs.Grammar.{complete, digits_required, first_fault_or, partial, prefix_fault, range_fault, zero_fault}
-use Rattle.lexical_parse_integer.specs.Head.{Head, head_of, no_sign, sign}
+use Rattle.lexical_parse_integer.specs.Head.{Head, head_of, no_sign, sign, sign_by}
 use Rattle.lexical_parse_integer.specs.Numeral.{Numeral, digit_count, numeral_in, numeral_value}
 use Rattle.lexical_parse_integer.specs.Reading.{GoesOn, IsAtHead, IsOver, IsRead, IsReading, Reads}
 use Rattle.lexical_util.specs.Format.{Format}
 use Rattle.lexical_util.specs.Number.{IntegerType}
 use Rattle.lexical_parse_integer.proofs.reading.Soundness.{digits_bound}
+use Rattle.lexical_parse_integer.proofs.reading.OctalZeros.{bare_octal, bare_own, octal_byte}
 use Rattle.lexical_parse_integer.proofs.reading.NumeralSteps.{same_numeral}
 use Rattle.lexical_parse_integer.proofs.reading.DigitLoop.{numeral_ends}
 
@@ -24,7 +25,7 @@ pub record IsFresh (v : CursorView) : Type 0 where
   pub closed : v.closed ≡ false
   pub no_digit : v.digits ≡ 0
   pub no_turn : v.turns ≡ 0
-  pub in_force : v.radix ≡ v.format.mantissa_radix
+  pub in_force : (v.radix ≡ v.format.mantissa_radix) ⊎ (v.radix ≡ bare_radix v.format v.bytes v.start)
 
 cases_bool : (b : Bool) → (b ≡ true) ⊎ (b ≡ false)
 cases_bool true = inl refl
@@ -96,41 +97,125 @@ pub head_fault : (f : Format) (t : IntegerType) (text : List ℕ) (e : Error) �
 unfolding head_of
 head_fault f t text e h = rw h refl
 
--- behind the sign, and behind the prefix
-pub at_head : (t : IntegerType) (u v w : CursorView) (minus p : Bool) → IsFresh u → sign u.format t u.bytes ≡ Ok (minus, v.position) → v ≡ record u { start = v.position; position = v.position } → p ≡ is_some (prefix_radix v.format v.bytes v.position) → w ≡ behind_prefix v (prefix_radix v.format v.bytes v.position) → IsAtHead u.format t u.bytes minus p w
-unfolding head_of
-at_head t u v w minus p fresh signed moved prefixed after =
-    let bytes : v.bytes ≡ u.bytes = ap (λ (z : CursorView). z.bytes) moved in
-    let format : v.format ≡ u.format = ap (λ (z : CursorView). z.format) moved in
-    let radix : v.radix ≡ u.format.mantissa_radix = ap (λ (z : CursorView). z.radix) moved ∙ fresh.in_force in
-    let start : v.start ≡ v.position = ap (λ (z : CursorView). z.start) moved in
-    let same : prefix_radix v.format v.bytes v.position ≡ prefix_radix u.format u.bytes v.position = ap (λ f. prefix_radix f v.bytes v.position) format ∙ ap (λ b. prefix_radix u.format b v.position) bytes in
-    let closed : v.closed ≡ false = ap (λ (z : CursorView). z.closed) moved ∙ fresh.closed in
-    let digits : v.digits ≡ 0 = ap (λ (z : CursorView). z.digits) moved ∙ fresh.no_digit in
-    let turns : v.turns ≡ 0 = ap (λ (z : CursorView). z.turns) moved ∙ fresh.no_turn in
-    by_prefix (prefix_radix u.format u.bytes v.position) p refl (prefixed ∙ ap is_some same) (after ∙ ap (behind_prefix v) same) bytes format radix start closed digits turns
+-- a text that begins with a zero has no sign
+no_sign_place : (f : Format) (s : Bool × ℕ) → no_sign f ≡ Ok s → s.1 ≡ 0
+no_sign_place f s = by_test f.required_mantissa_sign
   where
-    by_prefix : (found : Option ℕ) (q : Bool) → prefix_radix u.format u.bytes v.position ≡ found → q ≡ is_some found → w ≡ behind_prefix v found → v.bytes ≡ u.bytes → v.format ≡ u.format → v.radix ≡ u.format.mantissa_radix → v.start ≡ v.position → v.closed ≡ false → v.digits ≡ 0 → v.turns ≡ 0 → IsAtHead u.format t u.bytes minus q w
-    by_prefix (Some r) q h is e bytes format radix start closed digits turns = rw (is, e) (record {
-      head_is = rw (signed, h) refl;
-      bytes = bytes;
-      format = format;
-      at_start = refl;
-      closed = closed;
-      no_digit = digits;
-      no_turn = turns;
-      minus = λ m. minus_signed t u minus v.position m signed;
-    })
-    by_prefix None q h is e bytes format radix start closed digits turns = rw (is, e) (record {
-      head_is = rw (signed, h, radix, start) refl;
-      bytes = bytes;
-      format = format;
-      at_start = sym start;
-      closed = closed;
-      no_digit = digits;
-      no_turn = turns;
-      minus = λ m. minus_signed t u minus v.position m signed;
-    })
+    by_test : (b : Bool) → ◌≡◌ {A = Result (Bool × ℕ) Error} (cond b (Err (MissingSign 0)) (Ok (false, 0))) (Ok s) → s.1 ≡ 0
+    by_test true e = cc
+    by_test false e = let same : (false, 0) ≡ s = cc in ap (λ (w : Bool × ℕ). w.1) (sym same)
+
+zero_no_sign : (f : Format) (t : IntegerType) (text : List ℕ) (s : Bool × ℕ) → slice_get text 0 ≡ Some 48 → sign f t text ≡ Ok s → s.1 ≡ 0
+unfolding sign
+zero_no_sign f t text s zero signed =
+    let signed' : sign_by f t (Some 48) ≡ Ok s = ap (sign_by f t) (sym zero) ∙ signed in
+    no_sign_place f s signed'
+
+-- without an octal zero behind the sign, a fresh cursor has the format's radix
+own_in_force : (t : IntegerType) (u : CursorView) (s : Bool × ℕ) → IsFresh u → sign u.format t u.bytes ≡ Ok s → octal_zero_at u.format u.bytes s.1 ≡ false → u.radix ≡ u.format.mantissa_radix
+own_in_force t u s fresh signed other =
+    elim fresh.in_force [
+      | inl e ↦ e
+      | inr e ↦ e ∙ ap (bare_radix u.format u.bytes) fresh.start ∙ by_zero (octal_zero_at u.format u.bytes 0) refl
+    ]
+  where
+    by_zero : (octal : Bool) → octal_zero_at u.format u.bytes 0 ≡ octal → bare_radix u.format u.bytes 0 ≡ u.format.mantissa_radix
+    by_zero false e = bare_own u.format u.bytes 0 e
+    by_zero true e =
+        let front : s.1 ≡ 0 = zero_no_sign u.format t u.bytes s (octal_byte u.format u.bytes 0 e) signed in
+        absurd (false≢true (sym other ∙ ap (octal_zero_at u.format u.bytes) front ∙ e))
+
+-- behind the sign
+module _ (t : IntegerType) (u v : CursorView) (minus : Bool) (fresh : IsFresh u) (signed : sign u.format t u.bytes ≡ Ok (minus, v.position)) (moved : v ≡ record u { start = v.position; position = v.position }) where
+  bytes : v.bytes ≡ u.bytes
+  bytes = ap (λ (z : CursorView). z.bytes) moved
+
+  format : v.format ≡ u.format
+  format = ap (λ (z : CursorView). z.format) moved
+
+  start : v.start ≡ v.position
+  start = ap (λ (z : CursorView). z.start) moved
+
+  closed : v.closed ≡ false
+  closed = ap (λ (z : CursorView). z.closed) moved ∙ fresh.closed
+
+  no_digit : v.digits ≡ 0
+  no_digit = ap (λ (z : CursorView). z.digits) moved ∙ fresh.no_digit
+
+  no_turn : v.turns ≡ 0
+  no_turn = ap (λ (z : CursorView). z.turns) moved ∙ fresh.no_turn
+
+  same_prefix : prefix_radix v.format v.bytes v.position ≡ prefix_radix u.format u.bytes v.position
+  same_prefix = ap (λ f. prefix_radix f v.bytes v.position) format ∙ ap (λ b. prefix_radix u.format b v.position) bytes
+
+  -- and behind the prefix
+  pub at_prefix : (w : CursorView) → true ≡ is_some (prefix_radix v.format v.bytes v.position) → w ≡ behind_prefix v (prefix_radix v.format v.bytes v.position) → IsAtHead u.format t u.bytes minus true w
+  unfolding head_of
+  at_prefix w prefixed after = by_prefix (prefix_radix u.format u.bytes v.position) refl (prefixed ∙ ap is_some same_prefix) (after ∙ ap (behind_prefix v) same_prefix)
+    where
+      by_prefix : (found : Option ℕ) → prefix_radix u.format u.bytes v.position ≡ found → true ≡ is_some found → w ≡ behind_prefix v found → IsAtHead u.format t u.bytes minus true w
+      by_prefix None h is e = absurd (false≢true (sym is))
+      by_prefix (Some r) h is e = rw e (record {
+        head_is = rw (signed, h) refl;
+        bytes = bytes;
+        format = format;
+        at_start = refl;
+        closed = closed;
+        no_digit = no_digit;
+        no_turn = no_turn;
+        minus = λ m. minus_signed t u minus v.position m signed;
+      })
+
+  -- where there is no prefix, the cursor stays
+  pub stays_bare : (w : CursorView) → false ≡ is_some (prefix_radix v.format v.bytes v.position) → w ≡ behind_prefix v (prefix_radix v.format v.bytes v.position) → w ≡ v
+  stays_bare w bare after = by_prefix (prefix_radix v.format v.bytes v.position) bare after
+    where
+      by_prefix : (found : Option ℕ) → false ≡ is_some found → w ≡ behind_prefix v found → w ≡ v
+      by_prefix None is e = e
+      by_prefix (Some r) is e = absurd (false≢true is)
+
+  none_bare : false ≡ is_some (prefix_radix v.format v.bytes v.position) → prefix_radix u.format u.bytes v.position ≡ None
+  none_bare bare = by_prefix (prefix_radix u.format u.bytes v.position) (bare ∙ ap is_some same_prefix)
+    where
+      by_prefix : (found : Option ℕ) → false ≡ is_some found → found ≡ None
+      by_prefix None is = refl
+      by_prefix (Some r) is = absurd (false≢true is)
+
+  -- there an octal zero may stand
+  pub at_bare : (w x : CursorView) (o : Bool) → false ≡ is_some (prefix_radix v.format v.bytes v.position) → w ≡ behind_prefix v (prefix_radix v.format v.bytes v.position) → o ≡ octal_zero_at w.format w.bytes w.position → x ≡ cond o (record w { radix = 8 }) w → IsAtHead u.format t u.bytes minus o x
+  unfolding head_of
+  at_bare w x o bare after told put =
+      let same : w ≡ v = stays_bare w bare after in
+      let told' : o ≡ octal_zero_at u.format u.bytes v.position = told ∙ ap (λ (z : CursorView). octal_zero_at z.format z.bytes z.position) same ∙ ap (λ f. octal_zero_at f v.bytes v.position) format ∙ ap (λ b. octal_zero_at u.format b v.position) bytes in
+      by_octal o told' (put ∙ ap (λ (z : CursorView). cond o (record z { radix = 8 }) z) same)
+    where
+      none : prefix_radix u.format u.bytes v.position ≡ None
+      none = none_bare bare
+
+      by_octal : (q : Bool) → q ≡ octal_zero_at u.format u.bytes v.position → x ≡ cond q (record v { radix = 8 }) v → IsAtHead u.format t u.bytes minus q x
+      by_octal true h e = let h' : octal_zero_at u.format u.bytes v.position ≡ true = sym h in rw e (record {
+        head_is = rw (signed, none, h', start) refl;
+        bytes = bytes;
+        format = format;
+        at_start = sym start;
+        closed = closed;
+        no_digit = no_digit;
+        no_turn = no_turn;
+        minus = λ m. minus_signed t u minus v.position m signed;
+      })
+      by_octal false h e =
+          let h' : octal_zero_at u.format u.bytes v.position ≡ false = sym h in
+          let radix : v.radix ≡ u.format.mantissa_radix = ap (λ (z : CursorView). z.radix) moved ∙ own_in_force t u (minus, v.position) fresh signed h' in
+          rw e (record {
+            head_is = rw (signed, none, h', radix, start) refl;
+            bytes = bytes;
+            format = format;
+            at_start = sym start;
+            closed = closed;
+            no_digit = no_digit;
+            no_turn = no_turn;
+            minus = λ m. minus_signed t u minus v.position m signed;
+          })
 
 -- ---- faults of both parsers
 
@@ -149,20 +234,20 @@ unfolding partial
 sign_goes_part f t text e h = rw h refl
 
 abbrev pub common_fault : Format → IntegerType → List ℕ → Head → Option Error
-common_fault f t text h = option_or (prefix_fault text h) (option_or (zero_fault f h.is_prefixed (numeral_in f text h.start h.radix)) (range_fault t h.is_minus (numeral_in f text h.start h.radix)))
+common_fault f t text h = option_or (prefix_fault text h) (option_or (zero_fault f h.is_marked (numeral_in f text h.start h.radix)) (range_fault t h.is_minus (numeral_in f text h.start h.radix)))
 
 fault_completes : (f : Format) (t : IntegerType) (text : List ℕ) (h : Head) (e : Error) → head_of f t text ≡ Ok h → common_fault f t text h ≡ Some e → complete f t text ≡ Err e
 unfolding complete
-fault_completes f t text h e is fault = rw is (first_told (prefix_fault text h) (zero_fault f h.is_prefixed (numeral_in f text h.start h.radix)) (range_fault t h.is_minus (numeral_in f text h.start h.radix)) _ _ e fault)
+fault_completes f t text h e is fault = rw is (first_told (prefix_fault text h) (zero_fault f h.is_marked (numeral_in f text h.start h.radix)) (range_fault t h.is_minus (numeral_in f text h.start h.radix)) _ _ e fault)
 
 fault_goes_part : (f : Format) (t : IntegerType) (text : List ℕ) (h : Head) (e : Error) → head_of f t text ≡ Ok h → common_fault f t text h ≡ Some e → partial f t text ≡ Err e
 unfolding partial
-fault_goes_part f t text h e is fault = rw is (first_told (prefix_fault text h) (zero_fault f h.is_prefixed (numeral_in f text h.start h.radix)) (range_fault t h.is_minus (numeral_in f text h.start h.radix)) _ _ e fault)
+fault_goes_part f t text h e is fault = rw is (first_told (prefix_fault text h) (zero_fault f h.is_marked (numeral_in f text h.start h.radix)) (range_fault t h.is_minus (numeral_in f text h.start h.radix)) _ _ e fault)
 
 -- both at once, by the cursor at the head
 module _ (f : Format) (t : IntegerType) (text : List ℕ) (minus p : Bool) (v : CursorView) (at : IsAtHead f t text minus p v) where
   abbrev head : Head
-  head = record { is_minus = minus; is_prefixed = p; start = v.start; radix = v.radix }
+  head = record { is_minus = minus; is_marked = p; start = v.start; radix = v.radix }
 
   pub same_text : numeral_in f text v.start v.radix ≡ numeral_of v
   same_text = ap (λ g. numeral_in g text v.start v.radix) (sym at.format) ∙ ap (λ b. numeral_in v.format b v.start v.radix) (sym at.bytes)
@@ -234,7 +319,7 @@ is_read f t text minus p b v₁ v₂ v₃ v₄ value at goes g₁ no_zeros g₂ 
     let digits : v₄.digits ≡ v₃.digits = kept.2 in
     let turns : v₄.turns ≡ v₃.turns = kept.3 in
     record {
-      head = record { is_minus = minus; is_prefixed = p; start = v₁.start; radix = v₁.radix };
+      head = record { is_minus = minus; is_marked = p; start = v₁.start; radix = v₁.radix };
       head_is = at.head_is;
       no_prefix_fault = not_alone f t text minus p v₁ at goes;
       no_zero_fault = ap (λ h. zero_fault h p x) (sym at.format) ∙ ap (zero_fault v₁.format p) (sym first) ∙ no_zeros;

@@ -4,7 +4,7 @@ use Rattle.std.proofs.lemmas.Bool.{false≢true, cases_lt, ltb-false, ltb-true}
 use Rattle.std.proofs.lemmas.Bool.Decides.{nat_tests}
 use Rattle.std.specs.Prelude.{nat_lt}
 use Rattle.std.proofs.lemmas.Option.{slice_get_past}
-use Rattle.lexical_parse_integer.specs.Affixes.{is_affix, literal_radix, marked_radix, matches, numeral_stop, prefix_radix, suffix_at}
+use Rattle.lexical_parse_integer.specs.Affixes.{bare_radix, is_affix, literal_radix, marked_radix, matches, numeral_stop, octal_zero_at, prefix_radix, suffix_at}
 use Rattle.lexical_parse_integer.specs.CursorView.{CursorView, IsSound, IsSuffixNoDigit, IsSuffixNoSeparator, closes, numeral_end}
 use Rattle.lexical_parse_integer.specs.Runs.{are_same, is_in_numeral, digit_at, digits_between, end_of, places, separator_at}
 use Rattle.lexical_parse_integer.specs.Seeking.{Finds, IsSeparatorNoDigit}
@@ -12,7 +12,8 @@ use Rattle.lexical_util.specs.Digit.{digit}
 use Rattle.lexical_util.specs.Format.{Format}
 use Rattle.lexical_util.specs.Validity.{fault}
 use Rattle.lexical_parse_integer.specs.declared.seek.Found.TheVariants.{Digit, End}
-use Rattle.lexical_parse_integer.proofs.reading.FormatBytes.{fits, fits_prefix}
+use Rattle.lexical_parse_integer.proofs.reading.FormatBytes.{fits, fits_octal, fits_prefix}
+use Rattle.lexical_parse_integer.proofs.reading.OctalZeros.{bare_octal, bare_own}
 use Rattle.lexical_parse_integer.proofs.grammar.Stretches.{true_or_false}
 use Rattle.lexical_parse_integer.proofs.grammar.NumeralEnd.{IsStop-end_of, is_end, belongs_other, reaches, digit_at_within, digit_at_past}
 use Rattle.lexical_parse_integer.proofs.grammar.DigitCounts.{digits_between_digit, digits_between_none, digits_between_to, length-digits_between, length-digits_between_all}
@@ -154,7 +155,7 @@ IsSound-new b f turns valid none =
       separator = separator_no_digit f f.mantissa_radix b fit.separator;
       suffix_digit = suffix_no_digit f f.mantissa_radix b fit.suffix_digit;
       suffix_separator = suffix_no_separator f b fit.suffix_separator;
-      in_force = λ _. refl;
+      in_force = λ _. inl refl;
       after_start = omega arith;
       within = omega arith;
       turns = omega arith;
@@ -163,8 +164,15 @@ IsSound-new b f turns valid none =
     }
 
 -- behind a sign
-pub IsSound-sign : (v : CursorView) → IsSound v → v.position ≡ 0 → 0 < length v.bytes → IsSound (record v { start = 1; position = 1 })
-IsSound-sign v s front some =
+own_radix : (v : CursorView) → IsSound v → v.start ≡ 0 → octal_zero_at v.format v.bytes 0 ≡ false → v.radix ≡ v.format.mantissa_radix
+own_radix v s start other =
+    elim (s.in_force (omega arith)) [
+      | inl e ↦ e
+      | inr e ↦ e ∙ ap (bare_radix v.format v.bytes) start ∙ bare_own v.format v.bytes 0 other
+    ]
+
+pub IsSound-sign : (v : CursorView) → IsSound v → v.position ≡ 0 → 0 < length v.bytes → octal_zero_at v.format v.bytes 0 ≡ false → IsSound (record v { start = 1; position = 1 })
+IsSound-sign v s front some other =
     let start : v.start ≡ 0 = omega (arith, s.after_start) in
     elim (true_or_false v.closed) [
       | inl t ↦ absurd (omega (arith, (s.once_closed t).behind_end))
@@ -178,7 +186,7 @@ IsSound-sign v s front some =
             separator = s.separator;
             suffix_digit = s.suffix_digit;
             suffix_separator = s.suffix_separator;
-            in_force = λ _. s.in_force (omega (arith, start));
+            in_force = λ _. inl (own_radix v s start other);
             after_start = omega arith;
             within = omega arith;
             turns = s.turns;
@@ -254,6 +262,30 @@ IsSound-prefix v r s none here =
       within = omega arith;
       turns = s.turns;
       while_open = λ _. record { before_end = stop.low; digits = none ∙ sym (ap length (digits_between_none r v.bytes (v.position + 2))); at_run_start = λ h _. absurd (omega arith) };
+      once_closed = λ t. absurd (omega (arith, (s.once_closed t).some_digit));
+    }
+
+-- at an octal zero
+pub IsSound-octal : (v : CursorView) → IsSound v → v.position ≡ v.start → v.digits ≡ 0 → octal_zero_at v.format v.bytes v.position ≡ true → IsSound (record v { radix = 8 })
+IsSound-octal v s at none here =
+    let fit = fits_octal v.format v.bytes v.position s.valid here in
+    let stop = IsStop-end_of v.format 8 v.bytes v.start (omega (arith, at, s.within)) in
+    let there : octal_zero_at v.format v.bytes v.start ≡ true = ap (octal_zero_at v.format v.bytes) (sym at) ∙ here in
+    record {
+      valid = s.valid;
+      radix = fit.is_radix;
+      separator = separator_no_digit v.format 8 v.bytes fit.separator;
+      suffix_digit = suffix_no_digit v.format 8 v.bytes fit.suffix_digit;
+      suffix_separator = s.suffix_separator;
+      in_force = λ _. inr (sym (bare_octal v.format v.bytes v.start there));
+      after_start = s.after_start;
+      within = s.within;
+      turns = s.turns;
+      while_open = λ _. record {
+        before_end = omega (arith, at, stop.low);
+        digits = none ∙ sym (ap (λ p. length (digits_between 8 v.bytes v.start p)) at ∙ ap length (digits_between_none 8 v.bytes v.start));
+        at_run_start = λ h _. absurd (omega arith);
+      };
       once_closed = λ t. absurd (omega (arith, (s.once_closed t).some_digit));
     }
 

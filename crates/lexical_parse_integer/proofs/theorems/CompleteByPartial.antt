@@ -100,7 +100,7 @@ sign_fault f t (c ∷ cs) e h = by_tests (c == 43) f.no_positive_mantissa_sign (
 below : (a b : ℕ) → a ≤ b → (a < b) ⊎ (a ≡ b)
 below a b low = elim (cases_lt a b) [ inl l ↦ inl l | inr l ↦ inr (omega arith) ]
 
-pub head_within : (f : Format) (text : List ℕ) (s : Bool × ℕ) (p : Option ℕ) → s.1 ≤ length text → prefix_radix f text s.1 ≡ p → (head_behind f s p).start ≤ length text
+pub head_within : (f : Format) (text : List ℕ) (s : Bool × ℕ) (p : Option ℕ) → s.1 ≤ length text → prefix_radix f text s.1 ≡ p → (head_behind f text s p).start ≤ length text
 head_within f text s None low e = low
 head_within f text s (Some r) low e = let two = prefix_within f text s.1 r e in omega arith
 
@@ -113,7 +113,7 @@ complete_is_completion f t text = behind (sign f t text) refl
         after_head (head_after f text r) (λ h. let x = numeral_in f text h.start h.radix in first_fault_or (common_faults f t text h x ++ complete_faults f text x) (numeral_value h.is_minus x))
         ≡ completion_of (length text) (after_head (head_after f text r) (λ h. let x = numeral_in f text h.start h.radix in first_fault_or (common_faults f t text h x ++ partial_faults f text x) (numeral_value h.is_minus x, x.stop)))
     behind (Ok s) e =
-        let h : Head = head_behind f s (prefix_radix f text s.1) in
+        let h : Head = head_behind f text s (prefix_radix f text s.1) in
         let x : Numeral = numeral_in f text h.start h.radix in
         let low : h.start ≤ length text = head_within f text s _ (sign_within f t text s e) refl in
         all_cases (length text) x.stop _ _ _ (lacks_digits f x) (is_some f.digit_separator) h.is_minus (first_outside t h.is_minus x) (λ k. slice_index x.places k) (numeral_value h.is_minus x) (below x.stop (length text) (numeral_within f text h.start h.radix low))

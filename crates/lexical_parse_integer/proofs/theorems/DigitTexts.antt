@@ -13,7 +13,7 @@ use Rattle.lexical_util.specs.declared.error.Error.{Error}
 use Rattle.lexical_util.specs.declared.error.Error.TheVariants.{InvalidDigit, Empty}
 use Rattle.lexical_util.specs.Format.{Format}
 use Rattle.lexical_util.specs.Number.{IntegerType, is_number}
-use Rattle.lexical_parse_integer.specs.Affixes.{is_affix, marked_radix, prefix_radix, suffix_at}
+use Rattle.lexical_parse_integer.specs.Affixes.{is_affix, marked_radix, octal_zero_at, prefix_radix, suffix_at}
 use Rattle.lexical_parse_integer.specs.Grammar.{common_faults, complete, complete_faults, fault_if, first_fault_or, first_outside, lacks_digits, prefix_fault, range_error, range_fault, zero_fault}
 use Rattle.lexical_parse_integer.specs.Head.{Head, head_of, sign, head_behind}
 use Rattle.lexical_parse_integer.specs.Laws.{with_radix}
@@ -24,6 +24,7 @@ use Rattle.lexical_parse_integer.specs.Value.{positional_value, with_sign}
 use Rattle.lexical_parse_integer.proofs.theorems.CompleteByPartial.{sign_within}
 use Rattle.lexical_parse_integer.proofs.grammar.FrontValues.{fitting_fault}
 use Rattle.lexical_parse_integer.proofs.grammar.DigitsInARow.{EndsRow, has_digit, numeral_in_a_row, row, row_count, row_ends, row_numeral}
+use Rattle.lexical_parse_integer.proofs.reading.OctalZeros.{not_asked}
 use Rattle.lexical_parse_integer.proofs.grammar.Stretches.{HoldsBetween}
 use Rattle.lexical_parse_integer.proofs.grammar.RangeOfFronts.{shorter_fronts_fit}
 
@@ -41,14 +42,14 @@ unfolding complete
 complete_row f t text h count none head low ends = rw (head, numeral_in_a_row f text h.start h.radix count none low ends) refl
 
 -- without a prefix the head is the sign
-pub head_is : (f : Format) (t : IntegerType) (text : List ℕ) (s : Bool × ℕ) → f.base_prefix ≡ None → f.literal_prefixes ≡ false → sign f t text ≡ Ok s → head_of f t text ≡ Ok (record { is_minus = s.0; is_prefixed = false; start = s.1; radix = f.mantissa_radix })
-unfolding head_of prefix_radix marked_radix is_affix
-head_is f t text s none unasked sign_is =
+pub head_is : (f : Format) (t : IntegerType) (text : List ℕ) (s : Bool × ℕ) → f.base_prefix ≡ None → f.literal_prefixes ≡ false → f.literal_octal_zero ≡ false → sign f t text ≡ Ok s → head_of f t text ≡ Ok (record { is_minus = s.0; is_marked = false; start = s.1; radix = f.mantissa_radix })
+unfolding head_of octal_zero_at prefix_radix marked_radix is_affix
+head_is f t text s none unasked plain sign_is =
     rw (sign_is, none, unasked) (by_zero (are_same (Some 48) (slice_get text s.1)))
   where
-    by_zero : (zero : Bool) → ◌≡◌ {A = Result Head Error} (Ok (head_behind f s (cond zero None None))) (Ok (record { is_minus = s.0; is_prefixed = false; start = s.1; radix = f.mantissa_radix }))
-    by_zero true = refl
-    by_zero false = refl
+    by_zero : (zero : Bool) → ◌≡◌ {A = Result Head Error} (Ok (head_behind f text s (cond zero None None))) (Ok (record { is_minus = s.0; is_marked = false; start = s.1; radix = f.mantissa_radix }))
+    by_zero true = rw (not_asked f text s.1 plain) refl
+    by_zero false = rw (not_asked f text s.1 plain) refl
 
 -- without a suffix reading stops at the end
 pub stop_plain : (f : Format) (text : List ℕ) (start r count : ℕ) → f.base_suffix ≡ None → (row_numeral f text start r count).stop ≡ start + count
@@ -66,7 +67,7 @@ pub digits_read_under : (f : Format) (t : IntegerType) (text : List ℕ) (s : Bo
 digits_read_under f t text s plain positive sign_is some all no_zeros fits =
     let r : ℕ = f.mantissa_radix in
     let n : ℕ = length text - s.1 in
-    let h : Head = record { is_minus = s.0; is_prefixed = false; start = s.1; radix = r } in
+    let h : Head = record { is_minus = s.0; is_marked = false; start = s.1; radix = r } in
     let x : Numeral = row_numeral f text s.1 r n in
     let end : s.1 + n ≡ length text = omega arith in
     let ends : EndsRow r text s.1 (s.1 + n) = rw end (record { low = omega arith; high = omega arith; holds = all; fails = λ l. absurd (omega arith) }) in
@@ -79,11 +80,11 @@ digits_read_under f t text s plain positive sign_is some all no_zeros fits =
     let digits_there : (digit_count x == 0) ≡ false = ne_eqb (digit_count x) 0 (λ e. omega arith) in
     let zeros : zero_fault f false x ≡ None = no_zeros in
     let answer : complete_by f t text h x ≡ Ok (numeral_value s.0 x) = rw (zeros, no_range, over, digits_there, and-false) refl in
-    complete_row f t text h n plain.no_separator (head_is f t text s plain.no_prefix plain.no_literals sign_is) (omega arith) ends ∙ answer ∙ ap (λ (z : ℤ). Ok z) value
+    complete_row f t text h n plain.no_separator (head_is f t text s plain.no_prefix plain.no_literals plain.no_octal_zeros sign_is) (omega arith) ends ∙ answer ∙ ap (λ (z : ℤ). Ok z) value
 
 -- a format of another radix has no marks
 plain_with_radix : (r : ℕ) → IsPlain (with_radix r)
-plain_with_radix r = record { no_separator = refl; no_prefix = refl; no_suffix = refl; no_literals = refl; no_sign = refl }
+plain_with_radix r = record { no_separator = refl; no_prefix = refl; no_suffix = refl; no_literals = refl; no_octal_zeros = refl; no_sign = refl }
 
 -- digits alone behind the sign are read
 pub digits_read : (r : ℕ) (t : IntegerType) (text : List ℕ) (s : Bool × ℕ) → 1 ≤ r → sign (with_radix r) t text ≡ Ok s → s.1 < length text → HoldsBetween (has_digit r text) s.1 (length text) →
@@ -159,11 +160,11 @@ whole_told r t text v read = by_sign (sign (with_radix r) t text) refl
     by_sign (Ok s) sign_is =
         let f : Format = with_radix r in
         let n : ℕ = row_count f r text s.1 in
-        let h : Head = record { is_minus = s.0; is_prefixed = false; start = s.1; radix = r } in
+        let h : Head = record { is_minus = s.0; is_marked = false; start = s.1; radix = r } in
         let x : Numeral = row_numeral f text s.1 r n in
         let within : s.1 ≤ length text = sign_within f t text s sign_is in
         let ends : EndsRow r text s.1 (s.1 + n) = row_ends f r text s.1 refl within in
-        let whole = complete_row f t text h n refl (head_is f t text s refl refl sign_is) within ends in
+        let whole = complete_row f t text h n refl (head_is f t text s refl refl refl sign_is) within ends in
         let by : complete_by f t text h x ≡ Ok v = sym whole ∙ read in
         let told : (range_fault t s.0 x ≡ None) × (fault_if (nat_lt x.stop (length text)) (InvalidDigit x.stop) ≡ None) × (fault_if (lacks_digits f x) (Empty (length text)) ≡ None) × (numeral_value s.0 x ≡ v) = five_ok (prefix_fault text h) (zero_fault f false x) (range_fault t s.0 x) (fault_if (nat_lt x.stop (length text)) (InvalidDigit x.stop)) (fault_if (lacks_digits f x) (Empty (length text))) (numeral_value s.0 x) v by in
         let over : length text ≤ x.stop = ltb-false x.stop (length text) (no_fault_if (nat_lt x.stop (length text)) (InvalidDigit x.stop) told.1) in

@@ -8,7 +8,7 @@ use Rattle.lexical_util.specs.declared.error.Error.TheVariants.{MissingSign, Inv
 use Rattle.lexical_util.specs.Digit.{digit}
 use Rattle.lexical_util.specs.Format.{Format}
 use Rattle.lexical_util.specs.Number.{IntegerType}
-use Rattle.lexical_parse_integer.specs.Affixes.{prefix_radix}
+use Rattle.lexical_parse_integer.specs.Affixes.{bare_radix, octal_zero_at, prefix_radix}
 use Rattle.lexical_parse_integer.specs.Grammar.{common_faults, first_fault_or, partial, partial_faults}
 use Rattle.lexical_parse_integer.specs.Head.{Head, head_after, head_behind, head_of, no_sign, sign}
 use Rattle.lexical_parse_integer.specs.Numeral.{Numeral, digit_count, numeral_in, numeral_value}
@@ -88,7 +88,7 @@ numeral_tells f r text start none plain low before =
 
 -- ---- the front of a text without a prefix
 
-pub tells_digits : (f : Format) (t : IntegerType) (text : List ℕ) (h : Head) (v : ℤ) (k : ℕ) → f.digit_separator ≡ None → f.base_suffix ≡ None → head_of f t text ≡ Ok h → h.is_prefixed ≡ false
+pub tells_digits : (f : Format) (t : IntegerType) (text : List ℕ) (h : Head) (v : ℤ) (k : ℕ) → f.digit_separator ≡ None → f.base_suffix ≡ None → head_of f t text ≡ Ok h → h.is_marked ≡ false
     → partial f t text ≡ Ok (v, k) → stops_after_digit f.mantissa_radix text k ≡ nat_lt 0 (digit_count (numeral_in f text h.start h.radix))
 unfolding head_of partial
 tells_digits f t text h v k none plain head unprefixed told = behind (sign f t text) refl head
@@ -99,16 +99,18 @@ tells_digits f t text h v k none plain head unprefixed told = behind (sign f t t
         let front : first_fault_or (common_faults f t text h x ++ partial_faults f text x) (numeral_value h.is_minus x, x.stop) ≡ Ok (v, k) = rw is at told in
         ap (λ (w : ℤ × ℕ). w.1) (ok_told (common_faults f t text h x ++ partial_faults f text x) (numeral_value h.is_minus x, x.stop) (v, k) front)
 
-    by_prefix : (s : Bool × ℕ) (p : Option ℕ) → sign f t text ≡ Ok s → head_behind f s p ≡ h → stops_after_digit f.mantissa_radix text k ≡ nat_lt 0 (digit_count (numeral_in f text h.start h.radix))
+    by_prefix : (s : Bool × ℕ) (p : Option ℕ) → sign f t text ≡ Ok s → head_behind f text s p ≡ h → stops_after_digit f.mantissa_radix text k ≡ nat_lt 0 (digit_count (numeral_in f text h.start h.radix))
     by_prefix s None e is =
         let start : h.start ≡ s.1 = ap (λ (g : Head). g.start) (sym is) in
-        let radix : h.radix ≡ f.mantissa_radix = ap (λ (g : Head). g.radix) (sym is) in
+        let decimal : octal_zero_at f text s.1 ≡ false = ap (λ (g : Head). g.is_marked) is ∙ unprefixed in
+        let bare : bare_radix f text s.1 ≡ f.mantissa_radix = rw decimal refl in
+        let radix : h.radix ≡ f.mantissa_radix = ap (λ (g : Head). g.radix) (sym is) ∙ bare in
         let low : h.start ≤ length text = let within = sign_within f t text s e in omega arith in
         let before : stops_after_digit h.radix text h.start ≡ false = rw (start, radix) (sign_no_digit f t f.mantissa_radix text s e) in
         ap (λ (r : ℕ). stops_after_digit r text k) (sym radix) ∙ ap (λ (j : ℕ). stops_after_digit h.radix text j) (sym (stops head))
         ∙ numeral_tells f h.radix text h.start none plain low before
-    by_prefix s (Some r) e is = let prefixed : true ≡ false = ap (λ (g : Head). g.is_prefixed) is ∙ unprefixed in cc
+    by_prefix s (Some r) e is = let prefixed : true ≡ false = ap (λ (g : Head). g.is_marked) is ∙ unprefixed in cc
 
     behind : (r : Result (Bool × ℕ) Error) → sign f t text ≡ r → head_after f text r ≡ Ok h → stops_after_digit f.mantissa_radix text k ≡ nat_lt 0 (digit_count (numeral_in f text h.start h.radix))
-    behind (Ok s) e at = let is : head_behind f s (prefix_radix f text s.1) ≡ h = cc in by_prefix s (prefix_radix f text s.1) e is
+    behind (Ok s) e at = let is : head_behind f text s (prefix_radix f text s.1) ≡ h = cc in by_prefix s (prefix_radix f text s.1) e is
     behind (Err e) h at = cc

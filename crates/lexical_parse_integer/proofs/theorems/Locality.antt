@@ -1,5 +1,5 @@
 -- An answer that is settled at a place is that of each text with the same bytes up to and with it: for `local`.
-use Rattle.std.proofs.Common.{◌≡◌, ◌≢◌, ℕ, suc, ◌+◌, ◌<◌, ◌≤◌, Bool, false, not, ◌&&◌, List, [], ◌∷◌, length, get_or, take, refl, sym, ap, subst, ◌∙◌, arith, Some, None, IsNone, is_some, Ok, Err, Result, inl, inr, Option}
+use Rattle.std.proofs.Common.{◌≡◌, ◌≢◌, ℕ, suc, ◌+◌, ◌<◌, ◌≤◌, Bool, false, true, cond, not, ◌&&◌, List, [], ◌∷◌, length, get_or, take, refl, sym, ap, subst, ◌∙◌, arith, Some, None, IsNone, is_some, Ok, Err, Result, inl, inr, Option}
 use Rattle.std.proofs.Math.IntN.{ℤ}
 use Rattle.std.proofs.Math.Bool.{and-false}
 use Rattle.std.proofs.lemmas.Bool.{ne_eqb, and_cases, leb-false}
@@ -10,18 +10,19 @@ use Rattle.lexical_util.specs.Format.{Format}
 use Rattle.lexical_util.specs.Number.{IntegerType, is_number}
 use Rattle.lexical_util.specs.Validity.{fault}
 use Rattle.lexical_parse_integer.specs.Answer.{with_place, view_of}
-use Rattle.lexical_parse_integer.specs.Affixes.{prefix_radix}
+use Rattle.lexical_parse_integer.specs.Affixes.{bare_radix, octal_zero_at, prefix_radix}
 use Rattle.lexical_parse_integer.specs.Grammar.{first_outside, partial, range_error, range_fault}
 use Rattle.lexical_parse_integer.specs.Head.{Head, head_behind, head_of, sign}
 use Rattle.lexical_parse_integer.specs.Laws.{IsLocal, IsSettledAt, SameFront}
 use Rattle.lexical_parse_integer.specs.Numeral.{Numeral, digit_count, front_value}
 use Rattle.lexical_parse_integer.specs.Value.{positional_value, with_sign}
-use Rattle.lexical_parse_integer.proofs.theorems.SameFronts.{Agree, agree, agree_digit, agree_inside, agree_prefix, agree_row, agree_sign, agree_suffix}
+use Rattle.lexical_parse_integer.proofs.theorems.SameFronts.{Agree, agree, agree_digit, agree_inside, agree_octal, agree_prefix, agree_row, agree_sign, agree_suffix}
 use Rattle.lexical_parse_integer.proofs.theorems.CompleteByPartial.{head_within, sign_within}
 use Rattle.lexical_parse_integer.proofs.reading.Soundness.{none_from_IsNone}
 use Rattle.lexical_parse_integer.proofs.reading.FormatBytes.{fits, fits_prefix}
 use Rattle.lexical_parse_integer.proofs.grammar.DigitsInARow.{EndsRow, has_digit, row_count, row_ends}
 use Rattle.lexical_parse_integer.proofs.grammar.PlaceSearch.{find_place}
+use Rattle.lexical_parse_integer.proofs.reading.OctalZeros.{bare_octal, bare_own}
 use Rattle.lexical_parse_integer.proofs.grammar.Stretches.{below_stop}
 use Rattle.lexical_parse_integer.proofs.theorems.EqualViews.{IsInjective, view_with_place_same}
 use Rattle.lexical_parse_integer.proofs.theorems.SettledAnswers.{IsReach, SettlesRow, digits_of_row, ends_low, front_of_row, has_zeros, head_behind_sign, head_row, outside_told, partial_by, partial_row, place_of_row, reach, settled_row, sign_fault_parts, zero_counts}
@@ -52,7 +53,7 @@ same_faults f t text other h x none a b c d =
     let start_other : (h.start == length other) ≡ false = ne_eqb h.start (length other) (λ e. omega arith) in
     let stop_text : (x.stop == length text) ≡ false = ne_eqb x.stop (length text) (λ e. omega arith) in
     let stop_other : (x.stop == length other) ≡ false = ne_eqb x.stop (length other) (λ e. omega arith) in
-    rw (none, start_text, start_other, stop_text, stop_other, and-false h.is_prefixed) refl
+    rw (none, start_text, start_other, stop_text, stop_other, and-false h.is_marked) refl
 
 module _ (f : Format) (t : IntegerType) (text other : List ℕ) (k : ℕ) (h : Head) (none : f.digit_separator ≡ None) (same : Agree (k + 1) text other) where
   digit_same : (j : ℕ) → j ≤ k → has_digit h.radix other j ≡ has_digit h.radix text j
@@ -82,7 +83,7 @@ module _ (f : Format) (t : IntegerType) (text other : List ℕ) (k : ℕ) (h : H
       partial_row f t other h count none head (omega arith) (same_ends count ends (omega arith) inside) ∙ ap (partial_by f t other h) numeral ∙ faults
 
   -- where a value leaves the type at the place
-  same_fault : (count m : ℕ) → EndsRow h.radix text h.start (h.start + count) → (h.is_prefixed && (h.start == length text)) ≡ false → has_zeros f h (head_row f text h count) ≡ false →
+  same_fault : (count m : ℕ) → EndsRow h.radix text h.start (h.start + count) → (h.is_marked && (h.start == length text)) ≡ false → has_zeros f h (head_row f text h count) ≡ false →
       first_outside t h.is_minus (head_row f text h count) ≡ Some m → get_or (head_row f text h count).places m 0 ≡ k → (get_or (head_row f text h count).digits 0 0 ≡ 0 → h.start + 1 ≤ k) → head_of f t other ≡ Ok h →
       partial f t other ≡ partial_by f t text h (head_row f text h count)
   unfolding range_fault
@@ -110,11 +111,11 @@ module _ (f : Format) (t : IntegerType) (text other : List ℕ) (k : ℕ) (h : H
       let more : m + 1 ≡ suc m = omega arith in
       let digits' : take (suc m) y.digits ≡ take (suc m) x.digits = rw more at digits in
       let first : get_or y.digits 0 0 ≡ get_or x.digits 0 0 = first_of_front m y.digits x.digits digits' in
-      let prefix' : (h.is_prefixed && (start == length other)) ≡ false = pair_false h.is_prefixed (start == length other) (ne_eqb start (length other) (λ e. omega arith)) in
-      let zeros_x : (((f.no_integer_leading_zeros && not h.is_prefixed) && nat_le 2 (digit_count y)) && (get_or x.digits 0 0 == 0)) ≡ false =
-      same_zeros (f.no_integer_leading_zeros && not h.is_prefixed) (digit_count x) (digit_count y) (get_or x.digits 0 0) zeros (λ one is. let far = deep is in absurd (omega arith)) in
-      let zeros' : (((f.no_integer_leading_zeros && not h.is_prefixed) && nat_le 2 (digit_count y)) && (get_or y.digits 0 0 == 0)) ≡ false =
-      ap (λ (d : ℕ). ((f.no_integer_leading_zeros && not h.is_prefixed) && nat_le 2 (digit_count y)) && (d == 0)) first ∙ zeros_x in
+      let prefix' : (h.is_marked && (start == length other)) ≡ false = pair_false h.is_marked (start == length other) (ne_eqb start (length other) (λ e. omega arith)) in
+      let zeros_x : (((f.no_integer_leading_zeros && not h.is_marked) && nat_le 2 (digit_count y)) && (get_or x.digits 0 0 == 0)) ≡ false =
+      same_zeros (f.no_integer_leading_zeros && not h.is_marked) (digit_count x) (digit_count y) (get_or x.digits 0 0) zeros (λ one is. let far = deep is in absurd (omega arith)) in
+      let zeros' : (((f.no_integer_leading_zeros && not h.is_marked) && nat_le 2 (digit_count y)) && (get_or y.digits 0 0 == 0)) ≡ false =
+      ap (λ (d : ℕ). ((f.no_integer_leading_zeros && not h.is_marked) && nat_le 2 (digit_count y)) && (d == 0)) first ∙ zeros_x in
       let left : partial_by f t other h y ≡ Err (range_error b (get_or y.places m 0)) = rw (prefix', zeros', outside') refl in
       let right : partial_by f t text h x ≡ Err (range_error b (get_or x.places m 0)) = rw (prefix, zeros, outside) refl in
       partial_row f t other h count' none head (omega arith) ends' ∙ left ∙ ap (λ (j : ℕ). Err (range_error b j)) (place' ∙ sym place) ∙ sym right
@@ -129,16 +130,25 @@ module _ (f : Format) (t : IntegerType) (text other : List ℕ) (k : ℕ) (h : H
       same_fault count w.0 ends w.1 w.2 w.3 w.4 (far.deep (omega (arith, told.0))) head
 
 -- where an answer is settled, the sign stands before; a zero behind it too
-sign_reach : (f : Format) (text : List ℕ) (s : Bool × ℕ) (p : Option ℕ) (count k : ℕ) → 2 ≤ (head_behind f s p).radix → (let h = head_behind f s p in EndsRow h.radix text h.start (h.start + count)) → (let h = head_behind f s p in IsReach h.radix text h.start count k) → (s.1 ≤ k) × (slice_get text s.1 ≡ Some 48 → s.1 + 1 ≤ k)
+sign_reach : (f : Format) (text : List ℕ) (s : Bool × ℕ) (p : Option ℕ) (count k : ℕ) → 2 ≤ (head_behind f text s p).radix → (let h = head_behind f text s p in EndsRow h.radix text h.start (h.start + count)) → (let h = head_behind f text s p in IsReach h.radix text h.start count k) → (s.1 ≤ k) × (slice_get text s.1 ≡ Some 48 → s.1 + 1 ≤ k)
 sign_reach f text s (Some r) count k radix ends far = let low = far.low in (omega arith, λ byte. omega arith)
 sign_reach f text s None count k radix ends far =
     let low = far.low in
-    (omega arith, λ byte. let first = zero_counts f.mantissa_radix text s.1 count radix byte ends in let deep = far.deep first.0 first.1 in omega arith)
+    (omega arith, λ byte. let first = zero_counts (bare_radix f text s.1) text s.1 count radix byte ends in let deep = far.deep first.0 first.1 in omega arith)
 
 -- each radix in force is at least 2
-radix_least : (f : Format) (text : List ℕ) (s : Bool × ℕ) (p : Option ℕ) → IsNone (fault f) → prefix_radix f text s.1 ≡ p → 2 ≤ (head_behind f s p).radix
-radix_least f text s None valid e = (fits f valid).is_radix.low
+radix_least : (f : Format) (text : List ℕ) (s : Bool × ℕ) (p : Option ℕ) → IsNone (fault f) → prefix_radix f text s.1 ≡ p → 2 ≤ (head_behind f text s p).radix
+radix_least f text s None valid e = by_zero (octal_zero_at f text s.1) refl
+  where
+    by_zero : (octal : Bool) → octal_zero_at f text s.1 ≡ octal → 2 ≤ bare_radix f text s.1
+    by_zero true o = subst (λ (r : ℕ). 2 ≤ r) (sym (bare_octal f text s.1 o)) (omega arith)
+    by_zero false o = subst (λ (r : ℕ). 2 ≤ r) (sym (bare_own f text s.1 o)) (fits f valid).is_radix.low
 radix_least f text s (Some r) valid e = (fits_prefix f text s.1 r valid e).is_radix.low
+
+-- a head hangs on the text by its octal zero alone
+same_head : (f : Format) (text other : List ℕ) (s : Bool × ℕ) (p : Option ℕ) → octal_zero_at f other s.1 ≡ octal_zero_at f text s.1 → head_behind f other s p ≡ head_behind f text s p
+same_head f text other s None same = ap (λ (o : Bool). record { is_minus = s.0; is_marked = o; start = s.1; radix = cond o 8 f.mantissa_radix }) same
+same_head f text other s (Some r) same = refl
 
 local_by : (f : Format) (t : IntegerType) → f.digit_separator ≡ None → IsNone (fault f) → IsLocal f t
 local_by f t none valid text other k settled front = by_sign (sign f t text) refl
@@ -153,7 +163,7 @@ local_by f t none valid text other k settled front = by_sign (sign f t text) ref
     by_sign (Err e) faulty = sign_fault_parts f t other e (sign_same ∙ faulty) ∙ sym (sign_fault_parts f t text e faulty)
     by_sign (Ok s) with_sign =
         let p : Option ℕ = prefix_radix f text s.1 in
-        let h : Head = head_behind f s p in
+        let h : Head = head_behind f text s p in
         let low : h.start ≤ length text = head_within f text s p (sign_within f t text s with_sign) refl in
         let count : ℕ = row_count f h.radix text h.start in
         let ends : EndsRow h.radix text h.start (h.start + count) = row_ends f h.radix text h.start none low in
@@ -162,7 +172,8 @@ local_by f t none valid text other k settled front = by_sign (sign f t text) ref
         let far : IsReach h.radix text h.start count k = reach f t text h count k ends settles in
         let behind = sign_reach f text s p count k (radix_least f text s p valid refl) ends far in
         let prefix = agree_prefix f (k + 1) s.1 text other same (omega (arith, behind.0)) (λ byte. let deep = behind.1 byte in omega arith) in
-        let head : head_of f t other ≡ Ok h = head_behind_sign f t other s (sign_same ∙ with_sign) ∙ ap (λ (q : Option ℕ). Ok (head_behind f s q)) (sym prefix) in
+        let octal = agree_octal f (k + 1) s.1 text other same (omega (arith, behind.0)) in
+        let head : head_of f t other ≡ Ok h = head_behind_sign f t other s (sign_same ∙ with_sign) ∙ ap Ok (same_head f text other s (prefix_radix f other s.1) (sym octal)) ∙ ap (λ (q : Option ℕ). Ok (head_behind f text s q)) (sym prefix) in
         same_answer f t text other k h none same count ends settles far head ∙ sym whole
 
 pub is_local : (f : Format) (t : IntegerType) → IsNone (fault f) → IsNone f.digit_separator → IsLocal f t

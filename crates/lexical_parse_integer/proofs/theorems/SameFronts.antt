@@ -1,18 +1,18 @@
 -- Texts with the same first bytes have the same digits and marks there: for `Locality`.
-use Rattle.std.proofs.Common.{◌≡◌, ℕ, zero, suc, ◌+◌, ◌<◌, ◌≤◌, Bool, true, false, List, [], ◌∷◌, length, refl, sym, ap, ◌∙◌, arith, Some, None, inl, inr, option_and_then, cond}
+use Rattle.std.proofs.Common.{◌≡◌, ℕ, zero, suc, ◌+◌, ◌<◌, ◌≤◌, Bool, true, false, ◌&&◌, List, [], ◌∷◌, length, refl, sym, ap, ◌∙◌, arith, Some, None, inl, inr, option_and_then, cond}
 use Rattle.std.proofs.lemmas.Bool.{cases_lt}
-use Rattle.std.proofs.lemmas.Bool.Decides.{nat_tests}
 use Rattle.std.proofs.lemmas.Option.{slice_get_past, slice_get-get_or}
 use Rattle.std.specs.Prelude.{slice_get, Option}
 use Rattle.std.specs.Option.{unwrap_or}
 use Rattle.lexical_util.specs.Digit.{digit}
 use Rattle.lexical_util.specs.Format.{Format}
 use Rattle.lexical_util.specs.Number.{IntegerType}
-use Rattle.lexical_parse_integer.specs.Affixes.{is_affix, marked_radix, prefix_radix, suffix_at}
+use Rattle.lexical_parse_integer.specs.Affixes.{is_affix, marked_radix, octal_zero_at, prefix_radix, suffix_at}
 use Rattle.lexical_parse_integer.specs.Head.{sign, sign_by}
 use Rattle.lexical_parse_integer.specs.Laws.{SameFront}
 use Rattle.lexical_parse_integer.specs.Runs.{are_same, digit_at}
 use Rattle.lexical_parse_integer.proofs.grammar.DigitsInARow.{row}
+use Rattle.lexical_parse_integer.proofs.reading.OctalZeros.{is_zero}
 
 -- both texts have the same byte at each of the first places, or both have none
 abbrev pub Agree : ℕ → List ℕ → List ℕ → Type 0
@@ -51,11 +51,6 @@ pub agree_sign : (f : Format) (t : IntegerType) (n : ℕ) (text other : List ℕ
 unfolding sign
 agree_sign f t n text other same l = ap (sign_by f t) (same 0 l)
 
-is_zero : (o : Option ℕ) → are_same (Some 48) o ≡ true → o ≡ Some 48
-unfolding are_same
-is_zero None h = cc
-is_zero (Some c) h = let e : c ≡ 48 = grind (arith, nat_tests) in ap Some e
-
 -- a prefix hangs on the byte at its place, and where that is a zero on the next one
 pub agree_prefix : (f : Format) (n k : ℕ) (text other : List ℕ) → Agree n text other → k < n → (slice_get text k ≡ Some 48 → k + 1 < n) → prefix_radix f text k ≡ prefix_radix f other k
 unfolding prefix_radix
@@ -71,6 +66,11 @@ agree_prefix f n k text other same l deep = by_zero (are_same (Some 48) (slice_g
     by_zero false e =
         let e' : are_same (Some 48) (slice_get other k) ≡ false = ap (are_same (Some 48)) (sym (same k l)) ∙ e in
         rw (e, e') refl
+
+-- an octal zero hangs on the byte at its place
+pub agree_octal : (f : Format) (n k : ℕ) (text other : List ℕ) → Agree n text other → k < n → octal_zero_at f text k ≡ octal_zero_at f other k
+unfolding octal_zero_at
+agree_octal f n k text other same l = ap (λ o. f.literal_octal_zero && are_same (Some 48) o) (same k l)
 
 -- digits in a row that both have
 pub agree_row : (r n start count : ℕ) (text other : List ℕ) → Agree n text other → start + count ≤ n → row r text start count ≡ row r other start count

@@ -36,7 +36,7 @@ pub partial_row : (f : Format) (t : IntegerType) (text : List ℕ) (h : Head) (c
 unfolding partial
 partial_row f t text h count none head low ends = rw (head, numeral_in_a_row f text h.start h.radix count none low ends) refl
 
-pub head_behind_sign : (f : Format) (t : IntegerType) (text : List ℕ) (s : Bool × ℕ) → sign f t text ≡ Ok s → head_of f t text ≡ Ok (head_behind f s (prefix_radix f text s.1))
+pub head_behind_sign : (f : Format) (t : IntegerType) (text : List ℕ) (s : Bool × ℕ) → sign f t text ≡ Ok s → head_of f t text ≡ Ok (head_behind f text s (prefix_radix f text s.1))
 unfolding head_of
 head_behind_sign f t text s sign_is = rw sign_is refl
 
@@ -63,11 +63,11 @@ settled_cases n k i j stop first_zero false false true minus None at v h = absur
 settled_cases n k i j stop first_zero false false false minus None at v h = inl (refl, refl, refl, refl, h.0, h.1)
 
 abbrev pub has_zeros : Format → Head → Numeral → Bool
-has_zeros f h x = ((f.no_integer_leading_zeros && not h.is_prefixed) && nat_le 2 (digit_count x)) && (slice_index x.digits 0 == 0)
+has_zeros f h x = ((f.no_integer_leading_zeros && not h.is_marked) && nat_le 2 (digit_count x)) && (slice_index x.digits 0 == 0)
 
 abbrev pub SettlesRow : Format → IntegerType → List ℕ → Head → Numeral → ℕ → Type 0
 SettlesRow f t text h x k =
-    Settles (length text) k x.stop (h.is_prefixed && (h.start == length text)) (has_zeros f h x) (first_outside t h.is_minus x)
+    Settles (length text) k x.stop (h.is_marked && (h.start == length text)) (has_zeros f h x) (first_outside t h.is_minus x)
     (λ j. slice_index x.places j) (lacks_digits f x && (is_some f.digit_separator || (x.stop == length text)))
 
 pub settled_row : (f : Format) (t : IntegerType) (text : List ℕ) (h : Head) (x : Numeral) (k : ℕ) → IsSettledAt (length text) k (partial_by f t text h x) → SettlesRow f t text h x k

@@ -49,7 +49,7 @@ pub fn parse_sign<T: Integer>(c: &mut Cursor<'_>) -> Result<bool>
     }
 }
 
-// Reads sign and prefix, and answers whether there is a minus and whether there is a prefix.
+// Reads sign and prefix, and answers whether there is a minus, and whether a prefix or an octal zero marks the radix.
 #[inline(always)]
 pub(crate) fn read_head<T: Integer>(c: &mut Cursor<'_>) -> Result<(bool, bool)>
     requires { c.old.position ≡ 0 }
@@ -61,14 +61,17 @@ pub(crate) fn read_head<T: Integer>(c: &mut Cursor<'_>) -> Result<(bool, bool)>
 {
     c.sound();
     let negative = parse_sign::<T>(c)?;
-    let is_prefixed = c.read_prefix();
-    Ok((negative, is_prefixed))
+    if c.read_prefix() {
+        return Ok((negative, true));
+    }
+    let is_octal = c.read_octal_zero();
+    Ok((negative, is_octal))
 }
 
 // Whether a prefix is all that there is.
 #[inline(always)]
-pub(crate) fn is_prefix_alone(c: &Cursor<'_>, is_prefixed: bool) -> bool
-    ensures { result ≡ (is_prefixed && (c.now.position == length c.now.bytes)) }
+pub(crate) fn is_prefix_alone(c: &Cursor<'_>, is_marked: bool) -> bool
+    ensures { result ≡ (is_marked && (c.now.position == length c.now.bytes)) }
 {
-    is_prefixed && c.is_buffer_empty()
+    is_marked && c.is_buffer_empty()
 }

@@ -251,12 +251,50 @@ impl NumberFormatBuilder {
         self
     }
 
+    /// Sets whether separators may stand directly behind a prefix:
+    ///
+    /// ```rust
+    /// // 0x_1F and 0x1_F, but not _1F.
+    /// let format = NumberFormatBuilder::new()
+    ///     .literal_prefixes(true)
+    ///     .digit_separator(Some(b'_'))
+    ///     .integer_internal_digit_separator(true)
+    ///     .integer_prefix_digit_separator(true)
+    ///     .build_strict();
+    /// ```
+    #[inline]
+    pub fn integer_prefix_digit_separator(mut self, value: bool) -> Self
+        ensures { result ≡ record self { integer_prefix_digit_separator = value } }
+    {
+        self.format.integer_prefix_digit_separator = value;
+        self
+    }
+
     /// Sets whether the text may choose its radix by `0x`, `0o` or `0b`.
     #[inline]
     pub fn literal_prefixes(mut self, value: bool) -> Self
         ensures { result ≡ record self { literal_prefixes = value } }
     {
         self.format.literal_prefixes = value;
+        self
+    }
+
+    /// Sets whether a zero in front makes a numeral octal:
+    ///
+    /// ```rust
+    /// // C's integers: 511, 0777, 0x1FF and 1'000.
+    /// let format = NumberFormatBuilder::new()
+    ///     .literal_prefixes(true)
+    ///     .literal_octal_zero(true)
+    ///     .digit_separator(Some(b'\''))
+    ///     .integer_internal_digit_separator(true)
+    ///     .build_strict();
+    /// ```
+    #[inline]
+    pub fn literal_octal_zero(mut self, value: bool) -> Self
+        ensures { result ≡ record self { literal_octal_zero = value } }
+    {
+        self.format.literal_octal_zero = value;
         self
     }
 

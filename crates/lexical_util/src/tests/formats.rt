@@ -5,7 +5,7 @@ use crate::format::{JSON, NumberFormat, NumberFormatBuilder, STANDARD};
 use std::test::Fail;
 
 // The flags of a format, in the order of the setters below.
-fn flags_of(format: &NumberFormat) -> [bool; 12] {
+fn flags_of(format: &NumberFormat) -> [bool; 14] {
     [
         format.case_sensitive_base_prefix(),
         format.case_sensitive_base_suffix(),
@@ -18,14 +18,16 @@ fn flags_of(format: &NumberFormat) -> [bool; 12] {
         format.integer_internal_digit_separator(),
         format.integer_trailing_digit_separator(),
         format.integer_consecutive_digit_separator(),
+        format.integer_prefix_digit_separator(),
         format.literal_prefixes(),
+        format.literal_octal_zero(),
     ]
 }
 
 #[test]
 fn each_flag_alone(rt: HostRuntime) -> Result<(), Fail> {
     let bare = NumberFormatBuilder::new().required_digits(false);
-    assert_eq!(rt; flags_of(&bare.build_strict()), [false; 12]);
+    assert_eq!(rt; flags_of(&bare.build_strict()), [false; 14]);
     assert!(rt; !bare.build_strict().required_digits());
     for (i, builder) in [
         bare.case_sensitive_base_prefix(true),
@@ -39,12 +41,14 @@ fn each_flag_alone(rt: HostRuntime) -> Result<(), Fail> {
         bare.integer_internal_digit_separator(true),
         bare.integer_trailing_digit_separator(true),
         bare.integer_consecutive_digit_separator(true),
+        bare.integer_prefix_digit_separator(true),
         bare.literal_prefixes(true),
+        bare.literal_octal_zero(true),
     ]
     .iter()
     .enumerate()
     {
-        let mut want = [false; 12];
+        let mut want = [false; 14];
         want[i] = true;
         let format = builder.build_unchecked();
         assert_eq!(rt; flags_of(&format), want, "flag {i}");
@@ -94,7 +98,8 @@ fn other_setters(rt: HostRuntime) {
 #[test]
 fn ready_made_formats(rt: HostRuntime) {
     let digits_required = [
-        false, false, false, true, false, false, false, false, false, false, false, false,
+        false, false, false, true, false, false, false, false, false, false, false, false, false,
+        false,
     ];
     for (format, radix) in [
         (STANDARD, 10),
@@ -226,6 +231,30 @@ fn literal_prefixes_beside_other_fields(rt: HostRuntime) -> Result<(), Fail> {
         ),
     ] {
         let builder = builder.literal_prefixes(true);
+        assert_eq!(rt; builder.build_unchecked().error(), want, "{builder:?}");
+        assert_eq!(rt; builder.is_valid(), want.is_none(), "{builder:?}");
+    }
+    Ok(())
+}
+
+#[test]
+fn octal_zeros_beside_other_fields(rt: HostRuntime) -> Result<(), Fail> {
+    let literals = Some(Error::InvalidLiteralPrefixes);
+    for (builder, want) in [
+        (marked(10, None, None, None), None),
+        (marked(10, Some(b'a'), Some(b'x'), Some(b'o')), None),
+        (marked(8, None, None, None), literals),
+        (marked(16, None, None, None), literals),
+        (
+            marked(16, None, Some(b'x'), Some(b'X')),
+            Some(Error::InvalidPunctuation),
+        ),
+        (
+            marked(37, None, Some(b'd'), None),
+            Some(Error::InvalidMantissaRadix),
+        ),
+    ] {
+        let builder = builder.literal_octal_zero(true);
         assert_eq!(rt; builder.build_unchecked().error(), want, "{builder:?}");
         assert_eq!(rt; builder.is_valid(), want.is_none(), "{builder:?}");
     }

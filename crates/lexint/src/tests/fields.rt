@@ -65,6 +65,10 @@ fn radix_prefix_and_suffix_are_in_force(rt: HostRuntime) -> Result<(), Fail> {
                 b"f literal_prefixes true\np u64 0x1F;\nc u32 0b101\nc u8 0o400\nr\nc u32 0x1F\n",
                 b"ok\nok 31 4\nok 5\nerr Overflow 4\nok\nerr InvalidDigit 1\n",
             ),
+            (
+                b"f literal_octal_zero true\nc u32 0777\nc u8 0400\np u32 08\nf mantissa_radix 8\nc u8 1\n",
+                b"ok\nok 511\nerr Overflow 3\nok 0 1\nok\nerr InvalidLiteralPrefixes\n",
+            ),
         ],
     )?;
     Ok(())
@@ -123,6 +127,10 @@ fn each_separator_flag_is_in_force(rt: HostRuntime) -> Result<(), Fail> {
             (
                 b"f digit_separator _\nf integer_trailing_digit_separator true\nf integer_consecutive_digit_separator true\np i64 1__\n",
                 b"ok\nok\nok\nok 1 3\n",
+            ),
+            (
+                b"f literal_prefixes true\nf digit_separator _\nf integer_prefix_digit_separator true\np i64 0x_1_\np i64 _1\n",
+                b"ok\nok\nok\nok 1 4\nerr Empty 0\n",
             ),
         ],
     )?;

@@ -6,7 +6,7 @@ use Rattle.lexical_util.specs.declared.error.Error.TheVariants.{InvalidMantissaR
 use Rattle.lexical_util.specs.Format.{standard, json}
 use Rattle.lexical_util.specs.Number.{IntegerType, integer_type}
 use Rattle.lexical_util.specs.Validity.{fault}
-use Rattle.lexical_parse_integer.specs.Affixes.{is_affix, literal_radix, marked_radix, matches, numeral_stop, prefix_radix, suffix_at}
+use Rattle.lexical_parse_integer.specs.Affixes.{is_affix, literal_radix, marked_radix, matches, numeral_stop, octal_zero_at, prefix_radix, suffix_at}
 use Rattle.lexical_parse_integer.specs.Grammar.{complete, complete_if_valid, partial, partial_if_valid, range_fault}
 use Rattle.lexical_parse_integer.specs.Head.{head_of, sign}
 use Rattle.lexical_parse_integer.specs.Numeral.{numeral_in}
@@ -42,11 +42,11 @@ broken_radix_7 : fault (record standard { mantissa_radix = 1; base_prefix = Some
 broken_radix_7 = refl
 
 broken_radix_8 : complete_if_valid (record standard { mantissa_radix = 1 }) u8 (codes "0") ≡ Err InvalidMantissaRadix
-unfolding complete partial numeral_in head_of sign range_fault begin_of digit_at are_same separator_at flag_for run_passes is_in_numeral end_of digits_between matches is_affix literal_radix marked_radix prefix_radix suffix_at numeral_stop
+unfolding complete partial numeral_in head_of sign range_fault begin_of digit_at are_same separator_at flag_for run_passes is_in_numeral end_of digits_between matches is_affix literal_radix marked_radix octal_zero_at prefix_radix suffix_at numeral_stop
 broken_radix_8 = refl
 
 broken_radix_9 : partial_if_valid (record standard { mantissa_radix = 1 }) u8 (codes "0") ≡ Err InvalidMantissaRadix
-unfolding complete partial numeral_in head_of sign range_fault begin_of digit_at are_same separator_at flag_for run_passes is_in_numeral end_of digits_between matches is_affix literal_radix marked_radix prefix_radix suffix_at numeral_stop
+unfolding complete partial numeral_in head_of sign range_fault begin_of digit_at are_same separator_at flag_for run_passes is_in_numeral end_of digits_between matches is_affix literal_radix marked_radix octal_zero_at prefix_radix suffix_at numeral_stop
 broken_radix_9 = refl
 
 -- ---- a separator is ASCII, no sign, and no digit of the radix
@@ -183,6 +183,56 @@ broken_literals_15 = refl
 broken_literals_16 : fault (record standard { literal_prefixes = true; digit_separator = Some 103; base_suffix = Some 121 }) ≡ None
 broken_literals_16 = refl
 
+broken_literals_17 : fault (record standard { digit_separator = Some 95; integer_prefix_digit_separator = true }) ≡ None
+broken_literals_17 = refl
+
+-- ---- octal zeros ask for radix 10, and for nothing else
+
+broken_octal_zeros_1 : fault (record standard { literal_octal_zero = true }) ≡ None
+broken_octal_zeros_1 = refl
+
+broken_octal_zeros_2 : fault (record standard { literal_octal_zero = true; literal_prefixes = true }) ≡ None
+broken_octal_zeros_2 = refl
+
+broken_octal_zeros_3 : fault (record standard { literal_octal_zero = true; base_prefix = Some 120; digit_separator = Some 95; base_suffix = Some 104 }) ≡ None
+broken_octal_zeros_3 = refl
+
+broken_octal_zeros_4 : fault (record standard { literal_octal_zero = true; digit_separator = Some 97; base_suffix = Some 98 }) ≡ None
+broken_octal_zeros_4 = refl
+
+broken_octal_zeros_5 : fault (record standard { literal_octal_zero = true; base_prefix = Some 111 }) ≡ None
+broken_octal_zeros_5 = refl
+
+broken_octal_zeros_6 : fault (record standard { literal_octal_zero = true; mantissa_radix = 8 }) ≡ Some InvalidLiteralPrefixes
+broken_octal_zeros_6 = refl
+
+broken_octal_zeros_7 : fault (record standard { literal_octal_zero = true; mantissa_radix = 9 }) ≡ Some InvalidLiteralPrefixes
+broken_octal_zeros_7 = refl
+
+broken_octal_zeros_8 : fault (record standard { literal_octal_zero = true; mantissa_radix = 11 }) ≡ Some InvalidLiteralPrefixes
+broken_octal_zeros_8 = refl
+
+broken_octal_zeros_9 : fault (record standard { literal_octal_zero = true; mantissa_radix = 16 }) ≡ Some InvalidLiteralPrefixes
+broken_octal_zeros_9 = refl
+
+broken_octal_zeros_10 : fault (record standard { literal_octal_zero = true; literal_prefixes = true; mantissa_radix = 16 }) ≡ Some InvalidLiteralPrefixes
+broken_octal_zeros_10 = refl
+
+broken_octal_zeros_11 : fault (record standard { literal_octal_zero = true; literal_prefixes = true; base_suffix = Some 98 }) ≡ Some InvalidLiteralPrefixes
+broken_octal_zeros_11 = refl
+
+broken_octal_zeros_12 : fault (record standard { literal_octal_zero = true; literal_prefixes = true; base_prefix = Some 100 }) ≡ Some InvalidLiteralPrefixes
+broken_octal_zeros_12 = refl
+
+broken_octal_zeros_13 : fault (record standard { literal_octal_zero = true; mantissa_radix = 16; base_prefix = Some 120; base_suffix = Some 88 }) ≡ Some InvalidPunctuation
+broken_octal_zeros_13 = refl
+
+broken_octal_zeros_14 : fault (record standard { literal_octal_zero = true; mantissa_radix = 37 }) ≡ Some InvalidMantissaRadix
+broken_octal_zeros_14 = refl
+
+broken_octal_zeros_15 : fault (record standard { literal_octal_zero = true; mantissa_radix = 16; base_suffix = Some 102 }) ≡ Some InvalidBaseSuffix
+broken_octal_zeros_15 = refl
+
 -- ---- formats that break no rule
 
 valid_1 : fault standard ≡ None
@@ -245,41 +295,41 @@ valid_punctuation_7 = refl
 -- ---- an invalid format is refused before any byte is judged
 
 refused_formats_1 : complete_if_valid (record standard { mantissa_radix = 37; base_prefix = Some 43 }) u8 (codes "256") ≡ Err InvalidMantissaRadix
-unfolding complete partial numeral_in head_of sign range_fault begin_of digit_at are_same separator_at flag_for run_passes is_in_numeral end_of digits_between matches is_affix literal_radix marked_radix prefix_radix suffix_at numeral_stop
+unfolding complete partial numeral_in head_of sign range_fault begin_of digit_at are_same separator_at flag_for run_passes is_in_numeral end_of digits_between matches is_affix literal_radix marked_radix octal_zero_at prefix_radix suffix_at numeral_stop
 refused_formats_1 = refl
 
 refused_formats_2 : partial_if_valid (record standard { mantissa_radix = 37; base_prefix = Some 43 }) u8 (codes "256") ≡ Err InvalidMantissaRadix
-unfolding complete partial numeral_in head_of sign range_fault begin_of digit_at are_same separator_at flag_for run_passes is_in_numeral end_of digits_between matches is_affix literal_radix marked_radix prefix_radix suffix_at numeral_stop
+unfolding complete partial numeral_in head_of sign range_fault begin_of digit_at are_same separator_at flag_for run_passes is_in_numeral end_of digits_between matches is_affix literal_radix marked_radix octal_zero_at prefix_radix suffix_at numeral_stop
 refused_formats_2 = refl
 
 refused_formats_3 : complete_if_valid (record standard { digit_separator = Some 43; base_prefix = Some 48 }) u8 (codes "+") ≡ Err InvalidDigitSeparator
-unfolding complete partial numeral_in head_of sign range_fault begin_of digit_at are_same separator_at flag_for run_passes is_in_numeral end_of digits_between matches is_affix literal_radix marked_radix prefix_radix suffix_at numeral_stop
+unfolding complete partial numeral_in head_of sign range_fault begin_of digit_at are_same separator_at flag_for run_passes is_in_numeral end_of digits_between matches is_affix literal_radix marked_radix octal_zero_at prefix_radix suffix_at numeral_stop
 refused_formats_3 = refl
 
 refused_formats_4 : partial_if_valid (record standard { digit_separator = Some 43; base_prefix = Some 48 }) u8 (codes "+") ≡ Err InvalidDigitSeparator
-unfolding complete partial numeral_in head_of sign range_fault begin_of digit_at are_same separator_at flag_for run_passes is_in_numeral end_of digits_between matches is_affix literal_radix marked_radix prefix_radix suffix_at numeral_stop
+unfolding complete partial numeral_in head_of sign range_fault begin_of digit_at are_same separator_at flag_for run_passes is_in_numeral end_of digits_between matches is_affix literal_radix marked_radix octal_zero_at prefix_radix suffix_at numeral_stop
 refused_formats_4 = refl
 
 refused_formats_5 : complete_if_valid (record standard { base_prefix = Some 45; base_suffix = Some 57; no_positive_mantissa_sign = true }) i32 (codes "+1") ≡ Err InvalidBasePrefix
-unfolding complete partial numeral_in head_of sign range_fault begin_of digit_at are_same separator_at flag_for run_passes is_in_numeral end_of digits_between matches is_affix literal_radix marked_radix prefix_radix suffix_at numeral_stop
+unfolding complete partial numeral_in head_of sign range_fault begin_of digit_at are_same separator_at flag_for run_passes is_in_numeral end_of digits_between matches is_affix literal_radix marked_radix octal_zero_at prefix_radix suffix_at numeral_stop
 refused_formats_5 = refl
 
 refused_formats_6 : partial_if_valid (record standard { base_prefix = Some 45; base_suffix = Some 57; no_positive_mantissa_sign = true }) i32 (codes "+1") ≡ Err InvalidBasePrefix
-unfolding complete partial numeral_in head_of sign range_fault begin_of digit_at are_same separator_at flag_for run_passes is_in_numeral end_of digits_between matches is_affix literal_radix marked_radix prefix_radix suffix_at numeral_stop
+unfolding complete partial numeral_in head_of sign range_fault begin_of digit_at are_same separator_at flag_for run_passes is_in_numeral end_of digits_between matches is_affix literal_radix marked_radix octal_zero_at prefix_radix suffix_at numeral_stop
 refused_formats_6 = refl
 
 refused_formats_7 : complete_if_valid (record standard { base_suffix = Some 57; digit_separator = Some 95; base_prefix = Some 95; required_mantissa_sign = true }) i32 (codes "1") ≡ Err InvalidBaseSuffix
-unfolding complete partial numeral_in head_of sign range_fault begin_of digit_at are_same separator_at flag_for run_passes is_in_numeral end_of digits_between matches is_affix literal_radix marked_radix prefix_radix suffix_at numeral_stop
+unfolding complete partial numeral_in head_of sign range_fault begin_of digit_at are_same separator_at flag_for run_passes is_in_numeral end_of digits_between matches is_affix literal_radix marked_radix octal_zero_at prefix_radix suffix_at numeral_stop
 refused_formats_7 = refl
 
 refused_formats_8 : partial_if_valid (record standard { base_suffix = Some 57; digit_separator = Some 95; base_prefix = Some 95; required_mantissa_sign = true }) i32 (codes "1") ≡ Err InvalidBaseSuffix
-unfolding complete partial numeral_in head_of sign range_fault begin_of digit_at are_same separator_at flag_for run_passes is_in_numeral end_of digits_between matches is_affix literal_radix marked_radix prefix_radix suffix_at numeral_stop
+unfolding complete partial numeral_in head_of sign range_fault begin_of digit_at are_same separator_at flag_for run_passes is_in_numeral end_of digits_between matches is_affix literal_radix marked_radix octal_zero_at prefix_radix suffix_at numeral_stop
 refused_formats_8 = refl
 
 refused_formats_9 : complete_if_valid (record standard { base_prefix = Some 120; base_suffix = Some 88 }) i32 (codes "0x") ≡ Err InvalidPunctuation
-unfolding complete partial numeral_in head_of sign range_fault begin_of digit_at are_same separator_at flag_for run_passes is_in_numeral end_of digits_between matches is_affix literal_radix marked_radix prefix_radix suffix_at numeral_stop
+unfolding complete partial numeral_in head_of sign range_fault begin_of digit_at are_same separator_at flag_for run_passes is_in_numeral end_of digits_between matches is_affix literal_radix marked_radix octal_zero_at prefix_radix suffix_at numeral_stop
 refused_formats_9 = refl
 
 refused_formats_10 : partial_if_valid (record standard { base_prefix = Some 120; base_suffix = Some 88 }) i32 (codes "0x") ≡ Err InvalidPunctuation
-unfolding complete partial numeral_in head_of sign range_fault begin_of digit_at are_same separator_at flag_for run_passes is_in_numeral end_of digits_between matches is_affix literal_radix marked_radix prefix_radix suffix_at numeral_stop
+unfolding complete partial numeral_in head_of sign range_fault begin_of digit_at are_same separator_at flag_for run_passes is_in_numeral end_of digits_between matches is_affix literal_radix marked_radix octal_zero_at prefix_radix suffix_at numeral_stop
 refused_formats_10 = refl

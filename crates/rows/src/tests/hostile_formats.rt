@@ -171,8 +171,10 @@ fn first_broken(format: &NumberFormat) -> Option<Error> {
     let is_punctuation_alike = are_alike(separator, prefix)
         || are_alike(separator, suffix)
         || are_alike(prefix, suffix);
-    let is_literal_broken = format.literal_prefixes()
-        && (radix != 10 || prefix.is_some() || is_in_literals(separator) || is_in_literals(suffix));
+    let chooses_radix = format.literal_prefixes() || format.literal_octal_zero();
+    let is_literal_broken = (chooses_radix && radix != 10)
+        || format.literal_prefixes()
+        && (prefix.is_some() || is_in_literals(separator) || is_in_literals(suffix));
     [
         (radix < 2 || radix > 36, Error::InvalidMantissaRadix),
         (is_unfit(separator, radix), Error::InvalidDigitSeparator),

@@ -14,6 +14,7 @@ pub(super) type Number = (bool, u128);
 struct Head {
     is_negative: bool,
     is_prefixed: bool,
+    is_octal: bool,
     start: usize,
     radix: u32,
 }
@@ -23,6 +24,7 @@ struct Head {
 struct Region<'a> {
     text: &'a [u8],
     format: NumberFormat,
+    is_prefixed: bool,
     start: usize,
     radix: u32,
 }
@@ -93,20 +95,28 @@ fn prefixed(text: &[u8], format: &NumberFormat, place: usize) -> Option<u32> {
     None
 }
 
+// Whether the zero at this place makes the numeral octal.
+fn is_octal_zero(text: &[u8], format: &NumberFormat, place: usize) -> bool {
+    format.literal_octal_zero() && text.get(place).copied() == Some(b'0')
+}
+
 fn head_of(text: &[u8], format: &NumberFormat, is_signed: bool) -> Result<Head> {
     let (is_negative, place) = sign(text, format, is_signed)?;
+    let is_octal = is_octal_zero(text, format, place);
     let head = match prefixed(text, format, place) {
         Some(radix) => Head {
             is_negative,
             is_prefixed: true,
+            is_octal: false,
             start: place.saturating_add(2),
             radix,
         },
         None => Head {
             is_negative,
             is_prefixed: false,
+            is_octal,
             start: place,
-            radix: format.radix(),
+            radix: if is_octal { 8 } else { format.radix() },
         },
     };
     Ok(head)
@@ -148,14 +158,13 @@ impl Region<'_> {
         let (first, last) = self.run(place);
         let is_before = first > 0 && self.digit_at(first - 1).is_some();
         let is_behind = self.digit_at(last.saturating_add(1)).is_some();
+        let is_leading = format.integer_leading_digit_separator()
+            || (self.is_prefixed && format.integer_prefix_digit_separator());
         let is_placed = match (is_before, is_behind) {
             (true, true) => format.integer_internal_digit_separator(),
-            (false, true) => format.integer_leading_digit_separator(),
+            (false, true) => is_leading,
             (true, false) => format.integer_trailing_digit_separator(),
-            (false, false) => {
-                format.integer_leading_digit_separator()
-                    || format.integer_trailing_digit_separator()
-            }
+            (false, false) => is_leading || format.integer_trailing_digit_separator(),
         };
         is_placed && (first == last || format.integer_consecutive_digit_separator())
     }
@@ -266,11 +275,12 @@ pub(super) fn read(
     let region = Region {
         text,
         format: *format,
+        is_prefixed: head.is_prefixed,
         start: head.start,
         radix: head.radix,
     };
     let numeral = region.numeral();
-    if format.no_integer_leading_zeros() && !head.is_prefixed {
+    if format.no_integer_leading_zeros() && !head.is_prefixed && !head.is_octal {
         if numeral.count >= 2 && numeral.digits[0] == 0 {
             return Err(Error::InvalidLeadingZeros(numeral.places[0]));
         }

@@ -105,6 +105,33 @@ fn small_texts_with_literal_prefixes(rt: HostRuntime) {
     flagged(&rt, literals.base_suffix(Some(b'h')), &PLAIN);
 }
 
+#[test]
+fn small_texts_with_separators_behind_prefixes(rt: HostRuntime) {
+    let behind = with_affixes().integer_prefix_digit_separator(true);
+    flagged(&rt, behind, &PLAIN);
+    flagged(&rt, behind.required_digits(false), &PLAIN);
+    let literals = NumberFormatBuilder::new()
+        .literal_prefixes(true)
+        .integer_prefix_digit_separator(true);
+    flagged(&rt, literals, &LITERAL);
+}
+
+#[test]
+fn small_texts_with_octal_zeros(rt: HostRuntime) {
+    let octal = NumberFormatBuilder::new().literal_octal_zero(true);
+    flagged(&rt, octal, &LITERAL);
+    flagged(&rt, octal.no_integer_leading_zeros(true), &PLAIN);
+    flagged(
+        &rt,
+        octal
+            .literal_prefixes(true)
+            .integer_prefix_digit_separator(true),
+        &LITERAL,
+    );
+    up_to_five(&rt, octal, &LITERAL);
+    up_to_five(&rt, octal.no_integer_leading_zeros(true), &PLAIN);
+}
+
 // Where there is no separator, digits are taken by words: of four here, and a byte before or behind it.
 fn up_to_five(rt: &impl Abort, builder: NumberFormatBuilder, bytes: &[u8; 9]) {
     let format = builder.build_unchecked();
