@@ -66,15 +66,15 @@ empty_front = (refl, refl)
 -- ---- the front's digits: `1x` stops after a digit, and `+a` after none; behind the trailing separator of `1_` there is
 -- none though a digit was read
 after_digit : (partial standard u8 (49 ∷ 120 ∷ []) ≡ Ok (pos 1, 1)) × (stops_after_digit 10 (49 ∷ 120 ∷ []) 1 ≡ true)
-unfolding partial numeral_in numeral_stop head_of sign prefix_radix marked_radix literal_radix suffix_at is_affix range_fault end_of is_in_numeral run_passes flag_for begin_of digits_between digit_at separator_at are_same
+unfolding partial numeral_in numeral_stop head_of sign octal_zero_at prefix_radix marked_radix literal_radix suffix_at is_affix range_fault end_of is_in_numeral run_passes flag_for begin_of digits_between digit_at separator_at are_same
 after_digit = (refl, refl)
 
 after_none : (partial standard u8 (43 ∷ 97 ∷ []) ≡ Ok (pos 0, 1)) × (stops_after_digit 10 (43 ∷ 97 ∷ []) 1 ≡ false)
-unfolding partial numeral_in numeral_stop head_of sign prefix_radix marked_radix literal_radix suffix_at is_affix range_fault end_of is_in_numeral run_passes flag_for begin_of digits_between digit_at separator_at are_same
+unfolding partial numeral_in numeral_stop head_of sign octal_zero_at prefix_radix marked_radix literal_radix suffix_at is_affix range_fault end_of is_in_numeral run_passes flag_for begin_of digits_between digit_at separator_at are_same
 after_none = (refl, refl)
 
 after_separator : (partial trailing u8 (49 ∷ 95 ∷ []) ≡ Ok (pos 1, 2)) × (stops_after_digit 10 (49 ∷ 95 ∷ []) 2 ≡ false)
-unfolding partial numeral_in numeral_stop head_of sign prefix_radix marked_radix literal_radix suffix_at is_affix range_fault end_of is_in_numeral run_passes flag_for begin_of digits_between digit_at separator_at are_same
+unfolding partial numeral_in numeral_stop head_of sign octal_zero_at prefix_radix marked_radix literal_radix suffix_at is_affix range_fault end_of is_in_numeral run_passes flag_for begin_of digits_between digit_at separator_at are_same
 after_separator = (refl, refl)
 
 -- ---- complete and partial: each of the sentences has a text
