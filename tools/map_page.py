@@ -25,7 +25,7 @@ OF_ONE_FUNCTION = ("Answers.antt", "Invariants.antt", "Proof.antt")
 
 def comment_of(path: str) -> str | None:
     """The first sentence of the comment that a file begins with."""
-    name, ending = os.path.basename(path), os.path.splitext(path)[1]
+    name, ending = os.path.basename(path), os.path.splitext(path.removesuffix(".in"))[1]
     if name in WITHOUT_COMMENT:
         return WITHOUT_COMMENT[name]
     with open(path, encoding="utf-8") as file:
