@@ -21,7 +21,7 @@ mod zeros;
 
 use crate::algorithm::head::{is_prefix_alone, read_head};
 use crate::algorithm::numeral::read_digits;
-use crate::algorithm::plain::settled;
+use crate::algorithm::plain::{settled, settled_front};
 use crate::algorithm::zeros::read_first;
 use crate::cursor::Cursor;
 use crate::options::{self, Options};
@@ -196,5 +196,30 @@ pub fn algorithm_partial<T: Integer>(
     requires valid { IsNone (fault format.now) }
     ensures { view_of (with_place T.number) result ≡ partial format.now T.TYPE bytes.now }
 {
+    match settled_front::<T>(bytes, format) {
+        Some(found) => Ok(found),
+        None => partial_over_cursor::<T>(bytes, format, options),
+    }
+}
+
+// The way of all texts, out of line as that of the complete parser.
+#[inline(never)]
+fn partial_over_cursor<T: Integer>(
+    bytes: &[u8],
+    format: &NumberFormat,
+    options: &Options,
+) -> Result<(T, usize)>
+    requires valid { IsNone (fault format.now) }
+    ensures { view_of (with_place T.number) result ≡ partial format.now T.TYPE bytes.now }
+{
     algorithm_partial_on::<T>(&mut Cursor::new(bytes, format), options)
+}
+
+// The same under the standard format.
+#[inline(never)]
+pub(crate) fn standard_partial_over_cursor<T: Integer>(bytes: &[u8]) -> Result<(T, usize)>
+    ensures { view_of (with_place T.number) result ≡ partial standard T.TYPE bytes.now }
+{
+    let mut front = Cursor::new(bytes, &format::STANDARD);
+    algorithm_partial_on::<T>(&mut front, &options::STANDARD)
 }

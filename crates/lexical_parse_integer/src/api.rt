@@ -6,9 +6,8 @@ ghost use Rattle.lexical_parse_integer.specs.Grammar.{complete, complete_if_vali
 
 mod impls;
 
-use crate::algorithm::plain::settled;
-use crate::algorithm::{algorithm_partial, standard_over_cursor};
-use crate::options;
+use crate::algorithm::plain::{settled, settled_front};
+use crate::algorithm::{standard_over_cursor, standard_partial_over_cursor};
 use lexical_util::format::{self, NumberFormat};
 use lexical_util::num::Integer;
 use lexical_util::options::ParseOptions;
@@ -32,7 +31,10 @@ pub trait FromLexical: Integer {
     fn from_lexical_partial(bytes: &[u8]) -> Result<(Self, usize)>
         ensures { view_of (with_place Self.number) result ≡ partial standard Self.TYPE bytes.now }
     {
-        algorithm_partial::<Self>(bytes, &format::STANDARD, &options::STANDARD)
+        match settled_front::<Self>(bytes, &format::STANDARD) {
+            Some(found) => Ok(found),
+            None => standard_partial_over_cursor::<Self>(bytes),
+        }
     }
 }
 

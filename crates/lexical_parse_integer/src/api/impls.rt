@@ -3,12 +3,11 @@ ghost use Rattle.std.specs.Prelude.{◌≡◌};
 ghost use Rattle.lexical_parse_integer.specs.Answer.{with_place, view_of};
 ghost use Rattle.lexical_parse_integer.specs.Grammar.{complete_if_valid, partial_if_valid};
 
-use crate::algorithm::algorithm_complete_on;
-use crate::algorithm::plain::settled;
+use crate::algorithm::plain::{settled, settled_front};
+use crate::algorithm::{algorithm_complete_on, algorithm_partial_on};
 use crate::api::{FromLexical, FromLexicalWithOptions};
 use crate::cursor::Cursor;
 use crate::options::Options;
-use crate::parse::ParseInteger;
 use lexical_util::format::NumberFormat;
 use lexical_util::num::Integer;
 use lexical_util::result::Result;
@@ -41,7 +40,22 @@ fn complete_if_valid<T: Integer>(
 
 // The partial answer under a format that may be invalid.
 #[inline(always)]
-fn partial<T: ParseInteger>(
+fn partial<T: Integer>(
+    bytes: &[u8],
+    format: &NumberFormat,
+    options: &Options,
+) -> Result<(T, usize)>
+    ensures { view_of (with_place T.number) result ≡ partial_if_valid format.now T.TYPE bytes.now }
+{
+    match settled_front::<T>(bytes, format) {
+        Some(found) => Ok(found),
+        None => partial_if_valid::<T>(bytes, format, options),
+    }
+}
+
+// The same for every text, in one call as the complete parser.
+#[inline(never)]
+fn partial_if_valid<T: Integer>(
     bytes: &[u8],
     format: &NumberFormat,
     options: &Options,
@@ -49,8 +63,8 @@ fn partial<T: ParseInteger>(
     ensures { view_of (with_place T.number) result ≡ partial_if_valid format.now T.TYPE bytes.now }
 {
     match format.error() {
-        Some(fault) => Err(fault),
-        None => T::parse_partial(bytes, format, options),
+        Some(broken) => Err(broken),
+        None => algorithm_partial_on::<T>(&mut Cursor::new(bytes, format), options),
     }
 }
 

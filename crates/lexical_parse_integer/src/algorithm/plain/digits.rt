@@ -7,7 +7,7 @@ ghost use Rattle.lexical_parse_integer.specs.Words.{AreDigits, word_bytes, word_
 use crate::algorithm::words::{is_8digits, parse_8digits};
 
 // Eight digits 0.
-const ZEROS: u64 = 0x3030_3030_3030_3030;
+pub(super) const ZEROS: u64 = 0x3030_3030_3030_3030;
 
 // What is added to a minus to make it the digit 0.
 #[inline(always)]
@@ -19,7 +19,7 @@ pub(super) fn minus_more(negative: bool) -> u8
 
 // Eight bytes of a text.
 #[inline(always)]
-fn word_at(text: &[u8], at: usize) -> u64
+pub(super) fn word_at(text: &[u8], at: usize) -> u64
     requires { at + 8 ≤ length text.now }
     ensures { result ≡ bytes_number (slice_range text.now at (at + 8)) }
 {
@@ -39,7 +39,7 @@ fn half_at(text: &[u8], at: usize) -> u64
 
 // The digits 0 that fill a word below a shift.
 #[inline(always)]
-fn zeros_below(shift: u32) -> u64
+pub(super) fn zeros_below(shift: u32) -> u64
     requires { shift < 64 }
     ensures { result ≡ 3472328296227680304 % 2 ^ shift }
 {
@@ -48,7 +48,7 @@ fn zeros_below(shift: u32) -> u64
 
 // The number that a word of eight digits writes.
 #[inline(always)]
-fn number_of_word(word: u64) -> Option<u32>
+pub(super) fn number_of_word(word: u64) -> Option<u32>
     ensures digits { IfSome result (λ number. AreDigits 10 (word_bytes 8 word)) }
     ensures value { IfSome result (λ number. number ≡ word_value 10 (word_bytes 8 word)) }
     ensures small { IfSome result (λ number. number < 100000000) }
@@ -141,7 +141,7 @@ pub(super) fn numbers_to_16(text: &[u8], more: u8) -> Option<(u32, u32)>
 
 // The number of one to eight digits, the front of a longer text.
 #[inline(always)]
-fn number_of_front(text: &[u8]) -> Option<u32>
+pub(super) fn number_of_front(text: &[u8]) -> Option<u32>
     requires some { 1 ≤ length text.now }
     requires few { length text.now ≤ 8 }
     ensures writes { IfSome result (λ number. WritesDecimal 0 text.now number) }

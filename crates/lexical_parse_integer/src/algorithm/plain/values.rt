@@ -37,7 +37,7 @@ pub(super) fn signed_value<T: Integer>(value: T, negative: bool) -> T
 
 // The value of a number of up to eight digits, where the type has it.
 #[inline(always)]
-fn value_to_8<T: Integer>(number: u32, negative: bool) -> Option<T>
+pub(super) fn value_to_8<T: Integer>(number: u32, negative: bool) -> Option<T>
     requires minus { IsTrue negative → IsTrue T.TYPE.is_signed }
     requires small { number < 100000000 }
     ensures value { IfSome result (λ value. T.number value ≡ with_sign negative number) }
@@ -53,7 +53,7 @@ fn value_to_8<T: Integer>(number: u32, negative: bool) -> Option<T>
 
 // The value of a number of nine to sixteen digits, where the type has it.
 #[inline(always)]
-fn value_to_16<T: Integer>(high: u32, low: u32, negative: bool) -> Option<T>
+pub(super) fn value_to_16<T: Integer>(high: u32, low: u32, negative: bool) -> Option<T>
     requires minus { IsTrue negative → IsTrue T.TYPE.is_signed }
     requires high { high < 100000000 }
     requires low { low < 100000000 }

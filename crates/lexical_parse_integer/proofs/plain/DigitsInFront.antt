@@ -1,0 +1,178 @@
+-- Digits alone at the front of a text, behind an optional minus, under formats without marks.
+use Rattle.std.proofs.Common.{slice_get, ◌≡◌, ℕ, zero, suc, ◌+◌, ◌-◌, ◌%◌, ◌<◌, ◌≤◌, Bool, true, false, ◌&&◌, not, List, [], ◌∷◌, ◌++◌, length, get_or, map, take, refl, sym, ap, ◌∙◌, subst, arith, Option, Some, None, Ok, Result}
+use Rattle.std.specs.Prelude.{◌==◌, nat_le, is_some, slice_index, ℤ, pos, IsNone}
+use Rattle.std.specs.Option.{option_and_then, unwrap_or}
+use Rattle.std.proofs.Math.Bool.{and-false, and-true}
+use Rattle.std.proofs.lemmas.Bool.{ne_eqb}
+use Rattle.std.proofs.lemmas.List.{length-take-le}
+use Rattle.std.proofs.lemmas.List.FromFn.{length-map-range_with_len}
+use mir.Val.{bool_byte}
+use Rattle.lexical_util.specs.declared.error.Error.{Error}
+use Rattle.lexical_util.specs.declared.error.Error.TheVariants.{InvalidLeadingZeros}
+use Rattle.lexical_util.specs.Digit.{digit}
+use Rattle.lexical_util.specs.Format.{Format}
+use Rattle.lexical_util.specs.Number.{IntegerType, IsNumber, is_number}
+use Rattle.lexical_util.specs.Validity.{fault}
+use Rattle.lexical_parse_integer.specs.Grammar.{fault_if, if_valid, partial, partial_if_valid, range_fault, zero_fault}
+use Rattle.lexical_parse_integer.specs.Head.{Head, sign}
+use Rattle.lexical_parse_integer.specs.Numeral.{Numeral, digit_count, numeral_value}
+use Rattle.lexical_parse_integer.specs.Plain.{BeginsWith, IsBehind, IsPlain, WritesDecimal, WritesValue, keeps_zero_rule, raised}
+use Rattle.lexical_parse_integer.specs.Runs.{digit_at}
+use Rattle.lexical_parse_integer.specs.Value.{positional_value, with_sign}
+use Rattle.lexical_parse_integer.specs.Words.{AreDigits, word_value}
+use Rattle.lexical_parse_integer.proofs.words.AsciiDigits.{ascii_from_digits, digit_to}
+use Rattle.lexical_parse_integer.proofs.theorems.DigitTexts.{head_is, stop_plain, take_row}
+use Rattle.lexical_parse_integer.proofs.grammar.FrontValues.{fitting_fault}
+use Rattle.lexical_parse_integer.proofs.grammar.DigitsInARow.{EndsRow, has_digit, row, row_numeral}
+use Rattle.lexical_parse_integer.proofs.theorems.ReadBack.{HaveDigits, digit_there, digits_size, first_digit, row_is}
+use Rattle.lexical_parse_integer.proofs.grammar.Stretches.{HoldsBetween}
+use Rattle.lexical_parse_integer.proofs.plain.DigitsAlone.{have_digits, rule_told, sign_of_digit_under, sign_of_minus_under}
+use Rattle.lexical_parse_integer.proofs.plain.WordsOfDigits.{raised_none}
+use Rattle.lexical_parse_integer.proofs.theorems.SettledAnswers.{partial_by, partial_row}
+use Rattle.lexical_parse_integer.proofs.grammar.RangeOfFronts.{shorter_fronts_fit}
+
+-- so many digits behind the sign, and then none
+pub front_read_under : (f : Format) (t : IntegerType) (text : List ℕ) (s : Bool × ℕ) (n : ℕ) → IsPlain f → 1 ≤ f.mantissa_radix → sign f t text ≡ Ok s → 0 < n → s.1 + n ≤ length text →
+    HoldsBetween (has_digit f.mantissa_radix text) s.1 (s.1 + n) → (s.1 + n < length text → has_digit f.mantissa_radix text (s.1 + n) ≡ false) →
+    zero_fault f false (row_numeral f text s.1 f.mantissa_radix n) ≡ None →
+    is_number t (with_sign s.0 (positional_value f.mantissa_radix (row f.mantissa_radix text s.1 n))) ≡ true →
+    partial f t text ≡ Ok (with_sign s.0 (positional_value f.mantissa_radix (row f.mantissa_radix text s.1 n)), s.1 + n)
+front_read_under f t text s n plain positive sign_is some within all stops no_zeros fits =
+    let r : ℕ = f.mantissa_radix in
+    let h : Head = record { is_minus = s.0; is_prefixed = false; start = s.1; radix = r } in
+    let x : Numeral = row_numeral f text s.1 r n in
+    let ends : EndsRow r text s.1 (s.1 + n) = record { low = omega arith; high = within; holds = all; fails = stops } in
+    let count : digit_count x ≡ n = length-map-range_with_len (λ place. unwrap_or (digit_at r text place) 0) s.1 n in
+    let value : numeral_value s.0 x ≡ with_sign s.0 (positional_value r (row r text s.1 n)) = ap (λ (ds : List ℕ). with_sign s.0 (positional_value r ds)) (take_row r text s.1 n) in
+    let fit = shorter_fronts_fit t s.0 x (digit_count x) positive (ap (is_number t) value ∙ fits) in
+    let no_range : range_fault t s.0 x ≡ None = fitting_fault t s.0 x fit in
+    let stop : x.stop ≡ s.1 + n = stop_plain f text s.1 r n plain.no_suffix in
+    let digits_there : (digit_count x == 0) ≡ false = ne_eqb (digit_count x) 0 (λ e. omega arith) in
+    let zeros : zero_fault f false x ≡ None = no_zeros in
+    let answer : partial_by f t text h x ≡ Ok (numeral_value s.0 x, x.stop) = rw (zeros, no_range, digits_there, and-false) refl in
+    partial_row f t text h n plain.no_separator (head_is f t text s plain.no_prefix plain.no_literals sign_is) (omega arith) ends ∙ answer
+    ∙ ap (λ (z : ℤ). Ok (z, x.stop)) value ∙ ap (λ (k : ℕ). Ok (with_sign s.0 (positional_value r (row r text s.1 n)), k)) stop
+
+-- ---- the places of digits that stand behind the sign
+
+slice_get-take : (n k : ℕ) (bytes : List ℕ) → k < n → slice_get (take n bytes) k ≡ slice_get bytes k
+slice_get-take zero k bytes low = absurd (omega arith)
+slice_get-take (suc n) k [] low = refl
+slice_get-take (suc n) zero (b ∷ bs) low = refl
+slice_get-take (suc n) (suc k) (b ∷ bs) low = slice_get-take n k bs (omega arith)
+
+slice_get_there : (bytes : List ℕ) (k : ℕ) → k < length bytes → slice_get bytes k ≡ Some (get_or bytes k 0)
+slice_get_there [] k low = absurd (omega arith)
+slice_get_there (b ∷ bs) zero low = refl
+slice_get_there (b ∷ bs) (suc k) low = slice_get_there bs k (omega arith)
+
+-- the digits stand from a place on
+abbrev StandsFrom : ℕ → List ℕ → List ℕ → Type 0
+StandsFrom start text digits = (k : ℕ) → slice_get text (start + k) ≡ slice_get digits k
+
+at_front : (r : ℕ) (text digits ds : List ℕ) (start n k : ℕ) → StandsFrom start text digits → HaveDigits r (take n digits) ds → k < length ds → k < n → digit_at r text (start + k) ≡ Some (get_or ds k 0)
+unfolding digit_at
+at_front r text digits ds start n k on all l low = ap (option_and_then (λ byte. digit byte r)) (on k ∙ sym (slice_get-take n k digits low)) ∙ digit_there r (take n digits) ds k all l
+
+at_stop : (r : ℕ) (text digits : List ℕ) (start n : ℕ) → StandsFrom start text digits → n < length digits → is_some (digit (get_or digits n 0) r) ≡ false → has_digit r text (start + n) ≡ false
+unfolding digit_at
+at_stop r text digits start n on low none = ap (λ (o : Option ℕ). is_some (option_and_then (λ byte. digit byte r) o)) (on n ∙ slice_get_there digits n low) ∙ none
+
+front_between : (r : ℕ) (text digits ds : List ℕ) (start n : ℕ) → StandsFrom start text digits → HaveDigits r (take n digits) ds → length ds ≡ n → HoldsBetween (has_digit r text) start (start + n)
+front_between r text digits ds start n on all size j low high =
+    let place : start + (j - start) ≡ j = omega arith in
+    subst (λ (p : ℕ). has_digit r text p ≡ true) place (ap is_some (at_front r text digits ds start n (j - start) on all (omega arith) (omega arith)))
+
+-- digits behind a sign at the front, by their values
+values_in_front : (f : Format) (t : IntegerType) (text digits ds : List ℕ) (s : Bool × ℕ) (n : ℕ) → IsPlain f → 1 ≤ f.mantissa_radix → sign f t text ≡ Ok s → StandsFrom s.1 text digits → length text ≡ s.1 + length digits →
+    HaveDigits f.mantissa_radix (take n digits) ds → 0 < n → n ≤ length digits → (n < length digits → is_some (digit (get_or digits n 0) f.mantissa_radix) ≡ false) →
+    ((f.no_integer_leading_zeros && nat_le 2 (length ds)) && (slice_index ds 0 == 0)) ≡ false →
+    is_number t (with_sign s.0 (positional_value f.mantissa_radix ds)) ≡ true → partial f t text ≡ Ok (with_sign s.0 (positional_value f.mantissa_radix ds), s.1 + n)
+values_in_front f t text digits ds s n plain positive sign_is on size all some within stops rule fits =
+    let r : ℕ = f.mantissa_radix in
+    let taken : length (take n digits) ≡ n = length-take-le n digits within in
+    let count : length ds ≡ n = let e = digits_size r (take n digits) ds all in omega arith in
+    let same : row r text s.1 n ≡ ds = ap (row r text s.1) (sym count) ∙ row_is r text ds s.1 (λ k l. at_front r text digits ds s.1 n k on all l (omega arith)) in
+    let no_zeros : zero_fault f false (row_numeral f text s.1 r n) ≡ None = zeros_told f (row r text s.1 n) ds _ same rule in
+    front_read_under f t text s n plain positive sign_is some (omega arith) (front_between r text digits ds s.1 n on all count) (λ l. at_stop r text digits s.1 n on (omega arith) (stops (omega arith))) no_zeros
+    (ap (λ (es : List ℕ). is_number t (with_sign s.0 (positional_value r es))) same ∙ fits)
+    ∙ ap (λ (es : List ℕ). Ok (with_sign s.0 (positional_value r es), s.1 + n)) same
+  where
+    zeros_told : (f : Format) (es ds : List ℕ) (place : ℕ) → es ≡ ds → ((f.no_integer_leading_zeros && nat_le 2 (length ds)) && (slice_index ds 0 == 0)) ≡ false →
+        fault_if (((f.no_integer_leading_zeros && not false) && nat_le 2 (length es)) && (slice_index es 0 == 0)) (InvalidLeadingZeros place) ≡ None
+    zeros_told f es ds place same rule =
+        let told : (((f.no_integer_leading_zeros && not false) && nat_le 2 (length es)) && (slice_index es 0 == 0)) ≡ false = rw (same, and-true f.no_integer_leading_zeros) rule in
+        ap (λ (b : Bool). fault_if b (InvalidLeadingZeros place)) told
+
+-- digits at the front, behind a minus where the number is negative
+pub front_digits_read : (f : Format) (t : IntegerType) (b : Bool) (text digits ds : List ℕ) (n : ℕ) → IsPlain f → 1 ≤ f.mantissa_radix → IsBehind b t text digits → HaveDigits f.mantissa_radix (take n digits) ds → 0 < n → n ≤ length digits →
+    (n < length digits → is_some (digit (get_or digits n 0) f.mantissa_radix) ≡ false) → ((f.no_integer_leading_zeros && nat_le 2 (length ds)) && (slice_index ds 0 == 0)) ≡ false →
+    is_number t (with_sign b (positional_value f.mantissa_radix ds)) ≡ true → partial f t text ≡ Ok (with_sign b (positional_value f.mantissa_radix ds), bool_byte b + n)
+front_digits_read f t b text [] ds n plain positive behind all some within stops rule fits = absurd (omega arith)
+front_digits_read f t b text (c ∷ cs) ds zero plain positive behind all some within stops rule fits = absurd (omega arith)
+front_digits_read f t false text (c ∷ cs) ds (suc n) plain positive behind all some within stops rule fits =
+    let first = first_digit f.mantissa_radix c (take n cs) ds all in
+    let same : text ≡ c ∷ cs = behind in
+    rw same (values_in_front f t (c ∷ cs) (c ∷ cs) ds (false, 0) (suc n) plain positive (sign_of_digit_under f t f.mantissa_radix c first.0 cs plain.no_sign first.1) (λ k. ap (slice_get (c ∷ cs)) (omega arith)) (omega arith) all some within stops rule fits)
+front_digits_read f t true text (c ∷ cs) ds (suc n) plain positive behind all some within stops rule fits =
+    let same : text ≡ 45 ∷ (c ∷ cs) = behind.0 in
+    rw same (values_in_front f t (45 ∷ (c ∷ cs)) (c ∷ cs) ds (true, 1) (suc n) plain positive (sign_of_minus_under f t (c ∷ cs) behind.1) (λ k. ap (slice_get (45 ∷ (c ∷ cs))) (let e : 1 + k ≡ suc k = omega arith in e)) (omega arith) all some within stops rule fits)
+
+-- ---- what the parts of the code say
+
+-- a byte that is no decimal digit
+pub stop_none : (byte : ℕ) → byte < 256 → 10 ≤ (byte + 208) % 256 → is_some (digit byte 10) ≡ false
+stop_none byte below stops = by_test (is_some (digit byte 10)) refl
+  where
+    by_test : (b : Bool) → is_some (digit byte 10) ≡ b → b ≡ false
+    by_test false e = refl
+    by_test true e =
+        let d = digit_to 10 byte e (omega arith) in
+        let low = d.0 in
+        let high = d.1 in
+        absurd (omega arith)
+
+-- decimal digits at the front of what stands behind the minus
+pub begins_read : (f : Format) (t : IntegerType) (negative : Bool) (text digits : List ℕ) (value : ℤ) (count : ℕ) → IsPlain f → f.mantissa_radix ≡ 10 → IsBehind negative t text digits → BeginsWith f t negative digits value count →
+    partial f t text ≡ Ok (value, bool_byte negative + count)
+begins_read f t negative text digits value count plain ten behind b =
+    let bytes : List ℕ = take count digits in
+    let w = b.stands in
+    let same = raised_none bytes in
+    let digits_are : AreDigits 10 bytes = rw same at w.writes.digits in
+    let worth : w.number ≡ word_value 10 bytes = rw same at w.writes.worth in
+    let ascii = ascii_from_digits 10 bytes (omega arith) digits_are in
+    let ds : List ℕ = map (λ byte. byte - 48) bytes in
+    let all : HaveDigits f.mantissa_radix bytes ds = subst (λ (r : ℕ). HaveDigits r bytes ds) (sym ten) (have_digits 10 bytes (omega arith) ascii) in
+    let value_is : with_sign negative (positional_value f.mantissa_radix ds) ≡ value = ap (λ (r : ℕ). with_sign negative (positional_value r ds)) ten ∙ ap (with_sign negative) (sym worth) ∙ sym w.worth in
+    let stops : (count < length digits → is_some (digit (get_or digits count 0) f.mantissa_radix) ≡ false) = λ l. ap (λ (r : ℕ). is_some (digit (get_or digits count 0) r)) ten ∙ b.stops l in
+    let fits : is_number t (with_sign negative (positional_value f.mantissa_radix ds)) ≡ true = ap (is_number t) (value_is ∙ w.worth) ∙ w.fits in
+    front_digits_read f t negative text digits ds count plain (omega arith) behind all b.some b.within stops (rule_told f 10 bytes ascii b.rule) fits
+    ∙ ap (λ (z : ℤ). Ok (z, bool_byte negative + count)) value_is
+
+-- the value of digits, by what is known of their number
+pub stands : (t : IntegerType) (negative : Bool) (text : List ℕ) (number : ℕ) (value : ℤ) → WritesDecimal 0 text number → value ≡ with_sign negative number → IsNumber t value → WritesValue t 0 negative text value
+stands t negative text number value writes worth fits = record { number = number; writes = writes; worth = worth; fits = subst (λ (z : ℤ). IsNumber t z) worth fits }
+
+pub begins : (f : Format) (t : IntegerType) (negative : Bool) (digits : List ℕ) (value : ℤ) (count : ℕ) → 1 ≤ count → count ≤ length digits → ((j : ℕ) → get_or digits j 0 < 256) → (count < length digits → 10 ≤ (get_or digits count 0 + 208) % 256) →
+    keeps_zero_rule f (take count digits) ≡ true → WritesValue t 0 negative (take count digits) value → BeginsWith f t negative digits value count
+begins f t negative digits value count some within below stops rule stand = record {
+  some = some;
+  within = within;
+  stops = λ l. stop_none (get_or digits count 0) (below count) (stops l);
+  rule = rule;
+  stands = stand;
+}
+
+-- the answer where the format is valid
+pub front_answered_if_valid : (f : Format) (t : IntegerType) (text : List ℕ) (found : ℤ × ℕ) → IsNone (fault f) → partial f t text ≡ Ok found → Ok found ≡ partial_if_valid f t text
+front_answered_if_valid f t text found valid is = sym (by_fault (fault f) (partial f t text) valid ∙ is)
+  where
+    by_fault : (o : Option Error) (answer : Result (ℤ × ℕ) Error) → IsNone o → if_valid o answer ≡ answer
+    by_fault None answer none = refl
+    by_fault (Some e) answer none = cc
+
+-- the place behind the digits counts the minus
+pub begins_placed : (f : Format) (t : IntegerType) (negative : Bool) (text digits : List ℕ) (value : ℤ) (count start : ℕ) → IsPlain f → f.mantissa_radix ≡ 10 → IsBehind negative t text digits → start ≡ bool_byte negative → BeginsWith f t negative digits value count →
+    partial f t text ≡ Ok (value, start + count)
+begins_placed f t negative text digits value count start plain ten behind at b = begins_read f t negative text digits value count plain ten behind b ∙ ap (λ (k : ℕ). Ok (value, k + count)) (sym at)
