@@ -4,6 +4,7 @@ pub mod DigitTexts
 pub mod EndsAndRuns
 pub mod EqualViews
 pub mod Examples
+pub mod FaultPlaces
 pub mod Locality
 pub mod NonEmptyFronts
 pub mod RangeFaultPlaces
