@@ -5,6 +5,7 @@ pub mod DigitTexts
 pub mod EndsAndRuns
 pub mod EqualViews
 pub mod Examples
+pub mod FaultPlaces
 pub mod FrontDigits
 pub mod Locality
 pub mod NonEmptyFronts

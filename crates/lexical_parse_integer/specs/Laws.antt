@@ -1,10 +1,11 @@
 -- What the definitions of the grammar come to, and the laws of the parsers' answers.
-use Rattle.std.specs.Prelude.{◌≡◌, ◌↔◌, ℕ, suc, ◌+◌, ◌≤◌, ◌<◌, Bool, true, false, ◌||◌, List, ◌∷◌, ◌++◌, length, take, map, replicate, nat_lt, if◌then◌else◌, ℤ, pos, negsuc, Some, IsSome, Result, Ok, Err}
+use Rattle.std.specs.Prelude.{◌≡◌, ◌↔◌, ℕ, suc, ◌+◌, ◌≤◌, ◌<◌, Bool, true, false, ◌||◌, List, ◌∷◌, ◌++◌, length, take, map, replicate, nat_lt, if◌then◌else◌, ℤ, pos, negsuc, Some, IfSome, IsSome, Result, Ok, Err}
 use Rattle.std.specs.Bool.{⊤}
 use Rattle.lexical_util.specs.Ascii.{digit_zero, minus}
 use Rattle.lexical_util.specs.declared.error.Error.{Error}
 use Rattle.lexical_util.specs.declared.error.Error.TheVariants.{Empty, InvalidDigit, Overflow, Underflow}
 use Rattle.lexical_util.specs.Digit.{digit}
+use Rattle.lexical_util.specs.Faults.{place_of}
 use Rattle.lexical_util.specs.Format.{Format, standard}
 use Rattle.lexical_util.specs.Number.{IntegerType, IsNumber}
 use Rattle.lexical_parse_integer.specs.Grammar.{complete, partial}
@@ -108,6 +109,12 @@ LeavesWithin size (Ok found) = ⊤
 LeavesWithin size (Err (Overflow place)) = place < size
 LeavesWithin size (Err (Underflow place)) = place < size
 LeavesWithin size (Err error) = ⊤
+
+-- ---- places of faults
+
+-- a fault of a text of this size stands within it or at its end; a fault of a format has no place
+abbrev pub StandsWithin : ℕ → Error → Type 0
+StandsWithin size error = IfSome (place_of error) (λ place. place ≤ size)
 
 -- ---- locality
 

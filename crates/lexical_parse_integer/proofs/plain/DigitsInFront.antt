@@ -39,7 +39,7 @@ pub front_read_under : (f : Format) (t : IntegerType) (text : List ℕ) (s : Boo
     partial f t text ≡ Ok (with_sign s.0 (positional_value f.mantissa_radix (row f.mantissa_radix text s.1 n)), s.1 + n)
 front_read_under f t text s n plain positive sign_is some within all stops no_zeros fits =
     let r : ℕ = f.mantissa_radix in
-    let h : Head = record { is_minus = s.0; is_prefixed = false; start = s.1; radix = r } in
+    let h : Head = record { is_minus = s.0; is_marked = false; start = s.1; radix = r } in
     let x : Numeral = row_numeral f text s.1 r n in
     let ends : EndsRow r text s.1 (s.1 + n) = record { low = omega arith; high = within; holds = all; fails = stops } in
     let count : digit_count x ≡ n = length-map-range_with_len (λ place. unwrap_or (digit_at r text place) 0) s.1 n in
@@ -50,7 +50,7 @@ front_read_under f t text s n plain positive sign_is some within all stops no_ze
     let digits_there : (digit_count x == 0) ≡ false = ne_eqb (digit_count x) 0 (λ e. omega arith) in
     let zeros : zero_fault f false x ≡ None = no_zeros in
     let answer : partial_by f t text h x ≡ Ok (numeral_value s.0 x, x.stop) = rw (zeros, no_range, digits_there, and-false) refl in
-    partial_row f t text h n plain.no_separator (head_is f t text s plain.no_prefix plain.no_literals sign_is) (omega arith) ends ∙ answer
+    partial_row f t text h n plain.no_separator (head_is f t text s plain.no_prefix plain.no_literals plain.no_octal_zeros sign_is) (omega arith) ends ∙ answer
     ∙ ap (λ (z : ℤ). Ok (z, x.stop)) value ∙ ap (λ (k : ℕ). Ok (with_sign s.0 (positional_value r (row r text s.1 n)), k)) stop
 
 -- ---- the places of digits that stand behind the sign

@@ -22,7 +22,7 @@ use Rattle.lexical_parse_integer.proofs.grammar.NumeralEnd.{IsStop-end_of}
 use Rattle.lexical_parse_integer.proofs.theorems.SettledAnswers.{outside_told}
 
 -- the places of digits are before the end of their stretch
-digits_before : (radix : ℕ) (text : List ℕ) (from to : ℕ) → All (λ place. place < from + (to - from)) (digits_between radix text from to)
+pub digits_before : (radix : ℕ) (text : List ℕ) (from to : ℕ) → All (λ place. place < from + (to - from)) (digits_between radix text from to)
 unfolding digits_between
 digits_before radix text from to =
     All-filter (λ place. is_some (digit_at radix text place)) (λ place. place < from + (to - from)) (range_with_len from (to - from))
@@ -32,7 +32,7 @@ digits_before radix text from to =
     omega arith))
 
 -- each digit of a numeral stands within the text
-digit_within : (format : Format) (text : List ℕ) (start radix index : ℕ) → start ≤ length text → index < digit_count (numeral_in format text start radix) → get_or (numeral_in format text start radix).places index 0 < length text
+pub digit_within : (format : Format) (text : List ℕ) (start radix index : ℕ) → start ≤ length text → index < digit_count (numeral_in format text start radix) → get_or (numeral_in format text start radix).places index 0 < length text
 unfolding numeral_in
 digit_within format text start radix index low inside =
     let ends : ℕ = end_of format radix text start in

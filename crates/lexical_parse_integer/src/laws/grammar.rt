@@ -1,12 +1,12 @@
 //! What the definitions of the grammar come to, over every format, type and text.
 //!
 //! These calls do nothing. A proof that needs one of these laws calls it and has its clauses.
-ghost use Rattle.std.specs.Prelude.{◌≡◌, ◌≢◌, ◌<◌, ◌≤◌, ◌⊎◌, false, true, Bool, List, is_some, length, slice_get, IsNone, Ok, Some, ℕ, ℤ};
+ghost use Rattle.std.specs.Prelude.{◌≡◌, ◌≢◌, ◌<◌, ◌≤◌, ◌⊎◌, false, true, Bool, List, is_some, length, slice_get, IfErr, IsNone, Ok, Some, ℕ, ℤ};
 ghost use Rattle.std.specs.Fmt.{signed_decimal};
 ghost use Rattle.lexical_parse_integer.specs.Affixes.{prefix_radix};
 ghost use Rattle.lexical_parse_integer.specs.Grammar.{complete, partial};
 ghost use Rattle.lexical_parse_integer.specs.Head.{Head, head_of, sign};
-ghost use Rattle.lexical_parse_integer.specs.Laws.{Completes, IsGreatestEnd, IsLocal, IsLongestRun, IsNumeralOf, LeavesWithin, ReadsNumerals, ReadsPadded, TellsDigits, Writes, WritesShortest, completion_of, with_leading_behind_prefix, without_prefix_flag};
+ghost use Rattle.lexical_parse_integer.specs.Laws.{Completes, IsGreatestEnd, IsLocal, IsLongestRun, IsNumeralOf, LeavesWithin, ReadsNumerals, ReadsPadded, StandsWithin, TellsDigits, Writes, WritesShortest, completion_of, with_leading_behind_prefix, without_prefix_flag};
 ghost use Rattle.lexical_parse_integer.specs.Numeral.{numeral_in};
 ghost use Rattle.lexical_parse_integer.specs.Runs.{digit_at, is_behind_prefix, separator_at};
 ghost use Rattle.lexical_util.specs.Digit.{IsRadix};
@@ -62,6 +62,17 @@ pub fn range_faults()
         → LeavesWithin (length text) (partial format type text) }
     ensures whole { (format : Format) (type : IntegerType) (text : List ℕ)
         → LeavesWithin (length text) (complete format type text) }
+{}
+
+/// Each fault of a text stands within it or at its end.
+///
+/// So a place may be added to the place of a text within a longer one: the sum is within that.
+/// `12x` gives `InvalidDigit(2)`, and `+` gives `Empty(1)`, at its end.
+pub fn fault_places()
+    ensures front { (format : Format) (type : IntegerType) (text : List ℕ)
+        → IfErr (partial format type text) (StandsWithin (length text)) }
+    ensures whole { (format : Format) (type : IntegerType) (text : List ℕ)
+        → IfErr (complete format type text) (StandsWithin (length text)) }
 {}
 
 /// The complete answer follows from the partial one, by one equation and by the sentences of

@@ -1,0 +1,8 @@
+pub mod ColumnNumbers
+pub mod ColumnRows
+pub mod ColumnSteps
+pub mod FieldAnswers
+pub mod FieldPieces
+pub mod FieldRows
+pub mod FieldSteps
+pub mod Marks

@@ -1,0 +1,43 @@
+-- The fields of a text between one separator byte.
+use Rattle.std.specs.Prelude.{ℕ, ◌+◌, not, if◌then◌else◌, ◌==◌, List, [], ◌∷◌}
+use Rattle.std.specs.List.{prefix_len, slice_split}
+
+-- A field: the place in the text at which it starts, and its bytes.
+pub record FieldView : Type 0 where
+  pub start : ℕ
+  pub text : List ℕ
+
+-- a byte at a place, in front of the first field's bytes, or the only byte of a field of its own
+abbrev pub onto_field : ℕ → ℕ → List FieldView → List FieldView
+onto_field place byte [] = record { start = place; text = byte ∷ [] } ∷ []
+onto_field place byte (field ∷ more) = record { start = place; text = byte ∷ field.text } ∷ more
+
+-- The fields of a text that stands at a place. A field is the bytes up to a separator. A last field without one counts;
+-- a last separator starts no further field.
+abbrev pub fields_from : ℕ → ℕ → List ℕ → List FieldView
+fields_from separator place [] = []
+fields_from separator place (byte ∷ rest) =
+    if byte == separator then record { start = place; text = [] }
+    ∷ fields_from separator (place + 1) rest
+    else onto_field place byte (fields_from separator (place + 1) rest)
+
+-- the fields of a text
+abbrev pub fields : ℕ → List ℕ → List FieldView
+fields separator text = fields_from separator 0 text
+
+-- how many bytes stand in front of the first separator, or are in the text where it has none
+abbrev pub field_length : ℕ → List ℕ → ℕ
+field_length separator text = prefix_len (λ byte. not (byte == separator)) text
+
+-- ---- pieces
+
+-- the pieces between the separators
+abbrev pub pieces : ℕ → List ℕ → List (List ℕ)
+pieces separator text = slice_split (λ byte. byte == separator) text
+
+-- pieces without the last, where that is empty
+abbrev pub without_empty_last : List (List ℕ) → List (List ℕ)
+without_empty_last [] = []
+without_empty_last ([] ∷ []) = []
+without_empty_last ((byte ∷ piece) ∷ []) = (byte ∷ piece) ∷ []
+without_empty_last (piece ∷ next ∷ more) = piece ∷ without_empty_last (next ∷ more)

@@ -1,0 +1,91 @@
+//! Columns: the numbers of a text's fields, read into a slice.
+
+ghost use Rattle.std.specs.Prelude.{◌≡◌, length, take, drop, map, IfOk};
+ghost use Rattle.lexical_fields.specs.Columns.{GoesOn, answer_of, numbers_of};
+
+use crate::places::field_answer;
+use crate::split::split_field;
+use lexical_parse_integer::parse::ParseInteger;
+use lexical_parse_integer::{Error, NumberFormat, Options};
+
+/// How far a column was read.
+#[derive(Debug, Copy, Clone, PartialEq, Eq)]
+pub struct Column {
+    /// How many numbers were read.
+    pub count: usize,
+    /// The place in the text where reading stopped: its end, or the start of the first field for which
+    /// the slice had no room.
+    pub stop: usize,
+}
+
+/// Why a column isn't read to its end.
+#[derive(Debug, Copy, Clone, PartialEq, Eq)]
+pub enum ColumnError {
+    /// The format is invalid, and nothing was read.
+    InvalidFormat(Error),
+    /// A field is no number of the type. It is the first such one, and all in front of it were read.
+    InvalidField {
+        /// Which field it is, counted from 0: so many numbers were read.
+        field: usize,
+        /// The place in the text at which it starts.
+        start: usize,
+        /// Its fault, whose place counts from the text's start.
+        error: Error,
+    },
+}
+
+/// Reads the numbers in the fields of a text between a separator, as far as the slice has room.
+///
+/// The numbers stand at the slice's front, and the rest of the slice is as it was, also after a fault.
+/// Where the text has more fields than the slice has room for, it is read up to the start of the next
+/// one, and what stands there isn't looked at: a call on the text from `stop` on goes on exactly there,
+/// and its places count from that `stop`. An invalid format is told before all else.
+///
+/// With a comma, `12,7,` gives two numbers and stops at 5; in a slice of one it gives one number and
+/// stops at 3. `12,7x,1` gives `InvalidField` with `field` 1, `start` 3 and `InvalidDigit(4)`.
+pub fn read_column<T: ParseInteger>(
+    text: &[u8],
+    separator: u8,
+    format: &NumberFormat,
+    options: &Options,
+    values: &mut [T],
+) -> Result<Column, ColumnError>
+    ensures answer { result ≡ answer_of format.now T.TYPE
+        (length values.old) separator text.now }
+    ensures numbers { let numbers = numbers_of format.now T.TYPE
+        (length values.old) separator text.now in
+        map T.number (take (length numbers) values.new) ≡ numbers }
+    ensures rest { let numbers = numbers_of format.now T.TYPE
+        (length values.old) separator text.now in
+        drop (length numbers) values.new ≡ drop (length numbers) values.old }
+    ensures size { length values.new ≡ length values.old }
+    ensures goes_on { IfOk result (GoesOn separator text.now (length values.old)
+        (numbers_of format.now T.TYPE (length values.old) separator text.now)) }
+{
+    if let Some(error) = format.error() {
+        return Err(ColumnError::InvalidFormat(error));
+    }
+    let mut rest = text;
+    for count in 0..values.len() {
+        let start = text.len() - rest.len();
+        if rest.is_empty() {
+            return Ok(Column { count, stop: start });
+        }
+        let (field, behind) = split_field(rest, separator);
+        match field_answer::<T>(start, field, format, options) {
+            Ok(value) => values[count] = value,
+            Err(error) => {
+                return Err(ColumnError::InvalidField {
+                    field: count,
+                    start,
+                    error,
+                });
+            }
+        }
+        rest = behind;
+    }
+    Ok(Column {
+        count: values.len(),
+        stop: text.len() - rest.len(),
+    })
+}

@@ -1,0 +1,110 @@
+// Texts with their fields and what each stands for.
+
+use crate::{Field, Fields};
+use lexical_parse_integer::{Error, NumberFormatBuilder, Result as Parse, format, options};
+use std::process::Abort;
+
+// Where a field starts, its bytes, and what it stands for.
+type Row<'a> = (usize, &'a [u8], Parse<u8>);
+
+// Under the standard format the text has these fields, and no other.
+fn has_fields(rt: &impl Abort, text: &[u8], separator: u8, expected: &[Row<'_>]) {
+    let mut fields = Fields::<u8>::new(text, separator, &format::STANDARD, &options::STANDARD);
+    for (start, bytes, answer) in expected {
+        let field = Field {
+            start: *start,
+            text: *bytes,
+            answer: *answer,
+        };
+        assert_eq!(rt; fields.next(), Some(field), "{}", text.escape_ascii());
+    }
+    assert_eq!(rt; fields.next(), None, "{}", text.escape_ascii());
+    assert_eq!(rt; fields.next(), None, "{}", text.escape_ascii());
+}
+
+#[test]
+fn a_last_separator_starts_no_field(rt: HostRuntime) {
+    let rows: [Row<'_>; 2] = [(0, b"12", Ok(12)), (3, b"7", Ok(7))];
+    has_fields(&rt, b"12,7", b',', &rows);
+    has_fields(&rt, b"12,7,", b',', &rows);
+    has_fields(&rt, b"12\n7\n", b'\n', &rows);
+    has_fields(&rt, b"", b',', &[]);
+}
+
+#[test]
+fn fields_go_on_behind_a_fault(rt: HostRuntime) {
+    has_fields(
+        &rt,
+        b"12,,256,7x,+,9",
+        b',',
+        &[
+            (0, b"12", Ok(12)),
+            (3, b"", Err(Error::Empty(3))),
+            (4, b"256", Err(Error::Overflow(6))),
+            (8, b"7x", Err(Error::InvalidDigit(9))),
+            (11, b"+", Err(Error::Empty(12))),
+            (13, b"9", Ok(9)),
+        ],
+    );
+}
+
+#[test]
+fn the_separator_is_found_at_each_place(rt: HostRuntime) {
+    let zeros = b"0000000000000000000000000000000000000000";
+    let mut text = [b'0'; 40];
+    for place in 0..text.len() {
+        text[place] = b';';
+        let mut fields = Fields::<u8>::new(&text, b';', &format::STANDARD, &options::STANDARD);
+        let front = if place == 0 {
+            Err(Error::Empty(0))
+        } else {
+            Ok(0)
+        };
+        assert_eq!(rt;
+            fields.next(),
+            Some(Field {
+                start: 0,
+                text: &zeros[..place],
+                answer: front,
+            })
+        );
+        let behind = if place == 39 {
+            None
+        } else {
+            Some(Field {
+                start: place + 1,
+                text: &zeros[place + 1..],
+                answer: Ok(0),
+            })
+        };
+        assert_eq!(rt; fields.next(), behind);
+        assert_eq!(rt; fields.next(), None);
+        text[place] = b'0';
+    }
+}
+
+#[test]
+fn each_field_has_the_fault_of_an_invalid_format(rt: HostRuntime) {
+    let format = NumberFormatBuilder::new()
+        .mantissa_radix(1)
+        .build_unchecked();
+    let mut fields = Fields::<u8>::new(b"1,2", b',', &format, &options::STANDARD);
+    let fault = Err(Error::InvalidMantissaRadix);
+    assert_eq!(rt;
+        fields.next(),
+        Some(Field {
+            start: 0,
+            text: b"1",
+            answer: fault,
+        })
+    );
+    assert_eq!(rt;
+        fields.next(),
+        Some(Field {
+            start: 2,
+            text: b"2",
+            answer: fault,
+        })
+    );
+    assert_eq!(rt; fields.next(), None);
+}
