@@ -1,6 +1,7 @@
 // What no clause says: that the definitions are those of worked texts, and that the calls answer so when they run.
 mod affixes;
 mod beginnings;
+mod behind;
 mod bytes;
 mod ends;
 mod flags;
@@ -11,6 +12,7 @@ mod huge;
 mod lengths;
 mod literals;
 mod long;
+mod octal;
 mod radixes;
 mod runs;
 mod separators;

@@ -174,7 +174,7 @@ fn first_broken(format: &NumberFormat) -> Option<Error> {
     let chooses_radix = format.literal_prefixes() || format.literal_octal_zero();
     let is_literal_broken = (chooses_radix && radix != 10)
         || format.literal_prefixes()
-        && (prefix.is_some() || is_in_literals(separator) || is_in_literals(suffix));
+            && (prefix.is_some() || is_in_literals(separator) || is_in_literals(suffix));
     [
         (radix < 2 || radix > 36, Error::InvalidMantissaRadix),
         (is_unfit(separator, radix), Error::InvalidDigitSeparator),
