@@ -8,6 +8,7 @@ earlier run kept is used, and nothing here changes. Its parts:
 
 rows      the worked rows stand everywhere as tools/rows.txt has them
 lanes     the word readers are lanes
+house     clauses, files and folders keep their measures
 proofs    `rt ci` without the must-fail edits: every crate and its tests are proved, every test and program runs
 edits     judge_edits.py on every must-fail edit, over libraries that are proved for it from nothing
 gate      tests of this script, in which no prover runs
@@ -149,7 +150,8 @@ class Gate:
     def run(self):
         """Runs all parts, and answers whether each of them passed."""
         self.say(f"gate begins: {len(self.crates)} crates, {self.edits} edits, {self.cores} processors")
-        parts = {"rows": (None, self.rows), "lanes": (None, self.word_readers), "proofs": (None, self.proofs),
+        parts = {"rows": (None, self.rows), "lanes": (None, self.word_readers),
+                 "house": (None, self.measures), "proofs": (None, self.proofs),
                  "edits": (None, self.all_edits), "gate": (None, self.tests_of_gate),
                  "judge": (None, self.tests_of_judge),
                  "programs": (self.libraries_are_built, self.programs), "devices": (self.proofs_passed, self.devices)}
@@ -199,6 +201,9 @@ class Gate:
     def word_readers(self):
         self.tool("lanes.sh")
         return "the word readers are lanes"
+
+    def measures(self):
+        return last_line(self.tool("house.py"))
 
     def proofs(self):
         """Runs `rt ci`, and says of each crate when it is proved."""

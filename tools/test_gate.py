@@ -36,6 +36,7 @@ FILES = {
     "said": "2 passed, 0 failed\n",
     "tools/rows.py": "print('5 rows')\n",
     "tools/lanes.sh": "#!/bin/sh\n",
+    "tools/house.py": "print('all within 100 columns')\n",
     "tools/test_gate.py": "print('Ran 2 tests in 1s')\n",
     "tools/test_judge.py": "print('Ran 3 tests in 1s')\n",
     "tools/must_not_compile.py": "print('4 programs, 0 failed')\n",
@@ -94,7 +95,7 @@ class GateTests(unittest.TestCase):
 
     def test_all_is_well(self):
         status, said = self.said()
-        self.assertEqual((status, said.splitlines()[-1]), (0, "8 parts passed, 0 failed"), said)
+        self.assertEqual((status, said.splitlines()[-1]), (0, "9 parts passed, 0 failed"), said)
         self.assertIn("3 of 3 edits refused", said)
         self.assertIn("2 passed, 0 failed: 3 functions and 2 tests", said)
 
@@ -102,7 +103,7 @@ class GateTests(unittest.TestCase):
         self.assertIn("its last line is not '5 passed, 0 failed'", self.said("--one-by-one")[1])
         self.write("said", "5 passed, 0 failed\n")
         status, said = self.said("--one-by-one")
-        self.assertEqual((status, said.splitlines()[-1]), (0, "6 parts passed, 0 failed"), said)
+        self.assertEqual((status, said.splitlines()[-1]), (0, "7 parts passed, 0 failed"), said)
 
     def test_the_proofs_run_without_edits_and_the_judge_with_them(self):
         self.write("rt", STAND_IN.replace("ci)", "ci) test ! -e crates/low/must-fail || exit 1;")
