@@ -9,6 +9,7 @@ earlier run kept is used, and nothing here changes. Its parts:
 rows      the worked rows stand everywhere as tools/rows.txt has them
 lanes     the word readers are lanes
 documents the documents that are made from the source are as the source has them
+house     clauses, files and folders keep their measures
 proofs    `rt ci` without the must-fail edits: every crate and its tests are proved, every test and program runs
 edits     judge_edits.py on every must-fail edit, over libraries that are proved for it from nothing
 gate      tests of this script, in which no prover runs
@@ -151,7 +152,8 @@ class Gate:
         """Runs all parts, and answers whether each of them passed."""
         self.say(f"gate begins: {len(self.crates)} crates, {self.edits} edits, {self.cores} processors")
         parts = {"rows": (None, self.rows), "lanes": (None, self.word_readers), "documents": (None, self.documents),
-                 "proofs": (None, self.proofs), "edits": (None, self.all_edits), "gate": (None, self.tests_of_gate),
+                 "house": (None, self.measures), "proofs": (None, self.proofs), "edits": (None, self.all_edits),
+                 "gate": (None, self.tests_of_gate),
                  "judge": (None, self.tests_of_judge),
                  "programs": (self.libraries_are_built, self.programs), "devices": (self.proofs_passed, self.devices)}
         if self.is_one_by_one:
@@ -204,6 +206,9 @@ class Gate:
     def documents(self):
         said = last_line(self.tool("documents.py", "--check"))
         return f"{said}; tests: {last_line(self.tool('test_documents.py'))}"
+
+    def measures(self):
+        return last_line(self.tool("house.py"))
 
     def proofs(self):
         """Runs `rt ci`, and says of each crate when it is proved."""

@@ -8,26 +8,29 @@
 - A file of source, definitions, proofs or tools has at most 800 lines.
 - A folder has at most 40 files. A `must-fail` folder has as many as there are edits, since edits can't stand deeper.
 
-It reads what git tracks or would track. Needs Python 3.8 and nothing else.
+It reads all but the folders that runs make. Needs Python 3.8 and nothing else.
 """
 import collections
 import os
 import re
-import subprocess
 import sys
 
 TOP = os.path.dirname(os.path.dirname(os.path.abspath(__file__)))
 COLUMNS, LINES, FILES = 100, 800, 40
+# The folders that no clone has.
+MADE = (".git", "out", "target", "__pycache__")
 CLAUSE = re.compile(r"\s*(?:(?:requires|ensures|invariant|decreases)\b|ghost \w+\s*[:=])")
 COMMENT = re.compile(r"\s*(?:--|//)")
 IMPORT = re.compile(r"\s*(?:ghost )?(?:pub )?use ")
 
 
-def tracked():
+def all_files():
     """The files of the repository, from its top."""
-    listed = subprocess.run(["git", "-C", TOP, "ls-files", "-co", "--exclude-standard"],
-                            capture_output=True, text=True, check=True).stdout
-    return [name for name in listed.split("\n") if name and os.path.isfile(os.path.join(TOP, name))]
+    found = []
+    for at, folders, files in os.walk(TOP):
+        folders[:] = [it for it in folders if it not in MADE]
+        found += [os.path.relpath(os.path.join(at, it), TOP) for it in files if it not in MADE]
+    return sorted(found)
 
 
 def lines_of(name):
@@ -82,7 +85,7 @@ def full_folders(names):
 
 
 def main():
-    names = tracked()
+    names = all_files()
     found = [line for part in (wide_lines, long_files, full_folders) for line in part(names)]
     for line in found:
         print(line)

@@ -38,6 +38,7 @@ FILES = {
     "tools/lanes.sh": "#!/bin/sh\n",
     "tools/documents.py": "import sys\nassert sys.argv[1:] == ['--check']\nprint('7 documents')\n",
     "tools/test_documents.py": "print('6 passed, 0 failed')\n",
+    "tools/house.py": "print('all within 100 columns')\n",
     "tools/test_gate.py": "print('Ran 2 tests in 1s')\n",
     "tools/test_judge.py": "print('Ran 3 tests in 1s')\n",
     "tools/must_not_compile.py": "print('4 programs, 0 failed')\n",
