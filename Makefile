@@ -2,7 +2,8 @@
 # make test    the gate: proves everything from nothing, and runs every test and must-fail edit
 # make devices runs the program alone over devices that refuse, which make test does too
 # make lexint  the program alone, as crates/lexint/out/lexint
-# make install puts it into $(PREFIX)/bin
+# make install puts it into $(PREFIX)/bin, and the library for C, C++ and Rust where users look; make uninstall takes all away
+# make lib     proves and builds that library; tools/lib.mk has this and its tests, make test-c and make check-c
 # make rows    writes the theorems and tests of the worked rows anew from tools/rows.txt
 # make judge   tries the must-fail edits, many in one check, and holds each to the function that it changes
 # make test-judge  tests that
@@ -14,7 +15,7 @@ PREFIX ?= /usr/local
 PROGRAM := crates/lexint/out/lexint
 SOURCES := $(shell find crates -name out -prune -o -type f \( -name '*.rt' -o -name '*.antt' \) -print) crates.txt
 
-.PHONY: run test devices lexint install rows judge test-judge must-not-compile fuzz
+.PHONY: run test devices lexint install uninstall install-lexint uninstall-lexint rows judge test-judge must-not-compile fuzz
 
 run: $(PROGRAM)
 	@./$(PROGRAM)
@@ -35,9 +36,19 @@ test:
 devices: $(PROGRAM)
 	@RT=$(RT) tools/devices.py $(PROGRAM)
 
-install: $(PROGRAM)
-	install -d $(DESTDIR)$(PREFIX)/bin
+include tools/lib.mk
+
+install: install-lexint install-lib
+
+uninstall: uninstall-lexint uninstall-lib
+
+install-lexint: $(PROGRAM)
+	install -d $(DESTDIR)$(PREFIX)/bin $(DESTDIR)$(MANDIR)/man1
 	install -m 755 $(PROGRAM) $(DESTDIR)$(PREFIX)/bin/lexint
+	$(FILL) packaging/lexint.1.in > $(DESTDIR)$(MANDIR)/man1/lexint.1
+
+uninstall-lexint:
+	rm -f $(DESTDIR)$(PREFIX)/bin/lexint $(DESTDIR)$(MANDIR)/man1/lexint.1
 
 rows:
 	@python3 tools/rows.py
