@@ -4,8 +4,9 @@
     python3 tools/fuzz_c.py [--parses N] [--formats N] [--seed N] [--lib FILE]
 
 Three parts: random parses under random formats, with the texts of tools/fuzz_lines.py; formats of random bytes; and all
-texts of up to three bytes under the formats of SHORT, as i8 and as u64. Each call is compared in status, place and number, and at a fault the
-number has to be the one from before. At the first differences it ends with status 1, and prints them with the seed.
+texts of up to three bytes under the formats of SHORT, as i8 and as u64. Each call is compared in status, place and
+number, and at a fault the number has to be the one from before. Where some differ it prints the first of them, and ends
+with status 1. The seed that it prints first gives the same run again. It needs a C compiler.
 """
 from __future__ import annotations
 

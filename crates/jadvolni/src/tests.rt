@@ -1,9 +1,11 @@
-// The calls as C makes them, at one text each.
+// The calls as C makes them, at a text or two each.
 
 use crate::format::{FormatFields, jadvolni_format_error};
 use crate::halves::{Signed128, Unsigned128};
 use crate::signed::{jadvolni_i8_partial, jadvolni_i128};
-use crate::unsigned::{jadvolni_u8_with_format, jadvolni_u64, jadvolni_u128};
+use crate::unsigned::{jadvolni_u8_with_format, jadvolni_u16_partial_with_format, jadvolni_u64};
+use crate::unsigned::{jadvolni_u128, jadvolni_usize};
+use crate::version::jadvolni_version;
 
 // The standard format.
 fn standard() -> FormatFields {
@@ -41,10 +43,14 @@ fn standard_format(rt: HostRuntime) {
     let mut small = 7;
     let read = jadvolni_i8_partial(b"-128 }", &mut small);
     assert_eq!(rt; (read.status, read.place, small), (0, 4, -128));
+    let mut size = 7;
+    let read = jadvolni_usize(b"", &mut size);
+    assert_eq!(rt; (read.status, read.place, size), (4, 0, 7));
+    assert_eq!(rt; jadvolni_version(), 100);
 }
 
 #[test]
-fn formats(rt: HostRuntime) {
+fn other_formats(rt: HostRuntime) {
     let mut value = 7;
     let mut format = standard();
     format.mantissa_radix = 16;
@@ -56,6 +62,20 @@ fn formats(rt: HostRuntime) {
     assert_eq!(rt; jadvolni_format_error(&format), 8);
     let read = jadvolni_u8_with_format(b"0x1F", &format, &mut value);
     assert_eq!(rt; (read.status, read.place, value), (8, 0, 31));
+}
+
+#[test]
+fn nul_and_reserved_bytes(rt: HostRuntime) {
+    let mut value = 7;
+    let mut format = standard();
+    format.digit_separator_is_nul = 255;
+    format.integer_internal_digit_separator = 1;
+    let read = jadvolni_u16_partial_with_format(b"1\x002 3", &format, &mut value);
+    assert_eq!(rt; (read.status, read.place, value), (0, 3, 12));
+    format.reserved = [0, 0, 0, 0, 1];
+    assert_eq!(rt; jadvolni_format_error(&format), 64);
+    let read = jadvolni_u16_partial_with_format(b"1", &format, &mut value);
+    assert_eq!(rt; (read.status, read.place, value), (64, 0, 12));
 }
 
 #[test]
