@@ -442,6 +442,13 @@ class Writer:
         return "\n".join(lines + ["    raise LookupError"]) + "\n"
 
 
+def with_numbers(node, numbers):
+    """An expression with each name of NUMBERS as its number."""
+    if node.kind == "name":
+        return numbers.get(node.parts[0], node)
+    return Node(node.kind, *(with_numbers(part, numbers) if isinstance(part, Node) else part for part in node.parts))
+
+
 class Definitions:
     """Definitions that can be computed, and exchanged for others of the same names."""
 
@@ -454,6 +461,7 @@ class Definitions:
                     raise Bad(f"{file}: a second definition of {name}")
                 self.by_name[name] = definition
         self.by_name = {name: each for name, each in self.by_name.items() if each.equations}
+        self.put_numbers()
         arities = dict(ARITIES)
         arities.update({name: len(each.equations[0].patterns) for name, each in self.by_name.items()})
         self.writer = Writer(arities)
@@ -462,6 +470,15 @@ class Definitions:
         self.words.update({"d_" + normalize("NFKC", name): word for name, word in LIBRARY.items()})
         for definition in self.by_name.values():
             self.put(definition)
+
+    def put_numbers(self):
+        """A name that is one number, as the byte `plus` is, is read as that number wherever it stands."""
+        numbers = {name: each.equations[0].body for name, each in self.by_name.items()
+                   if not each.equations[0].patterns and each.equations[0].body.kind == "number"}
+        self.by_name = {name: each for name, each in self.by_name.items() if name not in numbers}
+        for definition in self.by_name.values():
+            for equation in definition.equations:
+                equation.body = with_numbers(equation.body, numbers)
 
     def put(self, definition):
         """Takes a definition in place of that of its name."""

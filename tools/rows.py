@@ -223,13 +223,13 @@ WORDS = [
     (CRATE_WORDS + "Affixes", "is_affix literal_radix marked_radix matches numeral_stop prefix_radix suffix_at".split()),
     (CRATE_WORDS + "Grammar", "complete complete_if_valid partial partial_if_valid range_fault".split()),
     (CRATE_WORDS + "Head", ["head_of", "sign"]),
-    (CRATE_WORDS + "Numeral", ["numeral"]),
-    (CRATE_WORDS + "Runs", ("are_same begin_of belongs digit_at digits_between end_of flag_for run_passes "
+    (CRATE_WORDS + "Numeral", ["numeral_in"]),
+    (CRATE_WORDS + "Runs", ("are_same begin_of is_in_numeral digit_at digits_between end_of flag_for run_passes "
                             "separator_at").split()),
 ]
 # the definitions that the theorem of a parse opens
-OPENED = ("complete partial numeral head_of sign range_fault begin_of digit_at are_same separator_at flag_for "
-          "run_passes belongs end_of digits_between matches is_affix literal_radix marked_radix prefix_radix suffix_at numeral_stop")
+OPENED = ("complete partial numeral_in head_of sign range_fault begin_of digit_at are_same separator_at flag_for "
+          "run_passes is_in_numeral end_of digits_between matches is_affix literal_radix marked_radix prefix_radix suffix_at numeral_stop")
 
 
 def antt_value(name, value):

@@ -8,7 +8,7 @@
                                             ones; so it does for those of SAME, where it should find none
 
 The definitions are read from the specs folders themselves (tools/antt.py computes them). First every row of
-tools/rows.txt that is a theorem, and every row of turns (proofs/TurnRows.antt), is computed with the definitions as
+tools/rows.txt that is a theorem, and every row of turns (proofs/bound/WorkedTurns.antt), is computed with the definitions as
 they are: where one disagrees, the exit status is 1. Then one thing at a time is changed: a truth value is negated or
 fixed, `&&` and `||` or `<` and `≤` are exchanged, a number is one more or less, a field, a word or a fault is another
 of its type, a case is that of another case, a fault is left out of its list, or two stand the other way round. BY_HAND
@@ -32,9 +32,9 @@ from antt import NONE, Node, Reader, children, shown
 
 UTIL = os.path.join(rows.TOP, "crates", "lexical_util", "specs")
 PARSE = os.path.join(rows.TOP, "crates", "lexical_parse_integer", "specs")
-TURN_ROWS = os.path.join(rows.TOP, "crates", "lexical_parse_integer", "proofs", "TurnRows.antt")
+TURN_ROWS = os.path.join(rows.TOP, "crates", "lexical_parse_integer", "proofs", "bound", "WorkedTurns.antt")
 FILES = [(os.path.join(UTIL, f"{name}.antt"), f"lexical_util/specs/{name}.antt")
-         for name in ("Digit", "Format", "Number", "Validity")]
+         for name in ("Ascii", "Digit", "Format", "Number", "Validity")]
 FILES += [(os.path.join(PARSE, f"{name}.antt"), f"lexical_parse_integer/specs/{name}.antt")
           for name in ("Runs", "Affixes", "Head", "Value", "Numeral", "Grammar", "Turns")]
 PROPOSITIONS = ("HasFewTurns",)
@@ -388,7 +388,7 @@ BY_HAND = [
     ("is_unfit_byte", "nat_le 128 byte", "nat_le 128 byte || (byte == 32)"),
     ("is_unfit_byte", "nat_le 128 byte", "nat_le 128 byte || (byte == 44)"),
     ("is_unfit_byte", "nat_le 128 byte", "nat_le 128 byte || (byte == 46)"),
-    ("lower", "is_between 65 90 byte", "is_between 64 94 byte"),
+    ("lower_case", "is_between 65 90 byte", "is_between 64 94 byte"),
     ("zero_fault", "nat_le 2 (digit_count numeral)",
      "nat_le 2 (digit_count numeral) && nat_le (digit_count numeral) 8"),
     ("first_outside", "digit_count numeral", "min 64 (digit_count numeral)"),
@@ -422,9 +422,9 @@ SAME = [
         ("is_number", "type.is_signed && (nat_lt n (number_limit type))",
          ["true && (nat_lt n (number_limit type))", "nat_lt n (number_limit type)"])]),
     ("`b` and its neighbours `a` and `c` are digits of radix 16, which the rule refuses beside", [
-        ("is_literal_letter", "(lower byte) == 98", ["false", "(lower byte) == 99", "(lower byte) == 97"]),
-        ("is_literal_letter", "lower byte",
-         ["(lower byte) + 1", "(lower byte) - 1", "lower (byte + 1)", "lower (byte - 1)", "word_length byte"])]),
+        ("is_literal_letter", "(lower_case byte) == 98", ["false", "(lower_case byte) == 99", "(lower_case byte) == 97"]),
+        ("is_literal_letter", "lower_case byte",
+         ["(lower_case byte) + 1", "(lower_case byte) - 1", "lower_case (byte + 1)", "lower_case (byte - 1)", "digits_per_word byte"])]),
     ("nothing stands behind the text's last byte: no separator, no digit, and no prefix behind a zero there", [
         ("stop_of", "to - from", ["to", "(to + 1) - from", "to - (from - 1)"]),
         ("are_same", "false", ["true"]),
@@ -435,17 +435,17 @@ SAME = [
          ["begin_of (separator_at format text) start (place + 1)"]),
         ("run_stop", "stop_of (separator_at format text) place (length text)",
          ["stop_of (separator_at format text) (place + 1) (length text)"]),
-        ("passes", "run_begin format text start place", ["run_begin format text start (place + 1)"]),
-        ("passes", "run_stop format text place", ["run_stop format text (place + 1)"]),
-        ("belongs", "passes format radix text start place", ["passes format radix text start (place + 1)"])]),
+        ("is_in_passing_run", "run_begin format text start place", ["run_begin format text start (place + 1)"]),
+        ("is_in_passing_run", "run_stop format text place", ["run_stop format text (place + 1)"]),
+        ("is_in_numeral", "is_in_passing_run format radix text start place", ["is_in_passing_run format radix text start (place + 1)"])]),
     ("the byte before the region is a sign or a prefix, and so neither a separator nor a digit", [
         ("run_begin", "begin_of (separator_at format text) start place",
          ["begin_of (separator_at format text) (start - 1) place"]),
-        ("passes", "run_begin format text start place", ["run_begin format text (start - 1) place"]),
-        ("passes", "run_passes format radix text start (run_begin format text start place) (run_stop format text place)",
+        ("is_in_passing_run", "run_begin format text start place", ["run_begin format text (start - 1) place"]),
+        ("is_in_passing_run", "run_passes format radix text start (run_begin format text start place) (run_stop format text place)",
          ["run_passes format radix text (start - 1) (run_begin format text start place) (run_stop format text place)"]),
-        ("belongs", "passes format radix text start place", ["passes format radix text (start - 1) place"]),
-        ("end_of", "belongs format radix text start", ["belongs format radix text (start - 1)"]),
+        ("is_in_numeral", "is_in_passing_run format radix text start place", ["is_in_passing_run format radix text (start - 1) place"]),
+        ("end_of", "is_in_numeral format radix text start", ["is_in_numeral format radix text (start - 1)"]),
         ("places", "digits_between radix text start (end_of format radix text start)",
          ["digits_between radix text (start - 1) (end_of format radix text start)"]),
         ("run_passes", "nat_lt start from",
@@ -453,7 +453,7 @@ SAME = [
     ("a run is judged at its first place, where it is seen from its begin; so it doesn't matter how the next see it", [
         ("run_begin", "begin_of (separator_at format text) start place",
          ["begin_of (separator_at format text) (start + 1) place"]),
-        ("passes", "run_begin format text start place", ["run_begin format text (start + 1) place"])]),
+        ("is_in_passing_run", "run_begin format text start place", ["run_begin format text (start + 1) place"])]),
     ("where another byte than a digit stands before a run in the region, the numeral ends before that byte", [
         ("run_passes", "(nat_lt start from) && (is_some (digit_at radix text (from - 1)))",
          ["(nat_lt start from) || (is_some (digit_at radix text (from - 1)))"]),
@@ -472,10 +472,10 @@ SAME = [
     ("a zero has one case", [
         ("prefix_radix", "are_same (Some 48) (slice_get text place)", ["are_alike (Some 48) (slice_get text place)"])]),
     ("no answer speaks of this field", [
-        ("numeral", "start = start", ANY), ("numeral", "ends = end_of format radix text start", ANY)]),
+        ("numeral_in", "start = start", ANY), ("numeral_in", "ends = end_of format radix text start", ANY)]),
     ("each of these places holds a digit", [
-        ("numeral", "digit_at radix text place", ["digit_at (radix + 1) text place"]),
-        ("numeral", "unwrap_or (digit_at radix text place) 0", ["unwrap_or (digit_at radix text place) 1"])]),
+        ("numeral_in", "digit_at radix text place", ["digit_at (radix + 1) text place"]),
+        ("numeral_in", "unwrap_or (digit_at radix text place) 0", ["unwrap_or (digit_at radix text place) 1"])]),
     ("a numeral has as many digits as places, and no more to take", [
         ("digit_count", "length numeral.digits", ["length numeral.places"]),
         ("numeral_value", "digit_count numeral", ["(digit_count numeral) + 1"]),
@@ -504,8 +504,8 @@ SAME = [
         ("HasFewTurns", "head.radix ≤ 10", ["(head.radix - 1) ≤ 10", "head.start ≤ 10", "head.radix ≤ 11"])]),
     ("the width of a type is 8, 16, 32, 64 or 128", [
         ("overflow_digits", "type.bits / 8", ["(type.bits + 1) / 8"]),
-        ("word_length", "nat_le 64 bits", ["nat_le 63 bits", "nat_le 64 (bits + 1)"]),
-        ("HasFewTurns", "word_length type.bits", ["word_length (type.bits + 1)"])]),
+        ("digits_per_word", "nat_le 64 bits", ["nat_le 63 bits", "nat_le 64 (bits + 1)"]),
+        ("HasFewTurns", "digits_per_word type.bits", ["digits_per_word (type.bits + 1)"])]),
     ("room for 6 digits has one word of four as room for 7 has, and so on; and a digit that is in no word is one turn", [
         ("overflow_digits", "if type.is_signed then 1 else 0", ["if type.is_signed then 2 else 0"])]),
     ("what is taken from a number is at most all of it", [
@@ -602,7 +602,7 @@ def difference(change, changed, definitions, chance, tries):
             new = "no value"
         if new != old:
             found.append(f"{row.row.parser} {row.row.fields} {row.row.type} {row.row.text}: {old}, and then {new}")
-    if change.definition.name in ("HasFewTurns", "turns_bound", "word_length", "overflow_digits"):
+    if change.definition.name in ("HasFewTurns", "turns_bound", "digits_per_word", "overflow_digits"):
         asked = [random_turns(chance) for _ in range(tries)]
         found += [question for question in asked if definitions.value(question) != changed.value(question)]
     changed.put(definitions.by_name[change.definition.name])

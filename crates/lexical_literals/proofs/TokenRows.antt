@@ -4,8 +4,8 @@ use Rattle.lexical_util.specs.declared.error.Error.TheVariants.{Overflow, Empty}
 use Rattle.lexical_parse_integer.specs.Affixes.{is_affix, literal_radix, marked_radix, matches, numeral_stop, prefix_radix, suffix_at}
 use Rattle.lexical_parse_integer.specs.Grammar.{partial, range_fault}
 use Rattle.lexical_parse_integer.specs.Head.{head_of, sign}
-use Rattle.lexical_parse_integer.specs.Numeral.{numeral}
-use Rattle.lexical_parse_integer.specs.Runs.{are_same, begin_of, belongs, digit_at, digits_between, end_of, flag_for, run_passes, separator_at}
+use Rattle.lexical_parse_integer.specs.Numeral.{numeral_in}
+use Rattle.lexical_parse_integer.specs.Runs.{are_same, begin_of, is_in_numeral, digit_at, digits_between, end_of, flag_for, run_passes, separator_at}
 use Rattle.lexical_literals.specs.Tokens.{number_of, tokens}
 use Rattle.lexical_literals.specs.declared.Kind.{Kind}
 use Rattle.lexical_literals.specs.declared.Kind.TheVariants.{Number, Word, Byte, Fault}
@@ -21,63 +21,63 @@ blanks : spans (codes "  ") ≡ []
 blanks = refl
 
 zeros_in_front : spans (codes "007") ≡ (Number 7, 0, 3) ∷ []
-unfolding number_of partial range_fault head_of sign numeral numeral_stop suffix_at is_affix matches prefix_radix marked_radix literal_radix are_same begin_of belongs digit_at digits_between end_of flag_for run_passes separator_at
+unfolding number_of partial range_fault head_of sign numeral_in numeral_stop suffix_at is_affix matches prefix_radix marked_radix literal_radix are_same begin_of is_in_numeral digit_at digits_between end_of flag_for run_passes separator_at
 zeros_in_front = refl
 
 separator : spans (codes "1_000") ≡ (Number 1000, 0, 5) ∷ []
-unfolding number_of partial range_fault head_of sign numeral numeral_stop suffix_at is_affix matches prefix_radix marked_radix literal_radix are_same begin_of belongs digit_at digits_between end_of flag_for run_passes separator_at
+unfolding number_of partial range_fault head_of sign numeral_in numeral_stop suffix_at is_affix matches prefix_radix marked_radix literal_radix are_same begin_of is_in_numeral digit_at digits_between end_of flag_for run_passes separator_at
 separator = refl
 
 separators : spans (codes "1__2") ≡ (Number 12, 0, 4) ∷ []
-unfolding number_of partial range_fault head_of sign numeral numeral_stop suffix_at is_affix matches prefix_radix marked_radix literal_radix are_same begin_of belongs digit_at digits_between end_of flag_for run_passes separator_at
+unfolding number_of partial range_fault head_of sign numeral_in numeral_stop suffix_at is_affix matches prefix_radix marked_radix literal_radix are_same begin_of is_in_numeral digit_at digits_between end_of flag_for run_passes separator_at
 separators = refl
 
 underscore_first : spans (codes "_1") ≡ (Word, 0, 2) ∷ []
-unfolding number_of partial range_fault head_of sign numeral numeral_stop suffix_at is_affix matches prefix_radix marked_radix literal_radix are_same begin_of belongs digit_at digits_between end_of flag_for run_passes separator_at
+unfolding number_of partial range_fault head_of sign numeral_in numeral_stop suffix_at is_affix matches prefix_radix marked_radix literal_radix are_same begin_of is_in_numeral digit_at digits_between end_of flag_for run_passes separator_at
 underscore_first = refl
 
 word_and_number : spans (codes "a_1 9") ≡ (Word, 0, 3) ∷ (Number 9, 4, 5) ∷ []
-unfolding number_of partial range_fault head_of sign numeral numeral_stop suffix_at is_affix matches prefix_radix marked_radix literal_radix are_same begin_of belongs digit_at digits_between end_of flag_for run_passes separator_at
+unfolding number_of partial range_fault head_of sign numeral_in numeral_stop suffix_at is_affix matches prefix_radix marked_radix literal_radix are_same begin_of is_in_numeral digit_at digits_between end_of flag_for run_passes separator_at
 word_and_number = refl
 
 underscore_behind : spans (codes "1_") ≡ (Number 1, 0, 1) ∷ (Word, 1, 2) ∷ []
-unfolding number_of partial range_fault head_of sign numeral numeral_stop suffix_at is_affix matches prefix_radix marked_radix literal_radix are_same begin_of belongs digit_at digits_between end_of flag_for run_passes separator_at
+unfolding number_of partial range_fault head_of sign numeral_in numeral_stop suffix_at is_affix matches prefix_radix marked_radix literal_radix are_same begin_of is_in_numeral digit_at digits_between end_of flag_for run_passes separator_at
 underscore_behind = refl
 
 word_behind : spans (codes "12abc") ≡ (Number 12, 0, 2) ∷ (Word, 2, 5) ∷ []
-unfolding number_of partial range_fault head_of sign numeral numeral_stop suffix_at is_affix matches prefix_radix marked_radix literal_radix are_same begin_of belongs digit_at digits_between end_of flag_for run_passes separator_at
+unfolding number_of partial range_fault head_of sign numeral_in numeral_stop suffix_at is_affix matches prefix_radix marked_radix literal_radix are_same begin_of is_in_numeral digit_at digits_between end_of flag_for run_passes separator_at
 word_behind = refl
 
 no_digit : spans (codes "0x") ≡ (Fault (Empty 2), 0, 2) ∷ []
-unfolding number_of partial range_fault head_of sign numeral numeral_stop suffix_at is_affix matches prefix_radix marked_radix literal_radix are_same begin_of belongs digit_at digits_between end_of flag_for run_passes separator_at
+unfolding number_of partial range_fault head_of sign numeral_in numeral_stop suffix_at is_affix matches prefix_radix marked_radix literal_radix are_same begin_of is_in_numeral digit_at digits_between end_of flag_for run_passes separator_at
 no_digit = refl
 
 no_hexadecimal_digit : spans (codes "0xg") ≡ (Fault (Empty 2), 0, 3) ∷ []
-unfolding number_of partial range_fault head_of sign numeral numeral_stop suffix_at is_affix matches prefix_radix marked_radix literal_radix are_same begin_of belongs digit_at digits_between end_of flag_for run_passes separator_at
+unfolding number_of partial range_fault head_of sign numeral_in numeral_stop suffix_at is_affix matches prefix_radix marked_radix literal_radix are_same begin_of is_in_numeral digit_at digits_between end_of flag_for run_passes separator_at
 no_hexadecimal_digit = refl
 
 separator_before_the_digits : spans (codes "0x_1") ≡ (Fault (Empty 2), 0, 4) ∷ []
-unfolding number_of partial range_fault head_of sign numeral numeral_stop suffix_at is_affix matches prefix_radix marked_radix literal_radix are_same begin_of belongs digit_at digits_between end_of flag_for run_passes separator_at
+unfolding number_of partial range_fault head_of sign numeral_in numeral_stop suffix_at is_affix matches prefix_radix marked_radix literal_radix are_same begin_of is_in_numeral digit_at digits_between end_of flag_for run_passes separator_at
 separator_before_the_digits = refl
 
 plus : spans (codes "+1") ≡ (Byte, 0, 1) ∷ (Number 1, 1, 2) ∷ []
-unfolding number_of partial range_fault head_of sign numeral numeral_stop suffix_at is_affix matches prefix_radix marked_radix literal_radix are_same begin_of belongs digit_at digits_between end_of flag_for run_passes separator_at
+unfolding number_of partial range_fault head_of sign numeral_in numeral_stop suffix_at is_affix matches prefix_radix marked_radix literal_radix are_same begin_of is_in_numeral digit_at digits_between end_of flag_for run_passes separator_at
 plus = refl
 
 minus : spans (codes "-5") ≡ (Byte, 0, 1) ∷ (Number 5, 1, 2) ∷ []
-unfolding number_of partial range_fault head_of sign numeral numeral_stop suffix_at is_affix matches prefix_radix marked_radix literal_radix are_same begin_of belongs digit_at digits_between end_of flag_for run_passes separator_at
+unfolding number_of partial range_fault head_of sign numeral_in numeral_stop suffix_at is_affix matches prefix_radix marked_radix literal_radix are_same begin_of is_in_numeral digit_at digits_between end_of flag_for run_passes separator_at
 minus = refl
 
 binary_and_octal : spans (codes "0b102 0o8") ≡ (Number 2, 0, 4) ∷ (Number 2, 4, 5) ∷ (Fault (Empty 2), 6, 9) ∷ []
-unfolding number_of partial range_fault head_of sign numeral numeral_stop suffix_at is_affix matches prefix_radix marked_radix literal_radix are_same begin_of belongs digit_at digits_between end_of flag_for run_passes separator_at
+unfolding number_of partial range_fault head_of sign numeral_in numeral_stop suffix_at is_affix matches prefix_radix marked_radix literal_radix are_same begin_of is_in_numeral digit_at digits_between end_of flag_for run_passes separator_at
 binary_and_octal = refl
 
 statement : spans (codes "x1 = 0x1F + 12_3;") ≡ (Word, 0, 2) ∷ (Byte, 3, 4) ∷ (Number 31, 5, 9) ∷ (Byte, 10, 11) ∷ (Number 123, 12, 16) ∷ (Byte, 16, 17) ∷ []
-unfolding number_of partial range_fault head_of sign numeral numeral_stop suffix_at is_affix matches prefix_radix marked_radix literal_radix are_same begin_of belongs digit_at digits_between end_of flag_for run_passes separator_at
+unfolding number_of partial range_fault head_of sign numeral_in numeral_stop suffix_at is_affix matches prefix_radix marked_radix literal_radix are_same begin_of is_in_numeral digit_at digits_between end_of flag_for run_passes separator_at
 statement = refl
 
 too_great : spans (codes "340282366920938463463374607431768211456") ≡ (Fault (Overflow 38), 0, 39) ∷ []
-unfolding number_of partial range_fault head_of sign numeral numeral_stop suffix_at is_affix matches prefix_radix marked_radix literal_radix are_same begin_of belongs digit_at digits_between end_of flag_for run_passes separator_at
+unfolding number_of partial range_fault head_of sign numeral_in numeral_stop suffix_at is_affix matches prefix_radix marked_radix literal_radix are_same begin_of is_in_numeral digit_at digits_between end_of flag_for run_passes separator_at
 too_great = refl
 
 other_bytes : spans (195 ∷ 169 ∷ []) ≡ (Byte, 0, 1) ∷ (Byte, 1, 2) ∷ []

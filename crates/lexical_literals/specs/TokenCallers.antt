@@ -24,4 +24,5 @@ is_fault_kind (Fault fault) = true
 
 -- the place of the first token that is a fault
 abbrev pub first_fault : List TokenView → Option ℕ
-first_fault tokens = option_map (λ token. token.start) (find (λ token. is_fault_kind token.kind) tokens)
+first_fault tokens =
+    option_map (λ token. token.start) (find (λ token. is_fault_kind token.kind) tokens)

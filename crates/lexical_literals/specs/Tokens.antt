@@ -3,6 +3,7 @@ use Rattle.std.specs.Prelude.{◌≡◌, ℕ, zero, suc, ◌+◌, ◌-◌, ◌<�
 use Rattle.std.specs.Char.{is_ascii_alphanumeric, is_ascii_digit}
 use Rattle.std.specs.List.{prefix_len}
 use lib.IntN.{ℤ}
+use Rattle.lexical_util.specs.Ascii.{carriage_return, line_feed, space, tab, underscore}
 use Rattle.lexical_util.specs.declared.error.Error.{Error}
 use Rattle.lexical_util.specs.Format.{Format, standard}
 use Rattle.lexical_util.specs.Number.{integer_type}
@@ -15,11 +16,12 @@ use Rattle.lexical_literals.specs.declared.Token.{Token}
 
 -- whether a byte is skipped between tokens: a tab, a line feed, a carriage return or a space
 abbrev pub is_skipped : ℕ → Bool
-is_skipped byte = ((byte == 9) || (byte == 10)) || ((byte == 13) || (byte == 32))
+is_skipped byte =
+    ((byte == tab) || (byte == line_feed)) || ((byte == carriage_return) || (byte == space))
 
 -- whether a byte is one of a word: an ASCII letter, `0` to `9` or `_`
 abbrev pub is_word_byte : ℕ → Bool
-is_word_byte byte = is_ascii_alphanumeric byte || (byte == 95)
+is_word_byte byte = is_ascii_alphanumeric byte || (byte == underscore)
 
 -- ---- one token
 
@@ -27,7 +29,7 @@ is_word_byte byte = is_ascii_alphanumeric byte || (byte == 95)
 -- two digits
 abbrev pub literals : Format
 literals = record standard {
-  digit_separator = Some 95;
+  digit_separator = Some underscore;
   integer_internal_digit_separator = true;
   integer_consecutive_digit_separator = true;
   literal_prefixes = true;
@@ -63,7 +65,8 @@ pub record TokenView : Type 0 where
 
 -- the token that so many bytes of a text are, where the text stands at a place
 abbrev pub token_of : ℕ → List ℕ → Kind × ℕ → TokenView
-token_of place text (kind, size) = record { kind = kind; start = place; stop = place + size; text = take size text }
+token_of place text (kind, size) =
+    record { kind = kind; start = place; stop = place + size; text = take size text }
 
 -- the token that a text begins with, where the text stands at a place
 abbrev pub token_at : ℕ → List ℕ → TokenView
@@ -77,21 +80,24 @@ tokens_from place taken [] = []
 tokens_from place (suc taken) (byte ∷ rest) = tokens_from (place + 1) taken rest
 tokens_from place zero (byte ∷ rest) =
     if is_skipped byte then tokens_from (place + 1) 0 rest
-    else token_at place (byte ∷ rest) ∷ tokens_from (place + 1) ((front_of (byte ∷ rest)).1 - 1) rest
+    else token_at place (byte ∷ rest)
+    ∷ tokens_from (place + 1) ((front_of (byte ∷ rest)).1 - 1) rest
 
 -- the tokens of a source
 abbrev pub tokens : List ℕ → List TokenView
 tokens source = tokens_from 0 0 source
 
 -- a token as the program has it, with its bytes
-abbrev pub seen_token : Token → TokenView
-seen_token token = record { kind = token.kind; start = token.start; stop = token.stop; text = token.text.now }
+abbrev pub view_of_token : Token → TokenView
+view_of_token token =
+    record { kind = token.kind; start = token.start; stop = token.stop; text = token.text.now }
 
 -- ---- what the tokens of a source are
 
 -- all bytes of a source from one place to before another are skipped
 abbrev pub AreSkipped : List ℕ → ℕ → ℕ → Type 0
-AreSkipped source from to = (place : ℕ) → from ≤ place → place < to → is_skipped (slice_index source place) ≡ true
+AreSkipped source from to =
+    (place : ℕ) → from ≤ place → place < to → is_skipped (slice_index source place) ≡ true
 
 -- A token begins at the least place, from that one on, whose byte isn't skipped, and is what the source begins with
 -- there.
@@ -104,7 +110,8 @@ pub record BeginsNext (source : List ℕ) (from : ℕ) (token : TokenView) : Typ
 -- from a place of a source on, each token begins next behind the one before it, and behind the last one all is skipped
 abbrev pub FollowInTurn : List ℕ → ℕ → List TokenView → Type 0
 FollowInTurn source from [] = AreSkipped source from (length source)
-FollowInTurn source from (token ∷ more) = BeginsNext source from token × FollowInTurn source token.stop more
+FollowInTurn source from (token ∷ more) =
+    BeginsNext source from token × FollowInTurn source token.stop more
 
 -- a token isn't empty, and its bytes are the source from its start to before its stop
 pub record IsPartOf (source : List ℕ) (token : TokenView) : Type 0 where

@@ -14,7 +14,7 @@
 ghost use Rattle.std.specs.Prelude.{◌≡◌, ◌+◌, ◌<◌, ◌≤◌, ◌^◌, List, All, length, slice_index};
 ghost use Rattle.std.specs.Iterator.{YieldsFirstBy, item_count};
 ghost use Rattle.std.specs.List.{prefix_len};
-ghost use Rattle.lexical_literals.specs.Tokens.{FollowInTurn, IsPartOf, TokenView, front_of, is_skipped, is_word_byte, literals, number_of, seen_token, tokens, tokens_from, word_length};
+ghost use Rattle.lexical_literals.specs.Tokens.{FollowInTurn, IsPartOf, TokenView, front_of, is_skipped, is_word_byte, literals, number_of, view_of_token, tokens, tokens_from, word_length};
 
 use lexical_parse_integer::laws::grammar::front_end;
 use lexical_parse_integer::parse::ParseInteger;
@@ -164,7 +164,7 @@ impl<'a> Tokens<'a> {
 impl<'a> Iterator for Tokens<'a> {
     type Item = Token<'a>;
 
-    ghost next_gives = { YieldsFirstBy seen_token (λ left. left) };
+    ghost next_gives = { YieldsFirstBy view_of_token (λ left. left) };
 
     ghost remaining = { item_count (λ left. left) };
 

@@ -4,7 +4,7 @@ use Rattle.lexical_util.specs.Digit.{IsRadix}
 use Rattle.lexical_util.specs.Format.{Format}
 use Rattle.lexical_util.specs.Validity.{fault}
 use Rattle.lexical_parse_integer.specs.Affixes.{suffix_at, numeral_stop}
-use Rattle.lexical_parse_integer.specs.Numeral.{Numeral, numeral}
+use Rattle.lexical_parse_integer.specs.Numeral.{Numeral, numeral_in}
 use Rattle.lexical_parse_integer.specs.Runs.{digit_at, separator_at, end_of, places, digits_between}
 use Rattle.lexical_parse_integer.specs.Seeking.{IsSeparatorNoDigit, IsAtRunStart, HasNoDigit}
 
@@ -24,7 +24,7 @@ pub record CursorView : Type 0 where
 
 -- the numeral in the cursor's region
 abbrev pub numeral_of : CursorView → Numeral
-numeral_of cursor = numeral cursor.format cursor.bytes cursor.start cursor.radix
+numeral_of cursor = numeral_in cursor.format cursor.bytes cursor.start cursor.radix
 
 -- where the numeral in the cursor's region ends
 abbrev pub numeral_end : CursorView → ℕ
@@ -34,16 +34,19 @@ numeral_end cursor = end_of cursor.format cursor.radix cursor.bytes cursor.start
 
 -- no byte that matches the suffix is a digit
 abbrev pub IsSuffixNoDigit : Format → ℕ → List ℕ → Type 0
-IsSuffixNoDigit format radix text = (place : ℕ) → suffix_at format text place ≡ true → digit_at radix text place ≡ None
+IsSuffixNoDigit format radix text =
+    (place : ℕ) → suffix_at format text place ≡ true → digit_at radix text place ≡ None
 
 -- no byte that matches the suffix is a separator
 abbrev pub IsSuffixNoSeparator : Format → List ℕ → Type 0
-IsSuffixNoSeparator format text = (place : ℕ) → suffix_at format text place ≡ true → separator_at format text place ≡ false
+IsSuffixNoSeparator format text =
+    (place : ℕ) → suffix_at format text place ≡ true → separator_at format text place ≡ false
 
 -- before the suffix is read the position is in the numeral or at its end, and not within a run
 pub record IsOpen (cursor : CursorView) : Type 0 where
   pub before_end : cursor.position ≤ numeral_end cursor
-  pub digits : cursor.digits ≡ length (digits_between cursor.radix cursor.bytes cursor.start cursor.position)
+  pub digits : cursor.digits
+      ≡ length (digits_between cursor.radix cursor.bytes cursor.start cursor.position)
   pub at_run_start : IsAtRunStart cursor.format cursor.bytes cursor.start cursor.position
 
 -- behind the suffix all digits are counted
@@ -73,7 +76,8 @@ pub record IsSound (cursor : CursorView) : Type 0 where
 -- a cursor behind a prefix that puts a radix in force, and as it is where there is none
 abbrev pub behind_prefix : CursorView → Option ℕ → CursorView
 behind_prefix cursor None = cursor
-behind_prefix cursor (Some radix) = record cursor { radix = radix; start = cursor.position + 2; position = cursor.position + 2 }
+behind_prefix cursor (Some radix) =
+    record cursor { radix = radix; start = cursor.position + 2; position = cursor.position + 2 }
 
 -- the next digit is taken, with its value
 pub record TakesDigit (old new : CursorView) (value : ℕ) : Type 0 where
@@ -83,7 +87,8 @@ pub record TakesDigit (old new : CursorView) (value : ℕ) : Type 0 where
   pub least : HasNoDigit old.radix old.bytes old.position place
   pub before_end : place < numeral_end old
   pub value_is : digit_at old.radix old.bytes place ≡ Some value
-  pub after : new ≡ record old { position = place + 1; digits = old.digits + 1; turns = old.turns + 1 }
+  pub after : new ≡ record old { position = place + 1; digits = old.digits + 1;
+      turns = old.turns + 1 }
 
 -- no digit of the numeral is left, and the cursor stands at its end
 pub record ReachesEnd (old new : CursorView) : Type 0 where
@@ -92,7 +97,9 @@ pub record ReachesEnd (old new : CursorView) : Type 0 where
 
 -- the next bytes, so many, are digits
 abbrev pub AreDigitsAhead : CursorView → ℕ → Type 0
-AreDigitsAhead cursor count = (place : ℕ) → cursor.position ≤ place → place < cursor.position + count → IsSome (digit_at cursor.radix cursor.bytes place)
+AreDigitsAhead cursor count =
+    (place : ℕ) → cursor.position ≤ place → place < cursor.position + count
+    → IsSome (digit_at cursor.radix cursor.bytes place)
 
 -- whether a read of the suffix moves the cursor behind it: a digit was read, and the suffix stands at the position
 abbrev pub closes : CursorView → Bool

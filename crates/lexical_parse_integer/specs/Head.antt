@@ -1,5 +1,6 @@
 -- What stands before a numeral: its sign and its prefix.
 use Rattle.std.specs.Prelude.{ℕ, ◌+◌, Bool, true, false, ◌&&◌, if◌then◌else◌, ◌==◌, List, slice_get, Option, Some, None, Result, Ok, Err}
+use Rattle.lexical_util.specs.Ascii.{minus, plus}
 use Rattle.lexical_util.specs.declared.error.Error.{Error}
 use Rattle.lexical_util.specs.declared.error.Error.TheVariants.{MissingSign, InvalidPositiveSign}
 use Rattle.lexical_util.specs.Format.{Format}
@@ -14,8 +15,9 @@ no_sign format = if format.required_mantissa_sign then Err (MissingSign 0) else 
 abbrev pub sign_by : Format → IntegerType → Option ℕ → Result (Bool × ℕ) Error
 sign_by format type None = no_sign format
 sign_by format type (Some byte) =
-    if byte == 43 then (if format.no_positive_mantissa_sign then Err (InvalidPositiveSign 0) else Ok (false, 1))
-    else (if (byte == 45) && type.is_signed then Ok (true, 1) else no_sign format)
+    if byte == plus
+    then (if format.no_positive_mantissa_sign then Err (InvalidPositiveSign 0) else Ok (false, 1))
+    else (if (byte == minus) && type.is_signed then Ok (true, 1) else no_sign format)
 
 -- whether a text has a minus, and how many bytes its sign has: the first byte alone decides
 unfoldable pub sign : Format → IntegerType → List ℕ → Result (Bool × ℕ) Error
@@ -45,7 +47,8 @@ head_behind format sign_read (Some radix) = record {
 
 -- the head of a text by what its sign is
 abbrev pub head_after : Format → List ℕ → Result (Bool × ℕ) Error → Result Head Error
-head_after format text (Ok sign_read) = Ok (head_behind format sign_read (prefix_radix format text sign_read.1))
+head_after format text (Ok sign_read) =
+    Ok (head_behind format sign_read (prefix_radix format text sign_read.1))
 head_after format text (Err error) = Err error
 
 -- what stands before the numeral of a text, or the fault of its sign

@@ -4,7 +4,7 @@ use Rattle.std.specs.Option.{unwrap_or}
 use Rattle.lexical_util.specs.Format.{Format}
 use Rattle.lexical_parse_integer.specs.Affixes.{numeral_stop}
 use Rattle.lexical_parse_integer.specs.Runs.{digit_at, end_of, places}
-use Rattle.lexical_parse_integer.specs.Value.{positional_value, signed}
+use Rattle.lexical_parse_integer.specs.Value.{positional_value, with_sign}
 
 -- A numeral in the region of a text.
 pub record Numeral : Type 0 where
@@ -19,8 +19,8 @@ pub record Numeral : Type 0 where
   pub stop : ℕ
 
 -- the numeral of a text in the region from start on
-unfoldable pub numeral : Format → List ℕ → ℕ → ℕ → Numeral
-numeral format text start radix = record {
+unfoldable pub numeral_in : Format → List ℕ → ℕ → ℕ → Numeral
+numeral_in format text start radix = record {
   start = start;
   radix = radix;
   places = places format radix text start;
@@ -35,7 +35,8 @@ digit_count numeral = length numeral.digits
 
 -- the value of a numeral's first digits, so many, with the sign
 abbrev pub front_value : Bool → Numeral → ℕ → ℤ
-front_value is_minus numeral count = signed is_minus (positional_value numeral.radix (take count numeral.digits))
+front_value is_minus numeral count =
+    with_sign is_minus (positional_value numeral.radix (take count numeral.digits))
 
 -- the value of all digits of a numeral, with the sign
 abbrev pub numeral_value : Bool → Numeral → ℤ

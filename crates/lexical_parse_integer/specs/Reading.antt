@@ -5,14 +5,16 @@ use Rattle.lexical_util.specs.Number.{IntegerType, is_number}
 use Rattle.lexical_parse_integer.specs.CursorView.{CursorView, IsSound}
 use Rattle.lexical_parse_integer.specs.Grammar.{prefix_fault, zero_fault, range_fault}
 use Rattle.lexical_parse_integer.specs.Head.{Head, head_of}
-use Rattle.lexical_parse_integer.specs.Numeral.{Numeral, numeral, digit_count, front_value, numeral_value}
+use Rattle.lexical_parse_integer.specs.Numeral.{Numeral, numeral_in, digit_count, front_value, numeral_value}
 
 -- the values of the first fronts, so many, are numbers of the type
 abbrev pub FrontsFit : IntegerType → Bool → Numeral → ℕ → Type 0
-FrontsFit type is_minus numeral count = (index : ℕ) → index < count → is_number type (front_value is_minus numeral (index + 1)) ≡ true
+FrontsFit type is_minus numeral count =
+    (index : ℕ) → index < count → is_number type (front_value is_minus numeral (index + 1)) ≡ true
 
 -- a value is that of the first digits, so many, and each front so far is a number of the type
-pub record Reads (type : IntegerType) (is_minus : Bool) (numeral : Numeral) (read : ℕ) (value : ℤ) : Type 0 where
+pub record Reads (type : IntegerType) (is_minus : Bool) (numeral : Numeral) (read : ℕ)
+    (value : ℤ) : Type 0 where
   pub count : read ≤ digit_count numeral
   pub front : value ≡ front_value is_minus numeral read
   pub fit : FrontsFit type is_minus numeral read
@@ -33,8 +35,11 @@ pub record IsOver (text : List ℕ) (under : Format) (cursor : CursorView) : Typ
   pub sound : IsSound cursor
 
 -- sign and prefix are read
-pub record IsAtHead (under : Format) (type : IntegerType) (text : List ℕ) (is_minus is_prefixed : Bool) (cursor : CursorView) : Type 0 where
-  pub head_is : head_of under type text ≡ Ok (record { is_minus = is_minus; is_prefixed = is_prefixed; start = cursor.start; radix = cursor.radix })
+pub record IsAtHead (under : Format) (type : IntegerType) (text : List ℕ)
+    (is_minus is_prefixed : Bool) (cursor : CursorView) : Type 0 where
+  pub head_is : head_of under type text
+      ≡ Ok (record { is_minus = is_minus; is_prefixed = is_prefixed; start = cursor.start;
+      radix = cursor.radix })
   pub bytes : cursor.bytes ≡ text
   pub format : cursor.format ≡ under
   pub at_start : cursor.position ≡ cursor.start
@@ -44,21 +49,25 @@ pub record IsAtHead (under : Format) (type : IntegerType) (text : List ℕ) (is_
   pub minus : is_minus ≡ true → type.is_signed ≡ true
 
 -- sign, prefix, numeral and suffix are read, and there was no fault
-pub record IsRead (under : Format) (type : IntegerType) (text : List ℕ) (value : ℤ) (cursor : CursorView) : Type 0 where
+pub record IsRead (under : Format) (type : IntegerType) (text : List ℕ) (value : ℤ)
+    (cursor : CursorView) : Type 0 where
   pub head : Head
   pub head_is : head_of under type text ≡ Ok head
   pub no_prefix_fault : prefix_fault text head ≡ None
-  pub no_zero_fault : zero_fault under head.is_prefixed (numeral under text head.start head.radix) ≡ None
-  pub no_range_fault : range_fault type head.is_minus (numeral under text head.start head.radix) ≡ None
-  pub value_is : value ≡ numeral_value head.is_minus (numeral under text head.start head.radix)
+  pub no_zero_fault : zero_fault under head.is_prefixed
+      (numeral_in under text head.start head.radix) ≡ None
+  pub no_range_fault : range_fault type head.is_minus (numeral_in under text head.start head.radix)
+      ≡ None
+  pub value_is : value ≡ numeral_value head.is_minus (numeral_in under text head.start head.radix)
   pub bytes : cursor.bytes ≡ text
   pub format : cursor.format ≡ under
-  pub at_stop : cursor.position ≡ (numeral under text head.start head.radix).stop
-  pub all_digits : cursor.digits ≡ digit_count (numeral under text head.start head.radix)
+  pub at_stop : cursor.position ≡ (numeral_in under text head.start head.radix).stop
+  pub all_digits : cursor.digits ≡ digit_count (numeral_in under text head.start head.radix)
 
 -- a cursor stands where the reading of its text stops, with all digits counted
-pub record StandsAtStop (format : Format) (type : IntegerType) (text : List ℕ) (cursor : CursorView) : Type 0 where
+pub record StandsAtStop (format : Format) (type : IntegerType) (text : List ℕ)
+    (cursor : CursorView) : Type 0 where
   pub head : Head
   pub head_is : head_of format type text ≡ Ok head
-  pub at_stop : cursor.position ≡ (numeral format text head.start head.radix).stop
-  pub all_digits : cursor.digits ≡ digit_count (numeral format text head.start head.radix)
+  pub at_stop : cursor.position ≡ (numeral_in format text head.start head.radix).stop
+  pub all_digits : cursor.digits ≡ digit_count (numeral_in format text head.start head.radix)

@@ -47,33 +47,39 @@ unfoldable pub flag_for : Format → Bool → Bool → Bool
 flag_for format true true = format.integer_internal_digit_separator
 flag_for format false true = format.integer_leading_digit_separator
 flag_for format true false = format.integer_trailing_digit_separator
-flag_for format false false = format.integer_leading_digit_separator || format.integer_trailing_digit_separator
+flag_for format false false =
+    format.integer_leading_digit_separator || format.integer_trailing_digit_separator
 
 -- whether the run from one place to before another passes: it is one separator long or more are allowed, and the
 -- flag that its neighbours ask for is set
 unfoldable pub run_passes : Format → ℕ → List ℕ → ℕ → ℕ → ℕ → Bool
 run_passes format radix text start from to =
     (format.integer_consecutive_digit_separator || (to == from + 1))
-    && flag_for format (nat_lt start from && is_some (digit_at radix text (from - 1))) (is_some (digit_at radix text to))
+    && flag_for format (nat_lt start from && is_some (digit_at radix text (from - 1)))
+    (is_some (digit_at radix text to))
 
 -- whether the run of the separator at a place passes
-abbrev pub passes : Format → ℕ → List ℕ → ℕ → ℕ → Bool
-passes format radix text start place = run_passes format radix text start (run_begin format text start place) (run_stop format text place)
+abbrev pub is_in_passing_run : Format → ℕ → List ℕ → ℕ → ℕ → Bool
+is_in_passing_run format radix text start place =
+    run_passes format radix text start (run_begin format text start place)
+    (run_stop format text place)
 
 -- ---- the numeral's end, and its digits
 
 -- whether a place holds a digit, or a separator whose run passes
-unfoldable pub belongs : Format → ℕ → List ℕ → ℕ → ℕ → Bool
-belongs format radix text start place =
-    is_some (digit_at radix text place) || (separator_at format text place && passes format radix text start place)
+unfoldable pub is_in_numeral : Format → ℕ → List ℕ → ℕ → ℕ → Bool
+is_in_numeral format radix text start place =
+    is_some (digit_at radix text place)
+    || (separator_at format text place && is_in_passing_run format radix text start place)
 
 -- the numeral's end: the greatest place such that each place from start to before it belongs
 unfoldable pub end_of : Format → ℕ → List ℕ → ℕ → ℕ
-end_of format radix text start = stop_of (belongs format radix text start) start (length text)
+end_of format radix text start = stop_of (is_in_numeral format radix text start) start (length text)
 
 -- the places of digits from one place to before another, in rising order
 unfoldable pub digits_between : ℕ → List ℕ → ℕ → ℕ → List ℕ
-digits_between radix text from to = filter (λ place. is_some (digit_at radix text place)) (range_with_len from (to - from))
+digits_between radix text from to =
+    filter (λ place. is_some (digit_at radix text place)) (range_with_len from (to - from))
 
 -- the places of the numeral's digits
 abbrev pub places : Format → ℕ → List ℕ → ℕ → List ℕ

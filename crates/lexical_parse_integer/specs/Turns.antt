@@ -3,21 +3,24 @@ use Rattle.std.specs.Prelude.{◌≡◌, ℕ, ◌+◌, ◌-◌, ◌/◌, ◌%◌
 use Rattle.lexical_util.specs.Format.{Format}
 use Rattle.lexical_util.specs.Number.{IntegerType, overflow_digits}
 use Rattle.lexical_parse_integer.specs.Head.{head_of}
-use Rattle.lexical_parse_integer.specs.Numeral.{numeral, digit_count}
+use Rattle.lexical_parse_integer.specs.Numeral.{numeral_in, digit_count}
 
 -- how many digits a word has for a type of this width: eight from 64 bits on, and four for 32 bits
-unfoldable pub word_length : ℕ → ℕ
-word_length bits = if nat_le 64 bits then 8 else 4
+unfoldable pub digits_per_word : ℕ → ℕ
+digits_per_word bits = if nat_le 64 bits then 8 else 4
 
 -- the greatest number of turns for so many digits, where words have `word` digits and are taken from the first
 -- `room` digits alone
 abbrev pub turns_bound : ℕ → ℕ → ℕ → ℕ
-turns_bound word room digits = min digits room / word + min digits room % word + (digits - min digits room)
+turns_bound word room digits =
+    min digits room / word + min digits room % word + (digits - min digits room)
 
 -- few turns for a text: no more than the bound, for a radix in force of at most 10, and none at a sign's fault
 abbrev pub HasFewTurns : Format → IntegerType → List ℕ → ℕ → Type 0
 HasFewTurns format type text turns = MatchResult (head_of format type text)
-    (λ head. head.radix ≤ 10 → turns ≤ turns_bound (word_length type.bits) (overflow_digits type head.radix) (digit_count (numeral format text head.start head.radix)))
+    (λ head. head.radix ≤ 10
+    → turns ≤ turns_bound (digits_per_word type.bits) (overflow_digits type head.radix)
+    (digit_count (numeral_in format text head.start head.radix)))
     (λ e. turns ≡ 0)
 
 -- words are asked for: options and format admit them, and the type is wide enough

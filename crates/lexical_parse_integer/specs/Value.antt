@@ -4,8 +4,9 @@ use Rattle.std.specs.Prelude.{ℕ, ◌+◌, ◌*◌, ◌^◌, Bool, if◌then◌
 -- each digit times the radix to the power of the number of digits after it
 abbrev pub positional_value : ℕ → List ℕ → ℕ
 positional_value radix [] = 0
-positional_value radix (digit ∷ digits) = digit * radix ^ length digits + positional_value radix digits
+positional_value radix (digit ∷ digits) =
+    digit * radix ^ length digits + positional_value radix digits
 
 -- n, or -n behind a minus
-abbrev pub signed : Bool → ℕ → ℤ
-signed is_minus n = if is_minus then neg_ℤ (pos n) else pos n
+abbrev pub with_sign : Bool → ℕ → ℤ
+with_sign is_minus n = if is_minus then neg_ℤ (pos n) else pos n

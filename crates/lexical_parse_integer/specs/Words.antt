@@ -1,6 +1,7 @@
 -- A machine word as text: its bytes, and the number that its digits write.
 use Rattle.std.specs.Prelude.{ℕ, zero, suc, ◌-◌, ◌/◌, ◌%◌, List, [], ◌∷◌, map, IsSome}
 use Rattle.std.specs.List.{AllByRecursion}
+use Rattle.lexical_util.specs.Ascii.{digit_zero}
 use Rattle.lexical_util.specs.Digit.{digit}
 use Rattle.lexical_parse_integer.specs.Value.{positional_value}
 
@@ -15,4 +16,4 @@ AreDigits radix bytes = AllByRecursion (λ byte. IsSome (digit byte radix)) byte
 
 -- the number that ASCII digits write, the first worth the most: `0` is byte 48
 abbrev pub word_value : ℕ → List ℕ → ℕ
-word_value radix bytes = positional_value radix (map (λ byte. byte - 48) bytes)
+word_value radix bytes = positional_value radix (map (λ byte. byte - digit_zero) bytes)

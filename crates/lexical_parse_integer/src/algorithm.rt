@@ -3,9 +3,8 @@
 //! The names are those of the upstream crate's hidden module of that name; here they are documented, since a reader
 //! written by hand can use them.
 ghost use Rattle.std.specs.Prelude.{◌≡◌, ◌&&◌, ◌||◌, ◌==◌, Err, IfErr, IfOk, IsNone, IsTrue, OnOk, is_some, length};
-ghost use Rattle.lexical_util.specs.Number.{integer_type};
 ghost use Rattle.lexical_util.specs.Validity.{fault};
-ghost use Rattle.lexical_parse_integer.specs.Answer.{placed, seen};
+ghost use Rattle.lexical_parse_integer.specs.Answer.{with_place, view_of};
 ghost use Rattle.lexical_parse_integer.specs.Grammar.{complete, digits_required, partial};
 ghost use Rattle.lexical_parse_integer.specs.Reading.{IsOver, IsRead, StandsAtStop};
 ghost use Rattle.lexical_parse_integer.specs.Turns.{AsksWords, HasFewTurns};
@@ -36,11 +35,13 @@ pub use words::{is_4digits, is_8digits, parse_4digits, parse_8digits};
 fn read<T: Integer>(c: &mut Cursor<'_>, no_multi_digit: bool) -> Result<T>
     requires { c.old.position ≡ 0 }
     ensures over { IsOver c.old.bytes c.old.format c.new }
-    ensures found { IfOk result (λ value. IsRead c.old.format (integer_type T.BITS T.IS_SIGNED) c.old.bytes (T.number value) c.new) }
-    ensures completes { IfErr result (λ e. complete c.old.format (integer_type T.BITS T.IS_SIGNED) c.old.bytes ≡ Err e) }
-    ensures goes_part { IfErr result (λ e. partial c.old.format (integer_type T.BITS T.IS_SIGNED) c.old.bytes ≡ Err e) }
+    ensures found { IfOk result
+        (λ value. IsRead c.old.format T.TYPE c.old.bytes (T.number value) c.new) }
+    ensures completes { IfErr result (λ e. complete c.old.format T.TYPE c.old.bytes ≡ Err e) }
+    ensures goes_part { IfErr result (λ e. partial c.old.format T.TYPE c.old.bytes ≡ Err e) }
     ensures each { IsTrue no_multi_digit → OnOk result (c.new.turns ≡ c.new.digits) }
-    ensures few { AsksWords T.BITS no_multi_digit c.old.format → HasFewTurns c.old.format (integer_type T.BITS T.IS_SIGNED) c.old.bytes c.new.turns }
+    ensures few { AsksWords T.BITS no_multi_digit c.old.format
+        → HasFewTurns c.old.format T.TYPE c.old.bytes c.new.turns }
 {
     let (negative, is_prefixed) = read_head::<T>(c)?;
     c.sound();
@@ -64,7 +65,8 @@ fn lacks_digits(c: &Cursor<'_>) -> bool
 // Whether missing digits are the partial parser's fault: at the text's end, or where separators may stand.
 #[inline(always)]
 fn is_settled(c: &Cursor<'_>) -> bool
-    ensures { result ≡ (is_some c.now.format.digit_separator || (c.now.position == length c.now.bytes)) }
+    ensures { result ≡ (is_some c.now.format.digit_separator
+        || (c.now.position == length c.now.bytes)) }
 {
     !c.is_contiguous() || c.is_buffer_empty()
 }
@@ -83,11 +85,12 @@ fn is_settled(c: &Cursor<'_>) -> bool
 #[inline(always)]
 pub fn algorithm_complete_on<T: Integer>(c: &mut Cursor<'_>, options: &Options) -> Result<T>
     requires front { c.old.position ≡ 0 }
-    ensures answer { seen T.number result ≡ complete c.old.format (integer_type T.BITS T.IS_SIGNED) c.old.bytes }
+    ensures answer { view_of T.number result ≡ complete c.old.format T.TYPE c.old.bytes }
     ensures over { IsOver c.old.bytes c.old.format c.new }
-    ensures at_stop { OnOk result (StandsAtStop c.old.format (integer_type T.BITS T.IS_SIGNED) c.old.bytes c.new) }
+    ensures at_stop { OnOk result (StandsAtStop c.old.format T.TYPE c.old.bytes c.new) }
     ensures each { IsTrue options.now.no_multi_digit → OnOk result (c.new.turns ≡ c.new.digits) }
-    ensures few { AsksWords T.BITS options.now.no_multi_digit c.old.format → HasFewTurns c.old.format (integer_type T.BITS T.IS_SIGNED) c.old.bytes c.new.turns }
+    ensures few { AsksWords T.BITS options.now.no_multi_digit c.old.format
+        → HasFewTurns c.old.format T.TYPE c.old.bytes c.new.turns }
 {
     let value = read::<T>(c, options.get_no_multi_digit())?;
     if !c.is_buffer_empty() {
@@ -106,12 +109,14 @@ pub fn algorithm_complete_on<T: Integer>(c: &mut Cursor<'_>, options: &Options) 
 #[inline(always)]
 pub fn algorithm_partial_on<T: Integer>(c: &mut Cursor<'_>, options: &Options) -> Result<(T, usize)>
     requires front { c.old.position ≡ 0 }
-    ensures answer { seen (placed T.number) result ≡ partial c.old.format (integer_type T.BITS T.IS_SIGNED) c.old.bytes }
+    ensures answer { view_of (with_place T.number) result
+        ≡ partial c.old.format T.TYPE c.old.bytes }
     ensures place { IfOk result (λ found. c.new.position ≡ found.1) }
     ensures over { IsOver c.old.bytes c.old.format c.new }
-    ensures at_stop { OnOk result (StandsAtStop c.old.format (integer_type T.BITS T.IS_SIGNED) c.old.bytes c.new) }
+    ensures at_stop { OnOk result (StandsAtStop c.old.format T.TYPE c.old.bytes c.new) }
     ensures each { IsTrue options.now.no_multi_digit → OnOk result (c.new.turns ≡ c.new.digits) }
-    ensures few { AsksWords T.BITS options.now.no_multi_digit c.old.format → HasFewTurns c.old.format (integer_type T.BITS T.IS_SIGNED) c.old.bytes c.new.turns }
+    ensures few { AsksWords T.BITS options.now.no_multi_digit c.old.format
+        → HasFewTurns c.old.format T.TYPE c.old.bytes c.new.turns }
 {
     let front = read::<T>(c, options.get_no_multi_digit())?;
     if lacks_digits(c) {
@@ -142,7 +147,7 @@ pub fn algorithm_complete<T: Integer>(
     options: &Options,
 ) -> Result<T>
     requires valid { IsNone (fault format.now) }
-    ensures { seen T.number result ≡ complete format.now (integer_type T.BITS T.IS_SIGNED) bytes.now }
+    ensures { view_of T.number result ≡ complete format.now T.TYPE bytes.now }
 {
     algorithm_complete_on::<T>(&mut Cursor::new(bytes, format), options)
 }
@@ -161,7 +166,7 @@ pub fn algorithm_partial<T: Integer>(
     options: &Options,
 ) -> Result<(T, usize)>
     requires valid { IsNone (fault format.now) }
-    ensures { seen (placed T.number) result ≡ partial format.now (integer_type T.BITS T.IS_SIGNED) bytes.now }
+    ensures { view_of (with_place T.number) result ≡ partial format.now T.TYPE bytes.now }
 {
     algorithm_partial_on::<T>(&mut Cursor::new(bytes, format), options)
 }

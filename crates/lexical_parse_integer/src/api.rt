@@ -1,8 +1,7 @@
 //! The calls that users make: an integer type reads itself from bytes.
 ghost use Rattle.std.specs.Prelude.{◌≡◌};
 ghost use Rattle.lexical_util.specs.Format.{standard};
-ghost use Rattle.lexical_util.specs.Number.{integer_type};
-ghost use Rattle.lexical_parse_integer.specs.Answer.{placed, seen};
+ghost use Rattle.lexical_parse_integer.specs.Answer.{with_place, view_of};
 ghost use Rattle.lexical_parse_integer.specs.Grammar.{complete, complete_if_valid, partial, partial_if_valid};
 
 mod impls;
@@ -19,7 +18,7 @@ pub trait FromLexical: Integer {
     /// The integer that the whole text stands for.
     #[inline(always)]
     fn from_lexical(bytes: &[u8]) -> Result<Self>
-        ensures { seen Self.number result ≡ complete standard (integer_type Self.BITS Self.IS_SIGNED) bytes.now }
+        ensures { view_of Self.number result ≡ complete standard Self.TYPE bytes.now }
     {
         algorithm_complete::<Self>(bytes, &format::STANDARD, &options::STANDARD)
     }
@@ -27,7 +26,7 @@ pub trait FromLexical: Integer {
     /// The integer that the front of the text stands for, and the place at which reading stopped.
     #[inline(always)]
     fn from_lexical_partial(bytes: &[u8]) -> Result<(Self, usize)>
-        ensures { seen (placed Self.number) result ≡ partial standard (integer_type Self.BITS Self.IS_SIGNED) bytes.now }
+        ensures { view_of (with_place Self.number) result ≡ partial standard Self.TYPE bytes.now }
     {
         algorithm_partial::<Self>(bytes, &format::STANDARD, &options::STANDARD)
     }
@@ -44,7 +43,7 @@ pub trait FromLexicalWithOptions: FromLexical {
         format: &NumberFormat,
         options: &Self::Options,
     ) -> Result<Self>
-        ensures { seen Self.number result ≡ complete_if_valid format.now (integer_type Self.BITS Self.IS_SIGNED) bytes.now };
+        ensures { view_of Self.number result ≡ complete_if_valid format.now Self.TYPE bytes.now };
 
     /// The integer that the front of the text stands for, and the place at which reading stopped.
     fn from_lexical_partial_with_options(
@@ -52,5 +51,6 @@ pub trait FromLexicalWithOptions: FromLexical {
         format: &NumberFormat,
         options: &Self::Options,
     ) -> Result<(Self, usize)>
-        ensures { seen (placed Self.number) result ≡ partial_if_valid format.now (integer_type Self.BITS Self.IS_SIGNED) bytes.now };
+        ensures { view_of (with_place Self.number) result
+            ≡ partial_if_valid format.now Self.TYPE bytes.now };
 }

@@ -9,6 +9,7 @@
 //! the position, how many digits were read, whether the suffix was read, and how many turns that took. A turn is one
 //! digit taken alone, or one word of four or eight digits taken at once; their count takes no byte at run time.
 ghost use Rattle.std.specs.Prelude.{◌≡◌, ◌+◌, ◌<◌, ◌≤◌, ◌↔◌, ◌⊎◌, IsTrue, IsNone, MatchOption, Some, false, true, if◌then◌else◌, is_some, length, slice_get, slice_range};
+ghost use Rattle.lexical_util.specs.Ascii.{minus, plus};
 ghost use Rattle.lexical_util.specs.Validity.{fault};
 ghost use Rattle.lexical_parse_integer.specs.Affixes.{numeral_stop, prefix_radix};
 ghost use Rattle.lexical_parse_integer.specs.CursorView.{AreDigitsAhead, IsSound, ReachesEnd, TakesDigit, behind_prefix, closes, numeral_end};
@@ -37,9 +38,13 @@ impl<'a> Model for Cursor<'a> {
 
     ghost Value = { CursorView };
 
-    ghost view = { λ c. record { bytes = c.bytes.now; format = c.format; radix = c.radix; start = c.start; position = c.position; digits = c.digits; closed = c.closed; turns = c.turns } };
+    ghost view = { λ c. record { bytes = c.bytes.now; format = c.format; radix = c.radix;
+        start = c.start; position = c.position; digits = c.digits; closed = c.closed;
+        turns = c.turns } };
 
-    ghost invariant = { λ c. IsSound (record { bytes = c.bytes.now; format = c.format; radix = c.radix; start = c.start; position = c.position; digits = c.digits; closed = c.closed; turns = c.turns }) };
+    ghost invariant = { λ c. IsSound
+        (record { bytes = c.bytes.now; format = c.format; radix = c.radix; start = c.start;
+        position = c.position; digits = c.digits; closed = c.closed; turns = c.turns }) };
 }
 
 impl<'a> Cursor<'a> {
@@ -49,7 +54,9 @@ impl<'a> Cursor<'a> {
     #[inline(always)]
     pub fn new(bytes: &'a [u8], format: &NumberFormat) -> Cursor<'a>
         requires valid { IsNone (fault format.now) }
-        ensures { result ≡ record { bytes = bytes.now; format = format.now; radix = format.now.mantissa_radix; start = 0; position = 0; digits = 0; closed = false; turns = 0 } }
+        ensures { result ≡ record { bytes = bytes.now; format = format.now;
+            radix = format.now.mantissa_radix; start = 0; position = 0; digits = 0; closed = false;
+            turns = 0 } }
     {
         Cursor {
             bytes,
@@ -163,7 +170,9 @@ impl<'a> Cursor<'a> {
     #[inline(always)]
     pub fn peek_word(&self, n: usize) -> Option<&'a [u8]>
         requires { (n ≡ 4) ⊎ (n ≡ 8) }
-        ensures { MatchOption result (length self.now.bytes < self.now.position + n) (λ word. (self.now.position + n ≤ length self.now.bytes) × (word.now ≡ slice_range self.now.bytes self.now.position (self.now.position + n))) }
+        ensures { MatchOption result (length self.now.bytes < self.now.position + n)
+            (λ word. (self.now.position + n ≤ length self.now.bytes)
+            × (word.now ≡ slice_range self.now.bytes self.now.position (self.now.position + n))) }
     {
         let bytes = self.bytes;
         if bytes.len() - self.position < n {
@@ -178,7 +187,8 @@ impl<'a> Cursor<'a> {
     #[inline(always)]
     pub fn step_sign(&mut self)
         requires front { self.old.position ≡ 0 }
-        requires sign { (slice_get self.old.bytes 0 ≡ Some 43) ⊎ (slice_get self.old.bytes 0 ≡ Some 45) }
+        requires sign { (slice_get self.old.bytes 0 ≡ Some plus)
+            ⊎ (slice_get self.old.bytes 0 ≡ Some minus) }
         ensures { self.new ≡ record self.old { start = 1; position = 1 } }
     {
         self.start = 1;
@@ -195,8 +205,10 @@ impl<'a> Cursor<'a> {
         requires front { self.old.position ≤ 1 }
         requires at_start { self.old.position ≡ self.old.start }
         requires no_digit { self.old.digits ≡ 0 }
-        ensures answer { result ≡ is_some (prefix_radix self.old.format self.old.bytes self.old.position) }
-        ensures after { self.new ≡ behind_prefix self.old (prefix_radix self.old.format self.old.bytes self.old.position) }
+        ensures answer { result ≡ is_some
+            (prefix_radix self.old.format self.old.bytes self.old.position) }
+        ensures after { self.new ≡ behind_prefix self.old
+            (prefix_radix self.old.format self.old.bytes self.old.position) }
     {
         match prefix_radix(self.bytes, &self.format, self.position) {
             None => false,
@@ -217,7 +229,8 @@ impl<'a> Cursor<'a> {
     #[inline(always)]
     pub fn next_digit(&mut self) -> Option<u32>
         requires is_open { self.old.closed ≡ false }
-        ensures step { MatchOption result (ReachesEnd self.old self.new) (λ value. TakesDigit self.old self.new value) }
+        ensures step { MatchOption result (ReachesEnd self.old self.new)
+            (λ value. TakesDigit self.old self.new value) }
         ensures sound { IsSound self.new }
     {
         match seek(
@@ -250,7 +263,8 @@ impl<'a> Cursor<'a> {
         requires is_open { self.old.closed ≡ false }
         requires contiguous { IsNone self.old.format.digit_separator }
         requires digits { AreDigitsAhead self.old n }
-        ensures { self.new ≡ record self.old { position = self.old.position + n; digits = self.old.digits + n; turns = self.old.turns + 1 } }
+        ensures { self.new ≡ record self.old { position = self.old.position + n;
+            digits = self.old.digits + n; turns = self.old.turns + 1 } }
     {
         self.position += n;
         self.digits += n;
@@ -273,10 +287,14 @@ impl<'a> Cursor<'a> {
     pub fn read_suffix(&mut self) -> bool
         requires is_open { self.old.closed ≡ false }
         ensures answer { result ≡ closes self.old }
-        ensures at_end { self.old.position ≡ numeral_end self.old → self.new.position ≡ numeral_stop self.old.format self.old.radix self.old.bytes self.old.start }
+        ensures at_end { self.old.position ≡ numeral_end self.old
+            → self.new.position
+            ≡ numeral_stop self.old.format self.old.radix self.old.bytes self.old.start }
         ensures before_end { self.old.position < numeral_end self.old → self.new ≡ self.old }
         ensures sound { IsSound self.new }
-        ensures after { self.new ≡ (if result then record self.old { position = self.old.position + 1; closed = true } else self.old) }
+        ensures after { self.new ≡ (if result
+            then record self.old { position = self.old.position + 1; closed = true }
+            else self.old) }
     {
         if !self.is_at_suffix() {
             return false;

@@ -4,12 +4,12 @@
 //! their answers back; those of `grammar` are about the definitions alone.
 //! A text's front is what the partial parser reads of it.
 ghost use Rattle.std.specs.Prelude.{◌≡◌, ◌+◌, IsNone, Ok, OnOk, length, ℕ, ℤ};
-ghost use Rattle.lexical_parse_integer.specs.Answer.{placed, seen};
+ghost use Rattle.lexical_parse_integer.specs.Answer.{with_place, view_of};
 ghost use Rattle.lexical_parse_integer.specs.Grammar.{complete, partial};
 ghost use Rattle.lexical_parse_integer.specs.Laws.{Completes, IsNumeralOf, IsSettledAt, PadsZeros, SameFront, with_radix};
 ghost use Rattle.lexical_util.specs.Digit.{IsRadix};
 ghost use Rattle.lexical_util.specs.Format.{standard};
-ghost use Rattle.lexical_util.specs.Number.{IsNumber, integer_type};
+ghost use Rattle.lexical_util.specs.Number.{IsNumber};
 ghost use Rattle.lexical_util.specs.Validity.{fault};
 
 pub mod grammar;
@@ -30,16 +30,17 @@ use lexical_util::result::Result;
 /// that `InvalidDigit` at its place.
 ///
 /// Under the standard format `12x` as `i32` gives `InvalidDigit(2)` and `Ok((12, 2))`.
-#[tactic(auto, using(crate::proofs::Completing::answers_complete))]
+#[tactic(auto, using(crate::proofs::theorems::WholeByFront::answers_complete))]
 pub fn complete_and_partial<T: Integer>(
     bytes: &[u8],
     format: &NumberFormat,
     options: &Options,
 ) -> (Result<T>, Result<(T, usize)>)
     requires valid { IsNone (fault format.now) }
-    ensures whole { seen T.number result.0 ≡ complete format.now (integer_type T.BITS T.IS_SIGNED) bytes.now }
-    ensures front { seen (placed T.number) result.1 ≡ partial format.now (integer_type T.BITS T.IS_SIGNED) bytes.now }
-    ensures law { Completes (length bytes.now) (seen T.number result.0) (seen (placed T.number) result.1) }
+    ensures whole { view_of T.number result.0 ≡ complete format.now T.TYPE bytes.now }
+    ensures front { view_of (with_place T.number) result.1 ≡ partial format.now T.TYPE bytes.now }
+    ensures law { Completes (length bytes.now) (view_of T.number result.0)
+        (view_of (with_place T.number) result.1) }
 {
     let whole = algorithm_complete::<T>(bytes, format, options);
     let front = algorithm_partial::<T>(bytes, format, options);
@@ -66,10 +67,10 @@ pub fn local<T: Integer>(
     options: &Options,
 ) -> (Result<(T, usize)>, Result<(T, usize)>)
     requires valid { IsNone (fault format.now) }
-    ensures first { seen (placed T.number) result.0 ≡ partial format.now (integer_type T.BITS T.IS_SIGNED) bytes.now }
-    ensures second { seen (placed T.number) result.1 ≡ partial format.now (integer_type T.BITS T.IS_SIGNED) other.now }
+    ensures first { view_of (with_place T.number) result.0 ≡ partial format.now T.TYPE bytes.now }
+    ensures second { view_of (with_place T.number) result.1 ≡ partial format.now T.TYPE other.now }
     ensures law { IsNone format.now.digit_separator → (place : ℕ)
-        → IsSettledAt (length bytes.now) place (seen (placed T.number) result.0)
+        → IsSettledAt (length bytes.now) place (view_of (with_place T.number) result.0)
         → SameFront (place + 1) bytes.now other.now → result.1 ≡ result.0 }
 {
     let first = algorithm_partial::<T>(bytes, format, options);
@@ -85,12 +86,12 @@ pub fn local<T: Integer>(
 /// What std writes of an integer is such a text: see `grammar::numerals`.
 ///
 /// `-10000000` in radix 2 gives -128 as `i8`, and `zZ` in radix 36 gives 1295 as `u16`.
-#[tactic(auto, using(crate::proofs::Numerals::answer_read))]
+#[tactic(auto, using(crate::proofs::theorems::ReadBack::answer_read))]
 pub fn numeral<T: Integer>(text: &[u8], radix: u32) -> Result<T>
     requires { IsRadix radix }
-    ensures answer { seen T.number result ≡ complete (with_radix radix) (integer_type T.BITS T.IS_SIGNED) text.now }
-    ensures law { (value : ℤ) → IsNumber (integer_type T.BITS T.IS_SIGNED) value
-        → IsNumeralOf radix value text.now → seen T.number result ≡ Ok value }
+    ensures answer { view_of T.number result ≡ complete (with_radix radix) T.TYPE text.now }
+    ensures law { (value : ℤ) → IsNumber T.TYPE value
+        → IsNumeralOf radix value text.now → view_of T.number result ≡ Ok value }
 {
     let format = NumberFormatBuilder::from_radix(radix as u8);
     algorithm_complete::<T>(text, &format, &options::STANDARD)
@@ -102,10 +103,10 @@ pub fn numeral<T: Integer>(text: &[u8], radix: u32) -> Result<T>
 /// Lean on it where numbers come filled up to a width, as in columns and counters.
 ///
 /// `-128` and `-00128` both give -128 as `i8`.
-#[tactic(auto, using(crate::proofs::Zeros::answers_padded))]
+#[tactic(auto, using(crate::proofs::theorems::ZerosInFront::answers_padded))]
 pub fn zeros_in_front<T: Integer>(text: &[u8], padded: &[u8]) -> (Result<T>, Result<T>)
-    ensures first { seen T.number result.0 ≡ complete standard (integer_type T.BITS T.IS_SIGNED) text.now }
-    ensures second { seen T.number result.1 ≡ complete standard (integer_type T.BITS T.IS_SIGNED) padded.now }
+    ensures first { view_of T.number result.0 ≡ complete standard T.TYPE text.now }
+    ensures second { view_of T.number result.1 ≡ complete standard T.TYPE padded.now }
     ensures law { PadsZeros text.now padded.now → OnOk result.0 (result.1 ≡ result.0) }
 {
     let first = algorithm_complete::<T>(text, &format::STANDARD, &options::STANDARD);
@@ -124,8 +125,8 @@ pub fn small_and_large<T: Integer>(
     format: &NumberFormat,
 ) -> (Result<(T, usize)>, Result<(T, usize)>)
     requires valid { IsNone (fault format.now) }
-    ensures small { seen (placed T.number) result.0 ≡ partial format.now (integer_type T.BITS T.IS_SIGNED) bytes.now }
-    ensures large { seen (placed T.number) result.1 ≡ partial format.now (integer_type T.BITS T.IS_SIGNED) bytes.now }
+    ensures small { view_of (with_place T.number) result.0 ≡ partial format.now T.TYPE bytes.now }
+    ensures large { view_of (with_place T.number) result.1 ≡ partial format.now T.TYPE bytes.now }
     ensures law { result.1 ≡ result.0 }
 {
     let small = algorithm_partial::<T>(bytes, format, &SMALL_NUMBERS);

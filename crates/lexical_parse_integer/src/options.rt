@@ -38,7 +38,8 @@ pub const LARGE_NUMBERS: Options = Options {
 
 // The fields of the constants: a clause can't name a constant of this type, so it stands here.
 fn ready_made() -> (Options, Options, Options)
-    ensures { result ≡ (record { no_multi_digit = true }, record { no_multi_digit = true }, record { no_multi_digit = false }) }
+    ensures { result ≡ (record { no_multi_digit = true }, record { no_multi_digit = true },
+        record { no_multi_digit = false }) }
 {
     (STANDARD, SMALL_NUMBERS, LARGE_NUMBERS)
 }

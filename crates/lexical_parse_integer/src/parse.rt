@@ -1,8 +1,7 @@
 //! Parsers under a format, as calls of the integer types.
 ghost use Rattle.std.specs.Prelude.{◌≡◌, IsNone};
-ghost use Rattle.lexical_util.specs.Number.{integer_type};
 ghost use Rattle.lexical_util.specs.Validity.{fault};
-ghost use Rattle.lexical_parse_integer.specs.Answer.{placed, seen};
+ghost use Rattle.lexical_parse_integer.specs.Answer.{with_place, view_of};
 ghost use Rattle.lexical_parse_integer.specs.Grammar.{complete, partial};
 
 use crate::algorithm::{algorithm_complete, algorithm_partial};
@@ -17,7 +16,7 @@ pub trait ParseInteger: Integer {
     #[inline(always)]
     fn parse_complete(bytes: &[u8], format: &NumberFormat, options: &Options) -> Result<Self>
         requires valid { IsNone (fault format.now) }
-        ensures { seen Self.number result ≡ complete format.now (integer_type Self.BITS Self.IS_SIGNED) bytes.now }
+        ensures { view_of Self.number result ≡ complete format.now Self.TYPE bytes.now }
     {
         algorithm_complete::<Self>(bytes, format, options)
     }
@@ -30,7 +29,7 @@ pub trait ParseInteger: Integer {
         options: &Options,
     ) -> Result<(Self, usize)>
         requires valid { IsNone (fault format.now) }
-        ensures { seen (placed Self.number) result ≡ partial format.now (integer_type Self.BITS Self.IS_SIGNED) bytes.now }
+        ensures { view_of (with_place Self.number) result ≡ partial format.now Self.TYPE bytes.now }
     {
         algorithm_partial::<Self>(bytes, format, options)
     }

@@ -5,7 +5,7 @@ use Rattle.std.specs.Prelude.{◌≡◌, ◌<◌, ◌≤◌, ◌-◌, ◌*◌, �
 use Rattle.std.proofs.Common.{arith, refl}
 use Rattle.std.proofs.lemmas.Bool.{ltb-true}
 use Rattle.std.proofs.lemmas.Int.{ints, to_z-of_z}
-use Rattle.lexical_util.specs.Number.{HasSign, IsNumber, checked, integer_type, is_number, mul_add}
+use Rattle.lexical_util.specs.Number.{HasSign, IsNumber, number_if_fits, integer_type, is_number, mul_add}
 use mir.Syntax.{Width, w8, w16, w32, w64, w128}
 use mir.Val.{SFits, bits, hbits, to_z, of_z}
 
@@ -50,13 +50,13 @@ number_product w true (negsuc value) (pos scale) (pos add) _ _ _ number =
     let low = step_down w (suc value * scale) add number in negative_fits w (suc value * scale) (omega arith)
 
 -- a number as the machine keeps it
-abbrev kept : Width → ℤ → ℤ
-kept w z = to_z w (of_z w z)
+abbrev machine_value : Width → ℤ → ℤ
+machine_value w z = to_z w (of_z w z)
 
 -- the same of numbers as the machine keeps them
 pub product_fits : {w : Width} {value scale : ℤ} (negative : Bool) (add : ℤ) → SFits w value → SFits w scale
     → pos 1 ≤ℤ scale → pos 0 ≤ℤ add → HasSign negative value
-    → IsNumber (integer_type (bits w) true) (mul_add negative value scale add) → SFits w (kept w value *ℤ kept w scale)
+    → IsNumber (integer_type (bits w) true) (mul_add negative value scale add) → SFits w (machine_value w value *ℤ machine_value w scale)
 product_fits {w} {value} {scale} negative add value_fits scale_fits one none sign number =
     rw (to_z-of_z w value value_fits, to_z-of_z w scale scale_fits)
     (number_product w negative value scale add one none sign number)
@@ -67,8 +67,8 @@ none_where false z fails = refl
 
 -- so where the product leaves the type, the result does too
 pub no_product : {w : Width} {value scale : ℤ} (negative : Bool) (add : ℤ) → SFits w value → SFits w scale
-    → pos 1 ≤ℤ scale → pos 0 ≤ℤ add → HasSign negative value → ¬ (SFits w (kept w value *ℤ kept w scale))
-    → None ≡ checked (integer_type (bits w) true) (mul_add negative value scale add)
+    → pos 1 ≤ℤ scale → pos 0 ≤ℤ add → HasSign negative value → ¬ (SFits w (machine_value w value *ℤ machine_value w scale))
+    → None ≡ number_if_fits (integer_type (bits w) true) (mul_add negative value scale add)
 no_product {w} {value} {scale} negative add value_fits scale_fits one none sign leaves =
     let result = mul_add negative value scale add in
     none_where (is_number (integer_type (bits w) true) result) result

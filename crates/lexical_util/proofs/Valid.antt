@@ -5,9 +5,9 @@ use Rattle.std.specs.Prelude.{◌==◌, ◌≢◌, ◌≤◌, nat_lt}
 use Rattle.std.proofs.lemmas.Bool.{eq-eqb, false≢true, ltb-false, ltb-true, or_parts}
 use Rattle.std.proofs.lemmas.Bool.Decides.{nat_tests}
 use Rattle.lexical_util.specs.declared.error.Error.{Error}
-use Rattle.lexical_util.specs.Digit.{IsRadix, below, digit, digit_value, is_between}
+use Rattle.lexical_util.specs.Digit.{IsRadix, value_if_below, digit, digit_value, is_between}
 use Rattle.lexical_util.specs.Format.{Format}
-use Rattle.lexical_util.specs.Validity.{are_alike, fault, has_alike, has_unfit_literals, is_unfit, is_unfit_beside_literals, is_unfit_byte, lower}
+use Rattle.lexical_util.specs.Validity.{are_alike, fault, has_alike, has_unfit_literals, is_unfit, is_unfit_beside_literals, is_unfit_byte, lower_case}
 
 -- the tests that the six rules make all fail
 record PassesRules (format : Format) : Type 0 where
@@ -40,12 +40,12 @@ passes_rules format valid =
     }
 
 -- letter case doesn't matter to a digit
-digit_value-lower : (byte : ℕ) → digit_value (lower byte) ≡ digit_value byte
+digit_value-lower : (byte : ℕ) → digit_value (lower_case byte) ≡ digit_value byte
 digit_value-lower byte = grind (arith, nat_tests)
 
-digit-alike : (radix byte mark : ℕ) → lower byte ≡ lower mark → digit byte radix ≡ digit mark radix
+digit-alike : (radix byte mark : ℕ) → lower_case byte ≡ lower_case mark → digit byte radix ≡ digit mark radix
 digit-alike radix byte mark alike =
-    ap (below radix) (sym (digit_value-lower byte) ∙ ap digit_value alike ∙ digit_value-lower mark)
+    ap (value_if_below radix) (sym (digit_value-lower byte) ∙ ap digit_value alike ∙ digit_value-lower mark)
 
 none_from_is_some : (found : Option ℕ) → is_some found ≡ false → found ≡ None
 none_from_is_some None h = refl
@@ -57,15 +57,15 @@ fit_byte_no_digit radix mark fit =
     let not_plus = (or_parts (mark == 43) _ not_high).1 in
     none_from_is_some _ (or_parts (mark == 45) _ not_plus).1
 
-fit_no_digit : (radix : ℕ) (set : Option ℕ) (mark byte : ℕ) → is_unfit radix set ≡ false → set ≡ Some mark → lower byte ≡ lower mark → digit byte radix ≡ None
+fit_no_digit : (radix : ℕ) (set : Option ℕ) (mark byte : ℕ) → is_unfit radix set ≡ false → set ≡ Some mark → lower_case byte ≡ lower_case mark → digit byte radix ≡ None
 fit_no_digit radix set mark byte fit is_set alike =
     let fit' = rw is_set at fit in
     digit-alike radix byte mark alike ∙ fit_byte_no_digit radix mark fit'
 
-not_alike : (set other : Option ℕ) (mark byte : ℕ) → are_alike set other ≡ false → other ≡ Some mark → lower byte ≡ lower mark → set ≢ Some byte
+not_alike : (set other : Option ℕ) (mark byte : ℕ) → are_alike set other ≡ false → other ≡ Some mark → lower_case byte ≡ lower_case mark → set ≢ Some byte
 not_alike set other mark byte apart is_mark alike is_byte =
     let apart' = rw (is_byte, is_mark, alike) at apart in
-    false≢true (sym apart' ∙ eq-eqb (lower mark) (lower mark) refl)
+    false≢true (sym apart' ∙ eq-eqb (lower_case mark) (lower_case mark) refl)
 
 -- the radix of a valid format is from 2 to 36
 pub valid_radix : (format : Format) → fault format ≡ None → IsRadix format.mantissa_radix
@@ -75,17 +75,17 @@ valid_radix format valid =
 
 -- what matches the separator is no digit
 pub separator_no_digit : (format : Format) (separator byte : ℕ) → fault format ≡ None → format.digit_separator ≡ Some separator
-    → lower byte ≡ lower separator → digit byte format.mantissa_radix ≡ None
+    → lower_case byte ≡ lower_case separator → digit byte format.mantissa_radix ≡ None
 separator_no_digit format separator byte valid is_set alike = fit_no_digit _ _ separator byte (passes_rules format valid).separator is_set alike
 
 -- what matches the suffix is no digit
 pub suffix_no_digit : (format : Format) (suffix byte : ℕ) → fault format ≡ None → format.base_suffix ≡ Some suffix
-    → lower byte ≡ lower suffix → digit byte format.mantissa_radix ≡ None
+    → lower_case byte ≡ lower_case suffix → digit byte format.mantissa_radix ≡ None
 suffix_no_digit format suffix byte valid is_set alike = fit_no_digit _ _ suffix byte (passes_rules format valid).suffix is_set alike
 
 -- what matches the suffix is not the separator
 pub suffix_no_separator : (format : Format) (suffix byte : ℕ) → fault format ≡ None → format.base_suffix ≡ Some suffix
-    → lower byte ≡ lower suffix → format.digit_separator ≢ Some byte
+    → lower_case byte ≡ lower_case suffix → format.digit_separator ≢ Some byte
 suffix_no_separator format suffix byte valid is_set alike =
     let rest = (or_parts (are_alike format.digit_separator format.base_prefix) _ (passes_rules format valid).apart).1 in
     let apart = (or_parts (are_alike format.digit_separator format.base_suffix) _ rest).0 in
@@ -97,7 +97,7 @@ suffix_no_separator format suffix byte valid is_set alike =
 digit_below_16 : (radix byte : ℕ) → radix ≤ 16 → digit byte 16 ≡ None → digit byte radix ≡ None
 digit_below_16 radix byte small none = by_value (digit_value byte) none
   where
-    by_value : (value : Option ℕ) → below 16 value ≡ None → below radix value ≡ None
+    by_value : (value : Option ℕ) → value_if_below 16 value ≡ None → value_if_below radix value ≡ None
     by_value None h = refl
     by_value (Some value) h = by_tests (nat_lt value 16) (nat_lt value radix) refl refl h
       where
@@ -107,7 +107,7 @@ digit_below_16 radix byte small none = by_value (digit_value byte) none
         by_tests false true w n e = let less = ltb-true value radix n in let more = ltb-false value 16 w in absurd (omega arith)
         by_tests false false w n e = refl
 
-fit_beside_literals : (set : Option ℕ) (mark byte : ℕ) → is_unfit_beside_literals set ≡ false → set ≡ Some mark → lower byte ≡ lower mark → digit byte 16 ≡ None
+fit_beside_literals : (set : Option ℕ) (mark byte : ℕ) → is_unfit_beside_literals set ≡ false → set ≡ Some mark → lower_case byte ≡ lower_case mark → digit byte 16 ≡ None
 fit_beside_literals set mark byte fit is_set alike =
     let fit' = rw is_set at fit in
     digit-alike 16 byte mark alike ∙ none_from_is_some _ (or_parts (is_some (digit mark 16)) _ fit').0
@@ -124,12 +124,12 @@ literals_fit format valid asked =
 
 -- what matches the separator is no digit of a radix that a literal prefix puts in force
 pub separator_no_literal_digit : (format : Format) (separator byte radix : ℕ) → fault format ≡ None → format.literal_prefixes ≡ true → radix ≤ 16
-    → format.digit_separator ≡ Some separator → lower byte ≡ lower separator → digit byte radix ≡ None
+    → format.digit_separator ≡ Some separator → lower_case byte ≡ lower_case separator → digit byte radix ≡ None
 separator_no_literal_digit format separator byte radix valid asked small is_set alike =
     digit_below_16 radix byte small (fit_beside_literals _ separator byte (literals_fit format valid asked).0 is_set alike)
 
 -- what matches the suffix is none either
 pub suffix_no_literal_digit : (format : Format) (suffix byte radix : ℕ) → fault format ≡ None → format.literal_prefixes ≡ true → radix ≤ 16
-    → format.base_suffix ≡ Some suffix → lower byte ≡ lower suffix → digit byte radix ≡ None
+    → format.base_suffix ≡ Some suffix → lower_case byte ≡ lower_case suffix → digit byte radix ≡ None
 suffix_no_literal_digit format suffix byte radix valid asked small is_set alike =
     digit_below_16 radix byte small (fit_beside_literals _ suffix byte (literals_fit format valid asked).1 is_set alike)

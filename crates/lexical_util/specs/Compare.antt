@@ -22,22 +22,26 @@ unsigned-eq value other =
 pub signed-eq : (value other : ℤ) → IsTrue (int_eq value other) ↔ (value ≡ other)
 signed-eq value other = Decides-int_eq value other
 
-below : (value other : ℕ) → value < other → pos value <ℤ pos other
-below value other less = lt_z_yes (subst T (sym (lt-ltb value other less)) tt)
+pos-less : (value other : ℕ) → value < other → pos value <ℤ pos other
+pos-less value other less = lt_z_yes (subst T (sym (lt-ltb value other less)) tt)
 
 -- what the order of natural numbers tells, of integers
-told : (value other : ℕ) (order : Ordering) → MatchOrdering order (value < other) (value ≡ other) (other < value)
+order_of_numbers : (value other : ℕ) (order : Ordering)
+    → MatchOrdering order (value < other) (value ≡ other) (other < value)
     → MatchOrdering order (pos value <ℤ pos other) (pos value ≡ pos other) (pos other <ℤ pos value)
-told value other Less less = below value other less
-told value other Equal same = ap pos same
-told value other Greater greater = below other value greater
+order_of_numbers value other Less less = pos-less value other less
+order_of_numbers value other Equal same = ap pos same
+order_of_numbers value other Greater greater = pos-less other value greater
 
 -- `cmp` of an unsigned type
 pub unsigned-cmp : (value other : ℕ) → nat_cmp value other ≡ int_cmp (pos value) (pos other)
-unsigned-cmp value other = int_cmp_is (pos value) (pos other) (nat_cmp value other) (told value other (nat_cmp value other) (ranks value other))
+unsigned-cmp value other =
+    int_cmp_is (pos value) (pos other) (nat_cmp value other)
+    (order_of_numbers value other (nat_cmp value other) (ranks value other))
 
 -- `partial_cmp` of an unsigned type
-pub unsigned-order : (value other : ℕ) → Some (nat_cmp value other) ≡ Some (int_cmp (pos value) (pos other))
+pub unsigned-order : (value other : ℕ)
+    → Some (nat_cmp value other) ≡ Some (int_cmp (pos value) (pos other))
 unsigned-order value other = ap Some (unsigned-cmp value other)
 
 -- no two values of an unsigned type are one number

@@ -1,3 +1,4 @@
+pub mod Ascii
 pub mod Compare
 pub mod Digit
 pub mod Faults

@@ -25,8 +25,8 @@ abbrev pub IsNumber : IntegerType → ℤ → Type 0
 IsNumber type number = is_number type number ≡ true
 
 -- the number, where the type has it
-abbrev pub checked : IntegerType → ℤ → Option ℤ
-checked type number = if is_number type number then Some number else None
+abbrev pub number_if_fits : IntegerType → ℤ → Option ℤ
+number_if_fits type number = if is_number type number then Some number else None
 
 -- ---- one step of a numeral
 

@@ -1,5 +1,6 @@
 -- Which formats are valid, and which fault an invalid one has.
 use Rattle.std.specs.Prelude.{◌==◌, ◌+◌, ℕ, Bool, false, ◌||◌, ◌&&◌, not, Option, Some, None, is_some, if◌then◌else◌, nat_le}
+use Rattle.lexical_util.specs.Ascii.{capital_a, capital_z, letter_b, letter_o, letter_x, minus, plus}
 use Rattle.lexical_util.specs.Digit.{digit, is_between}
 use Rattle.lexical_util.specs.Format.{Format}
 use Rattle.lexical_util.specs.declared.error.Error.{Error}
@@ -8,7 +9,7 @@ use Rattle.lexical_util.specs.declared.error.Error.TheVariants.{InvalidMantissaR
 -- a byte that can't be punctuation: it is not ASCII, or it is `+`, `-` or a digit of the radix
 abbrev pub is_unfit_byte : ℕ → ℕ → Bool
 is_unfit_byte radix byte =
-    nat_le 128 byte || ((byte == 43) || ((byte == 45) || is_some (digit byte radix)))
+    nat_le 128 byte || ((byte == plus) || ((byte == minus) || is_some (digit byte radix)))
 
 -- a separator, prefix or suffix is set, and to an unfit byte
 abbrev pub is_unfit : ℕ → Option ℕ → Bool
@@ -16,14 +17,14 @@ is_unfit radix None = false
 is_unfit radix (Some byte) = is_unfit_byte radix byte
 
 -- an ASCII letter in lower case, and any other byte as it is
-abbrev pub lower : ℕ → ℕ
-lower byte = if is_between 65 90 byte then byte + 32 else byte
+abbrev pub lower_case : ℕ → ℕ
+lower_case byte = if is_between capital_a capital_z byte then byte + 32 else byte
 
 -- both are set, and they are the same byte but for ASCII case
 abbrev pub are_alike : Option ℕ → Option ℕ → Bool
 are_alike None other = false
 are_alike (Some byte) None = false
-are_alike (Some byte) (Some other) = lower byte == lower other
+are_alike (Some byte) (Some other) = lower_case byte == lower_case other
 
 -- two of separator, prefix and suffix are alike
 abbrev pub has_alike : Format → Bool
@@ -34,7 +35,9 @@ has_alike format =
 
 -- the byte is the letter of a literal prefix: `x`, `o` or `b`, in either case
 abbrev pub is_literal_letter : ℕ → Bool
-is_literal_letter byte = (lower byte == 120) || ((lower byte == 111) || (lower byte == 98))
+is_literal_letter byte =
+    (lower_case byte == letter_x)
+    || ((lower_case byte == letter_o) || (lower_case byte == letter_b))
 
 -- a separator or suffix is set, and to a digit of radix 16 or the letter of a literal prefix
 abbrev pub is_unfit_beside_literals : Option ℕ → Bool
@@ -48,7 +51,8 @@ has_unfit_literals format =
     format.literal_prefixes
     && (not (format.mantissa_radix == 10)
     || (is_some format.base_prefix
-    || (is_unfit_beside_literals format.digit_separator || is_unfit_beside_literals format.base_suffix)))
+    || (is_unfit_beside_literals format.digit_separator
+    || is_unfit_beside_literals format.base_suffix)))
 
 -- the first of the six rules that the format breaks, by its fault; none where the format is valid
 abbrev pub fault : Format → Option Error

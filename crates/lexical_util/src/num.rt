@@ -5,7 +5,7 @@ ghost use Rattle.std.specs.Option.{option_map};
 ghost use Rattle.std.specs.Ordering.{int_cmp};
 ghost use Rattle.lexical_util.specs.Digit.{IsRadix};
 ghost use Rattle.lexical_util.specs.Number.{HasRoom, HasSign, IsNumber, IsWidth};
-ghost use Rattle.lexical_util.specs.Number.{checked, integer_type, mul_add, overflow_digits};
+ghost use Rattle.lexical_util.specs.Number.{IntegerType, number_if_fits, mul_add, overflow_digits};
 
 // The body of `mul_add` of each type.
 macro_rules! mul_add {
@@ -47,6 +47,9 @@ pub trait Integer: Copy + Eq + Ord {
 
     ghost ZERO: { Self };
 
+    // The type as the definitions have it: its width and its sign.
+    ghost TYPE: { IntegerType };
+
     ghost BITS: { ℕ };
 
     ghost IS_SIGNED: { Bool };
@@ -64,7 +67,7 @@ pub trait Integer: Copy + Eq + Ord {
     ///
     /// Numbers up to 127 are numbers of every type, and so are all digits and all radixes.
     fn from_u32(v: u32) -> Self
-        requires { IsNumber (integer_type BITS IS_SIGNED) (pos v) }
+        requires { IsNumber TYPE (pos v) }
         ensures { number result ≡ pos v };
 
     /// One more digit of a numeral: `self * scale + add`, or `self * scale - add` where `negative`.
@@ -77,8 +80,7 @@ pub trait Integer: Copy + Eq + Ord {
         requires scale { pos 1 ≤ℤ number scale }
         requires add { pos 0 ≤ℤ number add }
         requires sign { HasSign negative (number self) }
-        requires fits { IsNumber (integer_type BITS IS_SIGNED)
-            (mul_add negative (number self) (number scale) (number add)) }
+        requires fits { IsNumber TYPE (mul_add negative (number self) (number scale) (number add)) }
         ensures { number result ≡ mul_add negative (number self) (number scale) (number add) };
 
     /// `mul_add` where its result is a number of the type, and `None` elsewhere.
@@ -89,7 +91,7 @@ pub trait Integer: Copy + Eq + Ord {
         requires scale { pos 1 ≤ℤ number scale }
         requires add { pos 0 ≤ℤ number add }
         requires sign { HasSign negative (number self) }
-        ensures { option_map number result ≡ checked (integer_type BITS IS_SIGNED)
+        ensures { option_map number result ≡ number_if_fits TYPE
             (mul_add negative (number self) (number scale) (number add)) };
 
     /// How many digits of the radix may be joined by `mul_add` with no test, since no numeral of so
@@ -102,8 +104,8 @@ pub trait Integer: Copy + Eq + Ord {
     #[inline(always)]
     fn overflow_digits(radix: u32) -> usize
         requires { IsRadix radix }
-        ensures value { result ≡ overflow_digits (integer_type BITS IS_SIGNED) radix }
-        ensures room { HasRoom (integer_type BITS IS_SIGNED) radix result }
+        ensures value { result ≡ overflow_digits TYPE radix }
+        ensures room { HasRoom TYPE radix result }
     {
         let bytes = (Self::BITS / 8) as usize;
         if radix <= 16 {
@@ -125,5 +127,9 @@ pub trait Integer: Copy + Eq + Ord {
 
     ghost zero_law: { number ZERO ≡ pos 0 };
 
-    ghost width_law: { IsWidth BITS };
+    ghost bits_law: { BITS ≡ TYPE.bits };
+
+    ghost sign_law: { IS_SIGNED ≡ TYPE.is_signed };
+
+    ghost width_law: { IsWidth TYPE.bits };
 }

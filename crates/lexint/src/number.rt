@@ -13,11 +13,11 @@ pub struct Number {
 
 impl Model for Number {
     ghost use Rattle.std.specs.Prelude.{◌<◌, IsTrue, ℤ};
-    ghost use Rattle.lexical_parse_integer.specs.Value.{signed};
+    ghost use Rattle.lexical_parse_integer.specs.Value.{with_sign};
 
     ghost Value = { ℤ };
 
-    ghost view = { λ n. signed n.is_negative n.size };
+    ghost view = { λ n. with_sign n.is_negative n.size };
 
     ghost invariant = { λ n. IsTrue n.is_negative → 0 < n.size };
 }

@@ -2,7 +2,6 @@
 
 ghost use Rattle.std.specs.Prelude.{◌≡◌};
 ghost use Rattle.lexical_parse_integer.specs.Grammar.{complete_if_valid, partial_if_valid};
-ghost use Rattle.lexical_util.specs.Number.{integer_type};
 ghost use Rattle.lexint.specs.Command.{type_of};
 
 use crate::command::TypeName;
@@ -23,7 +22,7 @@ trait Parsed: FromLexicalWithOptions<Options = Options> {
 // parser in here, rather than one in each arm of a `match`.
 #[inline(never)]
 fn complete_as<T: Parsed>(text: &[u8], settings: &Settings) -> Result<Number>
-    ensures { result ≡ complete_if_valid settings.now.format (integer_type T.BITS T.IS_SIGNED)
+    ensures { result ≡ complete_if_valid settings.now.format T.TYPE
         text.now }
 {
     let value = T::from_lexical_with_options(text, &settings.format(), settings.options())?;
@@ -34,7 +33,7 @@ fn complete_as<T: Parsed>(text: &[u8], settings: &Settings) -> Result<Number>
 // reading stopped.
 #[inline(never)]
 fn partial_as<T: Parsed>(text: &[u8], settings: &Settings) -> Result<(Number, usize)>
-    ensures { result ≡ partial_if_valid settings.now.format (integer_type T.BITS T.IS_SIGNED)
+    ensures { result ≡ partial_if_valid settings.now.format T.TYPE
         text.now }
 {
     let (value, stop) = T::from_lexical_partial_with_options(

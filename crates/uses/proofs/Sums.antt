@@ -11,7 +11,7 @@ use Rattle.std.specs.Prelude.{IsOkAnd, option_map, slice_get}
 use Rattle.std.specs.List.{enumerate_from, slice_split}
 use Rattle.std.specs.Option.{ok_or}
 use Rattle.std.specs.Str.Lines.{lines, lines_of_parts}
-use Rattle.lexical_util.specs.Number.{checked, integer_type}
+use Rattle.lexical_util.specs.Number.{number_if_fits, integer_type}
 use Rattle.uses.specs.Each.{each}
 use Rattle.uses.specs.Ledger.{cents_in, total_in, total_of}
 use Rattle.uses.specs.declared.ledger.LedgerError.{LedgerError}
@@ -62,13 +62,13 @@ pub sum_same : (text : List ℕ) (n m : ℕ) (sum other : ℤ) → IsSum text n 
 sum_same text n m sum other h e e' = rw (← e, e') h
 
 -- all lines are read
-pub sum_end : (text : List ℕ) (n : ℕ) (sum : ℤ) (answer : Result ℤ LedgerError) → IsSum text n sum → n ≡ length (enumerate_from 0 (lines text)) → answer ≡ ok_or (checked (integer_type 64 true) sum) OutOfRange → answer ≡ total_in text
+pub sum_end : (text : List ℕ) (n : ℕ) (sum : ℤ) (answer : Result ℤ LedgerError) → IsSum text n sum → n ≡ length (enumerate_from 0 (lines text)) → answer ≡ ok_or (number_if_fits (integer_type 64 true) sum) OutOfRange → answer ≡ total_in text
 sum_end text n sum answer h all e =
     let size = length-enumerate_from 0 (lines text) in
     let whole : take n (map cents_in (lines text)) ≡ map cents_in (lines text) = take_all n _ (omega (arith, length-map (lines text) cents_in)) in
     let told = sum_by _ sum h in
     let found : each (map cents_in (lines text)) ≡ Ok told.0 = sym (ap each whole) ∙ told.1 in
-    e ∙ ap (λ total. ok_or (checked (integer_type 64 true) total) OutOfRange) told.2 ∙ sym (ap total_of found)
+    e ∙ ap (λ total. ok_or (number_if_fits (integer_type 64 true) total) OutOfRange) told.2 ∙ sym (ap total_of found)
 
 -- parts between line feeds are no fewer than lines
 parts_most : (parts : List (List ℕ)) → length (lines_of_parts parts) ≤ length parts

@@ -2,6 +2,7 @@
 use Rattle.std.specs.Prelude.{ℕ, true, false, List, codes, Some, if◌then◌else◌, ℤ, Result, nat_eq}
 use Rattle.std.specs.List.{starts_with}
 use Rattle.std.specs.Result.{result_map_both}
+use Rattle.lexical_util.specs.Ascii.{letter_x, underscore}
 use Rattle.lexical_util.specs.Format.{Format, standard}
 use Rattle.lexical_util.specs.Number.{integer_type}
 use Rattle.lexical_parse_integer.specs.Grammar.{complete}
@@ -10,11 +11,14 @@ use Rattle.uses.specs.declared.config.ValueError.TheVariants.{Hexadecimal, Decim
 
 -- radix 10, with `_` between digits, one at a time
 abbrev pub grouped : Format
-grouped = record standard { digit_separator = Some 95; integer_internal_digit_separator = true }
+grouped =
+    record standard { digit_separator = Some underscore; integer_internal_digit_separator = true }
 
 -- the same in radix 16, behind `0x` or without it
 abbrev pub hexadecimal : Format
-hexadecimal = record grouped { mantissa_radix = 16; base_prefix = Some 120; case_sensitive_base_prefix = true }
+hexadecimal =
+    record grouped { mantissa_radix = 16; base_prefix = Some letter_x;
+    case_sensitive_base_prefix = true }
 
 -- the `u64` of a text: hexadecimal where it begins with `0x`, and decimal elsewhere
 abbrev pub value_in : List ℕ → Result ℤ ValueError

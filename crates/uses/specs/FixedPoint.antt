@@ -1,10 +1,11 @@
 -- Decimal numbers with so many fraction digits, in units of the last one.
 use Rattle.std.specs.Prelude.{ℕ, ◌+◌, ◌-◌, ◌^◌, Bool, true, false, ◌==◌, if◌then◌else◌, nat_le, List, drop, slice_get, ℤ, pos, ◌*ℤ◌, Some, Result, Ok, Err}
 use Rattle.std.specs.Option.{ok_or, option_map}
+use Rattle.lexical_util.specs.Ascii.{full_stop, minus}
 use Rattle.lexical_util.specs.declared.error.Error.{Error}
 use Rattle.lexical_util.specs.declared.error.Error.TheVariants.{InvalidDigit}
 use Rattle.lexical_util.specs.Format.{Format, standard}
-use Rattle.lexical_util.specs.Number.{checked, integer_type, mul_add}
+use Rattle.lexical_util.specs.Number.{number_if_fits, integer_type, mul_add}
 use Rattle.lexical_parse_integer.specs.Grammar.{partial}
 use Rattle.lexical_parse_integer.specs.Runs.{are_same}
 use Rattle.uses.specs.Digits.{digit_before}
@@ -22,13 +23,15 @@ and_then (Err e) next = Err e
 
 -- whether a text begins with a minus
 abbrev pub is_negative : List ℕ → Bool
-is_negative text = are_same (Some 45) (slice_get text 0)
+is_negative text = are_same (Some minus) (slice_get text 0)
 
 -- ---- the whole part
 
 -- the whole part by the front of its text: at least one digit is there
 abbrev pub whole_by : List ℕ → Result (ℤ × ℕ) Error → Answer
-whole_by text (Ok (whole, end)) = if digit_before text end then Ok (whole, end) else Err (Whole (InvalidDigit end))
+whole_by text (Ok (whole, end)) =
+    if digit_before text end then Ok (whole, end)
+    else Err (Whole (InvalidDigit end))
 whole_by text (Err e) = Err (Whole e)
 
 -- the whole part of a text, with its sign, and the place behind it
@@ -55,12 +58,14 @@ fraction_by digits start (Err e) = Err (Fraction start e)
 
 -- the fraction of a text that starts at a place
 abbrev pub fraction_at : ℕ → ℕ → List ℕ → Answer
-fraction_at digits start text = fraction_by digits start (partial unsigned (integer_type 64 false) (drop start text))
+fraction_at digits start text =
+    fraction_by digits start (partial unsigned (integer_type 64 false) (drop start text))
 
 -- the fraction behind a whole part: none where no point stands at its end
 abbrev pub fraction_behind : ℕ → ℕ → List ℕ → Answer
 fraction_behind digits end text =
-    if are_same (Some 46) (slice_get text end) then fraction_at digits (end + 1) text else Ok (pos 0, end)
+    if are_same (Some full_stop) (slice_get text end)
+    then fraction_at digits (end + 1) text else Ok (pos 0, end)
 
 -- ---- the number
 
@@ -68,9 +73,11 @@ fraction_behind digits end text =
 abbrev pub units_of : ℕ → List ℕ → ℤ → ℤ → ℕ → Answer
 units_of digits text whole fraction end =
     let units = mul_add (is_negative text) whole (pos (10 ^ digits)) fraction in
-    ok_or (option_map (λ number. (number, end)) (checked (integer_type 64 true) units)) (OutOfRange end)
+    ok_or (option_map (λ number. (number, end)) (number_if_fits (integer_type 64 true) units))
+    (OutOfRange end)
 
 -- the fixed-point number that a text begins with, and the place behind it
 abbrev pub fixed_point_in : ℕ → List ℕ → Answer
 fixed_point_in digits text =
-    and_then (whole_in text) (λ whole end. and_then (fraction_behind digits end text) (units_of digits text whole))
+    and_then (whole_in text)
+    (λ whole end. and_then (fraction_behind digits end text) (units_of digits text whole))

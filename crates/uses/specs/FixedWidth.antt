@@ -17,7 +17,8 @@ start_of widths column = sum (take column widths)
 -- what a column of a row stands for
 abbrev pub number_in : List ℕ → List ℕ → ℕ → Result ℤ Error
 number_in widths row column =
-    complete standard (integer_type 64 true) (slice_range row (start_of widths column) (start_of widths (column + 1)))
+    complete standard (integer_type 64 true)
+    (slice_range row (start_of widths column) (start_of widths (column + 1)))
 
 -- what the columns of a row stand for
 abbrev pub numbers_in : List ℕ → List ℕ → List (Result ℤ Error)
@@ -25,7 +26,9 @@ numbers_in widths row = map (number_in widths row) (range_with_len 0 (length wid
 
 -- the numbers of all columns, or the first column that isn't read, with where it starts
 abbrev pub values_or_fault : List ℕ → Result (List ℤ) (ℕ × Error) → Result (List ℤ) RowError
-values_or_fault widths answer = result_map_both (λ values. values) (λ fault. Column fault.0 (start_of widths fault.0) fault.1) answer
+values_or_fault widths answer =
+    result_map_both (λ values. values) (λ fault. Column fault.0 (start_of widths fault.0) fault.1)
+    answer
 
 -- the numbers in a row that is as long as its columns
 abbrev pub values_in : List ℕ → List ℕ → Result (List ℤ) RowError

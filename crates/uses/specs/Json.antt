@@ -15,11 +15,15 @@ use Rattle.uses.specs.declared.json.NumberError.TheVariants.{NoDigit, OutOfRange
 
 -- what a front tells that ends before its text does
 abbrev pub part_behind : List ℕ → ℤ → ℕ → Result Part NumberError
-part_behind text value end = if digit_before text end then Ok (Whole value end) else Err (NoDigit end)
+part_behind text value end =
+    if digit_before text end then Ok (Whole value end)
+    else Err (NoDigit end)
 
 -- what the partial answer of a text tells: a front that reaches the end may go on, and digits that are missing there may come
 abbrev pub part_by : List ℕ → Result (ℤ × ℕ) Error → Result Part NumberError
-part_by text (Ok (value, end)) = if nat_lt end (length text) then part_behind text value end else Ok Unfinished
+part_by text (Ok (value, end)) =
+    if nat_lt end (length text) then part_behind text value end
+    else Ok Unfinished
 part_by text (Err (Empty place)) = Ok Unfinished
 part_by text (Err (Overflow place)) = Err (OutOfRange (Overflow place))
 part_by text (Err (Underflow place)) = Err (OutOfRange (Underflow place))

@@ -4,7 +4,7 @@
 //! single format with `literal_prefixes` would read both, and `0o17` and `0b11` too.
 
 ghost use Rattle.std.specs.Prelude.{◌≡◌, pos};
-ghost use Rattle.lexical_parse_integer.specs.Answer.{seen};
+ghost use Rattle.lexical_parse_integer.specs.Answer.{view_of};
 ghost use Rattle.uses.specs.Config.{grouped, hexadecimal, value_in};
 
 use lexical_parse_integer::{
@@ -53,7 +53,7 @@ pub fn hexadecimal() -> NumberFormat
 ///
 /// `0x1F_FF` is 8191, and `64_000` is 64000. `0x1G` gives `Hexadecimal(InvalidDigit(3))`.
 pub fn value(text: &[u8]) -> Result<u64, ValueError>
-    ensures { seen pos result ≡ value_in text.now }
+    ensures { view_of pos result ≡ value_in text.now }
 {
     if text.starts_with(b"0x") {
         let answer = u64::from_lexical_with_options(text, &hexadecimal(), &options::STANDARD);

@@ -3,8 +3,8 @@
 
 ghost use Rattle.std.specs.Prelude.{◌≡◌, ◌≤◌, ◌*◌, ◌^◌, ◌*ℤ◌, IfOk, false, length, pos, true};
 ghost use Rattle.std.specs.Int.RustNames.{unsigned_abs};
-ghost use Rattle.lexical_util.specs.Number.{checked, integer_type, mul_add};
-ghost use Rattle.lexical_parse_integer.specs.Answer.{placed, seen};
+ghost use Rattle.lexical_util.specs.Number.{number_if_fits, integer_type, mul_add};
+ghost use Rattle.lexical_parse_integer.specs.Answer.{with_place, view_of};
 ghost use Rattle.lexical_parse_integer.specs.Grammar.{partial};
 ghost use Rattle.uses.specs.FixedPoint.{fixed_point_in, fraction_at, fraction_behind, is_negative, unsigned, whole_in};
 
@@ -53,7 +53,8 @@ fn scaled(value: i128, exponent: usize) -> i128
 fn joined(is_negative: bool, whole: i64, fraction: i128, digits: usize) -> Option<i64>
     requires fraction { unsigned_abs fraction ≤ 2 ^ 64 * 10 ^ 18 }
     requires digits { digits ≤ 18 }
-    ensures { result ≡ checked (integer_type 64 true) (mul_add is_negative whole (pos (10 ^ digits)) fraction) }
+    ensures { result ≡ number_if_fits (integer_type 64 true)
+        (mul_add is_negative whole (pos (10 ^ digits)) fraction) }
 {
     let whole = scaled(i128::from(whole), digits);
     if is_negative {
@@ -84,7 +85,8 @@ fn whole_part(text: &[u8]) -> Result<(i64, usize), FixedPointError>
 
 // The digits that a text begins with: their value, and how many.
 fn read_digits(text: &[u8]) -> Result<(u64, usize), Error>
-    ensures answer { seen (placed pos) result ≡ partial unsigned (integer_type 64 false) text.now }
+    ensures answer { view_of (with_place pos) result
+        ≡ partial unsigned (integer_type 64 false) text.now }
     ensures within { IfOk result (λ found. found.1 ≤ length text.now) }
 {
     front_end();

@@ -1,8 +1,8 @@
 //! Ledgers: a line for each entry, with its name, a space or a tab, and its amount in cents.
 
 ghost use Rattle.std.specs.Prelude.{◌≡◌, ◌<◌, length, position, IfSome};
-ghost use Rattle.lexical_parse_integer.specs.Answer.{seen};
-ghost use Rattle.uses.specs.Ledger.{cents_in, entry_in, is_blank, seen_entry, total_in};
+ghost use Rattle.lexical_parse_integer.specs.Answer.{view_of};
+ghost use Rattle.uses.specs.Ledger.{cents_in, entry_in, is_blank, view_of_entry, total_in};
 
 use crate::narrow::as_i64;
 use lexical_parse_integer::{Error, FromLexical};
@@ -40,7 +40,7 @@ impl<'a> Entry<'a> {
     /// `rent -85000` has the name `rent` and -85000 cents. `rent -85x00` gives
     /// `Amount { start: 5, error: InvalidDigit(3) }`.
     pub fn of(line: &'a [u8]) -> Result<Entry<'a>, LineError>
-        ensures { seen seen_entry result ≡ entry_in line.now }
+        ensures { view_of view_of_entry result ≡ entry_in line.now }
     {
         let end = blank_in(line).ok_or(LineError::NoAmount)?;
         let start = end + 1;

@@ -26,7 +26,8 @@ fn number_count(source: &[u8]) -> usize
 
 /// Where each token starts.
 fn starts(alloc: Global, source: &[u8]) -> Result<Vec<usize>, AllocError>
-    ensures { IfOk result (λ starts. starts.items ≡ map (λ token. token.start) (tokens source.now)) }
+    ensures { IfOk result
+        (λ starts. starts.items ≡ map (λ token. token.start) (tokens source.now)) }
 {
     Tokens::new(source).map(|token| token.start).collect(alloc)
 }

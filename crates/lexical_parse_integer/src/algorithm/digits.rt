@@ -1,7 +1,7 @@
 // Digits, taken one at a time and joined to a value.
 ghost use Rattle.std.specs.Prelude.{◌≡◌, ◌+◌, ◌<◌, false, true, pos, None, Some, IfErr, IfOk, IsTrue, OnOk, ◌≤◌};
 ghost use Rattle.lexical_util.specs.Digit.{IsRadix};
-ghost use Rattle.lexical_util.specs.Number.{HasRoom, HasSign, integer_type, is_number, mul_add};
+ghost use Rattle.lexical_util.specs.Number.{HasRoom, HasSign, is_number, mul_add};
 ghost use Rattle.lexical_parse_integer.specs.CursorView.{IsSound, numeral_of};
 ghost use Rattle.lexical_parse_integer.specs.Grammar.{range_error, range_fault};
 ghost use Rattle.lexical_parse_integer.specs.Numeral.{digit_count, numeral_value};
@@ -24,8 +24,12 @@ pub(crate) fn join_checked<T: Integer>(
     requires radix { IsRadix radix }
     requires digit { digit < radix }
     requires sign { HasSign negative (T.number value) }
-    ensures fits { IfOk result (λ next. (T.number next ≡ mul_add negative (T.number value) (pos radix) (pos digit)) × (is_number (integer_type T.BITS T.IS_SIGNED) (T.number next) ≡ true)) }
-    ensures leaves { IfErr result (λ e. (e ≡ range_error negative place) × (is_number (integer_type T.BITS T.IS_SIGNED) (mul_add negative (T.number value) (pos radix) (pos digit)) ≡ false)) }
+    ensures fits { IfOk result
+        (λ next. (T.number next ≡ mul_add negative (T.number value) (pos radix) (pos digit))
+        × (is_number T.TYPE (T.number next) ≡ true)) }
+    ensures leaves { IfErr result
+        (λ e. (e ≡ range_error negative place)
+        × (is_number T.TYPE (mul_add negative (T.number value) (pos radix) (pos digit)) ≡ false)) }
 {
     match value.checked_mul_add(T::from_u32(radix), T::from_u32(digit), negative) {
         Some(next) => Ok(next),
@@ -48,10 +52,10 @@ pub(crate) fn read_untested<T: Integer>(
 ) -> T
     requires open { c.old.closed ≡ false }
     requires sound { IsSound c.old }
-    requires minus { IsTrue negative → IsTrue T.IS_SIGNED }
-    requires room { HasRoom (integer_type T.BITS T.IS_SIGNED) c.old.radix most }
-    requires reads { Reads (integer_type T.BITS T.IS_SIGNED) negative (numeral_of c.old) c.old.digits (T.number value) }
-    ensures reads { Reads (integer_type T.BITS T.IS_SIGNED) negative (numeral_of c.old) c.new.digits (T.number result) }
+    requires minus { IsTrue negative → IsTrue T.TYPE.is_signed }
+    requires room { HasRoom T.TYPE c.old.radix most }
+    requires reads { Reads T.TYPE negative (numeral_of c.old) c.old.digits (T.number value) }
+    ensures reads { Reads T.TYPE negative (numeral_of c.old) c.new.digits (T.number result) }
     ensures goes_on { GoesOn c.old c.new }
     ensures turns { c.new.turns + c.old.digits ≡ c.old.turns + c.new.digits }
 {
@@ -70,10 +74,11 @@ pub(crate) fn read_untested<T: Integer>(
 #[inline(always)]
 pub(crate) fn read_rest<T: Integer>(c: &mut Cursor<'_>, value: T, negative: bool) -> Result<T>
     requires open { c.old.closed ≡ false }
-    requires reads { Reads (integer_type T.BITS T.IS_SIGNED) negative (numeral_of c.old) c.old.digits (T.number value) }
-    ensures value { IfOk result (λ value. T.number value ≡ numeral_value negative (numeral_of c.old)) }
-    ensures fits { OnOk result (range_fault (integer_type T.BITS T.IS_SIGNED) negative (numeral_of c.old) ≡ None) }
-    ensures leaves { IfErr result (λ e. range_fault (integer_type T.BITS T.IS_SIGNED) negative (numeral_of c.old) ≡ Some e) }
+    requires reads { Reads T.TYPE negative (numeral_of c.old) c.old.digits (T.number value) }
+    ensures value { IfOk result
+        (λ value. T.number value ≡ numeral_value negative (numeral_of c.old)) }
+    ensures fits { OnOk result (range_fault T.TYPE negative (numeral_of c.old) ≡ None) }
+    ensures leaves { IfErr result (λ e. range_fault T.TYPE negative (numeral_of c.old) ≡ Some e) }
     ensures goes_on { GoesOn c.old c.new }
     ensures at_end { OnOk result (c.new.position ≡ (numeral_of c.old).ends) }
     ensures all { OnOk result (c.new.digits ≡ digit_count (numeral_of c.old)) }

@@ -1,7 +1,6 @@
 // What stands before the digits: the sign and the prefix.
 ghost use Rattle.std.specs.Prelude.{◌≡◌, Err, IfErr, IfOk, OnErr, OnOk, length, ◌&&◌, ◌==◌};
-ghost use Rattle.lexical_util.specs.Number.{integer_type};
-ghost use Rattle.lexical_parse_integer.specs.Answer.{seen};
+ghost use Rattle.lexical_parse_integer.specs.Answer.{view_of};
 ghost use Rattle.lexical_parse_integer.specs.Head.{head_of, sign};
 ghost use Rattle.lexical_parse_integer.specs.Reading.{IsAtHead, IsOver};
 
@@ -22,8 +21,10 @@ use lexical_util::result::Result;
 #[tactic(auto, unfolding(crate::specs::Head::sign))]
 pub fn parse_sign<T: Integer>(c: &mut Cursor<'_>) -> Result<bool>
     requires { c.old.position ≡ 0 }
-    ensures answer { seen (λ is_minus. (is_minus, c.new.position)) result ≡ sign c.old.format (integer_type T.BITS T.IS_SIGNED) c.old.bytes }
-    ensures moved { OnOk result (c.new ≡ record c.old { start = c.new.position; position = c.new.position }) }
+    ensures answer { view_of (λ is_minus. (is_minus, c.new.position)) result
+        ≡ sign c.old.format T.TYPE c.old.bytes }
+    ensures moved { OnOk result
+        (c.new ≡ record c.old { start = c.new.position; position = c.new.position }) }
     ensures unmoved { OnErr result (c.new ≡ c.old) }
 {
     c.sound();
@@ -52,8 +53,9 @@ pub fn parse_sign<T: Integer>(c: &mut Cursor<'_>) -> Result<bool>
 #[inline(always)]
 pub(crate) fn read_head<T: Integer>(c: &mut Cursor<'_>) -> Result<(bool, bool)>
     requires { c.old.position ≡ 0 }
-    ensures head { IfOk result (λ found. IsAtHead c.old.format (integer_type T.BITS T.IS_SIGNED) c.old.bytes found.0 found.1 c.new) }
-    ensures fault { IfErr result (λ e. head_of c.old.format (integer_type T.BITS T.IS_SIGNED) c.old.bytes ≡ Err e) }
+    ensures head { IfOk result
+        (λ found. IsAtHead c.old.format T.TYPE c.old.bytes found.0 found.1 c.new) }
+    ensures fault { IfErr result (λ e. head_of c.old.format T.TYPE c.old.bytes ≡ Err e) }
     ensures no_turn { OnErr result (c.new.turns ≡ 0) }
     ensures over { OnErr result (IsOver c.old.bytes c.old.format c.new) }
 {

@@ -5,7 +5,8 @@
 // text then pays for the words that few have.
 ghost use Rattle.std.specs.Prelude.{◌≡◌, ◌+◌, ◌-◌, ◌*◌, ◌<◌, ◌≤◌, ◌∷◌, [], if◌then◌else◌, length, map, None, Some, true};
 ghost use Rattle.std.specs.Simd.Lanes.{Each1};
-ghost use Rattle.lexical_parse_integer.specs.Lanes.{are_digit_lanes, joined};
+ghost use Rattle.lexical_util.specs.Ascii.{digit_zero};
+ghost use Rattle.lexical_parse_integer.specs.Lanes.{are_digit_lanes, pairs_of};
 ghost use Rattle.lexical_parse_integer.specs.Words.{word_value};
 
 use std::simd::prelude::*;
@@ -16,7 +17,8 @@ pub(crate) fn value_of_4lanes(bytes: &[u8], radix: u32) -> Option<u32>
     requires size { length bytes.now ≡ 4 }
     requires least { 2 ≤ radix }
     requires greatest { radix ≤ 10 }
-    ensures { result ≡ (if are_digit_lanes radix bytes.now then Some (word_value radix bytes.now) else None) }
+    ensures { result ≡ (if are_digit_lanes radix bytes.now
+        then Some (word_value radix bytes.now) else None) }
 {
     let lanes = u8x4::from_slice(bytes);
     if !are_4digits(lanes, radix as u8) {
@@ -32,7 +34,8 @@ pub(crate) fn value_of_8lanes(bytes: &[u8], radix: u32) -> Option<u32>
     requires size { length bytes.now ≡ 8 }
     requires least { 2 ≤ radix }
     requires greatest { radix ≤ 10 }
-    ensures { result ≡ (if are_digit_lanes radix bytes.now then Some (word_value radix bytes.now) else None) }
+    ensures { result ≡ (if are_digit_lanes radix bytes.now
+        then Some (word_value radix bytes.now) else None) }
 {
     let lanes = u8x8::from_slice(bytes);
     if !are_8digits(lanes, radix as u8) {
@@ -69,7 +72,7 @@ fn are_8digits(lanes: u8x8, radix: u8) -> bool
 #[inline(always)]
 fn digits_in_4(lanes: u8x4, radix: u8) -> u8x4
     requires { are_digit_lanes radix lanes ≡ true }
-    ensures { result ≡ map (λ byte. byte - 48) lanes }
+    ensures { result ≡ map (λ byte. byte - digit_zero) lanes }
 {
     lanes.strict_sub(u8x4::splat(b'0'))
 }
@@ -78,7 +81,7 @@ fn digits_in_4(lanes: u8x4, radix: u8) -> u8x4
 #[inline(always)]
 fn digits_in_8(lanes: u8x8, radix: u8) -> u8x8
     requires { are_digit_lanes radix lanes ≡ true }
-    ensures { result ≡ map (λ byte. byte - 48) lanes }
+    ensures { result ≡ map (λ byte. byte - digit_zero) lanes }
 {
     lanes.strict_sub(u8x8::splat(b'0'))
 }
@@ -88,7 +91,7 @@ fn digits_in_8(lanes: u8x8, radix: u8) -> u8x8
 fn join_4digits(digits: u8x4, radix: u8) -> u8x2
     requires most { radix ≤ 10 }
     requires digits { Each1 (λ digit. digit < radix) digits }
-    ensures { result ≡ joined radix digits }
+    ensures { result ≡ pairs_of radix digits }
 {
     let d = digits.to_array();
     let left = u8x2::from_array([d[0], d[2]]);
@@ -101,7 +104,7 @@ fn join_4digits(digits: u8x4, radix: u8) -> u8x2
 fn join_8digits(digits: u8x8, radix: u8) -> u8x4
     requires most { radix ≤ 10 }
     requires digits { Each1 (λ digit. digit < radix) digits }
-    ensures { result ≡ joined radix digits }
+    ensures { result ≡ pairs_of radix digits }
 {
     let d = digits.to_array();
     let left = u8x4::from_array([d[0], d[2], d[4], d[6]]);
@@ -114,7 +117,7 @@ fn join_8digits(digits: u8x8, radix: u8) -> u8x4
 fn join_2pairs(pairs: u8x2, scale: u32) -> u32
     requires most { scale ≤ 100 }
     requires pairs { Each1 (λ pair. pair < scale) pairs }
-    ensures { result ∷ [] ≡ joined scale pairs }
+    ensures { result ∷ [] ≡ pairs_of scale pairs }
 {
     let p = pairs.to_array();
     p[0] as u32 * scale + p[1] as u32
@@ -125,7 +128,7 @@ fn join_2pairs(pairs: u8x2, scale: u32) -> u32
 fn join_4pairs(pairs: u8x4, scale: u16) -> u16x2
     requires most { scale ≤ 100 }
     requires pairs { Each1 (λ pair. pair < scale) pairs }
-    ensures { result ≡ joined scale pairs }
+    ensures { result ≡ pairs_of scale pairs }
 {
     let p = pairs.to_array();
     let left = u16x2::from_array([p[0] as u16, p[2] as u16]);
@@ -138,7 +141,7 @@ fn join_4pairs(pairs: u8x4, scale: u16) -> u16x2
 fn join_fours(fours: u16x2, scale: u32) -> u32
     requires most { scale ≤ 10000 }
     requires fours { Each1 (λ four. four < scale) fours }
-    ensures { result ∷ [] ≡ joined scale fours }
+    ensures { result ∷ [] ≡ pairs_of scale fours }
 {
     let f = fours.to_array();
     f[0] as u32 * scale + f[1] as u32

@@ -1,10 +1,10 @@
 // Words of four and eight digits, taken at once.
 ghost use Rattle.std.specs.Prelude.{◌≡◌, ◌+◌, ◌*◌, ◌<◌, ◌≤◌, ◌⊎◌, ◌↔◌, ◌^◌, pos, false, IsNone, IsSome, IsTrue, IfSome, MatchOption, slice_range};
-ghost use Rattle.lexical_util.specs.Number.{HasRoom, integer_type};
+ghost use Rattle.lexical_util.specs.Number.{HasRoom};
 ghost use Rattle.lexical_parse_integer.specs.CursorView.{AreDigitsAhead, IsSound, numeral_of};
 ghost use Rattle.lexical_parse_integer.specs.Numeral.{digit_count};
 ghost use Rattle.lexical_parse_integer.specs.Reading.{GoesOn, Reads};
-ghost use Rattle.lexical_parse_integer.specs.Turns.{word_length};
+ghost use Rattle.lexical_parse_integer.specs.Turns.{digits_per_word};
 ghost use Rattle.lexical_parse_integer.specs.Words.{word_value};
 
 use crate::algorithm::lanes::{value_of_4lanes, value_of_8lanes};
@@ -19,9 +19,15 @@ pub fn try_parse_4digits<T: Integer>(c: &mut Cursor<'_>) -> Option<T>
     requires radix { c.old.radix ≤ 10 }
     requires contiguous { IsNone c.old.format.digit_separator }
     requires is_open { c.old.closed ≡ false }
-    ensures moved { MatchOption result (c.new ≡ c.old) (λ _. c.new ≡ record c.old { position = c.old.position + 4; digits = c.old.digits + 4; turns = c.old.turns + 1 }) }
+    ensures moved { MatchOption result (c.new ≡ c.old)
+        (λ _. c.new
+        ≡ record c.old { position = c.old.position + 4; digits = c.old.digits + 4;
+        turns = c.old.turns + 1 }) }
     ensures digits { IsSome result ↔ AreDigitsAhead c.old 4 }
-    ensures value { IfSome result (λ word. T.number word ≡ pos (word_value c.old.radix (slice_range c.old.bytes c.old.position (c.old.position + 4)))) }
+    ensures value { IfSome result
+        (λ word. T.number word
+        ≡ pos (word_value c.old.radix
+        (slice_range c.old.bytes c.old.position (c.old.position + 4)))) }
 {
     c.sound();
     let bytes = match c.peek_word(4) {
@@ -45,9 +51,15 @@ pub fn try_parse_8digits<T: Integer>(c: &mut Cursor<'_>) -> Option<T>
     requires radix { c.old.radix ≤ 10 }
     requires contiguous { IsNone c.old.format.digit_separator }
     requires is_open { c.old.closed ≡ false }
-    ensures moved { MatchOption result (c.new ≡ c.old) (λ _. c.new ≡ record c.old { position = c.old.position + 8; digits = c.old.digits + 8; turns = c.old.turns + 1 }) }
+    ensures moved { MatchOption result (c.new ≡ c.old)
+        (λ _. c.new
+        ≡ record c.old { position = c.old.position + 8; digits = c.old.digits + 8;
+        turns = c.old.turns + 1 }) }
     ensures digits { IsSome result ↔ AreDigitsAhead c.old 8 }
-    ensures value { IfSome result (λ word. T.number word ≡ pos (word_value c.old.radix (slice_range c.old.bytes c.old.position (c.old.position + 8)))) }
+    ensures value { IfSome result
+        (λ word. T.number word
+        ≡ pos (word_value c.old.radix
+        (slice_range c.old.bytes c.old.position (c.old.position + 8)))) }
 {
     c.sound();
     let bytes = match c.peek_word(8) {
@@ -65,16 +77,22 @@ pub fn try_parse_8digits<T: Integer>(c: &mut Cursor<'_>) -> Option<T>
 
 // A word of the length that the type takes.
 #[inline(always)]
-#[tactic(auto, unfolding(crate::specs::Turns::word_length))]
+#[tactic(auto, unfolding(crate::specs::Turns::digits_per_word))]
 fn try_parse_word<T: Integer>(c: &mut Cursor<'_>) -> Option<T>
     requires bits { 32 ≤ T.BITS }
     requires radix { c.old.radix ≤ 10 }
     requires contiguous { IsNone c.old.format.digit_separator }
     requires is_open { c.old.closed ≡ false }
-    ensures moved { MatchOption result (c.new ≡ c.old) (λ _. c.new ≡ record c.old { position = c.old.position + word_length T.BITS; digits = c.old.digits + word_length T.BITS; turns = c.old.turns + 1 }) }
-    ensures digits { IsSome result ↔ AreDigitsAhead c.old (word_length T.BITS) }
+    ensures moved { MatchOption result (c.new ≡ c.old)
+        (λ _. c.new
+        ≡ record c.old { position = c.old.position + digits_per_word T.BITS;
+        digits = c.old.digits + digits_per_word T.BITS; turns = c.old.turns + 1 }) }
+    ensures digits { IsSome result ↔ AreDigitsAhead c.old (digits_per_word T.BITS) }
     ensures sound { IsSound c.new }
-    ensures value { IfSome result (λ word. T.number word ≡ pos (word_value c.old.radix (slice_range c.old.bytes c.old.position (c.old.position + word_length T.BITS)))) }
+    ensures value { IfSome result
+        (λ word. T.number word
+        ≡ pos (word_value c.old.radix
+        (slice_range c.old.bytes c.old.position (c.old.position + digits_per_word T.BITS)))) }
 {
     let word = if T::BITS >= 64 {
         try_parse_8digits::<T>(c)
@@ -87,11 +105,11 @@ fn try_parse_word<T: Integer>(c: &mut Cursor<'_>) -> Option<T>
 
 // What a word moves the digits before it by.
 #[inline(always)]
-#[tactic(auto, unfolding(crate::specs::Turns::word_length))]
+#[tactic(auto, unfolding(crate::specs::Turns::digits_per_word))]
 fn word_scale<T: Integer>(radix: u32) -> T
     requires bits { 32 ≤ T.BITS }
     requires radix { radix ≤ 10 }
-    ensures { T.number result ≡ pos (radix ^ word_length T.BITS) }
+    ensures { T.number result ≡ pos (radix ^ digits_per_word T.BITS) }
 {
     if T::BITS >= 64 {
         T::from_u32(radix.pow(8))
@@ -102,9 +120,9 @@ fn word_scale<T: Integer>(radix: u32) -> T
 
 // Whether a word more is within so many digits.
 #[inline(always)]
-#[tactic(auto, unfolding(crate::specs::Turns::word_length))]
+#[tactic(auto, unfolding(crate::specs::Turns::digits_per_word))]
 fn has_room<T: Integer>(digits: usize, most: usize) -> bool
-    ensures { IsTrue result ↔ (digits + word_length T.BITS ≤ most) }
+    ensures { IsTrue result ↔ (digits + digits_per_word T.BITS ≤ most) }
 {
     let word = if T::BITS >= 64 { 8 } else { 4 };
     most >= word && digits <= most - word
@@ -118,14 +136,16 @@ pub(crate) fn read_words<T: Integer>(c: &mut Cursor<'_>, value: T, negative: boo
     requires contiguous { IsNone c.old.format.digit_separator }
     requires open { c.old.closed ≡ false }
     requires sound { IsSound c.old }
-    requires minus { IsTrue negative → IsTrue T.IS_SIGNED }
-    requires room { HasRoom (integer_type T.BITS T.IS_SIGNED) c.old.radix most }
-    requires reads { Reads (integer_type T.BITS T.IS_SIGNED) negative (numeral_of c.old) c.old.digits (T.number value) }
-    ensures reads { Reads (integer_type T.BITS T.IS_SIGNED) negative (numeral_of c.old) c.new.digits (T.number result) }
+    requires minus { IsTrue negative → IsTrue T.TYPE.is_signed }
+    requires room { HasRoom T.TYPE c.old.radix most }
+    requires reads { Reads T.TYPE negative (numeral_of c.old) c.old.digits (T.number value) }
+    ensures reads { Reads T.TYPE negative (numeral_of c.old) c.new.digits (T.number result) }
     ensures goes_on { GoesOn c.old c.new }
-    ensures turns { c.new.digits + word_length T.BITS * c.old.turns ≡ c.old.digits + word_length T.BITS * c.new.turns }
+    ensures turns { c.new.digits + digits_per_word T.BITS * c.old.turns
+        ≡ c.old.digits + digits_per_word T.BITS * c.new.turns }
     ensures within { (c.new.digits ≡ c.old.digits) ⊎ (c.new.digits ≤ most) }
-    ensures ended { (most < c.new.digits + word_length T.BITS) ⊎ (digit_count (numeral_of c.old) < c.new.digits + word_length T.BITS) }
+    ensures ended { (most < c.new.digits + digits_per_word T.BITS)
+        ⊎ (digit_count (numeral_of c.old) < c.new.digits + digits_per_word T.BITS) }
 {
     let scale = word_scale::<T>(c.radix());
     let mut value = value;

@@ -1,11 +1,11 @@
 // All digits of a numeral, by the ways that options and format leave open.
 ghost use Rattle.std.specs.Prelude.{◌≡◌, ◌⊎◌, ◌+◌, ◌-◌, ◌≤◌, ◌↔◌, Some, None, false, IfErr, IfOk, IsTrue, OnOk};
-ghost use Rattle.lexical_util.specs.Number.{integer_type, overflow_digits};
+ghost use Rattle.lexical_util.specs.Number.{overflow_digits};
 ghost use Rattle.lexical_parse_integer.specs.CursorView.{IsSound, numeral_of};
 ghost use Rattle.lexical_parse_integer.specs.Grammar.{range_fault};
 ghost use Rattle.lexical_parse_integer.specs.Numeral.{digit_count, numeral_value};
 ghost use Rattle.lexical_parse_integer.specs.Reading.{GoesOn, Reads};
-ghost use Rattle.lexical_parse_integer.specs.Turns.{AsksWords, turns_bound, word_length};
+ghost use Rattle.lexical_parse_integer.specs.Turns.{AsksWords, turns_bound, digits_per_word};
 
 use crate::algorithm::digits::{read_rest, read_untested};
 use crate::algorithm::multi::read_words;
@@ -33,13 +33,16 @@ fn skips_tests(c: &Cursor<'_>, most: usize) -> bool {
 fn read_front<T: Integer>(c: &mut Cursor<'_>, value: T, negative: bool, no_multi_digit: bool) -> T
     requires open { c.old.closed ≡ false }
     requires sound { IsSound c.old }
-    requires minus { IsTrue negative → IsTrue T.IS_SIGNED }
-    requires reads { Reads (integer_type T.BITS T.IS_SIGNED) negative (numeral_of c.old) c.old.digits (T.number value) }
-    ensures reads { Reads (integer_type T.BITS T.IS_SIGNED) negative (numeral_of c.old) c.new.digits (T.number result) }
+    requires minus { IsTrue negative → IsTrue T.TYPE.is_signed }
+    requires reads { Reads T.TYPE negative (numeral_of c.old) c.old.digits (T.number value) }
+    ensures reads { Reads T.TYPE negative (numeral_of c.old) c.new.digits (T.number result) }
     ensures goes_on { GoesOn c.old c.new }
     ensures each { IsTrue no_multi_digit → c.new.turns + c.old.digits ≡ c.old.turns + c.new.digits }
-    ensures few { AsksWords T.BITS no_multi_digit c.old.format → c.old.radix ≤ 10 → c.old.turns ≡ c.old.digits → (c.old.digits ≡ 0) ⊎ (digit_count (numeral_of c.old) ≤ 1)
-        → c.new.turns + (digit_count (numeral_of c.old) - c.new.digits) ≤ turns_bound (word_length T.BITS) (overflow_digits (integer_type T.BITS T.IS_SIGNED) c.old.radix) (digit_count (numeral_of c.old)) }
+    ensures few { AsksWords T.BITS no_multi_digit c.old.format → c.old.radix ≤ 10
+        → c.old.turns ≡ c.old.digits → (c.old.digits ≡ 0) ⊎ (digit_count (numeral_of c.old) ≤ 1)
+        → c.new.turns + (digit_count (numeral_of c.old) - c.new.digits)
+        ≤ turns_bound (digits_per_word T.BITS) (overflow_digits T.TYPE c.old.radix)
+        (digit_count (numeral_of c.old)) }
 {
     let most = T::overflow_digits(c.radix());
     if takes_words::<T>(c, no_multi_digit) {
@@ -62,17 +65,21 @@ pub(crate) fn read_digits<T: Integer>(
 ) -> Result<T>
     requires open { c.old.closed ≡ false }
     requires sound { IsSound c.old }
-    requires minus { IsTrue negative → IsTrue T.IS_SIGNED }
-    requires reads { Reads (integer_type T.BITS T.IS_SIGNED) negative (numeral_of c.old) c.old.digits (T.number value) }
-    ensures value { IfOk result (λ value. T.number value ≡ numeral_value negative (numeral_of c.old)) }
-    ensures fits { OnOk result (range_fault (integer_type T.BITS T.IS_SIGNED) negative (numeral_of c.old) ≡ None) }
-    ensures leaves { IfErr result (λ e. range_fault (integer_type T.BITS T.IS_SIGNED) negative (numeral_of c.old) ≡ Some e) }
+    requires minus { IsTrue negative → IsTrue T.TYPE.is_signed }
+    requires reads { Reads T.TYPE negative (numeral_of c.old) c.old.digits (T.number value) }
+    ensures value { IfOk result
+        (λ value. T.number value ≡ numeral_value negative (numeral_of c.old)) }
+    ensures fits { OnOk result (range_fault T.TYPE negative (numeral_of c.old) ≡ None) }
+    ensures leaves { IfErr result (λ e. range_fault T.TYPE negative (numeral_of c.old) ≡ Some e) }
     ensures goes_on { GoesOn c.old c.new }
     ensures at_end { OnOk result (c.new.position ≡ (numeral_of c.old).ends) }
     ensures all { OnOk result (c.new.digits ≡ digit_count (numeral_of c.old)) }
     ensures each { IsTrue no_multi_digit → c.new.turns + c.old.digits ≡ c.old.turns + c.new.digits }
-    ensures few { AsksWords T.BITS no_multi_digit c.old.format → c.old.radix ≤ 10 → c.old.turns ≡ c.old.digits → (c.old.digits ≡ 0) ⊎ (digit_count (numeral_of c.old) ≤ 1)
-        → c.new.turns ≤ turns_bound (word_length T.BITS) (overflow_digits (integer_type T.BITS T.IS_SIGNED) c.old.radix) (digit_count (numeral_of c.old)) }
+    ensures few { AsksWords T.BITS no_multi_digit c.old.format → c.old.radix ≤ 10
+        → c.old.turns ≡ c.old.digits → (c.old.digits ≡ 0) ⊎ (digit_count (numeral_of c.old) ≤ 1)
+        → c.new.turns
+        ≤ turns_bound (digits_per_word T.BITS) (overflow_digits T.TYPE c.old.radix)
+        (digit_count (numeral_of c.old)) }
 {
     let front = read_front::<T>(c, value, negative, no_multi_digit);
     read_rest::<T>(c, front, negative)

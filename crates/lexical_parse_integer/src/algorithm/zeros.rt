@@ -1,7 +1,6 @@
 // Leading zeros, where the format forbids them.
 ghost use Rattle.std.specs.Prelude.{◌≡◌, ◌⊎◌, ◌+◌, ◌≤◌, false, None, Some, nat_lt, IfErr, IfOk, IsNone, OnOk};
 ghost use Rattle.std.specs.Option.{option_or};
-ghost use Rattle.lexical_util.specs.Number.{integer_type};
 ghost use Rattle.lexical_parse_integer.specs.CursorView.{IsSound, numeral_of};
 ghost use Rattle.lexical_parse_integer.specs.Grammar.{range_fault, zero_fault};
 ghost use Rattle.lexical_parse_integer.specs.Numeral.{digit_count};
@@ -23,7 +22,8 @@ fn has_more(c: &mut Cursor<'_>) -> bool
     ensures goes_on { GoesOn c.old c.new }
     ensures digits { result ≡ false → c.new.digits ≡ c.old.digits }
     ensures turns { c.new.turns + c.old.digits ≡ c.old.turns + c.new.digits }
-    ensures count { c.old.digits ≤ digit_count (numeral_of c.old) → c.new.digits ≤ digit_count (numeral_of c.old) }
+    ensures count { c.old.digits ≤ digit_count (numeral_of c.old)
+        → c.new.digits ≤ digit_count (numeral_of c.old) }
     ensures stays { IsNone c.old.format.digit_separator → c.new ≡ c.old }
 {
     if c.is_contiguous() {
@@ -48,13 +48,17 @@ pub(crate) fn read_first<T: Integer>(
     requires sound { IsSound c.old }
     requires none { c.old.digits ≡ 0 }
     ensures no_zeros { OnOk result (zero_fault c.old.format is_prefixed (numeral_of c.old) ≡ None) }
-    ensures reads { IfOk result (λ value. Reads (integer_type T.BITS T.IS_SIGNED) negative (numeral_of c.old) c.new.digits (T.number value)) }
+    ensures reads { IfOk result
+        (λ value. Reads T.TYPE negative (numeral_of c.old) c.new.digits (T.number value)) }
     ensures goes_on { GoesOn c.old c.new }
     ensures turns { c.new.turns ≡ c.old.turns + c.new.digits }
     ensures count { c.new.digits ≤ digit_count (numeral_of c.old) }
     ensures one { IsNone c.old.format.digit_separator → c.new.digits ≤ 1 }
-    ensures lone { IsNone c.old.format.digit_separator → OnOk result ((c.new.digits ≡ 0) ⊎ (digit_count (numeral_of c.old) ≤ 1)) }
-    ensures fault { IfErr result (λ e. option_or (zero_fault c.old.format is_prefixed (numeral_of c.old)) (range_fault (integer_type T.BITS T.IS_SIGNED) negative (numeral_of c.old)) ≡ Some e) }
+    ensures lone { IsNone c.old.format.digit_separator
+        → OnOk result ((c.new.digits ≡ 0) ⊎ (digit_count (numeral_of c.old) ≤ 1)) }
+    ensures fault { IfErr result
+        (λ e. option_or (zero_fault c.old.format is_prefixed (numeral_of c.old))
+        (range_fault T.TYPE negative (numeral_of c.old)) ≡ Some e) }
 {
     if is_prefixed || !c.format().no_integer_leading_zeros() {
         return Ok(T::ZERO);

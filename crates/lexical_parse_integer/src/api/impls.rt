@@ -1,7 +1,6 @@
 // Every integer type, read from bytes.
 ghost use Rattle.std.specs.Prelude.{◌≡◌};
-ghost use Rattle.lexical_util.specs.Number.{integer_type};
-ghost use Rattle.lexical_parse_integer.specs.Answer.{placed, seen};
+ghost use Rattle.lexical_parse_integer.specs.Answer.{with_place, view_of};
 ghost use Rattle.lexical_parse_integer.specs.Grammar.{complete_if_valid, partial_if_valid};
 
 use crate::api::{FromLexical, FromLexicalWithOptions};
@@ -14,7 +13,7 @@ use lexical_util::result::Result;
 // The complete answer under a format that may be invalid.
 #[inline(always)]
 fn complete<T: ParseInteger>(bytes: &[u8], format: &NumberFormat, options: &Options) -> Result<T>
-    ensures { seen T.number result ≡ complete_if_valid format.now (integer_type T.BITS T.IS_SIGNED) bytes.now }
+    ensures { view_of T.number result ≡ complete_if_valid format.now T.TYPE bytes.now }
 {
     match format.error() {
         Some(fault) => Err(fault),
@@ -29,7 +28,7 @@ fn partial<T: ParseInteger>(
     format: &NumberFormat,
     options: &Options,
 ) -> Result<(T, usize)>
-    ensures { seen (placed T.number) result ≡ partial_if_valid format.now (integer_type T.BITS T.IS_SIGNED) bytes.now }
+    ensures { view_of (with_place T.number) result ≡ partial_if_valid format.now T.TYPE bytes.now }
 {
     match format.error() {
         Some(fault) => Err(fault),

@@ -4,7 +4,7 @@
 ghost use Rattle.std.specs.Prelude.{◌≡◌, ◌≢◌, ◌<◌, ◌≤◌, ◌⊎◌, true, List, length, slice_get, IsNone, Ok, Some, ℕ, ℤ};
 ghost use Rattle.std.specs.Fmt.{signed_decimal};
 ghost use Rattle.lexical_parse_integer.specs.Grammar.{complete, partial};
-ghost use Rattle.lexical_parse_integer.specs.Laws.{Completes, IsGreatestEnd, IsLocal, IsLongestRun, IsNumeralOf, LeavesWithin, ReadsNumerals, ReadsPadded, Writes, WritesShortest, completed};
+ghost use Rattle.lexical_parse_integer.specs.Laws.{Completes, IsGreatestEnd, IsLocal, IsLongestRun, IsNumeralOf, LeavesWithin, ReadsNumerals, ReadsPadded, Writes, WritesShortest, completion_of};
 ghost use Rattle.lexical_parse_integer.specs.Runs.{digit_at, separator_at};
 ghost use Rattle.lexical_util.specs.Digit.{IsRadix};
 ghost use Rattle.lexical_util.specs.Format.{Format};
@@ -47,7 +47,7 @@ pub fn range_faults()
 /// `complete_and_partial`.
 pub fn complete_by_partial()
     ensures answer { (format : Format) (type : IntegerType) (text : List ℕ)
-        → complete format type text ≡ completed (length text) (partial format type text) }
+        → complete format type text ≡ completion_of (length text) (partial format type text) }
     ensures sentences { (format : Format) (type : IntegerType) (text : List ℕ)
         → Completes (length text) (complete format type text) (partial format type text) }
 {}
@@ -59,7 +59,8 @@ pub fn complete_by_partial()
 pub fn front_end()
     ensures within { (format : Format) (type : IntegerType) (text : List ℕ) (value : ℤ) (place : ℕ)
         → partial format type text ≡ Ok (value, place) → place ≤ length text }
-    ensures some { (format : Format) (type : IntegerType) (text : List ℕ) (value : ℤ) (place digit : ℕ)
+    ensures some { (format : Format) (type : IntegerType) (text : List ℕ) (value : ℤ)
+        (place digit : ℕ)
         → digit_at format.mantissa_radix text 0 ≡ Some digit
         → partial format type text ≡ Ok (value, place) → 0 < place }
 {}

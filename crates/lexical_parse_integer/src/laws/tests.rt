@@ -1,6 +1,6 @@
 ghost use Rattle.std.specs.Prelude.{◌≡◌, ◌<◌, ◌≤◌, Ok, length};
 ghost use Rattle.std.specs.Fmt.{decimal};
-ghost use Rattle.lexical_parse_integer.specs.Answer.{placed, seen};
+ghost use Rattle.lexical_parse_integer.specs.Answer.{with_place, view_of};
 ghost use Rattle.lexical_parse_integer.specs.Laws.{IsSettledAt};
 
 use super::grammar::{numerals, range_faults};
@@ -18,7 +18,8 @@ use std::test::Fail;
 // A reader that cuts its text behind a place: where the answer is settled there, the rest isn't needed.
 fn cut<T: Integer>(text: &[u8], place: usize) -> (Answer<(T, usize)>, Answer<(T, usize)>)
     requires { place < length text.now }
-    ensures { IsSettledAt (length text.now) place (seen (placed T.number) result.0) → result.1 ≡ result.0 }
+    ensures { IsSettledAt (length text.now) place (view_of (with_place T.number) result.0)
+        → result.1 ≡ result.0 }
 {
     local::<T>(text, &text[..place + 1], &STANDARD, &SMALL_NUMBERS)
 }

@@ -11,13 +11,13 @@
 //! - `four`: for types of 32 bits, they take at most `d / 4 + d % 4`;
 //! - `beyond_eight`, `beyond_four`: where `d` is at least `o`, each digit beyond `o` takes one turn more.
 ghost use Rattle.std.specs.Prelude.{◌≡◌, ◌+◌, ◌-◌, ◌/◌, ◌%◌, ◌≤◌, Err, IsNone, Ok};
-ghost use Rattle.lexical_parse_integer.specs.Answer.{placed, seen};
+ghost use Rattle.lexical_parse_integer.specs.Answer.{with_place, view_of};
 ghost use Rattle.lexical_parse_integer.specs.Grammar.{complete, partial};
 ghost use Rattle.lexical_parse_integer.specs.Head.{Head, head_of};
-ghost use Rattle.lexical_parse_integer.specs.Numeral.{digit_count, numeral};
+ghost use Rattle.lexical_parse_integer.specs.Numeral.{digit_count, numeral_in};
 ghost use Rattle.lexical_parse_integer.specs.Reading.{IsOver};
 ghost use Rattle.lexical_util.specs.declared.error.Error.{Error};
-ghost use Rattle.lexical_util.specs.Number.{integer_type, overflow_digits};
+ghost use Rattle.lexical_util.specs.Number.{overflow_digits};
 ghost use Rattle.lexical_util.specs.Validity.{fault};
 
 use crate::algorithm::{algorithm_complete_on, algorithm_partial_on};
@@ -38,27 +38,27 @@ pub fn complete_in_few_turns<'a, T: Integer>(
     format: &NumberFormat,
 ) -> (Result<T>, Cursor<'a>)
     requires valid { IsNone (fault format.now) }
-    ensures answer { seen T.number result.0 ≡ complete format.now (integer_type T.BITS T.IS_SIGNED) bytes.now }
+    ensures answer { view_of T.number result.0 ≡ complete format.now T.TYPE bytes.now }
     ensures over { IsOver bytes.now format.now result.1 }
     ensures sign { IsNone format.now.digit_separator → 32 ≤ T.BITS → (error : Error)
-        → head_of format.now (integer_type T.BITS T.IS_SIGNED) bytes.now ≡ Err error → result.1.turns ≡ 0 }
+        → head_of format.now T.TYPE bytes.now ≡ Err error → result.1.turns ≡ 0 }
     ensures eight { IsNone format.now.digit_separator → 64 ≤ T.BITS → (head : Head)
-        → head_of format.now (integer_type T.BITS T.IS_SIGNED) bytes.now ≡ Ok head → head.radix ≤ 10
-        → let d = digit_count (numeral format.now bytes.now head.start head.radix) in
-        d ≤ overflow_digits (integer_type T.BITS T.IS_SIGNED) head.radix → result.1.turns ≤ d / 8 + d % 8 }
+        → head_of format.now T.TYPE bytes.now ≡ Ok head → head.radix ≤ 10
+        → let d = digit_count (numeral_in format.now bytes.now head.start head.radix) in
+        d ≤ overflow_digits T.TYPE head.radix → result.1.turns ≤ d / 8 + d % 8 }
     ensures four { IsNone format.now.digit_separator → T.BITS ≡ 32 → (head : Head)
-        → head_of format.now (integer_type T.BITS T.IS_SIGNED) bytes.now ≡ Ok head → head.radix ≤ 10
-        → let d = digit_count (numeral format.now bytes.now head.start head.radix) in
-        d ≤ overflow_digits (integer_type T.BITS T.IS_SIGNED) head.radix → result.1.turns ≤ d / 4 + d % 4 }
+        → head_of format.now T.TYPE bytes.now ≡ Ok head → head.radix ≤ 10
+        → let d = digit_count (numeral_in format.now bytes.now head.start head.radix) in
+        d ≤ overflow_digits T.TYPE head.radix → result.1.turns ≤ d / 4 + d % 4 }
     ensures beyond_eight { IsNone format.now.digit_separator → 64 ≤ T.BITS → (head : Head)
-        → head_of format.now (integer_type T.BITS T.IS_SIGNED) bytes.now ≡ Ok head → head.radix ≤ 10
-        → let d = digit_count (numeral format.now bytes.now head.start head.radix) in
-        let o = overflow_digits (integer_type T.BITS T.IS_SIGNED) head.radix in
+        → head_of format.now T.TYPE bytes.now ≡ Ok head → head.radix ≤ 10
+        → let d = digit_count (numeral_in format.now bytes.now head.start head.radix) in
+        let o = overflow_digits T.TYPE head.radix in
         o ≤ d → result.1.turns ≤ o / 8 + o % 8 + (d - o) }
     ensures beyond_four { IsNone format.now.digit_separator → T.BITS ≡ 32 → (head : Head)
-        → head_of format.now (integer_type T.BITS T.IS_SIGNED) bytes.now ≡ Ok head → head.radix ≤ 10
-        → let d = digit_count (numeral format.now bytes.now head.start head.radix) in
-        let o = overflow_digits (integer_type T.BITS T.IS_SIGNED) head.radix in
+        → head_of format.now T.TYPE bytes.now ≡ Ok head → head.radix ≤ 10
+        → let d = digit_count (numeral_in format.now bytes.now head.start head.radix) in
+        let o = overflow_digits T.TYPE head.radix in
         o ≤ d → result.1.turns ≤ o / 4 + o % 4 + (d - o) }
 {
     let mut c = Cursor::new(bytes, format);
@@ -76,27 +76,27 @@ pub fn partial_in_few_turns<'a, T: Integer>(
     format: &NumberFormat,
 ) -> (Result<(T, usize)>, Cursor<'a>)
     requires valid { IsNone (fault format.now) }
-    ensures answer { seen (placed T.number) result.0 ≡ partial format.now (integer_type T.BITS T.IS_SIGNED) bytes.now }
+    ensures answer { view_of (with_place T.number) result.0 ≡ partial format.now T.TYPE bytes.now }
     ensures over { IsOver bytes.now format.now result.1 }
     ensures sign { IsNone format.now.digit_separator → 32 ≤ T.BITS → (error : Error)
-        → head_of format.now (integer_type T.BITS T.IS_SIGNED) bytes.now ≡ Err error → result.1.turns ≡ 0 }
+        → head_of format.now T.TYPE bytes.now ≡ Err error → result.1.turns ≡ 0 }
     ensures eight { IsNone format.now.digit_separator → 64 ≤ T.BITS → (head : Head)
-        → head_of format.now (integer_type T.BITS T.IS_SIGNED) bytes.now ≡ Ok head → head.radix ≤ 10
-        → let d = digit_count (numeral format.now bytes.now head.start head.radix) in
-        d ≤ overflow_digits (integer_type T.BITS T.IS_SIGNED) head.radix → result.1.turns ≤ d / 8 + d % 8 }
+        → head_of format.now T.TYPE bytes.now ≡ Ok head → head.radix ≤ 10
+        → let d = digit_count (numeral_in format.now bytes.now head.start head.radix) in
+        d ≤ overflow_digits T.TYPE head.radix → result.1.turns ≤ d / 8 + d % 8 }
     ensures four { IsNone format.now.digit_separator → T.BITS ≡ 32 → (head : Head)
-        → head_of format.now (integer_type T.BITS T.IS_SIGNED) bytes.now ≡ Ok head → head.radix ≤ 10
-        → let d = digit_count (numeral format.now bytes.now head.start head.radix) in
-        d ≤ overflow_digits (integer_type T.BITS T.IS_SIGNED) head.radix → result.1.turns ≤ d / 4 + d % 4 }
+        → head_of format.now T.TYPE bytes.now ≡ Ok head → head.radix ≤ 10
+        → let d = digit_count (numeral_in format.now bytes.now head.start head.radix) in
+        d ≤ overflow_digits T.TYPE head.radix → result.1.turns ≤ d / 4 + d % 4 }
     ensures beyond_eight { IsNone format.now.digit_separator → 64 ≤ T.BITS → (head : Head)
-        → head_of format.now (integer_type T.BITS T.IS_SIGNED) bytes.now ≡ Ok head → head.radix ≤ 10
-        → let d = digit_count (numeral format.now bytes.now head.start head.radix) in
-        let o = overflow_digits (integer_type T.BITS T.IS_SIGNED) head.radix in
+        → head_of format.now T.TYPE bytes.now ≡ Ok head → head.radix ≤ 10
+        → let d = digit_count (numeral_in format.now bytes.now head.start head.radix) in
+        let o = overflow_digits T.TYPE head.radix in
         o ≤ d → result.1.turns ≤ o / 8 + o % 8 + (d - o) }
     ensures beyond_four { IsNone format.now.digit_separator → T.BITS ≡ 32 → (head : Head)
-        → head_of format.now (integer_type T.BITS T.IS_SIGNED) bytes.now ≡ Ok head → head.radix ≤ 10
-        → let d = digit_count (numeral format.now bytes.now head.start head.radix) in
-        let o = overflow_digits (integer_type T.BITS T.IS_SIGNED) head.radix in
+        → head_of format.now T.TYPE bytes.now ≡ Ok head → head.radix ≤ 10
+        → let d = digit_count (numeral_in format.now bytes.now head.start head.radix) in
+        let o = overflow_digits T.TYPE head.radix in
         o ≤ d → result.1.turns ≤ o / 4 + o % 4 + (d - o) }
 {
     let mut c = Cursor::new(bytes, format);

@@ -1,7 +1,7 @@
 // The callers that CALLING.md shows, proved and run.
 
 ghost use Rattle.std.specs.Prelude.{◌≡◌, ◌<◌, false, drop, Err, IfErr, IfNone, IfOk, IfSome, Ok, pos, slice_get, Some, ℕ};
-ghost use Rattle.lexical_parse_integer.specs.Answer.{seen};
+ghost use Rattle.lexical_parse_integer.specs.Answer.{view_of};
 ghost use Rattle.lexical_parse_integer.specs.Grammar.{complete, partial};
 ghost use Rattle.lexical_util.specs.Format.{standard};
 ghost use Rattle.lexical_util.specs.Number.{integer_type};
@@ -13,16 +13,18 @@ use crate::{Error, FromLexical, FromLexicalWithOptions, NumberFormatBuilder, Res
 
 /// A field that has to be a port: a number from 1 to 65535, and nothing else.
 pub fn port(field: &[u8]) -> Option<u16>
-    ensures value { IfSome result (λ port. complete standard (integer_type 16 false) field.now ≡ Ok (pos port)) }
+    ensures value { IfSome result
+        (λ port. complete standard (integer_type 16 false) field.now ≡ Ok (pos port)) }
     ensures some { IfSome result (λ port. 0 < port) }
-    ensures none { IfNone result (IfOk (complete standard (integer_type 16 false) field.now) (λ value. value ≡ pos 0)) }
+    ensures none { IfNone result
+        (IfOk (complete standard (integer_type 16 false) field.now) (λ value. value ≡ pos 0)) }
 {
     let port = u16::from_lexical(field).ok()?;
     if port > 0 { Some(port) } else { None }
 }
 
 /// The number at a line's front, and the rest of the line.
-#[tactic(auto, using(crate::proofs::Completing::partial_within))]
+#[tactic(auto, using(crate::proofs::ForCallers::partial_within))]
 pub fn number_and_rest(line: &[u8]) -> Result<(u32, &[u8])>
     ensures found { IfOk result (λ found. (place : ℕ)
         × (partial standard (integer_type 32 false) line.now ≡ Ok (pos found.0, place))
@@ -35,7 +37,7 @@ pub fn number_and_rest(line: &[u8]) -> Result<(u32, &[u8])>
 
 /// An address in radix 16, with `0x` in front or without it: `0x1F` or `1f`.
 pub fn address(text: &[u8]) -> Result<u32>
-    ensures { seen (λ address. pos address) result
+    ensures { view_of (λ address. pos address) result
         ≡ complete (record standard { mantissa_radix = 16; base_prefix = Some 120 }) (integer_type 32 false) text.now }
 {
     let format = NumberFormatBuilder::new()

@@ -72,7 +72,8 @@ fn are_equal(options: &Options, other: &Options) -> bool
 
 // False stands before true.
 fn is_less(options: &Options, other: &Options) -> bool
-    ensures { IsTrue result ↔ ((options.now.no_multi_digit ≡ false) × (other.now.no_multi_digit ≡ true)) }
+    ensures { IsTrue result
+        ↔ ((options.now.no_multi_digit ≡ false) × (other.now.no_multi_digit ≡ true)) }
 {
     options < other
 }
@@ -98,7 +99,8 @@ fn are_equal_builders(builder: &OptionsBuilder, other: &OptionsBuilder) -> bool
 }
 
 fn is_less_builder(builder: &OptionsBuilder, other: &OptionsBuilder) -> bool
-    ensures { IsTrue result ↔ ((builder.now.no_multi_digit ≡ false) × (other.now.no_multi_digit ≡ true)) }
+    ensures { IsTrue result
+        ↔ ((builder.now.no_multi_digit ≡ false) × (other.now.no_multi_digit ≡ true)) }
 {
     builder < other
 }

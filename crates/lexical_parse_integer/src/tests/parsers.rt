@@ -1,8 +1,7 @@
 // The parsers: each call at concrete types, and generic callers that know a type by its bound alone.
 ghost use Rattle.std.specs.Prelude.{◌≡◌};
 ghost use Rattle.lexical_util.specs.Format.{standard};
-ghost use Rattle.lexical_util.specs.Number.{integer_type};
-ghost use Rattle.lexical_parse_integer.specs.Answer.{placed, seen};
+ghost use Rattle.lexical_parse_integer.specs.Answer.{with_place, view_of};
 ghost use Rattle.lexical_parse_integer.specs.Grammar.{complete, partial, partial_if_valid};
 
 use super::cursor::with_all_parts;
@@ -134,8 +133,8 @@ fn cursors_stand_where_reading_stops(rt: HostRuntime) {
 
 // The number of the whole text and of its front, by what the bound says of the type alone.
 fn both<T: FromLexical>(text: &[u8]) -> (Result<T>, Result<(T, usize)>)
-    ensures whole { seen T.number result.0 ≡ complete standard (integer_type T.BITS T.IS_SIGNED) text.now }
-    ensures front { seen (placed T.number) result.1 ≡ partial standard (integer_type T.BITS T.IS_SIGNED) text.now }
+    ensures whole { view_of T.number result.0 ≡ complete standard T.TYPE text.now }
+    ensures front { view_of (with_place T.number) result.1 ≡ partial standard T.TYPE text.now }
 {
     (T::from_lexical(text), T::from_lexical_partial(text))
 }
@@ -157,7 +156,7 @@ fn callers_over_every_type_that_reads_itself(rt: HostRuntime) {
 fn field<T>(text: &[u8], format: &NumberFormat) -> Result<(T, usize)>
 where
     T: FromLexicalWithOptions<Options = Options>,
-    ensures { seen (placed T.number) result ≡ partial_if_valid format.now (integer_type T.BITS T.IS_SIGNED) text.now }
+    ensures { view_of (with_place T.number) result ≡ partial_if_valid format.now T.TYPE text.now }
 {
     T::from_lexical_partial_with_options(text, format, &LARGE_NUMBERS)
 }

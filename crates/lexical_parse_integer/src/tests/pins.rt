@@ -10,7 +10,8 @@ use crate::options::LARGE_NUMBERS;
 
 // What a reader passed before its fault: the cursor is still over the text that it was given.
 fn passed_before_fault(text: &[u8]) -> Option<&[u8]>
-    ensures { IfSome result (λ front. (count : ℕ) × (count ≤ length text.now) × (front.now ≡ take count text.now)) }
+    ensures { IfSome result
+        (λ front. (count : ℕ) × (count ≤ length text.now) × (front.now ≡ take count text.now)) }
 {
     let mut c = Cursor::new(text, &STANDARD);
     match algorithm_complete_on::<u16>(&mut c, &LARGE_NUMBERS) {
@@ -35,7 +36,8 @@ fn digits_at_front(c: &Cursor<'_>) -> usize
 // The first digit of a text, and the byte that holds it: no byte before it is a digit.
 fn first_digit(text: &[u8]) -> Option<(u32, usize)>
     ensures digit { IfSome result (λ found. digit_at 10 text.now found.1 ≡ Some found.0) }
-    ensures least { IfSome result (λ found. (place : ℕ) → place + 1 ≤ found.1 → digit_at 10 text.now place ≡ None) }
+    ensures least { IfSome result
+        (λ found. (place : ℕ) → place + 1 ≤ found.1 → digit_at 10 text.now place ≡ None) }
 {
     let mut c = Cursor::new(text, &STANDARD);
     let digit = c.next_digit()?;

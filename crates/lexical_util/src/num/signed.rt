@@ -2,6 +2,7 @@
 
 ghost use Rattle.std.specs.Prelude.{pos, true};
 ghost use Rattle.std.proofs.Common.{refl};
+ghost use Rattle.lexical_util.specs.Number.{integer_type};
 ghost use Rattle.lexical_util.specs.Number.IsWidth.{w128, w16, w32, w64, w8};
 ghost use Rattle.lexical_util.specs.Compare.{signed-eq};
 
@@ -11,6 +12,8 @@ impl Integer for i8 {
     ghost number = { λ x. x };
 
     ghost ZERO = { pos 0 };
+
+    ghost TYPE = { integer_type 8 true };
 
     ghost BITS = { 8 };
 
@@ -47,6 +50,10 @@ impl Integer for i8 {
 
     ghost zero_law = { refl };
 
+    ghost bits_law = { refl };
+
+    ghost sign_law = { refl };
+
     ghost width_law = { w8 };
 }
 
@@ -54,6 +61,8 @@ impl Integer for i16 {
     ghost number = { λ x. x };
 
     ghost ZERO = { pos 0 };
+
+    ghost TYPE = { integer_type 16 true };
 
     ghost BITS = { 16 };
 
@@ -90,6 +99,10 @@ impl Integer for i16 {
 
     ghost zero_law = { refl };
 
+    ghost bits_law = { refl };
+
+    ghost sign_law = { refl };
+
     ghost width_law = { w16 };
 }
 
@@ -97,6 +110,8 @@ impl Integer for i32 {
     ghost number = { λ x. x };
 
     ghost ZERO = { pos 0 };
+
+    ghost TYPE = { integer_type 32 true };
 
     ghost BITS = { 32 };
 
@@ -133,6 +148,10 @@ impl Integer for i32 {
 
     ghost zero_law = { refl };
 
+    ghost bits_law = { refl };
+
+    ghost sign_law = { refl };
+
     ghost width_law = { w32 };
 }
 
@@ -140,6 +159,8 @@ impl Integer for i64 {
     ghost number = { λ x. x };
 
     ghost ZERO = { pos 0 };
+
+    ghost TYPE = { integer_type 64 true };
 
     ghost BITS = { 64 };
 
@@ -176,6 +197,10 @@ impl Integer for i64 {
 
     ghost zero_law = { refl };
 
+    ghost bits_law = { refl };
+
+    ghost sign_law = { refl };
+
     ghost width_law = { w64 };
 }
 
@@ -183,6 +208,8 @@ impl Integer for i128 {
     ghost number = { λ x. x };
 
     ghost ZERO = { pos 0 };
+
+    ghost TYPE = { integer_type 128 true };
 
     ghost BITS = { 128 };
 
@@ -219,6 +246,10 @@ impl Integer for i128 {
 
     ghost zero_law = { refl };
 
+    ghost bits_law = { refl };
+
+    ghost sign_law = { refl };
+
     ghost width_law = { w128 };
 }
 
@@ -226,6 +257,8 @@ impl Integer for isize {
     ghost number = { λ x. x };
 
     ghost ZERO = { pos 0 };
+
+    ghost TYPE = { integer_type 64 true };
 
     ghost BITS = { 64 };
 
@@ -261,6 +294,10 @@ impl Integer for isize {
     ghost injective_law = { λ a b e. e };
 
     ghost zero_law = { refl };
+
+    ghost bits_law = { refl };
+
+    ghost sign_law = { refl };
 
     ghost width_law = { w64 };
 }

@@ -2,6 +2,7 @@
 
 ghost use Rattle.std.specs.Prelude.{pos, false};
 ghost use Rattle.std.proofs.Common.{refl};
+ghost use Rattle.lexical_util.specs.Number.{integer_type};
 ghost use Rattle.lexical_util.specs.Number.IsWidth.{w128, w16, w32, w64, w8};
 ghost use Rattle.lexical_util.specs.Compare.{pos-injective, unsigned-cmp, unsigned-eq, unsigned-order};
 
@@ -11,6 +12,8 @@ impl Integer for u8 {
     ghost number = { λ x. pos x };
 
     ghost ZERO = { 0 };
+
+    ghost TYPE = { integer_type 8 false };
 
     ghost BITS = { 8 };
 
@@ -47,6 +50,10 @@ impl Integer for u8 {
 
     ghost zero_law = { refl };
 
+    ghost bits_law = { refl };
+
+    ghost sign_law = { refl };
+
     ghost width_law = { w8 };
 }
 
@@ -54,6 +61,8 @@ impl Integer for u16 {
     ghost number = { λ x. pos x };
 
     ghost ZERO = { 0 };
+
+    ghost TYPE = { integer_type 16 false };
 
     ghost BITS = { 16 };
 
@@ -90,6 +99,10 @@ impl Integer for u16 {
 
     ghost zero_law = { refl };
 
+    ghost bits_law = { refl };
+
+    ghost sign_law = { refl };
+
     ghost width_law = { w16 };
 }
 
@@ -97,6 +110,8 @@ impl Integer for u32 {
     ghost number = { λ x. pos x };
 
     ghost ZERO = { 0 };
+
+    ghost TYPE = { integer_type 32 false };
 
     ghost BITS = { 32 };
 
@@ -133,6 +148,10 @@ impl Integer for u32 {
 
     ghost zero_law = { refl };
 
+    ghost bits_law = { refl };
+
+    ghost sign_law = { refl };
+
     ghost width_law = { w32 };
 }
 
@@ -140,6 +159,8 @@ impl Integer for u64 {
     ghost number = { λ x. pos x };
 
     ghost ZERO = { 0 };
+
+    ghost TYPE = { integer_type 64 false };
 
     ghost BITS = { 64 };
 
@@ -176,6 +197,10 @@ impl Integer for u64 {
 
     ghost zero_law = { refl };
 
+    ghost bits_law = { refl };
+
+    ghost sign_law = { refl };
+
     ghost width_law = { w64 };
 }
 
@@ -183,6 +208,8 @@ impl Integer for u128 {
     ghost number = { λ x. pos x };
 
     ghost ZERO = { 0 };
+
+    ghost TYPE = { integer_type 128 false };
 
     ghost BITS = { 128 };
 
@@ -219,6 +246,10 @@ impl Integer for u128 {
 
     ghost zero_law = { refl };
 
+    ghost bits_law = { refl };
+
+    ghost sign_law = { refl };
+
     ghost width_law = { w128 };
 }
 
@@ -226,6 +257,8 @@ impl Integer for usize {
     ghost number = { λ x. pos x };
 
     ghost ZERO = { 0 };
+
+    ghost TYPE = { integer_type 64 false };
 
     ghost BITS = { 64 };
 
@@ -261,6 +294,10 @@ impl Integer for usize {
     ghost injective_law = { pos-injective };
 
     ghost zero_law = { refl };
+
+    ghost bits_law = { refl };
+
+    ghost sign_law = { refl };
 
     ghost width_law = { w64 };
 }

@@ -3,7 +3,7 @@
 ghost use Rattle.std.specs.Prelude.{◌≡◌, ◌≤ℤ◌, false, pos};
 ghost use Rattle.std.specs.Option.{option_and_then, option_map};
 ghost use Rattle.lexical_util.specs.Digit.{IsRadix, digit};
-ghost use Rattle.lexical_util.specs.Number.{checked, integer_type, mul_add};
+ghost use Rattle.lexical_util.specs.Number.{number_if_fits, mul_add};
 
 use crate::digit::char_to_digit;
 use crate::format::{NumberFormat, NumberFormatBuilder};
@@ -15,7 +15,7 @@ pub fn pushed<T: Integer>(number: T, byte: u8, format: &NumberFormat) -> Option<
     requires radix { IsRadix format.now.mantissa_radix }
     requires not_negative { pos 0 ≤ℤ T.number number }
     ensures { option_map T.number result ≡ option_and_then
-        (λ value. checked (integer_type T.BITS T.IS_SIGNED)
+        (λ value. number_if_fits T.TYPE
         (mul_add false (T.number number) (pos format.now.mantissa_radix) (pos value)))
         (digit byte format.now.mantissa_radix) }
 {

@@ -2,7 +2,7 @@
 
 ghost use Rattle.std.specs.Prelude.{◌+◌, ◌<◌, pos};
 ghost use Rattle.lexical_util.specs.Digit.{IsRadix};
-ghost use Rattle.lexical_util.specs.Number.{HasSign, IsNumber, integer_type, mul_add};
+ghost use Rattle.lexical_util.specs.Number.{HasSign, IsNumber, mul_add};
 
 use crate::num::Integer;
 use std::fmt::Debug;
@@ -51,11 +51,11 @@ fn digits_that_never_overflow(rt: HostRuntime) -> Result<(), Fail> {
 // A decimal digit behind the front leads to the end of the type, and the next greater one out of it.
 fn reaches_end<T: Integer + Debug>(rt: &impl Abort, front: T, digit: u32, negative: bool, end: T)
     requires small { digit < 10 }
-    requires ten { IsNumber (integer_type T.BITS T.IS_SIGNED) (pos 10) }
-    requires digit { IsNumber (integer_type T.BITS T.IS_SIGNED) (pos digit) }
-    requires next { IsNumber (integer_type T.BITS T.IS_SIGNED) (pos (digit + 1)) }
+    requires ten { IsNumber T.TYPE (pos 10) }
+    requires digit { IsNumber T.TYPE (pos digit) }
+    requires next { IsNumber T.TYPE (pos (digit + 1)) }
     requires sign { HasSign negative (T.number front) }
-    requires fits { IsNumber (integer_type T.BITS T.IS_SIGNED)
+    requires fits { IsNumber T.TYPE
         (mul_add negative (T.number front) (pos 10) (pos digit)) }
 {
     let ten = T::from_u32(10);

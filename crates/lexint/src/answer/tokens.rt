@@ -4,7 +4,7 @@ ghost use Rattle.std.specs.Prelude.{◌++◌, codes, OnOk, IsOkUnless};
 ghost use Rattle.lexint.specs.Gather.{Gathers};
 ghost use Rattle.lexint.specs.Numeral.{numeral};
 ghost use Rattle.lexint.specs.Output.{kind_text, token_text, tokens_text};
-ghost use Rattle.lexical_literals.specs.Tokens.{seen_token, tokens};
+ghost use Rattle.lexical_literals.specs.Tokens.{view_of_token, tokens};
 
 use crate::answer::{put_fault, put_numeral, put_place};
 use crate::batch::{Batch, put};
@@ -28,7 +28,7 @@ pub fn put_tokens<W: Write>(source: &[u8], batch: &mut Batch, out: &mut W) -> Re
 // What a token is, and where it starts and stops.
 fn put_token<W: Write>(token: &Token<'_>, batch: &mut Batch, out: &mut W) -> Result<(), RunError>
     ensures ok { OnOk result (Gathers (W.contents out.old) batch.old (W.contents out.new) batch.new
-        (token_text (seen_token token.now))) }
+        (token_text (view_of_token token.now))) }
     ensures fault { IsOkUnless result RunError.Write }
 {
     put_kind(&token.kind, batch, out)?;

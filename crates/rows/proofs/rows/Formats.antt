@@ -9,8 +9,8 @@ use Rattle.lexical_util.specs.Validity.{fault}
 use Rattle.lexical_parse_integer.specs.Affixes.{is_affix, literal_radix, marked_radix, matches, numeral_stop, prefix_radix, suffix_at}
 use Rattle.lexical_parse_integer.specs.Grammar.{complete, complete_if_valid, partial, partial_if_valid, range_fault}
 use Rattle.lexical_parse_integer.specs.Head.{head_of, sign}
-use Rattle.lexical_parse_integer.specs.Numeral.{numeral}
-use Rattle.lexical_parse_integer.specs.Runs.{are_same, begin_of, belongs, digit_at, digits_between, end_of, flag_for, run_passes, separator_at}
+use Rattle.lexical_parse_integer.specs.Numeral.{numeral_in}
+use Rattle.lexical_parse_integer.specs.Runs.{are_same, begin_of, is_in_numeral, digit_at, digits_between, end_of, flag_for, run_passes, separator_at}
 
 abbrev u8 : IntegerType
 u8 = integer_type 8 false
@@ -42,11 +42,11 @@ broken_radix_7 : fault (record standard { mantissa_radix = 1; base_prefix = Some
 broken_radix_7 = refl
 
 broken_radix_8 : complete_if_valid (record standard { mantissa_radix = 1 }) u8 (codes "0") ≡ Err InvalidMantissaRadix
-unfolding complete partial numeral head_of sign range_fault begin_of digit_at are_same separator_at flag_for run_passes belongs end_of digits_between matches is_affix literal_radix marked_radix prefix_radix suffix_at numeral_stop
+unfolding complete partial numeral_in head_of sign range_fault begin_of digit_at are_same separator_at flag_for run_passes is_in_numeral end_of digits_between matches is_affix literal_radix marked_radix prefix_radix suffix_at numeral_stop
 broken_radix_8 = refl
 
 broken_radix_9 : partial_if_valid (record standard { mantissa_radix = 1 }) u8 (codes "0") ≡ Err InvalidMantissaRadix
-unfolding complete partial numeral head_of sign range_fault begin_of digit_at are_same separator_at flag_for run_passes belongs end_of digits_between matches is_affix literal_radix marked_radix prefix_radix suffix_at numeral_stop
+unfolding complete partial numeral_in head_of sign range_fault begin_of digit_at are_same separator_at flag_for run_passes is_in_numeral end_of digits_between matches is_affix literal_radix marked_radix prefix_radix suffix_at numeral_stop
 broken_radix_9 = refl
 
 -- ---- a separator is ASCII, no sign, and no digit of the radix
@@ -245,41 +245,41 @@ valid_punctuation_7 = refl
 -- ---- an invalid format is refused before any byte is judged
 
 refused_formats_1 : complete_if_valid (record standard { mantissa_radix = 37; base_prefix = Some 43 }) u8 (codes "256") ≡ Err InvalidMantissaRadix
-unfolding complete partial numeral head_of sign range_fault begin_of digit_at are_same separator_at flag_for run_passes belongs end_of digits_between matches is_affix literal_radix marked_radix prefix_radix suffix_at numeral_stop
+unfolding complete partial numeral_in head_of sign range_fault begin_of digit_at are_same separator_at flag_for run_passes is_in_numeral end_of digits_between matches is_affix literal_radix marked_radix prefix_radix suffix_at numeral_stop
 refused_formats_1 = refl
 
 refused_formats_2 : partial_if_valid (record standard { mantissa_radix = 37; base_prefix = Some 43 }) u8 (codes "256") ≡ Err InvalidMantissaRadix
-unfolding complete partial numeral head_of sign range_fault begin_of digit_at are_same separator_at flag_for run_passes belongs end_of digits_between matches is_affix literal_radix marked_radix prefix_radix suffix_at numeral_stop
+unfolding complete partial numeral_in head_of sign range_fault begin_of digit_at are_same separator_at flag_for run_passes is_in_numeral end_of digits_between matches is_affix literal_radix marked_radix prefix_radix suffix_at numeral_stop
 refused_formats_2 = refl
 
 refused_formats_3 : complete_if_valid (record standard { digit_separator = Some 43; base_prefix = Some 48 }) u8 (codes "+") ≡ Err InvalidDigitSeparator
-unfolding complete partial numeral head_of sign range_fault begin_of digit_at are_same separator_at flag_for run_passes belongs end_of digits_between matches is_affix literal_radix marked_radix prefix_radix suffix_at numeral_stop
+unfolding complete partial numeral_in head_of sign range_fault begin_of digit_at are_same separator_at flag_for run_passes is_in_numeral end_of digits_between matches is_affix literal_radix marked_radix prefix_radix suffix_at numeral_stop
 refused_formats_3 = refl
 
 refused_formats_4 : partial_if_valid (record standard { digit_separator = Some 43; base_prefix = Some 48 }) u8 (codes "+") ≡ Err InvalidDigitSeparator
-unfolding complete partial numeral head_of sign range_fault begin_of digit_at are_same separator_at flag_for run_passes belongs end_of digits_between matches is_affix literal_radix marked_radix prefix_radix suffix_at numeral_stop
+unfolding complete partial numeral_in head_of sign range_fault begin_of digit_at are_same separator_at flag_for run_passes is_in_numeral end_of digits_between matches is_affix literal_radix marked_radix prefix_radix suffix_at numeral_stop
 refused_formats_4 = refl
 
 refused_formats_5 : complete_if_valid (record standard { base_prefix = Some 45; base_suffix = Some 57; no_positive_mantissa_sign = true }) i32 (codes "+1") ≡ Err InvalidBasePrefix
-unfolding complete partial numeral head_of sign range_fault begin_of digit_at are_same separator_at flag_for run_passes belongs end_of digits_between matches is_affix literal_radix marked_radix prefix_radix suffix_at numeral_stop
+unfolding complete partial numeral_in head_of sign range_fault begin_of digit_at are_same separator_at flag_for run_passes is_in_numeral end_of digits_between matches is_affix literal_radix marked_radix prefix_radix suffix_at numeral_stop
 refused_formats_5 = refl
 
 refused_formats_6 : partial_if_valid (record standard { base_prefix = Some 45; base_suffix = Some 57; no_positive_mantissa_sign = true }) i32 (codes "+1") ≡ Err InvalidBasePrefix
-unfolding complete partial numeral head_of sign range_fault begin_of digit_at are_same separator_at flag_for run_passes belongs end_of digits_between matches is_affix literal_radix marked_radix prefix_radix suffix_at numeral_stop
+unfolding complete partial numeral_in head_of sign range_fault begin_of digit_at are_same separator_at flag_for run_passes is_in_numeral end_of digits_between matches is_affix literal_radix marked_radix prefix_radix suffix_at numeral_stop
 refused_formats_6 = refl
 
 refused_formats_7 : complete_if_valid (record standard { base_suffix = Some 57; digit_separator = Some 95; base_prefix = Some 95; required_mantissa_sign = true }) i32 (codes "1") ≡ Err InvalidBaseSuffix
-unfolding complete partial numeral head_of sign range_fault begin_of digit_at are_same separator_at flag_for run_passes belongs end_of digits_between matches is_affix literal_radix marked_radix prefix_radix suffix_at numeral_stop
+unfolding complete partial numeral_in head_of sign range_fault begin_of digit_at are_same separator_at flag_for run_passes is_in_numeral end_of digits_between matches is_affix literal_radix marked_radix prefix_radix suffix_at numeral_stop
 refused_formats_7 = refl
 
 refused_formats_8 : partial_if_valid (record standard { base_suffix = Some 57; digit_separator = Some 95; base_prefix = Some 95; required_mantissa_sign = true }) i32 (codes "1") ≡ Err InvalidBaseSuffix
-unfolding complete partial numeral head_of sign range_fault begin_of digit_at are_same separator_at flag_for run_passes belongs end_of digits_between matches is_affix literal_radix marked_radix prefix_radix suffix_at numeral_stop
+unfolding complete partial numeral_in head_of sign range_fault begin_of digit_at are_same separator_at flag_for run_passes is_in_numeral end_of digits_between matches is_affix literal_radix marked_radix prefix_radix suffix_at numeral_stop
 refused_formats_8 = refl
 
 refused_formats_9 : complete_if_valid (record standard { base_prefix = Some 120; base_suffix = Some 88 }) i32 (codes "0x") ≡ Err InvalidPunctuation
-unfolding complete partial numeral head_of sign range_fault begin_of digit_at are_same separator_at flag_for run_passes belongs end_of digits_between matches is_affix literal_radix marked_radix prefix_radix suffix_at numeral_stop
+unfolding complete partial numeral_in head_of sign range_fault begin_of digit_at are_same separator_at flag_for run_passes is_in_numeral end_of digits_between matches is_affix literal_radix marked_radix prefix_radix suffix_at numeral_stop
 refused_formats_9 = refl
 
 refused_formats_10 : partial_if_valid (record standard { base_prefix = Some 120; base_suffix = Some 88 }) i32 (codes "0x") ≡ Err InvalidPunctuation
-unfolding complete partial numeral head_of sign range_fault begin_of digit_at are_same separator_at flag_for run_passes belongs end_of digits_between matches is_affix literal_radix marked_radix prefix_radix suffix_at numeral_stop
+unfolding complete partial numeral_in head_of sign range_fault begin_of digit_at are_same separator_at flag_for run_passes is_in_numeral end_of digits_between matches is_affix literal_radix marked_radix prefix_radix suffix_at numeral_stop
 refused_formats_10 = refl

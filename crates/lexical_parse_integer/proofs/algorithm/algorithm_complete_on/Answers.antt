@@ -1,5 +1,5 @@
 use Rattle.std.proofs.Common.{sym}
-use Rattle.lexical_parse_integer.proofs.Whole.{complete_stops, complete_empty, complete_value, before_end}
+use Rattle.lexical_parse_integer.proofs.reading.ParserAnswers.{complete_stops, complete_empty, complete_value, before_end}
 use Rattle.lexical_parse_integer.proofs.algorithm.algorithm_complete_on.Goals as goal
 
 pub returns-then-not-is_buffer_empty-clause-answer : goal.returns-then-not-is_buffer_empty-clause-answer

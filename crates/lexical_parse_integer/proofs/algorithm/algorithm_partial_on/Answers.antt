@@ -1,5 +1,5 @@
 use Rattle.std.proofs.Common.{sym}
-use Rattle.lexical_parse_integer.proofs.Whole.{partial_empty, partial_value, partial_goes_on}
+use Rattle.lexical_parse_integer.proofs.reading.ParserAnswers.{partial_empty, partial_value, partial_goes_on}
 use Rattle.lexical_parse_integer.proofs.algorithm.algorithm_partial_on.Goals as goal
 
 pub returns-then-is_settled-clause-answer : goal.returns-then-is_settled-clause-answer

@@ -1,5 +1,5 @@
 use Rattle.std.proofs.lemmas.Result.{err_from_is_err_and}
-use Rattle.lexical_parse_integer.proofs.Whole.{sign_completes, sign_goes_part, prefix_alone, digit_fault, range_behind, is_read, over_suffix}
+use Rattle.lexical_parse_integer.proofs.reading.ParserAnswers.{sign_completes, sign_goes_part, prefix_alone, digit_fault, range_behind, is_read, over_suffix}
 use Rattle.lexical_parse_integer.proofs.algorithm.read.Goals as goal
 
 pub returns-in_err-negative-clause-completes : goal.returns-in_err-negative-clause-completes

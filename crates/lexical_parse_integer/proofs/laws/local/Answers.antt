@@ -1,4 +1,4 @@
-use Rattle.lexical_parse_integer.proofs.Locality.{answers_local}
+use Rattle.lexical_parse_integer.proofs.theorems.Locality.{answers_local}
 use Rattle.lexical_parse_integer.proofs.laws.local.Goals as goal
 
 pub returns-clause-law : goal.returns-clause-law

@@ -1,6 +1,6 @@
 use Rattle.std.proofs.Common.{sym, arith}
 use Rattle.lexical_parse_integer.specs.Runs.{separator_at}
-use Rattle.lexical_parse_integer.proofs.Places.{stop_of_is}
+use Rattle.lexical_parse_integer.proofs.grammar.Stretches.{stop_of_is}
 use Rattle.lexical_parse_integer.proofs.seek.run_stop.Goals as goal
 
 pub returns-else-separator_at : goal.returns-else-separator_at

@@ -1,6 +1,6 @@
 use Rattle.std.proofs.Common.{◌-◌, ◌≤◌, length}
 use Rattle.lexical_parse_integer.specs.Runs.{separator_at}
-use Rattle.lexical_parse_integer.proofs.Places.{HoldsBetween}
+use Rattle.lexical_parse_integer.proofs.grammar.Stretches.{HoldsBetween}
 use Rattle.lexical_parse_integer.proofs.seek.run_stop.Given as goal
 
 abbrev pub invariant-loop-stop : goal.invariant-loop-stop

@@ -1,8 +1,8 @@
 use Rattle.std.proofs.Common.{◌≡◌, ◌∙◌, Some, None, sym}
 use Rattle.lexical_parse_integer.specs.Runs.{digit_at}
-use Rattle.lexical_parse_integer.proofs.CursorLemmas.{none_from_IsNone}
-use Rattle.lexical_parse_integer.proofs.First.{no_separator}
-use Rattle.lexical_parse_integer.proofs.NumeralLemmas.{ends_here, finds_here}
+use Rattle.lexical_parse_integer.proofs.reading.Soundness.{none_from_IsNone}
+use Rattle.lexical_parse_integer.proofs.reading.FirstDigit.{no_separator}
+use Rattle.lexical_parse_integer.proofs.grammar.NumeralEnd.{ends_here, finds_here}
 use Rattle.lexical_parse_integer.proofs.seek.seek.Goals as goal
 
 pub returns-in-Some : goal.returns-in-Some

@@ -1,7 +1,7 @@
 use Rattle.std.proofs.Common.{◌≡◌, true, false, length, Some, None}
 use Rattle.lexical_parse_integer.specs.Runs.{digit_at, run_passes, separator_at}
-use Rattle.lexical_parse_integer.proofs.Places.{IsStop, IsStop-stop_of}
-use Rattle.lexical_parse_integer.proofs.NumeralLemmas.{ends_behind, ends_here, ends_refused, finds_behind, run_below}
+use Rattle.lexical_parse_integer.proofs.grammar.Stretches.{IsStop, IsStop-stop_of}
+use Rattle.lexical_parse_integer.proofs.grammar.NumeralEnd.{ends_behind, ends_here, ends_refused, finds_behind, run_below}
 use Rattle.lexical_parse_integer.proofs.seek.seek_behind_run.Goals as goal
 
 pub returns-then-not-separator_at : goal.returns-then-not-separator_at

@@ -1,7 +1,7 @@
 use Rattle.std.proofs.Common.{◌≡◌, ◌∙◌, ap, arith, to_z, of_z, pos, ◌^◌, ◌+ℤ◌, ◌*ℤ◌, true}
 use Rattle.std.proofs.lemmas.Int.{ints}
 use Rattle.std.specs.Int.{w128}
-use Rattle.lexical_util.specs.Number.{checked, integer_type}
+use Rattle.lexical_util.specs.Number.{number_if_fits, integer_type}
 use Rattle.uses.proofs.fixed_point.joined.Goals as goal
 
 pub returns-else-is_negative : goal.returns-else-is_negative
@@ -10,4 +10,4 @@ returns-else-is_negative c =
     let whole : to_z w128 (of_z w128 c.from.result) ≡ c.args.whole = omega (arith, ints) in
     let units : c.scaled-whole.result ≡ c.args.whole *ℤ ten = c.scaled-whole.ensures.product ∙ ap (λ z. z *ℤ ten) whole in
     let sum : to_z w128 (of_z w128 (to_z w128 (of_z w128 c.scaled-whole.result) +ℤ to_z w128 (of_z w128 c.args.fraction))) ≡ c.scaled-whole.result +ℤ c.args.fraction = omega (arith, ints) in
-    rw c.if-is_negative.false (c.as_i64-else-is_negative.ensures ∙ ap (checked (integer_type 64 true)) (sum ∙ ap (λ z. z +ℤ c.args.fraction) units))
+    rw c.if-is_negative.false (c.as_i64-else-is_negative.ensures ∙ ap (number_if_fits (integer_type 64 true)) (sum ∙ ap (λ z. z +ℤ c.args.fraction) units))

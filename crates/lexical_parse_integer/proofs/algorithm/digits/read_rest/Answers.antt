@@ -1,10 +1,9 @@
 use Rattle.std.proofs.Common.{◌≡◌, ◌+◌, ap, arith}
 use Rattle.std.proofs.lemmas.Result.{err_from_is_err_and}
 use Rattle.lexical_parse_integer.specs.CursorView.{CursorView}
-use Rattle.lexical_util.specs.Number.{integer_type}
-use Rattle.lexical_parse_integer.proofs.Taking.{goes_on_digit}
-use Rattle.lexical_parse_integer.proofs.First.{taken_count_from}
-use Rattle.lexical_parse_integer.proofs.Turning.{IsAll, digit_below, reads_next, reads_leaves, reads_end}
+use Rattle.lexical_parse_integer.proofs.reading.NumeralSteps.{goes_on_digit}
+use Rattle.lexical_parse_integer.proofs.reading.FirstDigit.{taken_count_from}
+use Rattle.lexical_parse_integer.proofs.reading.DigitLoop.{IsAll, digit_below, reads_next, reads_leaves, reads_end}
 use Rattle.lexical_parse_integer.proofs.algorithm.digits.read_rest.Goals as goal
 use Rattle.lexical_parse_integer.proofs.algorithm.digits.read_rest.Given.{Over}
 
@@ -33,7 +32,7 @@ loop-digit-preserved g c =
       sign = i.sign;
     }
 
-ended : (g : Over) (c : goal.In_default g) → IsAll (integer_type g.T.Integer.BITS g.T.Integer.IS_SIGNED) c.args.negative c.args.c.now c.next_digit.new.self (g.T.Integer.number c.loop-digit.value)
+ended : (g : Over) (c : goal.In_default g) → IsAll g.T.Integer.TYPE c.args.negative c.args.c.now c.next_digit.new.self (g.T.Integer.number c.loop-digit.value)
 ended g c = reads_end _ c.args.negative c.args.c.now c.loop-digit.c c.next_digit.new.self _ c.loop-digit.invariant.goes_on c.in_default.ensures.step c.loop-digit.invariant.reads
 
 pub returns-clause-value : goal.returns-clause-value

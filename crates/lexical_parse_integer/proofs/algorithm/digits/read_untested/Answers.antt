@@ -3,8 +3,8 @@ use Rattle.std.specs.Prelude.{ℤ, pos}
 use Rattle.lexical_parse_integer.specs.CursorView.{CursorView}
 use Rattle.lexical_util.specs.Number.{mul_add}
 use Rattle.lexical_util.proofs.Room.{small_is_number}
-use Rattle.lexical_parse_integer.proofs.Taking.{goes_on_digit}
-use Rattle.lexical_parse_integer.proofs.Untested.{JoinsDigit, digit_small, joins_digit}
+use Rattle.lexical_parse_integer.proofs.reading.NumeralSteps.{goes_on_digit}
+use Rattle.lexical_parse_integer.proofs.reading.UntestedDigits.{JoinsDigit, digit_small, joins_digit}
 use Rattle.lexical_parse_integer.proofs.algorithm.digits.read_untested.Goals as goal
 use Rattle.lexical_parse_integer.proofs.algorithm.digits.read_untested.Given.{Over}
 
@@ -13,7 +13,7 @@ from_u32-requires g c =
     small_is_number _ _ c.in-Some.digit g.met.T.Integer.width_law
     (digit_small c.args.c.now c.loop-radix.c c.next_digit.new.self c.in-Some.digit c.requires.sound c.loop-radix.invariant.goes_on c.in-Some.ensures.step)
 
-joined : (g : Over) (c : goal.In-Some g) (digit : ℤ) → digit ≡ pos c.in-Some.digit → JoinsDigit g.T.Integer.BITS g.T.Integer.IS_SIGNED c.args.negative c.args.c.now c.next_digit.new.self (mul_add c.args.negative (g.T.Integer.number c.loop-radix.value) (g.T.Integer.number c.from_u32-radix.result) digit)
+joined : (g : Over) (c : goal.In-Some g) (digit : ℤ) → digit ≡ pos c.in-Some.digit → JoinsDigit g.T.Integer.TYPE.bits g.T.Integer.TYPE.is_signed c.args.negative c.args.c.now c.next_digit.new.self (mul_add c.args.negative (g.T.Integer.number c.loop-radix.value) (g.T.Integer.number c.from_u32-radix.result) digit)
 joined g c digit is_digit =
     let i = c.loop-radix.invariant in
     let count = c.digits.ensures in

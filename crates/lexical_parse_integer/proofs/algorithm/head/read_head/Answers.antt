@@ -1,7 +1,7 @@
 use Rattle.std.proofs.lemmas.Result.{err_from_is_err_and}
 use Rattle.std.proofs.Common.{ap, sym, ◌∙◌}
 use Rattle.lexical_parse_integer.specs.CursorView.{CursorView}
-use Rattle.lexical_parse_integer.proofs.Whole.{is_fresh, over_same, sign_short, head_fault, at_head}
+use Rattle.lexical_parse_integer.proofs.reading.ParserAnswers.{is_fresh, over_same, sign_short, head_fault, at_head}
 use Rattle.lexical_parse_integer.proofs.algorithm.head.read_head.Goals as goal
 
 pub returns-in_err-negative-clause-fault : goal.returns-in_err-negative-clause-fault

@@ -1,5 +1,5 @@
 use Rattle.std.proofs.lemmas.Simd.{Each2-splat, zip2_splat}
-use Rattle.lexical_parse_integer.proofs.LaneMasks.{bytes_above}
+use Rattle.lexical_parse_integer.proofs.lanes.DigitLanes.{bytes_above}
 use Rattle.lexical_parse_integer.proofs.algorithm.lanes.digits_in_4.Goals as goal
 
 pub overflow_sub-result : goal.overflow_sub-result

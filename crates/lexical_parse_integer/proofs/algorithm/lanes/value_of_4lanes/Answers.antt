@@ -1,7 +1,7 @@
 use Rattle.std.proofs.Common.{◌∙◌, sym}
-use Rattle.lexical_parse_integer.proofs.LaneJoins.{joined_below}
-use Rattle.lexical_parse_integer.proofs.LaneMasks.{digits_below}
-use Rattle.lexical_parse_integer.proofs.LaneValues.{half_lanes_value, small_square}
+use Rattle.lexical_parse_integer.proofs.lanes.Pairs.{joined_below}
+use Rattle.lexical_parse_integer.proofs.lanes.DigitLanes.{digits_below}
+use Rattle.lexical_parse_integer.proofs.lanes.Sums.{half_lanes_value, small_square}
 use Rattle.lexical_parse_integer.proofs.algorithm.lanes.value_of_4lanes.Goals as goal
 
 pub join_4digits-pairs-requires-clause-digits : goal.join_4digits-pairs-requires-clause-digits

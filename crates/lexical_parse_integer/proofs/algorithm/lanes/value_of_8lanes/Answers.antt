@@ -1,7 +1,7 @@
 use Rattle.std.proofs.Common.{◌∙◌, sym}
-use Rattle.lexical_parse_integer.proofs.LaneMasks.{digits_below}
-use Rattle.lexical_parse_integer.proofs.LaneJoins.{joined_below}
-use Rattle.lexical_parse_integer.proofs.LaneValues.{square, small_square, lanes_value}
+use Rattle.lexical_parse_integer.proofs.lanes.DigitLanes.{digits_below}
+use Rattle.lexical_parse_integer.proofs.lanes.Pairs.{joined_below}
+use Rattle.lexical_parse_integer.proofs.lanes.Sums.{square, small_square, lanes_value}
 use Rattle.lexical_parse_integer.proofs.algorithm.lanes.value_of_8lanes.Goals as goal
 
 pub join_8digits-pairs-requires-clause-digits : goal.join_8digits-pairs-requires-clause-digits

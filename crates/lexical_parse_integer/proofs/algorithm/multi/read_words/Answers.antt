@@ -3,40 +3,40 @@ use Rattle.std.proofs.Math.Nat.{one-le-pow}
 use Rattle.std.proofs.lemmas.Bool.{false≢true}
 use Rattle.std.proofs.lemmas.Int.{ints}
 use Rattle.lexical_util.specs.Format.{Format}
-use Rattle.lexical_util.specs.Number.{HasRoom, integer_type, mul_add}
+use Rattle.lexical_util.specs.Number.{HasRoom, mul_add}
 use Rattle.lexical_parse_integer.specs.CursorView.{CursorView}
-use Rattle.lexical_parse_integer.specs.Turns.{word_length}
-use Rattle.lexical_parse_integer.proofs.CursorLemmas.{none_from_IsNone}
-use Rattle.lexical_parse_integer.proofs.TurnBound.{turn_of_word, word_some}
-use Rattle.lexical_parse_integer.proofs.WordTurns.{ReadsWord, reads_word, goes_on_word, few_left_from}
+use Rattle.lexical_parse_integer.specs.Turns.{digits_per_word}
+use Rattle.lexical_parse_integer.proofs.reading.Soundness.{none_from_IsNone}
+use Rattle.lexical_parse_integer.proofs.bound.TurnBound.{turn_of_word, word_some}
+use Rattle.lexical_parse_integer.proofs.bound.WordSteps.{ReadsWord, reads_word, goes_on_word, few_left_from}
 use Rattle.lexical_parse_integer.proofs.algorithm.multi.read_words.Goals as goal
 use Rattle.lexical_parse_integer.proofs.algorithm.multi.read_words.Given.{Over}
 
 pub mul_add-value-requires-clause-scale : goal.mul_add-value-requires-clause-scale
 mul_add-value-requires-clause-scale g c =
     let two = c.requires.sound.radix.low in
-    let one = one-le-pow (word_length g.T.Integer.BITS) c.args.c.now.radix (omega arith) in
+    let one = one-le-pow (digits_per_word g.T.Integer.BITS) c.args.c.now.radix (omega arith) in
     rw c.loop-scale.invariant.scale (omega (arith, ints))
 
-the_word : (g : Over) (c : goal.In-Some g) → ReadsWord g.T.Integer.BITS g.T.Integer.IS_SIGNED c.args.negative c.args.c.now c.loop-scale.c (word_length g.T.Integer.BITS) (mul_add c.args.negative (g.T.Integer.number c.loop-scale.value) (g.T.Integer.number c.word_scale-scale.result) (g.T.Integer.number c.in-Some.word))
+the_word : (g : Over) (c : goal.In-Some g) → ReadsWord g.T.Integer.TYPE.bits g.T.Integer.TYPE.is_signed c.args.negative c.args.c.now c.loop-scale.c (digits_per_word g.T.Integer.BITS) (mul_add c.args.negative (g.T.Integer.number c.loop-scale.value) (g.T.Integer.number c.word_scale-scale.result) (g.T.Integer.number c.in-Some.word))
 the_word g c =
     let i = c.loop-scale.invariant in
     let same : c.loop-scale.c.radix ≡ c.args.c.now.radix = i.goes_on.radix in
     let none : c.loop-scale.c.format.digit_separator ≡ None = ap (λ (f : Format). f.digit_separator) i.goes_on.format ∙ none_from_IsNone _ c.requires.contiguous in
-    let room = subst (λ (r : ℕ). HasRoom (integer_type g.T.Integer.BITS g.T.Integer.IS_SIGNED) r c.args.most) (sym same) c.requires.room in
-    let le : c.digits.result + word_length g.T.Integer.BITS ≤ c.args.most = c.has_room.ensures.0 c.loop-scale-test.true in
+    let room = subst (λ (r : ℕ). HasRoom g.T.Integer.TYPE r c.args.most) (sym same) c.requires.room in
+    let le : c.digits.result + digits_per_word g.T.Integer.BITS ≤ c.args.most = c.has_room.ensures.0 c.loop-scale-test.true in
     let count = c.digits.ensures in
     let ten = c.requires.radix in
-    reads_word _ _ c.args.negative c.args.c.now c.loop-scale.c (word_length g.T.Integer.BITS) c.args.most _ _ _ (word_some g.T.Integer.BITS) i.goes_on (omega arith) none room c.requires.minus (omega arith) (c.in-Some.ensures.digits.0 refl) i.reads
-    (i.scale ∙ ap (λ r. pos (r ^ word_length g.T.Integer.BITS)) (sym same)) c.in-Some.ensures.value
+    reads_word _ _ c.args.negative c.args.c.now c.loop-scale.c (digits_per_word g.T.Integer.BITS) c.args.most _ _ _ (word_some g.T.Integer.BITS) i.goes_on (omega arith) none room c.requires.minus (omega arith) (c.in-Some.ensures.digits.0 refl) i.reads
+    (i.scale ∙ ap (λ r. pos (r ^ digits_per_word g.T.Integer.BITS)) (sym same)) c.in-Some.ensures.value
 
 pub mul_add-value-requires-clause-fits : goal.mul_add-value-requires-clause-fits
 mul_add-value-requires-clause-fits g c = (the_word g c).fits
 
 pub loop-scale-smaller : goal.loop-scale-smaller
 loop-scale-smaller g c =
-    let digits : c.try_parse_word.new.c.digits ≡ c.loop-scale.c.digits + word_length g.T.Integer.BITS = ap (λ (v : CursorView). v.digits) c.in-Some.ensures.moved in
-    let le : c.digits.result + word_length g.T.Integer.BITS ≤ c.args.most = c.has_room.ensures.0 c.loop-scale-test.true in
+    let digits : c.try_parse_word.new.c.digits ≡ c.loop-scale.c.digits + digits_per_word g.T.Integer.BITS = ap (λ (v : CursorView). v.digits) c.in-Some.ensures.moved in
+    let le : c.digits.result + digits_per_word g.T.Integer.BITS ≤ c.args.most = c.has_room.ensures.0 c.loop-scale-test.true in
     let count = c.digits.ensures in
     let some = word_some g.T.Integer.BITS in
     omega arith
@@ -44,14 +44,14 @@ loop-scale-smaller g c =
 pub loop-scale-preserved : goal.loop-scale-preserved
 loop-scale-preserved g c =
     let i = c.loop-scale.invariant in
-    let digits : c.try_parse_word.new.c.digits ≡ c.loop-scale.c.digits + word_length g.T.Integer.BITS = ap (λ (v : CursorView). v.digits) c.in-Some.ensures.moved in
+    let digits : c.try_parse_word.new.c.digits ≡ c.loop-scale.c.digits + digits_per_word g.T.Integer.BITS = ap (λ (v : CursorView). v.digits) c.in-Some.ensures.moved in
     let turns : c.try_parse_word.new.c.turns ≡ c.loop-scale.c.turns + 1 = ap (λ (v : CursorView). v.turns) c.in-Some.ensures.moved in
-    let le : c.digits.result + word_length g.T.Integer.BITS ≤ c.args.most = c.has_room.ensures.0 c.loop-scale-test.true in
+    let le : c.digits.result + digits_per_word g.T.Integer.BITS ≤ c.args.most = c.has_room.ensures.0 c.loop-scale-test.true in
     let count = c.digits.ensures in
     record {
-      goes_on = goes_on_word c.args.c.now c.loop-scale.c c.try_parse_word.new.c (word_length g.T.Integer.BITS) i.goes_on c.in-Some.ensures.sound c.in-Some.ensures.moved;
+      goes_on = goes_on_word c.args.c.now c.loop-scale.c c.try_parse_word.new.c (digits_per_word g.T.Integer.BITS) i.goes_on c.in-Some.ensures.sound c.in-Some.ensures.moved;
       reads = rw (c.mul_add-value.ensures, digits) (the_word g c.before).reads;
-      turns = turn_of_word (word_length g.T.Integer.BITS) _ _ _ _ _ _ i.turns digits turns;
+      turns = turn_of_word (digits_per_word g.T.Integer.BITS) _ _ _ _ _ _ i.turns digits turns;
       within = inr (omega arith);
       scale = i.scale;
       sign = i.sign;
@@ -62,5 +62,5 @@ returns-in-None-clause-ended g c =
     let i = c.loop-scale.invariant in
     let none : c.loop-scale.c.format.digit_separator ≡ None = ap (λ (f : Format). f.digit_separator) i.goes_on.format ∙ none_from_IsNone _ c.requires.contiguous in
     let digits : c.try_parse_word.new.c.digits ≡ c.loop-scale.c.digits = ap (λ (v : CursorView). v.digits) c.in-None.ensures.moved in
-    let few = few_left_from c.args.c.now c.loop-scale.c (word_length g.T.Integer.BITS) i.goes_on none (λ all. false≢true (c.in-None.ensures.digits.1 all)) in
+    let few = few_left_from c.args.c.now c.loop-scale.c (digits_per_word g.T.Integer.BITS) i.goes_on none (λ all. false≢true (c.in-None.ensures.digits.1 all)) in
     inr (omega arith)

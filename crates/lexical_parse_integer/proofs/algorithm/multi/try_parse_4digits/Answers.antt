@@ -1,7 +1,7 @@
 use Rattle.std.proofs.Common.{◌<◌, ◌^◌, ◌∙◌, arith, refl, sym}
 use Rattle.std.proofs.lemmas.Bool.{false≢true}
-use Rattle.lexical_parse_integer.proofs.LanesLent.{are_lent, lanes_small, lent_size, none_told, some_told}
-use Rattle.lexical_parse_integer.proofs.WordDigits.{past_end, half_word_number}
+use Rattle.lexical_parse_integer.proofs.lanes.LentBytes.{are_lent, lanes_small, lent_size, none_told, some_told}
+use Rattle.lexical_parse_integer.proofs.words.WordsInTexts.{past_end, half_word_number}
 use Rattle.lexical_parse_integer.proofs.algorithm.multi.try_parse_4digits.Goals as goal
 
 pub returns-in-None-clause-digits : goal.returns-in-None-clause-digits
@@ -19,7 +19,9 @@ from_u32-requires g c =
     let ten = c.requires.radix in
     let size = lent_size c.args.c.now.bytes c.in-Some.bytes.now c.args.c.now.position 4 c.in-Some.ensures.0 c.in-Some.ensures.1 in
     let small : c.in-Some-value_of_4lanes.value < 10 ^ 4 = lanes_small c.radix.result _ 4 _ (omega arith) size told.0 told.1 in
-    half_word_number _ _ _ g.met.T.Integer.width_law c.requires.bits (omega arith)
+    let wide = c.requires.bits in
+    let bits = g.met.T.Integer.bits_law in
+    half_word_number _ _ _ g.met.T.Integer.width_law (omega arith) (omega arith)
 
 pub returns-in-Some-value_of_4lanes-clause-digits : goal.returns-in-Some-value_of_4lanes-clause-digits
 returns-in-Some-value_of_4lanes-clause-digits g c =

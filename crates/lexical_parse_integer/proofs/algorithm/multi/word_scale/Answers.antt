@@ -1,6 +1,6 @@
 use Rattle.std.proofs.Common.{◌≤◌, ◌^◌, arith}
 use Rattle.std.proofs.Math.Nat.{pow-le-pow_left}
-use Rattle.lexical_parse_integer.proofs.WordDigits.{half_word_number}
+use Rattle.lexical_parse_integer.proofs.words.WordsInTexts.{half_word_number}
 use Rattle.lexical_parse_integer.proofs.algorithm.multi.word_scale.Goals as goal
 
 pub pow-requires : goal.pow-requires
@@ -13,4 +13,6 @@ pub from_u32-requires-else-BITS-ge64 : goal.from_u32-requires-else-BITS-ge64
 from_u32-requires-else-BITS-ge64 g c =
     let most : c.args.radix ^ 4 ≤ 10 ^ 4 = pow-le-pow_left c.requires.radix 4 in
     let power = c.pow-else-BITS-ge64.ensures in
-    half_word_number _ _ _ g.met.T.Integer.width_law c.requires.bits (omega arith)
+    let wide = c.requires.bits in
+    let bits = g.met.T.Integer.bits_law in
+    half_word_number _ _ _ g.met.T.Integer.width_law (omega arith) (omega arith)

@@ -1,6 +1,6 @@
 use Rattle.lexical_parse_integer.specs.Words.{word_bytes}
-use Rattle.lexical_parse_integer.proofs.AsciiDigits.{ascii_from_digits, digits_from_ascii}
-use Rattle.lexical_parse_integer.proofs.WordBytes.{is_digits}
+use Rattle.lexical_parse_integer.proofs.words.AsciiDigits.{ascii_from_digits, digits_from_ascii}
+use Rattle.lexical_parse_integer.proofs.words.DigitTest.{is_digits}
 use Rattle.lexical_parse_integer.proofs.algorithm.words.is_8digits.Goals as goal
 
 pub returns : goal.returns

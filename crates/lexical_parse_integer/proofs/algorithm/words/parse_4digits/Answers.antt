@@ -1,7 +1,7 @@
 use Rattle.std.proofs.Common.{◌∙◌, arith, rules}
 use Rattle.lexical_parse_integer.specs.Words.{word_bytes}
-use Rattle.lexical_parse_integer.proofs.AsciiDigits.{ascii_from_digits, ascii_value_is}
-use Rattle.lexical_parse_integer.proofs.WordValues.{parse_4}
+use Rattle.lexical_parse_integer.proofs.words.AsciiDigits.{ascii_from_digits, ascii_value_is}
+use Rattle.lexical_parse_integer.proofs.words.Products.{parse_4}
 use Rattle.lexical_parse_integer.proofs.algorithm.words.parse_4digits.Goals as goal
 
 pub returns : goal.returns

@@ -1,8 +1,8 @@
 use Rattle.std.proofs.Common.{◌∙◌, ◌-◌, ◌≤◌, arith}
 use Rattle.std.proofs.lemmas.Nat.{mul-le}
 use Rattle.lexical_parse_integer.specs.Words.{word_bytes}
-use Rattle.lexical_parse_integer.proofs.AsciiDigits.{ascii_from_digits, ascii_value_is}
-use Rattle.lexical_parse_integer.proofs.WordValues.{parse_8}
+use Rattle.lexical_parse_integer.proofs.words.AsciiDigits.{ascii_from_digits, ascii_value_is}
+use Rattle.lexical_parse_integer.proofs.words.Products.{parse_8}
 use Rattle.lexical_parse_integer.proofs.algorithm.words.parse_8digits.Goals as goal
 
 pub returns : goal.returns

@@ -1,6 +1,6 @@
 use Rattle.std.proofs.Common.{◌∙◌, sym}
-use Rattle.lexical_parse_integer.proofs.CursorLemmas.{none_from_IsNone}
-use Rattle.lexical_parse_integer.proofs.First.{look_byte, look_end, look_step, step_count}
+use Rattle.lexical_parse_integer.proofs.reading.Soundness.{none_from_IsNone}
+use Rattle.lexical_parse_integer.proofs.reading.FirstDigit.{look_byte, look_end, look_step, step_count}
 use Rattle.lexical_parse_integer.proofs.algorithm.zeros.has_more.Goals as goal
 
 pub returns-in-Some-clause-answer : goal.returns-in-Some-clause-answer

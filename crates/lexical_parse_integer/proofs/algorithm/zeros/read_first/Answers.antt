@@ -4,10 +4,9 @@ use Rattle.std.proofs.lemmas.Bool.{false≢true}
 use Rattle.std.proofs.lemmas.Result.{IfOk-weaker, MatchResult-weaker}
 use Rattle.lexical_parse_integer.specs.CursorView.{CursorView, numeral_of}
 use Rattle.lexical_parse_integer.specs.Grammar.{range_fault}
-use Rattle.lexical_util.specs.Number.{integer_type}
-use Rattle.lexical_parse_integer.proofs.CursorLemmas.{none_from_IsNone}
-use Rattle.lexical_parse_integer.proofs.Turning.{digit_below}
-use Rattle.lexical_parse_integer.proofs.First.{no_zero_here, no_digit_no_zeros, other_first, leading_zeros, reads_zero, reads_first, leaves_first, taken_count, zero_taken, zero_ahead_told}
+use Rattle.lexical_parse_integer.proofs.reading.Soundness.{none_from_IsNone}
+use Rattle.lexical_parse_integer.proofs.reading.DigitLoop.{digit_below}
+use Rattle.lexical_parse_integer.proofs.reading.FirstDigit.{no_zero_here, no_digit_no_zeros, other_first, leading_zeros, reads_zero, reads_first, leaves_first, taken_count, zero_taken, zero_ahead_told}
 use Rattle.lexical_parse_integer.proofs.algorithm.zeros.read_first.Goals as goal
 use Rattle.lexical_parse_integer.proofs.algorithm.zeros.read_first.Goals.{else-is_contiguous-via-then-is_contiguous+else-ne, else-is_contiguous-via-else-is_contiguous}
 
@@ -23,7 +22,7 @@ pub returns-then-has_more-clause-fault : goal.returns-then-has_more-clause-fault
 returns-then-has_more-clause-fault g c =
     let at = c.cursor-place.ensures.place in
     let behind : c.next_digit.new.self.position ≡ c.in-Some.ensures.step.place + 1 = ap (λ (v : CursorView). v.position) c.in-Some.ensures.step.after in
-    ap (λ z. option_or z (range_fault (integer_type g.T.Integer.BITS g.T.Integer.IS_SIGNED) c.args.negative (numeral_of c.args.c.now)))
+    ap (λ z. option_or z (range_fault g.T.Integer.TYPE c.args.negative (numeral_of c.args.c.now)))
     (leading_zeros c.args.c.now c.next_digit.new.self c.in-Some.digit c.requires.sound c.requires.open c.requires.none c.in-Some.ensures.step c.in-Some.ensures.sound
     c.args.is_prefixed _ c.if-digit-eq0.true (cc (c.no_integer_leading_zeros.ensures, c.format.ensures)) c.if-is_prefixed.false (omega arith) c.if-has_more.ensures.answer)
 

@@ -1,7 +1,7 @@
 use Rattle.std.proofs.Common.{◌≡◌, ℕ, ◌+◌, ◌≤◌, ◌<◌, ◌⊎◌, false, true, None, is_some, IsSome, length, ap, ◌∙◌, inl, inr, arith}
 use Rattle.lexical_parse_integer.specs.CursorView.{CursorView}
 use Rattle.lexical_parse_integer.specs.Runs.{digit_at}
-use Rattle.lexical_parse_integer.proofs.CursorLemmas.{IsSound-word, none_from_IsNone, word_fits}
+use Rattle.lexical_parse_integer.proofs.reading.Soundness.{IsSound-word, none_from_IsNone, word_fits}
 use Rattle.lexical_parse_integer.proofs.cursor.Cursor.take_digits.Goals as goal
 
 positive : (n : ℕ) → (n ≡ 4) ⊎ (n ≡ 8) → 0 < n

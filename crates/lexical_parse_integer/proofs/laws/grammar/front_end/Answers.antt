@@ -1,5 +1,5 @@
-use Rattle.lexical_parse_integer.proofs.Completing.{partial_within}
-use Rattle.lexical_parse_integer.proofs.FrontEnds.{front_is_some}
+use Rattle.lexical_parse_integer.proofs.ForCallers.{partial_within}
+use Rattle.lexical_parse_integer.proofs.theorems.NonEmptyFronts.{front_is_some}
 use Rattle.lexical_parse_integer.proofs.laws.grammar.front_end.Goals as goal
 
 pub returns-clause-within : goal.returns-clause-within

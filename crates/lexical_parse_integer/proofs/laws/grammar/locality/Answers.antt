@@ -1,4 +1,4 @@
-use Rattle.lexical_parse_integer.proofs.Locality.{is_local}
+use Rattle.lexical_parse_integer.proofs.theorems.Locality.{is_local}
 use Rattle.lexical_parse_integer.proofs.laws.grammar.locality.Goals as goal
 
 pub returns : goal.returns

@@ -1,4 +1,4 @@
-use Rattle.lexical_parse_integer.proofs.Numerals.{numeral_text, numeral_text_is, printed_is, reads_numerals, shortest_if}
+use Rattle.lexical_parse_integer.proofs.theorems.ReadBack.{numeral_text, numeral_text_is, printed_is, reads_numerals, shortest_if}
 use Rattle.lexical_parse_integer.proofs.laws.grammar.numerals.Goals as goal
 
 pub returns-clause-read : goal.returns-clause-read

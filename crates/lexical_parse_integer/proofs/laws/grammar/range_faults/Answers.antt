@@ -1,4 +1,4 @@
-use Rattle.lexical_parse_integer.proofs.RangeFaults.{complete_leaves_within, partial_leaves_within}
+use Rattle.lexical_parse_integer.proofs.theorems.RangeFaultPlaces.{complete_leaves_within, partial_leaves_within}
 use Rattle.lexical_parse_integer.proofs.laws.grammar.range_faults.Goals as goal
 
 pub returns-clause-front : goal.returns-clause-front

@@ -1,5 +1,5 @@
 use Rattle.std.proofs.Common.{refl, arith}
-use Rattle.lexical_parse_integer.proofs.LawExamples.{plus_forbidden}
+use Rattle.lexical_parse_integer.proofs.theorems.Examples.{plus_forbidden}
 use Rattle.lexical_parse_integer.proofs.laws.tests.plus_in_no_turn.Goals as goal
 
 pub returns : goal.returns

@@ -1,14 +1,14 @@
-use Rattle.lexical_parse_integer.proofs.PlainTurns.{beyond_eight, beyond_four, eight, four}
+use Rattle.lexical_parse_integer.proofs.bound.PlainNumbers.{beyond_eight, beyond_four, eight, four}
 use Rattle.lexical_parse_integer.proofs.laws.turns.complete_in_few_turns.Goals as goal
 
 pub returns-clause-eight : goal.returns-clause-eight
-returns-clause-eight g c = eight _ _ _ _ _ (rw c.new-c.ensures at c.algorithm_complete_on-answer.ensures.few)
+returns-clause-eight g c = eight _ _ g.met.T.Integer.bits_law _ _ _ _ (rw c.new-c.ensures at c.algorithm_complete_on-answer.ensures.few)
 
 pub returns-clause-four : goal.returns-clause-four
-returns-clause-four g c = four _ _ _ _ _ (rw c.new-c.ensures at c.algorithm_complete_on-answer.ensures.few)
+returns-clause-four g c = four _ _ g.met.T.Integer.bits_law _ _ _ _ (rw c.new-c.ensures at c.algorithm_complete_on-answer.ensures.few)
 
 pub returns-clause-beyond_eight : goal.returns-clause-beyond_eight
-returns-clause-beyond_eight g c = beyond_eight _ _ _ _ _ (rw c.new-c.ensures at c.algorithm_complete_on-answer.ensures.few)
+returns-clause-beyond_eight g c = beyond_eight _ _ g.met.T.Integer.bits_law _ _ _ _ (rw c.new-c.ensures at c.algorithm_complete_on-answer.ensures.few)
 
 pub returns-clause-beyond_four : goal.returns-clause-beyond_four
-returns-clause-beyond_four g c = beyond_four _ _ _ _ _ (rw c.new-c.ensures at c.algorithm_complete_on-answer.ensures.few)
+returns-clause-beyond_four g c = beyond_four _ _ g.met.T.Integer.bits_law _ _ _ _ (rw c.new-c.ensures at c.algorithm_complete_on-answer.ensures.few)

@@ -1,5 +1,5 @@
 use Rattle.std.proofs.Common.{◌∙◌}
-use Rattle.lexical_parse_integer.proofs.Whole.{is_fresh}
+use Rattle.lexical_parse_integer.proofs.reading.ParserAnswers.{is_fresh}
 use Rattle.lexical_parse_integer.proofs.tests.pins.digits_at_front.Goals as goal
 
 pub returns-clause-none : goal.returns-clause-none

@@ -1,5 +1,5 @@
 use Rattle.std.proofs.Common.{refl, lit≤}
-use Rattle.lexical_parse_integer.proofs.TurnRows.{eight_before_a_comma}
+use Rattle.lexical_parse_integer.proofs.bound.WorkedTurns.{eight_before_a_comma}
 use Rattle.lexical_parse_integer.proofs.tests.turns.eight_before_a_comma.Goals as goal
 
 pub returns : goal.returns

@@ -1,5 +1,5 @@
 use Rattle.std.proofs.Common.{refl, lit≤}
-use Rattle.lexical_parse_integer.proofs.TurnRows.{eight_before_a_suffix}
+use Rattle.lexical_parse_integer.proofs.bound.WorkedTurns.{eight_before_a_suffix}
 use Rattle.lexical_parse_integer.proofs.tests.turns.eight_before_a_suffix.Goals as goal
 
 pub returns : goal.returns

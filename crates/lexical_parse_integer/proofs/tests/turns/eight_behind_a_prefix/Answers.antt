@@ -1,5 +1,5 @@
 use Rattle.std.proofs.Common.{refl, lit≤}
-use Rattle.lexical_parse_integer.proofs.TurnRows.{eight_behind_a_prefix}
+use Rattle.lexical_parse_integer.proofs.bound.WorkedTurns.{eight_behind_a_prefix}
 use Rattle.lexical_parse_integer.proofs.tests.turns.eight_behind_a_prefix.Goals as goal
 
 pub returns : goal.returns

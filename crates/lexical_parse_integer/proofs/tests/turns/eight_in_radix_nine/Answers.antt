@@ -1,5 +1,5 @@
 use Rattle.std.proofs.Common.{refl, lit≤}
-use Rattle.lexical_parse_integer.proofs.TurnRows.{eight_in_radix_nine}
+use Rattle.lexical_parse_integer.proofs.bound.WorkedTurns.{eight_in_radix_nine}
 use Rattle.lexical_parse_integer.proofs.tests.turns.eight_in_radix_nine.Goals as goal
 
 pub returns : goal.returns

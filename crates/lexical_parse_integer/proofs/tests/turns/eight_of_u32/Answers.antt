@@ -1,5 +1,5 @@
 use Rattle.std.proofs.Common.{refl, lit≤}
-use Rattle.lexical_parse_integer.proofs.TurnRows.{eight_of_u32}
+use Rattle.lexical_parse_integer.proofs.bound.WorkedTurns.{eight_of_u32}
 use Rattle.lexical_parse_integer.proofs.tests.turns.eight_of_u32.Goals as goal
 
 pub returns : goal.returns

@@ -1,5 +1,5 @@
 use Rattle.std.proofs.Common.{refl, lit≤}
-use Rattle.lexical_parse_integer.proofs.TurnRows.{eleven_ternary}
+use Rattle.lexical_parse_integer.proofs.bound.WorkedTurns.{eleven_ternary}
 use Rattle.lexical_parse_integer.proofs.tests.turns.eleven_ternary.Goals as goal
 
 pub returns : goal.returns

@@ -1,5 +1,5 @@
 use Rattle.std.proofs.Common.{refl, lit≤}
-use Rattle.lexical_parse_integer.proofs.TurnRows.{five_before_a_letter}
+use Rattle.lexical_parse_integer.proofs.bound.WorkedTurns.{five_before_a_letter}
 use Rattle.lexical_parse_integer.proofs.tests.turns.five_before_a_letter.Goals as goal
 
 pub returns : goal.returns

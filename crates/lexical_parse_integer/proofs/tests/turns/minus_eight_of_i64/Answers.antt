@@ -1,5 +1,5 @@
 use Rattle.std.proofs.Common.{refl, lit≤}
-use Rattle.lexical_parse_integer.proofs.TurnRows.{minus_eight_of_i64}
+use Rattle.lexical_parse_integer.proofs.bound.WorkedTurns.{minus_eight_of_i64}
 use Rattle.lexical_parse_integer.proofs.tests.turns.minus_eight_of_i64.Goals as goal
 
 pub returns : goal.returns

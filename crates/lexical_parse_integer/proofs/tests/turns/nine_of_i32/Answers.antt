@@ -1,5 +1,5 @@
 use Rattle.std.proofs.Common.{refl, lit≤}
-use Rattle.lexical_parse_integer.proofs.TurnRows.{nine_of_i32}
+use Rattle.lexical_parse_integer.proofs.bound.WorkedTurns.{nine_of_i32}
 use Rattle.lexical_parse_integer.proofs.tests.turns.nine_of_i32.Goals as goal
 
 pub returns : goal.returns

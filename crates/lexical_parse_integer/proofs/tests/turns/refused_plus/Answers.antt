@@ -1,5 +1,5 @@
 use Rattle.std.proofs.Common.{refl, lit≤}
-use Rattle.lexical_parse_integer.proofs.TurnRows.{refused_plus}
+use Rattle.lexical_parse_integer.proofs.bound.WorkedTurns.{refused_plus}
 use Rattle.lexical_parse_integer.proofs.tests.turns.refused_plus.Goals as goal
 
 pub returns : goal.returns

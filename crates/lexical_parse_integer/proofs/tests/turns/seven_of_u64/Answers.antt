@@ -1,5 +1,5 @@
 use Rattle.std.proofs.Common.{refl, lit≤}
-use Rattle.lexical_parse_integer.proofs.TurnRows.{seven_of_u64}
+use Rattle.lexical_parse_integer.proofs.bound.WorkedTurns.{seven_of_u64}
 use Rattle.lexical_parse_integer.proofs.tests.turns.seven_of_u64.Goals as goal
 
 pub returns : goal.returns

@@ -1,5 +1,5 @@
 use Rattle.std.proofs.Common.{refl, lit≤}
-use Rattle.lexical_parse_integer.proofs.TurnRows.{sixteen_behind_a_literal_prefix}
+use Rattle.lexical_parse_integer.proofs.bound.WorkedTurns.{sixteen_behind_a_literal_prefix}
 use Rattle.lexical_parse_integer.proofs.tests.turns.sixteen_behind_a_literal_prefix.Goals as goal
 
 pub returns : goal.returns

@@ -1,5 +1,5 @@
 use Rattle.std.proofs.Common.{refl, lit≤}
-use Rattle.lexical_parse_integer.proofs.TurnRows.{sixteen_octal}
+use Rattle.lexical_parse_integer.proofs.bound.WorkedTurns.{sixteen_octal}
 use Rattle.lexical_parse_integer.proofs.tests.turns.sixteen_octal.Goals as goal
 
 pub returns : goal.returns

@@ -1,5 +1,5 @@
 use Rattle.std.proofs.Common.{refl, lit≤}
-use Rattle.lexical_parse_integer.proofs.TurnRows.{sixteen_of_i64}
+use Rattle.lexical_parse_integer.proofs.bound.WorkedTurns.{sixteen_of_i64}
 use Rattle.lexical_parse_integer.proofs.tests.turns.sixteen_of_i64.Goals as goal
 
 pub returns : goal.returns

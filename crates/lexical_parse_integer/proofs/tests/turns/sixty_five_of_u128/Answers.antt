@@ -1,5 +1,5 @@
 use Rattle.std.proofs.Common.{refl, lit≤}
-use Rattle.lexical_parse_integer.proofs.TurnRows.{sixty_five_of_u128}
+use Rattle.lexical_parse_integer.proofs.bound.WorkedTurns.{sixty_five_of_u128}
 use Rattle.lexical_parse_integer.proofs.tests.turns.sixty_five_of_u128.Goals as goal
 
 pub returns : goal.returns

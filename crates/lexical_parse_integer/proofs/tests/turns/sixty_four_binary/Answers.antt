@@ -1,5 +1,5 @@
 use Rattle.std.proofs.Common.{refl, lit≤}
-use Rattle.lexical_parse_integer.proofs.TurnRows.{sixty_four_binary}
+use Rattle.lexical_parse_integer.proofs.bound.WorkedTurns.{sixty_four_binary}
 use Rattle.lexical_parse_integer.proofs.tests.turns.sixty_four_binary.Goals as goal
 
 pub returns : goal.returns

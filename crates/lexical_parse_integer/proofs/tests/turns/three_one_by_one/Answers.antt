@@ -1,5 +1,5 @@
 use Rattle.std.proofs.Common.{refl}
-use Rattle.lexical_parse_integer.proofs.TurnRows.{three_one_by_one}
+use Rattle.lexical_parse_integer.proofs.bound.WorkedTurns.{three_one_by_one}
 use Rattle.lexical_parse_integer.proofs.tests.turns.three_one_by_one.Goals as goal
 
 pub returns : goal.returns

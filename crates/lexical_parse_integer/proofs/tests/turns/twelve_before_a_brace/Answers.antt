@@ -1,5 +1,5 @@
 use Rattle.std.proofs.Common.{refl, lit≤}
-use Rattle.lexical_parse_integer.proofs.TurnRows.{twelve_before_a_brace}
+use Rattle.lexical_parse_integer.proofs.bound.WorkedTurns.{twelve_before_a_brace}
 use Rattle.lexical_parse_integer.proofs.tests.turns.twelve_before_a_brace.Goals as goal
 
 pub returns : goal.returns

@@ -1,5 +1,5 @@
 use Rattle.std.proofs.Common.{refl, lit≤}
-use Rattle.lexical_parse_integer.proofs.TurnRows.{two_before_an_eight}
+use Rattle.lexical_parse_integer.proofs.bound.WorkedTurns.{two_before_an_eight}
 use Rattle.lexical_parse_integer.proofs.tests.turns.two_before_an_eight.Goals as goal
 
 pub returns : goal.returns

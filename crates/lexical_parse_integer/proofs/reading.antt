@@ -1,0 +1,10 @@
+-- What a cursor's steps say of its numeral, and what loops over them have read: for the answers of `cursor` and of
+-- `algorithm`.
+pub mod DigitLoop
+pub mod DigitsRead
+pub mod FirstDigit
+pub mod FormatBytes
+pub mod NumeralSteps
+pub mod ParserAnswers
+pub mod Soundness
+pub mod UntestedDigits

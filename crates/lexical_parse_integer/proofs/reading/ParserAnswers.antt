@@ -1,0 +1,341 @@
+-- The answers of the two parsers, from what was read: for `algorithm::head`, `read` and the two calls on a cursor.
+use Rattle.std.proofs.Common.{◌≡◌, ℕ, ◌+◌, ◌≤◌, ◌<◌, Bool, false, true, cond, ◌&&◌, ◌||◌, List, [], ◌∷◌, length, is_some, Option, Some, None, Ok, Err, Result, refl, sym, ap, ◌∙◌, subst, arith, inl, inr, ◌⊎◌}
+use Rattle.std.specs.Prelude.{◌↔◌, IsTrue, ℤ, nat_lt, ◌==◌}
+use Rattle.std.specs.Option.{option_or}
+use Rattle.std.proofs.lemmas.Bool.{lt-ltb, le-ltb, cases_lt, false≢true}
+use Rattle.lexical_util.specs.declared.error.Error.{Error}
+use Rattle.lexical_util.specs.declared.error.Error.TheVariants.{InvalidDigit, Empty, MissingSign, InvalidPositiveSign}
+use Rattle.lexical_parse_integer.specs.Affixes.{numeral_stop, prefix_radix}
+use Rattle.lexical_parse_integer.specs.CursorView.{CursorView, behind_prefix, IsSound, numeral_end, numeral_of}
+use Rattle.lexical_parse_integer.specs.Grammar.{complete, digits_required, first_fault_or, partial, prefix_fault, range_fault, zero_fault}
+use Rattle.lexical_parse_integer.specs.Head.{Head, head_of, no_sign, sign}
+use Rattle.lexical_parse_integer.specs.Numeral.{Numeral, digit_count, numeral_in, numeral_value}
+use Rattle.lexical_parse_integer.specs.Reading.{GoesOn, IsAtHead, IsOver, IsRead}
+use Rattle.lexical_util.specs.Format.{Format}
+use Rattle.lexical_util.specs.Number.{IntegerType}
+use Rattle.lexical_parse_integer.proofs.reading.Soundness.{digits_bound}
+use Rattle.lexical_parse_integer.proofs.reading.NumeralSteps.{same_numeral}
+use Rattle.lexical_parse_integer.proofs.reading.DigitLoop.{numeral_ends}
+
+-- ---- a fresh cursor
+
+pub record IsFresh (v : CursorView) : Type 0 where
+  pub start : v.start ≡ 0
+  pub closed : v.closed ≡ false
+  pub no_digit : v.digits ≡ 0
+  pub no_turn : v.turns ≡ 0
+  pub in_force : v.radix ≡ v.format.mantissa_radix
+
+cases_bool : (b : Bool) → (b ≡ true) ⊎ (b ≡ false)
+cases_bool true = inl refl
+cases_bool false = inr refl
+
+pub is_fresh : (v : CursorView) → IsSound v → v.position ≡ 0 → IsFresh v
+is_fresh v s front =
+    let start : v.start ≡ 0 = omega (arith, s.after_start) in
+    let open_now : v.closed ≡ false = elim (cases_bool v.closed) [ inl t ↦ absurd (omega (arith, (s.once_closed t).behind_end)) | inr t ↦ t ] in
+    let none : v.digits ≡ 0 = omega (arith, digits_bound v s open_now) in
+    record { start = start; closed = open_now; no_digit = none; no_turn = omega (arith, s.turns); in_force = s.in_force (omega arith) }
+
+-- ---- sign and prefix
+
+pair_len : (b : Bool) (n k : ℕ) (s : Bool × ℕ) → n ≤ k → ◌≡◌ {A = Result (Bool × ℕ) Error} (Ok (b, n)) (Ok s) → s.1 ≤ k
+pair_len b n k s low e =
+    let same : (b, n) ≡ s = cc in
+    let at : n ≡ s.1 = ap (λ (w : Bool × ℕ). w.1) same in
+    omega arith
+
+no_sign_short : (f : Format) (s : Bool × ℕ) → no_sign f ≡ Ok s → s.1 ≤ 1
+no_sign_short f s = by_test f.required_mantissa_sign
+  where
+    by_test : (b : Bool) → cond b (Err (MissingSign 0)) (Ok (false, 0)) ≡ Ok s → s.1 ≤ 1
+    by_test true e = cc
+    by_test false e = pair_len false 0 1 s (omega arith) e
+
+pub sign_short : (f : Format) (t : IntegerType) (text : List ℕ) (s : Bool × ℕ) → sign f t text ≡ Ok s → s.1 ≤ 1
+unfolding sign
+sign_short f t [] s signed = no_sign_short f s signed
+sign_short f t (c ∷ cs) s signed = by_tests (c == 43) f.no_positive_mantissa_sign ((c == 45) && t.is_signed) signed
+  where
+    by_tests : (a b d : Bool) → cond a (cond b (Err (InvalidPositiveSign 0)) (Ok (false, 1))) (cond d (Ok (true, 1)) (no_sign f)) ≡ Ok s → s.1 ≤ 1
+    by_tests true true d e = cc
+    by_tests true false d e = pair_len false 1 1 s (omega arith) e
+    by_tests false b true e = pair_len true 1 1 s (omega arith) e
+    by_tests false b false e = no_sign_short f s e
+
+minus_false : (f : Format) (n : ℕ) → no_sign f ≡ Ok (true, n) → ⊥
+minus_false f n = by_test f.required_mantissa_sign
+  where
+    by_test : (b : Bool) → ◌≡◌ {A = Result (Bool × ℕ) Error} (cond b (Err (MissingSign 0)) (Ok (false, 0))) (Ok (true, n)) → ⊥
+    by_test true e = cc
+    by_test false e = pair_apart 0 n (cc)
+      where
+        pair_apart : (a c : ℕ) → ◌≡◌ {A = Bool × ℕ} (false, a) (true, c) → ⊥
+        pair_apart a c e = false≢true (ap (λ (w : Bool × ℕ). w.0) e)
+
+-- a minus is read for signed types alone
+sign_minus : (f : Format) (t : IntegerType) (text : List ℕ) (n : ℕ) → sign f t text ≡ Ok (true, n) → t.is_signed ≡ true
+unfolding sign
+sign_minus f t [] n e = absurd (minus_false f n e)
+sign_minus f t (c ∷ cs) n e = by_tests (c == 43) f.no_positive_mantissa_sign (c == 45) t.is_signed refl e
+  where
+    pair_apart : (a k : ℕ) → ◌≡◌ {A = Bool × ℕ} (false, a) (true, k) → ⊥
+    pair_apart a k h = false≢true (ap (λ (w : Bool × ℕ). w.0) h)
+
+    by_tests : (a b d s : Bool) → t.is_signed ≡ s → ◌≡◌ {A = Result (Bool × ℕ) Error} (cond a (cond b (Err (InvalidPositiveSign 0)) (Ok (false, 1))) (cond (d && s) (Ok (true, 1)) (no_sign f))) (Ok (true, n)) → t.is_signed ≡ true
+    by_tests true true d s h e = cc
+    by_tests true false d s h e = absurd (pair_apart 1 n (cc))
+    by_tests false b true true h e = h
+    by_tests false b true false h e = absurd (minus_false f n e)
+    by_tests false b false s h e = absurd (minus_false f n e)
+
+minus_signed : (t : IntegerType) (u : CursorView) (minus : Bool) (n : ℕ) → minus ≡ true → sign u.format t u.bytes ≡ Ok (minus, n) → t.is_signed ≡ true
+minus_signed t u minus n m signed = sign_minus u.format t u.bytes n (signed ∙ ap (λ b. Ok (b, n)) m)
+
+pub head_fault : (f : Format) (t : IntegerType) (text : List ℕ) (e : Error) → sign f t text ≡ Err e → head_of f t text ≡ Err e
+unfolding head_of
+head_fault f t text e h = rw h refl
+
+-- behind the sign, and behind the prefix
+pub at_head : (t : IntegerType) (u v w : CursorView) (minus p : Bool) → IsFresh u → sign u.format t u.bytes ≡ Ok (minus, v.position) → v ≡ record u { start = v.position; position = v.position } → p ≡ is_some (prefix_radix v.format v.bytes v.position) → w ≡ behind_prefix v (prefix_radix v.format v.bytes v.position) → IsAtHead u.format t u.bytes minus p w
+unfolding head_of
+at_head t u v w minus p fresh signed moved prefixed after =
+    let bytes : v.bytes ≡ u.bytes = ap (λ (z : CursorView). z.bytes) moved in
+    let format : v.format ≡ u.format = ap (λ (z : CursorView). z.format) moved in
+    let radix : v.radix ≡ u.format.mantissa_radix = ap (λ (z : CursorView). z.radix) moved ∙ fresh.in_force in
+    let start : v.start ≡ v.position = ap (λ (z : CursorView). z.start) moved in
+    let same : prefix_radix v.format v.bytes v.position ≡ prefix_radix u.format u.bytes v.position = ap (λ f. prefix_radix f v.bytes v.position) format ∙ ap (λ b. prefix_radix u.format b v.position) bytes in
+    let closed : v.closed ≡ false = ap (λ (z : CursorView). z.closed) moved ∙ fresh.closed in
+    let digits : v.digits ≡ 0 = ap (λ (z : CursorView). z.digits) moved ∙ fresh.no_digit in
+    let turns : v.turns ≡ 0 = ap (λ (z : CursorView). z.turns) moved ∙ fresh.no_turn in
+    by_prefix (prefix_radix u.format u.bytes v.position) p refl (prefixed ∙ ap is_some same) (after ∙ ap (behind_prefix v) same) bytes format radix start closed digits turns
+  where
+    by_prefix : (found : Option ℕ) (q : Bool) → prefix_radix u.format u.bytes v.position ≡ found → q ≡ is_some found → w ≡ behind_prefix v found → v.bytes ≡ u.bytes → v.format ≡ u.format → v.radix ≡ u.format.mantissa_radix → v.start ≡ v.position → v.closed ≡ false → v.digits ≡ 0 → v.turns ≡ 0 → IsAtHead u.format t u.bytes minus q w
+    by_prefix (Some r) q h is e bytes format radix start closed digits turns = rw (is, e) (record {
+      head_is = rw (signed, h) refl;
+      bytes = bytes;
+      format = format;
+      at_start = refl;
+      closed = closed;
+      no_digit = digits;
+      no_turn = turns;
+      minus = λ m. minus_signed t u minus v.position m signed;
+    })
+    by_prefix None q h is e bytes format radix start closed digits turns = rw (is, e) (record {
+      head_is = rw (signed, h, radix, start) refl;
+      bytes = bytes;
+      format = format;
+      at_start = sym start;
+      closed = closed;
+      no_digit = digits;
+      no_turn = turns;
+      minus = λ m. minus_signed t u minus v.position m signed;
+    })
+
+-- ---- faults of both parsers
+
+first_told : {A : Type 0} (p z r : Option Error) (rest : List (Option Error)) (v : A) (e : Error) → option_or p (option_or z r) ≡ Some e → first_fault_or (p ∷ z ∷ r ∷ rest) v ≡ Err e
+first_told (Some d) z r rest v e h = cc
+first_told None (Some d) r rest v e h = cc
+first_told None None (Some d) rest v e h = cc
+first_told None None None rest v e h = cc
+
+pub sign_completes : (f : Format) (t : IntegerType) (text : List ℕ) (e : Error) → head_of f t text ≡ Err e → complete f t text ≡ Err e
+unfolding complete
+sign_completes f t text e h = rw h refl
+
+pub sign_goes_part : (f : Format) (t : IntegerType) (text : List ℕ) (e : Error) → head_of f t text ≡ Err e → partial f t text ≡ Err e
+unfolding partial
+sign_goes_part f t text e h = rw h refl
+
+abbrev pub common_fault : Format → IntegerType → List ℕ → Head → Option Error
+common_fault f t text h = option_or (prefix_fault text h) (option_or (zero_fault f h.is_prefixed (numeral_in f text h.start h.radix)) (range_fault t h.is_minus (numeral_in f text h.start h.radix)))
+
+fault_completes : (f : Format) (t : IntegerType) (text : List ℕ) (h : Head) (e : Error) → head_of f t text ≡ Ok h → common_fault f t text h ≡ Some e → complete f t text ≡ Err e
+unfolding complete
+fault_completes f t text h e is fault = rw is (first_told (prefix_fault text h) (zero_fault f h.is_prefixed (numeral_in f text h.start h.radix)) (range_fault t h.is_minus (numeral_in f text h.start h.radix)) _ _ e fault)
+
+fault_goes_part : (f : Format) (t : IntegerType) (text : List ℕ) (h : Head) (e : Error) → head_of f t text ≡ Ok h → common_fault f t text h ≡ Some e → partial f t text ≡ Err e
+unfolding partial
+fault_goes_part f t text h e is fault = rw is (first_told (prefix_fault text h) (zero_fault f h.is_prefixed (numeral_in f text h.start h.radix)) (range_fault t h.is_minus (numeral_in f text h.start h.radix)) _ _ e fault)
+
+-- both at once, by the cursor at the head
+module _ (f : Format) (t : IntegerType) (text : List ℕ) (minus p : Bool) (v : CursorView) (at : IsAtHead f t text minus p v) where
+  abbrev head : Head
+  head = record { is_minus = minus; is_prefixed = p; start = v.start; radix = v.radix }
+
+  pub same_text : numeral_in f text v.start v.radix ≡ numeral_of v
+  same_text = ap (λ g. numeral_in g text v.start v.radix) (sym at.format) ∙ ap (λ b. numeral_in v.format b v.start v.radix) (sym at.bytes)
+
+  both : (e : Error) → common_fault f t text head ≡ Some e → (complete f t text ≡ Err e) × (partial f t text ≡ Err e)
+  both e fault = (fault_completes f t text head e at.head_is fault, fault_goes_part f t text head e at.head_is fault)
+
+  alone_is : (b : Bool) → b ≡ (p && (v.position == length v.bytes)) → b ≡ (p && (v.start == length text))
+  alone_is b e = e ∙ ap (λ n. p && (n == length v.bytes)) at.at_start ∙ ap (λ bs. p && (v.start == length bs)) at.bytes
+
+  pub prefix_alone : (n : ℕ) → true ≡ (p && (v.position == length v.bytes)) → n ≡ length v.bytes → (complete f t text ≡ Err (Empty n)) × (partial f t text ≡ Err (Empty n))
+  prefix_alone n e size =
+      let test = sym (alone_is true e) in
+      let same : length text ≡ n = ap length (sym at.bytes) ∙ sym size in
+      both (Empty n) (ap (λ b. option_or (cond b (Some (Empty (length text))) None) (option_or (zero_fault f p (numeral_in f text v.start v.radix)) (range_fault t minus (numeral_in f text v.start v.radix)))) test ∙ ap (λ k. Some (Empty k)) same)
+
+  pub not_alone : false ≡ (p && (v.position == length v.bytes)) → prefix_fault text head ≡ None
+  not_alone e = ap (λ b. cond b (Some (Empty (length text))) None) (sym (alone_is false e))
+
+  pub digit_fault : (e : Error) → false ≡ (p && (v.position == length v.bytes)) → option_or (zero_fault v.format p (numeral_of v)) (range_fault t minus (numeral_of v)) ≡ Some e → (complete f t text ≡ Err e) × (partial f t text ≡ Err e)
+  digit_fault e goes fault =
+      both e (ap (λ o. option_or o (option_or (zero_fault f p (numeral_in f text v.start v.radix)) (range_fault t minus (numeral_in f text v.start v.radix)))) (not_alone goes)
+      ∙ ap (λ x. option_or (zero_fault f p x) (range_fault t minus x)) same_text ∙ ap (λ g. option_or (zero_fault g p (numeral_of v)) (range_fault t minus (numeral_of v))) (sym at.format) ∙ fault)
+
+pub range_behind : (t : IntegerType) (minus p : Bool) (v w : CursorView) (e : Error) → GoesOn v w → zero_fault v.format p (numeral_of v) ≡ None → range_fault t minus (numeral_of w) ≡ Some e → option_or (zero_fault v.format p (numeral_of v)) (range_fault t minus (numeral_of v)) ≡ Some e
+range_behind t minus p v w e g none fault =
+    ap (λ z. option_or z (range_fault t minus (numeral_of v))) none ∙ ap (range_fault t minus) (sym (same_numeral v w g)) ∙ fault
+
+-- ---- all is read
+
+goes_on_joined : (u v w : CursorView) → GoesOn u v → GoesOn v w → GoesOn u w
+goes_on_joined u v w g h = record {
+  bytes = h.bytes ∙ g.bytes;
+  format = h.format ∙ g.format;
+  radix = h.radix ∙ g.radix;
+  start = h.start ∙ g.start;
+  closed = h.closed;
+  sound = h.sound;
+}
+
+stop_of_numeral : (v : CursorView) → (numeral_of v).stop ≡ numeral_stop v.format v.radix v.bytes v.start
+unfolding numeral_in
+stop_of_numeral v = refl
+
+same_but_place : (b : Bool) (v w : CursorView) → w ≡ cond b (record v { position = v.position + 1; closed = true }) v → (w.bytes ≡ v.bytes) × (w.format ≡ v.format) × (w.digits ≡ v.digits) × (w.turns ≡ v.turns)
+same_but_place true v w e = (ap (λ (z : CursorView). z.bytes) e, ap (λ (z : CursorView). z.format) e, ap (λ (z : CursorView). z.digits) e, ap (λ (z : CursorView). z.turns) e)
+same_but_place false v w e = (ap (λ (z : CursorView). z.bytes) e, ap (λ (z : CursorView). z.format) e, ap (λ (z : CursorView). z.digits) e, ap (λ (z : CursorView). z.turns) e)
+
+pub is_read : (f : Format) (t : IntegerType) (text : List ℕ) (minus p b : Bool) (v₁ v₂ v₃ v₄ : CursorView) (value : ℤ) → IsAtHead f t text minus p v₁ → false ≡ (p && (v₁.position == length v₁.bytes)) → GoesOn v₁ v₂ → zero_fault v₁.format p (numeral_of v₁) ≡ None → GoesOn v₂ v₃ → value ≡ numeral_value minus (numeral_of v₂) → range_fault t minus (numeral_of v₂) ≡ None → v₃.position ≡ (numeral_of v₂).ends → v₃.digits ≡ digit_count (numeral_of v₂)
+    → (v₃.position ≡ numeral_end v₃ → v₄.position ≡ numeral_stop v₃.format v₃.radix v₃.bytes v₃.start) → v₄ ≡ cond b (record v₃ { position = v₃.position + 1; closed = true }) v₃ → IsRead f t text value v₄
+is_read f t text minus p b v₁ v₂ v₃ v₄ value at goes g₁ no_zeros g₂ value_is no_range ends all stops after =
+    let x : Numeral = numeral_in f text v₁.start v₁.radix in
+    let first : numeral_of v₁ ≡ x = sym (same_text f t text minus p v₁ at) in
+    let second : numeral_of v₂ ≡ x = same_numeral v₁ v₂ g₁ ∙ first in
+    let third : numeral_of v₃ ≡ x = same_numeral v₂ v₃ g₂ ∙ second in
+    let kept = same_but_place b v₃ v₄ after in
+    let g = goes_on_joined v₁ v₂ v₃ g₁ g₂ in
+    let here : v₃.position ≡ numeral_end v₃ = ends ∙ ap (λ (y : Numeral). y.ends) (sym (same_numeral v₂ v₃ g₂)) ∙ numeral_ends v₃ in
+    let digits : v₄.digits ≡ v₃.digits = kept.2 in
+    let turns : v₄.turns ≡ v₃.turns = kept.3 in
+    record {
+      head = record { is_minus = minus; is_prefixed = p; start = v₁.start; radix = v₁.radix };
+      head_is = at.head_is;
+      no_prefix_fault = not_alone f t text minus p v₁ at goes;
+      no_zero_fault = ap (λ h. zero_fault h p x) (sym at.format) ∙ ap (zero_fault v₁.format p) (sym first) ∙ no_zeros;
+      no_range_fault = ap (range_fault t minus) (sym second) ∙ no_range;
+      value_is = value_is ∙ ap (numeral_value minus) second;
+      bytes = kept.0 ∙ g.bytes ∙ at.bytes;
+      format = kept.1 ∙ g.format ∙ at.format;
+      at_stop = stops here ∙ sym (stop_of_numeral v₃) ∙ ap (λ (y : Numeral). y.stop) third;
+      all_digits = digits ∙ all ∙ ap digit_count second;
+    }
+
+-- ---- the cursor's text and format
+
+-- a cursor that stays as it is
+pub over_same : (v w : CursorView) → IsSound v → w ≡ v → IsOver v.bytes v.format w
+over_same v w s same = subst (λ (u : CursorView). IsOver v.bytes v.format u) (sym same) (record { bytes = refl; format = refl; sound = s })
+
+-- a cursor from which the suffix was looked for
+pub over_suffix : (f : Format) (t : IntegerType) (text : List ℕ) (minus p b : Bool) (v₁ v₂ v₃ v₄ : CursorView) → IsAtHead f t text minus p v₁ → GoesOn v₁ v₂ → GoesOn v₂ v₃ → v₄ ≡ cond b (record v₃ { position = v₃.position + 1; closed = true }) v₃ → IsSound v₄ → IsOver text f v₄
+over_suffix f t text minus p b v₁ v₂ v₃ v₄ at g₁ g₂ after s =
+    let kept = same_but_place b v₃ v₄ after in
+    let g = goes_on_joined v₁ v₂ v₃ g₁ g₂ in
+    record { bytes = kept.0 ∙ g.bytes ∙ at.bytes; format = kept.1 ∙ g.format ∙ at.format; sound = s }
+
+-- ---- the answers
+
+lacks_is : (f : Format) (t : IntegerType) (text : List ℕ) (value : ℤ) (v : CursorView) (b : Bool) → (r : IsRead f t text value v) → b ≡ (digits_required v.format && (v.digits == 0)) → (digits_required f && (digit_count (numeral_in f text r.head.start r.head.radix) == 0)) ≡ b
+lacks_is f t text value v b r e = ap (λ n. digits_required f && (n == 0)) (sym r.all_digits) ∙ ap (λ g. digits_required g && (v.digits == 0)) (sym r.format) ∙ sym e
+
+pub complete_stops : (f : Format) (t : IntegerType) (text : List ℕ) (value : ℤ) (v : CursorView) → IsRead f t text value v → v.position < length v.bytes → complete f t text ≡ Err (InvalidDigit v.position)
+unfolding complete
+complete_stops f t text value v r l =
+    let x : Numeral = numeral_in f text r.head.start r.head.radix in
+    let size : length v.bytes ≡ length text = ap length r.bytes in
+    let stop : x.stop ≡ v.position = sym r.at_stop in
+    let more : nat_lt v.position (length text) ≡ true = lt-ltb v.position (length text) (omega arith) in
+    let e₁ = r.head_is in
+    let e₂ = r.no_prefix_fault in
+    let e₃ = r.no_zero_fault in
+    let e₄ = r.no_range_fault in
+    rw (e₁, e₂, e₃, e₄, stop, more) refl
+
+pub complete_empty : (f : Format) (t : IntegerType) (text : List ℕ) (value : ℤ) (v : CursorView) (n : ℕ) → IsRead f t text value v → v.position ≡ length v.bytes → n ≡ length v.bytes → true ≡ (digits_required v.format && (v.digits == 0)) → complete f t text ≡ Err (Empty n)
+unfolding complete
+complete_empty f t text value v n r end is lacks =
+    let x : Numeral = numeral_in f text r.head.start r.head.radix in
+    let size : length v.bytes ≡ length text = ap length r.bytes in
+    let stop : x.stop ≡ v.position = sym r.at_stop in
+    let no_more : nat_lt v.position (length text) ≡ false = le-ltb v.position (length text) (omega arith) in
+    let test = lacks_is f t text value v true r lacks in
+    let e₁ = r.head_is in
+    let e₂ = r.no_prefix_fault in
+    let e₃ = r.no_zero_fault in
+    let e₄ = r.no_range_fault in
+    let same : length text ≡ n = omega arith in
+    rw (e₁, e₂, e₃, e₄, stop, no_more, test) (ap (λ k. Err (Empty k)) same)
+
+pub complete_value : (f : Format) (t : IntegerType) (text : List ℕ) (value : ℤ) (v : CursorView) → IsRead f t text value v → v.position ≡ length v.bytes → false ≡ (digits_required v.format && (v.digits == 0)) → complete f t text ≡ Ok value
+unfolding complete
+complete_value f t text value v r end lacks =
+    let x : Numeral = numeral_in f text r.head.start r.head.radix in
+    let size : length v.bytes ≡ length text = ap length r.bytes in
+    let stop : x.stop ≡ v.position = sym r.at_stop in
+    let no_more : nat_lt v.position (length text) ≡ false = le-ltb v.position (length text) (omega arith) in
+    let test = lacks_is f t text value v false r lacks in
+    let e₁ = r.head_is in
+    let e₂ = r.no_prefix_fault in
+    let e₃ = r.no_zero_fault in
+    let e₄ = r.no_range_fault in
+    rw (e₁, e₂, e₃, e₄, stop, no_more, test) (ap Ok (sym r.value_is))
+
+settled_is : (f : Format) (t : IntegerType) (text : List ℕ) (value : ℤ) (v : CursorView) (b : Bool) → (r : IsRead f t text value v) → b ≡ (is_some v.format.digit_separator || (v.position == length v.bytes)) → (is_some f.digit_separator || (v.position == length text)) ≡ b
+settled_is f t text value v b r e = ap (λ g. is_some g.digit_separator || (v.position == length text)) (sym r.format) ∙ ap (λ bs. is_some v.format.digit_separator || (v.position == length bs)) (sym r.bytes) ∙ sym e
+
+pub partial_empty : (f : Format) (t : IntegerType) (text : List ℕ) (value : ℤ) (v : CursorView) → IsRead f t text value v → true ≡ (digits_required v.format && (v.digits == 0)) → true ≡ (is_some v.format.digit_separator || (v.position == length v.bytes)) → partial f t text ≡ Err (Empty v.position)
+unfolding partial
+partial_empty f t text value v r lacks settled =
+    let x : Numeral = numeral_in f text r.head.start r.head.radix in
+    let stop : x.stop ≡ v.position = sym r.at_stop in
+    let test = lacks_is f t text value v true r lacks in
+    let ends = settled_is f t text value v true r settled in
+    let e₁ = r.head_is in
+    let e₂ = r.no_prefix_fault in
+    let e₃ = r.no_zero_fault in
+    let e₄ = r.no_range_fault in
+    rw (e₁, e₂, e₃, e₄, stop, test, ends) refl
+
+pub partial_value : (f : Format) (t : IntegerType) (text : List ℕ) (value : ℤ) (v : CursorView) → IsRead f t text value v → false ≡ (digits_required v.format && (v.digits == 0)) → partial f t text ≡ Ok (value, v.position)
+unfolding partial
+partial_value f t text value v r lacks =
+    let x : Numeral = numeral_in f text r.head.start r.head.radix in
+    let stop : x.stop ≡ v.position = sym r.at_stop in
+    let test = lacks_is f t text value v false r lacks in
+    let e₁ = r.head_is in
+    let e₂ = r.no_prefix_fault in
+    let e₃ = r.no_zero_fault in
+    let e₄ = r.no_range_fault in
+    rw (e₁, e₂, e₃, e₄, stop, test) (ap (λ z. Ok (z, v.position)) (sym r.value_is))
+
+pub partial_goes_on : (f : Format) (t : IntegerType) (text : List ℕ) (value : ℤ) (v : CursorView) → IsRead f t text value v → true ≡ (digits_required v.format && (v.digits == 0)) → false ≡ (is_some v.format.digit_separator || (v.position == length v.bytes)) → partial f t text ≡ Ok (value, v.position)
+unfolding partial
+partial_goes_on f t text value v r lacks settled =
+    let x : Numeral = numeral_in f text r.head.start r.head.radix in
+    let stop : x.stop ≡ v.position = sym r.at_stop in
+    let test = lacks_is f t text value v true r lacks in
+    let ends = settled_is f t text value v false r settled in
+    let e₁ = r.head_is in
+    let e₂ = r.no_prefix_fault in
+    let e₃ = r.no_zero_fault in
+    let e₄ = r.no_range_fault in
+    rw (e₁, e₂, e₃, e₄, stop, test, ends) (ap (λ z. Ok (z, v.position)) (sym r.value_is))
+
+pub before_end : (b : Bool) (p n : ℕ) → (IsTrue b ↔ (p ≡ n)) → b ≡ false → p ≤ n → p < n
+before_end b p n told fails low = elim (cases_lt p n) [ inl l ↦ l | inr l ↦ absurd (false≢true (sym fails ∙ told.1 (omega arith))) ]

@@ -1,0 +1,5 @@
+-- Words of digits as numbers, and as bytes of the text: for the answers of `algorithm::words` and `algorithm::multi`.
+pub mod AsciiDigits
+pub mod DigitTest
+pub mod Products
+pub mod WordsInTexts
