@@ -1,8 +1,7 @@
 //! The four calls of every type, which the exports of that type make.
 
 ghost use Rattle.std.specs.Prelude.{◌≡◌};
-ghost use Rattle.lexical_util.specs.Number.{integer_type};
-ghost use Rattle.lexical_parse_integer.specs.Answer.{placed, seen};
+ghost use Rattle.lexical_parse_integer.specs.Answer.{with_place, view_of};
 ghost use Rattle.jadvolni.specs.Effect.{effect, complete_effect, partial_effect};
 ghost use Rattle.jadvolni.specs.Effect.{complete_call, complete_call_under, partial_call, partial_call_under};
 
@@ -16,7 +15,7 @@ use lexical_util::num::Integer;
 #[inline(always)]
 fn give<T: Integer, S: Slot<T>>(answer: Result<T>, size: usize, value: &mut S) -> Outcome
     ensures { effect result (S.number value.new)
-        ≡ complete_effect size (S.number value.old) (seen T.number answer) }
+        ≡ complete_effect size (S.number value.old) (view_of T.number answer) }
 {
     match answer {
         Ok(number) => {
@@ -34,7 +33,7 @@ fn give<T: Integer, S: Slot<T>>(answer: Result<T>, size: usize, value: &mut S) -
 #[inline(always)]
 fn give_front<T: Integer, S: Slot<T>>(answer: Result<(T, usize)>, value: &mut S) -> Outcome
     ensures { effect result (S.number value.new)
-        ≡ partial_effect (S.number value.old) (seen (placed T.number) answer) }
+        ≡ partial_effect (S.number value.old) (view_of (with_place T.number) answer) }
 {
     match answer {
         Ok((number, place)) => {
@@ -49,7 +48,7 @@ fn give_front<T: Integer, S: Slot<T>>(answer: Result<(T, usize)>, value: &mut S)
 #[inline(always)]
 pub fn complete<T: FromLexical, S: Slot<T>>(text: &[u8], value: &mut S) -> Outcome
     ensures { effect result (S.number value.new)
-        ≡ complete_call (integer_type T.BITS T.IS_SIGNED) text.now (S.number value.old) }
+        ≡ complete_call T.TYPE text.now (S.number value.old) }
 {
     give(T::from_lexical(text), text.len(), value)
 }
@@ -58,7 +57,7 @@ pub fn complete<T: FromLexical, S: Slot<T>>(text: &[u8], value: &mut S) -> Outco
 #[inline(always)]
 pub fn partial<T: FromLexical, S: Slot<T>>(text: &[u8], value: &mut S) -> Outcome
     ensures { effect result (S.number value.new)
-        ≡ partial_call (integer_type T.BITS T.IS_SIGNED) text.now (S.number value.old) }
+        ≡ partial_call T.TYPE text.now (S.number value.old) }
 {
     give_front(T::from_lexical_partial(text), value)
 }
@@ -77,8 +76,7 @@ pub fn complete_under<T: FromLexicalWithOptions<Options = Options>, S: Slot<T>>(
     value: &mut S,
 ) -> Outcome
     ensures { effect result (S.number value.new)
-        ≡ complete_call_under fields.now (integer_type T.BITS T.IS_SIGNED) text.now
-        (S.number value.old) }
+        ≡ complete_call_under fields.now T.TYPE text.now (S.number value.old) }
 {
     if !fields.are_known() {
         return UNKNOWN;
@@ -95,8 +93,7 @@ pub fn partial_under<T: FromLexicalWithOptions<Options = Options>, S: Slot<T>>(
     value: &mut S,
 ) -> Outcome
     ensures { effect result (S.number value.new)
-        ≡ partial_call_under fields.now (integer_type T.BITS T.IS_SIGNED) text.now
-        (S.number value.old) }
+        ≡ partial_call_under fields.now T.TYPE text.now (S.number value.old) }
 {
     if !fields.are_known() {
         return UNKNOWN;

@@ -3,8 +3,10 @@
 use crate::format::{FormatFields, jadvolni_format_error};
 use crate::halves::{Signed128, Unsigned128};
 use crate::signed::{jadvolni_i8_partial, jadvolni_i128};
-use crate::unsigned::{jadvolni_u8_with_format, jadvolni_u16_partial_with_format, jadvolni_u64};
-use crate::unsigned::{jadvolni_u128, jadvolni_usize};
+use crate::unsigned::{
+    jadvolni_u8_with_format, jadvolni_u16_partial_with_format, jadvolni_u64, jadvolni_u128,
+    jadvolni_usize,
+};
 use crate::version::jadvolni_version;
 
 // The standard format.
