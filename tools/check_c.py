@@ -181,6 +181,19 @@ class Callers:
             raise Failed(f"left: {left}")
         return "0 files"
 
+    @staticmethod
+    def documents():
+        """The example of the README and of the manual page is the one that is run."""
+        with open(os.path.join(TOP, "examples", "c", "ten_lines.c"), encoding="utf-8") as file:
+            example = file.read().partition("*/\n")[2]
+        with open(os.path.join(TOP, "README.md"), encoding="utf-8") as file:
+            if f"```c\n{example}```\n" not in file.read():
+                raise Failed("README.md has another example than examples/c/ten_lines.c")
+        with open(os.path.join(TOP, "packaging", "jadvolni.3.in"), encoding="utf-8") as file:
+            if example.replace("\\n", "\\en") not in file.read():
+                raise Failed("packaging/jadvolni.3.in has another example than examples/c/ten_lines.c")
+        return "2 examples"
+
     def man_pages(self):
         """groff finds nothing to say of the manual pages."""
         needs("groff")
@@ -198,8 +211,8 @@ class Callers:
         needs("cargo", "cc")
         where = {**os.environ, "JADVOLNI_LIB_DIR": self.libraries, "CARGO_TARGET_DIR": self.path("target"),
                  "CARGO_NET_OFFLINE": "true"}
-        said = run(["cargo", "test", "--offline", "--quiet"], cwd=os.path.join(TOP, "bindings", "rust"), env=where)
-        run(["cargo", "run", "--offline", "--quiet", "--example", "ten_lines"], TEN_LINES,
+        said = run(["cargo", "test", "--offline", "--locked", "--quiet"], cwd=os.path.join(TOP, "bindings", "rust"), env=where)
+        run(["cargo", "run", "--offline", "--locked", "--quiet", "--example", "ten_lines"], TEN_LINES,
             cwd=os.path.join(TOP, "bindings", "rust"), env=where)
         return f"{sum(map(int, re.findall(r'(?m)^test result: ok. ([0-9]+) passed', said)))} tests"
 
@@ -233,6 +246,7 @@ class Callers:
         yield "ten lines of C by CMake, static", lambda: self.by_cmake("static")
         yield "make uninstall-lib", self.uninstall
         yield "manual pages", self.man_pages
+        yield "examples in documents", self.documents
         yield "Rust", self.cargo
 
 

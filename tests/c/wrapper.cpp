@@ -79,8 +79,7 @@ static void numbers()
     CHECK(*parse<long>("0b1_01", jadvolni::literal) == 5);
     CHECK(parse_partial<long>("0x_1", jadvolni::literal).place() == 2);
 #ifdef __SIZEOF_INT128__
-    using jadvolni_native_t = jadvolni_native_int128;
-    CHECK(*parse<jadvolni_native_t>("-170141183460469231731687303715884105728") < 0);
+    CHECK(*parse<jadvolni_native_int128>("-170141183460469231731687303715884105728") < 0);
     CHECK(*parse<jadvolni_native_uint128>("18446744073709551616") == jadvolni_native_uint128(1) << 64);
 #endif
 }

@@ -13,6 +13,11 @@
 //! its texts over and its answers back is tested.
 #![no_std]
 
+// The example of the README is a test too.
+#[cfg(doctest)]
+#[doc = include_str!("../../README.md")]
+struct Readme;
+
 mod error;
 mod format;
 mod integer;
