@@ -1,13 +1,16 @@
 # make run     builds the proved program where needed, and gives it standard input
-# make test    the gate: proves everything from nothing, and runs every test and must-fail edit
+# make test    the gate: proves everything from nothing, runs every test, and has every must-fail edit refused, many in
+#              one check
+# make test-one-by-one  the same, with each edit tried alone by the toolchain: slower, and without the judge
 # make devices runs the program alone over devices that refuse, which make test does too
 # make lexint  the program alone, as crates/lexint/out/lexint
 # make install puts it into $(PREFIX)/bin, and the library for C, C++ and Rust where users look; make uninstall takes all away
 # make lib     proves and builds that library; tools/lib.mk has this and its tests, make test-c and make check-c
 # make rows    writes the theorems and tests of the worked rows anew from tools/rows.txt
-# make judge   tries the must-fail edits, many in one check, and holds each to the function that it changes
-# make test-judge  tests that
-# make must-not-compile  checks what the compiler or the prover has to refuse of programs that use the libraries
+# make judge   tries the must-fail edits alone, many in one check, and holds each to the function that it changes
+# make test-judge  tests that, which make test does too
+# make must-not-compile  checks what the compiler or the prover has to refuse of programs that use the libraries, which
+#              make test does too
 # make fuzz    runs the program beside a slow reading of the grammar: make fuzz SEED=1 LINES=1000000
 
 RT ?= rt
@@ -15,7 +18,8 @@ PREFIX ?= /usr/local
 PROGRAM := crates/lexint/out/lexint
 SOURCES := $(shell find crates -name out -prune -o -type f \( -name '*.rt' -o -name '*.antt' \) -print) crates.txt
 
-.PHONY: run test devices lexint install uninstall install-lexint uninstall-lexint rows judge test-judge must-not-compile fuzz
+.PHONY: run test test-one-by-one devices lexint install uninstall install-lexint uninstall-lexint rows judge test-judge
+.PHONY: must-not-compile fuzz
 
 run: $(PROGRAM)
 	@./$(PROGRAM)
@@ -28,10 +32,10 @@ $(PROGRAM): $(SOURCES)
 	@touch $@
 
 test:
-	@python3 tools/rows.py --check
-	@tools/lanes.sh
-	@$(RT) ci
-	@RT=$(RT) tools/devices.py
+	@RT=$(RT) tools/gate.py
+
+test-one-by-one:
+	@RT=$(RT) tools/gate.py --one-by-one
 
 devices: $(PROGRAM)
 	@RT=$(RT) tools/devices.py $(PROGRAM)

@@ -11,7 +11,8 @@ What counts, as seen in what rt prints:
   can be named from here", "is not in scope". A goal that had a lost answer is then also told as open, under its old
   or a new name, so that nothing which is said of such a function counts.
 - `./proofs/FILE.antt:LINE:COLUMN: error: `LEMMA`: ..` counts for an edit of a constant, where the file names it: a
-  lemma computes on its value, and the functions that cite the lemma are not proved.
+  lemma computes on its value, and the functions that cite the lemma are not proved. It counts for an edit of that
+  theorem itself, too.
 - `fn PATH: no proof: it calls `F`, which is not proved` says nothing of its own. Where search waits for a callee,
   as "`search` has not tried the goals of `F`" says, the edit has to be tried apart from that callee's.
 - `src/FILE.rt:LINE:COLUMN: error[CODE]: ..` is the front end's: the crate doesn't compile, and nothing was judged.
@@ -24,6 +25,7 @@ FUNCTION = re.compile(r"fn (\w+)::(\S+): (proved|not proved|no proof|could not t
 REFUSED = re.compile(r"(?:\./)?proofs/(\S+)/(Answers|Invariants|Proof)\.antt:\d+:\d+: error: (?:`([^`]+)`: )?(.*)")
 LOST = re.compile(r"record `[^`]*`(?: has no field| \(nearest)|has no `|has no field|is not in scope|module `"
                   r"|was not admitted|cannot be named|is unused|is no name|no such|expected a goal named"
+                  r"|operand is missing|expected the end|cannot continue"
                   r"|types? (?:first |only )?differ[^`]*`[^`]*\.Lts\.(?:After-|Then|Else|In-|View\b|Start\b|Loop)")
 LEMMA = re.compile(r"(?:\./)?(proofs/\S+\.antt):\d+:\d+: error: `([^`]+)`: (.*)")
 WAITING = re.compile(r"\d+ declarations? that depends? on `[^`]+`, which was (?:rejected|not admitted), .*?: (.*)")
@@ -121,6 +123,10 @@ def judged(edit, check):
         return None, f"it doesn't compile, or a clause can't be read: {check.unread[0][:160]}"
     if not check.reaches_end:
         return None, "the check didn't come to its end"
+    if edit.theorems:
+        held = [f"{file}: {name}" for file, name in edit.theorems if (file, name) not in check.lemmas]
+        refused = ", ".join(f"{file}: {name}" for file, name in edit.theorems)
+        return (None, f"{held[0]} is not refused") if held else (refused, None)
     told = [(path, check.functions[path]) for path in edit.items if path in check.functions]
     for path, it in told:
         if it.goals():

@@ -3,8 +3,8 @@
 
 usage: tools/devices.py [PROGRAM..]
 
-With no PROGRAM it takes what a gate has built, crates/lexint/out/lexint and lexint.by-rattle. It says nothing
-where each run ends as it has to. Otherwise it prints a line for each run that doesn't, and ends with status 1.
+With no PROGRAM it takes what a gate has built, crates/lexint/out/lexint and lexint.by-rattle. It prints a line for each
+run that doesn't end as it has to, and last how many did; where one didn't, the status is 1.
 """
 import array
 import contextlib
@@ -40,7 +40,7 @@ NEVER = 1000
 # fcntl names it from Python 3.10 on.
 F_SETPIPE_SZ = 1031
 
-failures = []
+failures, runs = [], []
 
 
 def stored(name):
@@ -54,7 +54,8 @@ LONG = STORED[0] * 1000, STORED[1] * 1000
 
 
 def expect(what, got, want):
-    """Notes a run whose (status, standard output, standard error) is another than wanted."""
+    """Notes a run, and whether its (status, standard output, standard error) is another than wanted."""
+    runs.append(what)
     if got != want:
         shown = [it if isinstance(it, int) else it[:60] for it in got]
         failures.append(f"{what}: it ended with {shown}")
@@ -222,6 +223,7 @@ def main(programs):
     failing_allocations()
     for it in failures:
         print(f"tools/devices.py: {it}", file=sys.stderr)
+    print(f"{len(runs)} runs, {len(failures)} failed")
     return 1 if failures else 0
 
 

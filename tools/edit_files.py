@@ -2,7 +2,7 @@
 
 An edit is a text file of lines `file: PATH`, `old: TEXT` and `new: TEXT`. Each TEXT is one line, and an `old` stands
 once in its file, as the pairs above it have left it. The functions and constants that an edit changes or brings are
-its own: it is held to these.
+its own: it is held to these. In `proofs/` an edit can make a theorem say something false, and is held to that theorem.
 """
 import collections
 import glob
@@ -19,6 +19,7 @@ NO_CODE = re.compile("|".join([
     r"//[^\n]*", r"b?r#\"(?s:.*?)\"#", r"b?\"(?:\\(?s:.)|[^\"\\])*\"", LIFETIME.pattern,
     r"b?'(?:\\(?:x..|u\{[^}]*\}|.)|[^'\\\n])'"]))
 COMMENT = re.compile(r"//[^\n]*")
+THEOREM = re.compile(r"(?:pub )?([^\s:]+) : ")
 
 
 class BadEdit(Exception):
@@ -83,8 +84,9 @@ class Item:
 
 
 def owner_named(header):
-    """What a check calls the block of this header: `impl Tr for Ty` is `TyTr`, and a type's own methods stand under
-    its name."""
+    """What a check calls the block of this header: `impl Tr for Ty` is `TyTr`, one for every type of a bound, as
+    `impl<T> Tr for T`, is `AnyTr`, and a type's own methods stand under its name."""
+    arguments = arguments_of(header)
     header = re.sub(r"\bwhere\b(?s:.*)", "", header)
     while "<" in header:
         less = re.sub(r"<[^<>]*>", "", header)
@@ -98,7 +100,16 @@ def owner_named(header):
     trait, _, of = rest.rpartition(" for ")
     last = lambda path: re.findall(r"\w+", path)[-1]
     of = last(of)
-    return of if not trait else of[0].upper() + of[1:] + last(trait)
+    if not trait:
+        return of
+    return ("Any" if of in arguments else of[0].upper() + of[1:]) + last(trait)
+
+
+def arguments_of(header):
+    """The type arguments that an impl declares."""
+    found = re.match(r"impl\s*<((?:[^<>]|<(?:[^<>]|<[^<>]*>)*>)*)>", header.replace("->", "  "))
+    bare = re.sub(r"<.*?>+", "", found[1]) if found else ""
+    return {it.partition(":")[0].strip() for it in bare.split(",")}
 
 
 def as_told(path, told):
@@ -170,19 +181,20 @@ def is_of_tests(file):
 
 
 class Edit:
-    """One edit: its pairs, the texts that it makes, and the paths of the items that it changes or brings."""
+    """One edit: its pairs, the texts that it makes, the paths of the items that it changes or brings, and the (file,
+    name) of each theorem that it makes say something else."""
 
     def __init__(self, path, folder):
         self.path, self.name = path, os.path.basename(path)[:-len(".edit")]
         self.pairs = pairs_of(read(path))
         self.files = sorted({file for file, _, _ in self.pairs})
         self.brought = {word for _, _, new in self.pairs for word in WORD.findall(new)}
-        self.items, self.others, self.lines, self.lemmas = [], [], {}, []
+        self.items, self.others, self.lines, self.lemmas, self.theorems = [], [], {}, [], []
         texts = {file: read(os.path.join(folder, file)) for file in self.files}
         for file, text in self.applied(texts).items():
             self.compare(file, texts[file], text)
         # Whether it changes more than functions, which can change what stands anywhere.
-        self.shifts = bool(self.others) or any(name.isupper() for name in self.names())
+        self.shifts = bool(self.others or self.theorems) or any(name.isupper() for name in self.names())
 
     def applied(self, texts):
         """The texts of its files with the edit. Each `old` stands there once."""
@@ -199,6 +211,10 @@ class Edit:
         for number, (old, new) in enumerate(zip(text.split("\n"), edited.split("\n")), 1):
             if old != new:
                 self.lines[file, number] = new
+                if file.startswith("proofs/"):
+                    self.theorems.append((file, theorem_of(old, new)))
+        if file.startswith("proofs/"):
+            return
         was, now = parts_of(file, text), parts_of(file, edited)
         bodies = {body for _, body, _ in was.values()}
         changed = [path for path in now if path in was and now[path] != was[path]]
@@ -220,14 +236,23 @@ class Edit:
         return {path.rsplit("::", 1)[-1] for path in self.items}
 
 
+def theorem_of(old, new):
+    """The name of the theorem that stands on a line of a proof file, before an edit and after it."""
+    was, now = THEOREM.match(old), THEOREM.match(new)
+    if not was or not now or was[1] != now[1]:
+        raise BadEdit("it changes a proof: only a theorem's own line, with the name left, can show something")
+    return was[1]
+
+
 def pairs_of(text):
     """The (file, old, new) of an edit's text, in its order."""
     file, old, found = None, None, []
     for line in text.split("\n"):
         if line.startswith("file: "):
             file = line[len("file: "):].strip()
-            if not file.startswith("src/") or os.path.normpath(file) != file:
-                raise BadEdit("a 'file:' line names no file below src/: one of a statement or a proof shows nothing")
+            if not file.startswith(("src/", "proofs/")) or os.path.normpath(file) != file:
+                raise BadEdit("a 'file:' line names no file below src/ or proofs/: a definition that is edited shows "
+                              "nothing")
         elif line.startswith("old: "):
             old = line[len("old: "):]
         elif line.startswith("new:"):

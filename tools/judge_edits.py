@@ -124,11 +124,18 @@ def is_built(root, crate):
     return os.path.isfile(os.path.join(root, "crates", crate, "out", "rlib", "stamp"))
 
 
-class Judge:
-    """The edits of one crate, and how they were judged."""
+class NotProved(Exception):
+    """A crate isn't proved as it is, so that none of its edits can be judged."""
 
-    def __init__(self, root, name, options, say):
+
+class Judge:
+    """The edits of one crate, and how they were judged. Each check takes one of the slots, if any are given, which
+    other judges can share."""
+
+    def __init__(self, root, name, options, say, progress, slots=None):
         self.root, self.name, self.options, self.say = root, name, options, say
+        self.progress = lambda text: progress(f"{self.name}: {text}")
+        self.slots = slots
         self.folder = os.path.join(root, "crates", name)
         self.edits, self.bad, self.told = [], {}, {}
         for path in sorted(glob.glob(os.path.join(self.folder, "must-fail", "*.edit"))):
@@ -153,15 +160,18 @@ class Judge:
                 again = [edit for left in pool.map(self.judge, batches) for edit in left]
                 for _ in pool.map(self.judge_alone, again):
                     pass
+                for _ in pool.map(self.close_room, range(self.jobs)):
+                    pass
         refused = sum(why is None for _, why in self.told.values())
         return refused, len(self.edits) + len(self.bad) - refused
 
     def open_rooms(self, temporary):
         """Checks the crate as it is, and makes a room for each check that runs at once."""
         first = Room.of(self.root, self.name, os.path.join(temporary, self.name, "0"))
-        check, said = first.check({}, jobs=None)
+        with self.slots or contextlib.nullcontext():
+            check, said = first.check({}, jobs=1 if self.slots else None)
         if not check.is_proved():
-            sys.exit(f"tools/judge_edits.py: {self.name} is not proved without an edit:\n{said[-2000:]}")
+            raise NotProved(f"{self.name} is not proved without an edit:\n{said[-2000:]}")
         for edit in self.edits:
             edit.items = [edit_files.as_told(path, check.functions) for path in edit.items]
             self.settle_constants(edit, check)
@@ -169,6 +179,14 @@ class Judge:
         self.rooms.put(first)
         for number in range(1, self.jobs):
             self.rooms.put(first.copy(os.path.join(temporary, self.name, str(number))))
+
+    def close_room(self, _):
+        """Checks that the crate is still proved in a room, once no edit is left in it."""
+        room = self.rooms.get()
+        with self.slots or contextlib.nullcontext():
+            check, said = room.check({})
+        if not check.is_proved():
+            raise NotProved(f"{self.name} is not proved any more after its edits:\n{said[-2000:]}")
 
     def settle_constants(self, edit, check):
         """A constant that a check doesn't name is judged by the functions and lemmas that speak of it."""
@@ -202,10 +220,12 @@ class Judge:
         self.note(edit, *check_output.judged(edit, self.checked([edit])))
 
     def checked(self, batch):
-        room, start = self.rooms.get(), time.time()
+        room = self.rooms.get()
         try:
             paths = sorted({path for it in batch for path in it.items}) if not batch[0].shifts else []
-            check, said = room.check(edit_files.applied(batch, self.folder), paths)
+            with self.slots or contextlib.nullcontext():
+                start = time.time()
+                check, said = room.check(edit_files.applied(batch, self.folder), paths)
         finally:
             self.rooms.put(room)
         self.checks += 1
@@ -219,15 +239,19 @@ class Judge:
         self.told[edit.name] = where, why
         self.say(f"{self.name}/{edit.name}: " + (f"refused at {where}" if where else f"NOT REFUSED: {why}"))
 
-    def progress(self, text):
-        print(f"{self.name}: {text}", file=sys.stderr, flush=True)
+
+def free_memory():
+    with open("/proc/meminfo", encoding="utf-8") as file:
+        return next(int(line.split()[1]) * 1024 for line in file if line.startswith("MemAvailable"))
 
 
 def jobs_for_memory():
     """How many checks the processors and the free memory have room for."""
-    with open("/proc/meminfo", encoding="utf-8") as file:
-        free = next(int(line.split()[1]) * 1024 for line in file if line.startswith("MemAvailable"))
-    return max(1, min(len(os.sched_getaffinity(0)), int((free - SPARE) / MEMORY)))
+    return max(1, min(len(os.sched_getaffinity(0)), int((free_memory() - SPARE) / MEMORY)))
+
+
+def to_errors(text):
+    print(text, file=sys.stderr, flush=True)
 
 
 def options_of(words):
@@ -257,7 +281,11 @@ def main(words):
 
         for name in options.crate or all_crates(options.root):
             with tempfile.TemporaryDirectory(prefix="judge-edits-") as temporary:
-                sums = [a + b for a, b in zip(sums, Judge(options.root, name, options, say).run(temporary))]
+                judge = Judge(options.root, name, options, say, to_errors)
+                try:
+                    sums = [a + b for a, b in zip(sums, judge.run(temporary))]
+                except NotProved as why:
+                    sys.exit(f"tools/judge_edits.py: {why}")
     used = resource.getrusage(resource.RUSAGE_CHILDREN)
     print(f"in {time.time() - start:.0f} s, and {used.ru_utime + used.ru_stime:.0f} s of processors", file=sys.stderr)
     print(f"{sums[0]} edits refused, {sums[1]} not")

@@ -480,6 +480,7 @@ def main():
     if "--check" in sys.argv[1:]:
         if stale:
             sys.exit("make rows writes these otherwise: " + ", ".join(os.path.relpath(path, TOP) for path in stale))
+        print(f"{len(rows)} rows, written as {len(out)} files have them")
         return
     for path in stale:
         os.makedirs(os.path.dirname(path), exist_ok=True)

@@ -3,12 +3,13 @@
 
 usage: tools/test_judge.py
 
-The first tests read texts alone. The last one writes a crate of four functions into a temporary folder and has its
+The first tests read texts alone. The last ones write a crate of four functions into a temporary folder and have its
 edits judged, which takes about a dozen small checks.
 """
 import os
 import sys
 import tempfile
+import types
 import unittest
 
 sys.dont_write_bytecode = True
@@ -63,6 +64,16 @@ pub returns : goal.returns
 returns c = let e = c.next.ensures in omega arith
 """
 
+FACTS = """use Rattle.std.specs.Prelude.{◌≡◌, ◌+◌}
+use Rattle.std.proofs.Common.{refl}
+
+two : 1 + 1 ≡ 2
+two = refl
+
+three : 1 + 2 ≡ 3
+three = refl
+"""
+
 # Each edit: its old and new text, and whether it is refused.
 EDITS = {
     "the_less": ("if a > b {", "if a < b {", True),
@@ -73,6 +84,14 @@ EDITS = {
     "name_moved": ("    next(a) + 1", "    let one = next(a); one + 1", False),
     "not_once": ("ensures {", "requires {", False),
     "contract_changed": ("    ensures { a ≤ result }", "    ensures { a < result }", False),
+}
+
+# The same of edits of proofs/Facts.antt.
+EDITS_OF_FACTS = {
+    "false_fact": ("two : 1 + 1 ≡ 2", "two : 1 + 1 ≡ 3", True),
+    "true_fact": ("two : 1 + 1 ≡ 2", "two : 2 ≡ 1 + 1", False),
+    "unread_fact": ("two : 1 + 1 ≡ 2", "two : 1 + 1 ≡ too", False),
+    "proof_changed": ("two = refl", "two = refl refl", False),
 }
 
 
@@ -89,8 +108,11 @@ def toy(root):
     write(os.path.join(root, "HANDLES"), "Handles allowed: none.\n")
     write(os.path.join(folder, "src", "lib.rt"), SOURCE)
     write(os.path.join(folder, "proofs", "after", "Answers.antt"), ANSWERS)
-    for name, (old, new, _) in EDITS.items():
-        write(os.path.join(folder, "must-fail", f"{name}.edit"), f"file: src/lib.rt\nold: {old}\nnew: {new}\n")
+    write(os.path.join(folder, "proofs", "Lib.antt"), "mod Facts\n")
+    write(os.path.join(folder, "proofs", "Facts.antt"), FACTS)
+    for file, edits in ("src/lib.rt", EDITS), ("proofs/Facts.antt", EDITS_OF_FACTS):
+        for name, (old, new, _) in edits.items():
+            write(os.path.join(folder, "must-fail", f"{name}.edit"), f"file: {file}\nold: {old}\nnew: {new}\n")
     return folder
 
 
@@ -118,6 +140,12 @@ class Texts(unittest.TestCase):
         text = "impl<'a> Tr<'a> for m::Ty<'a> {\n    fn f(&self) {}\n}\nimpl u8 {\n    const N: u32 = 8;\n}\n"
         paths = [it.path() for it in edit_files.items_of("src/a/b.rt", text)]
         self.assertEqual(paths, ["a::b::TyTr::f", "a::b::u8::N"])
+        text = "impl<T: Clone, U: From<T>> Tr<T> for U {\n    fn f(&self) {}\n}\n"
+        self.assertEqual([it.path() for it in edit_files.items_of("src/a.rt", text)], ["a::AnyTr::f"])
+        text = "impl From<Ty> for Ty {\n    fn f(&self) {}\n}\n"
+        self.assertEqual([it.path() for it in edit_files.items_of("src/a.rt", text)], ["a::TyFrom::f"])
+        text = "impl<T: Clone> Tr for Vec<T> {\n    fn f(&self) {}\n}\n"
+        self.assertEqual([it.path() for it in edit_files.items_of("src/a.rt", text)], ["a::VecTr::f"])
 
     def test_an_item_of_a_type_with_arguments(self):
         told = ["a::VecU8Buffer::append", "a::VecU8Buffer::bytes", "a::Buffer::append"]
@@ -133,9 +161,25 @@ class Texts(unittest.TestCase):
         text = SOURCE.replace("a + 50", "a + 60").replace("a > b", "a < b")
         self.assertEqual(edit_files.applied(edits, self.folder), {"src/lib.rt": text})
 
+    def test_no_edit_is_left_in_a_room(self):
+        room, path = judge_edits.Room(self.folder), os.path.join(self.folder, "src", "lib.rt")
+        room.write(edit_files.applied([self.edit("no_room")], self.folder))
+        self.assertIn("a + 60", edit_files.read(path))
+        room.write({"proofs/Facts.antt": ""})
+        self.assertEqual(edit_files.read(path), SOURCE)
+        room.write({})
+        self.assertEqual(edit_files.read(os.path.join(self.folder, "proofs", "Facts.antt")), FACTS)
+
     def test_a_text_that_does_not_stand_once(self):
         with self.assertRaisesRegex(edit_files.BadEdit, "3 times"):
             self.edit("not_once")
+
+    def test_an_edit_of_a_proof(self):
+        self.assertEqual(self.edit("false_fact").theorems, [("proofs/Facts.antt", "two")])
+        with self.assertRaisesRegex(edit_files.BadEdit, "changes a proof"):
+            self.edit("proof_changed")
+        with self.assertRaisesRegex(edit_files.BadEdit, "changes a proof"):
+            edit_files.theorem_of("two : 1 + 1 ≡ 2", "three : 1 + 1 ≡ 2")
 
     def test_an_edit_of_a_contract(self):
         with self.assertRaisesRegex(edit_files.BadEdit, "the contract of near"):
@@ -207,8 +251,63 @@ class Outputs(unittest.TestCase):
         self.assertEqual(check.unread_places(), {("src/m.rt", 7)})
 
 
+class Judged(unittest.TestCase):
+    """What is refused of an edit of `m::f`, and what isn't."""
+
+    def judged(self, said, theorems=()):
+        edit = types.SimpleNamespace(items=[] if theorems else ["m::f"], theorems=list(theorems), lemmas=[])
+        return check_output.judged(edit, check_output.Check(1, f"{said}\nonly=1 proved=0\n"))
+
+    def is_refused(self, said, why=None, theorems=()):
+        where, why_not = self.judged(said, theorems)
+        if why:
+            self.assertIn(why, why_not)
+        return where is not None
+
+    def test_its_own_goal(self):
+        self.assertEqual(self.judged(open_goal("returns") + no_proof("m::f", "returns")), ("m::f: returns", None))
+
+    def test_a_goal_of_another_function(self):
+        said = open_goal("returns") + no_proof("m::g", "returns")
+        self.assertFalse(self.is_refused(said + "fn toy::m::f: proved", "still proved"))
+        callee = "fn toy::m::f: no proof: it calls `toy::m::g`, which is not proved"
+        self.assertFalse(self.is_refused(said + callee, "it calls `toy::m::g`"))
+        self.assertFalse(self.is_refused(said, "names none of its functions"))
+
+    def test_a_function_that_is_proved(self):
+        self.assertFalse(self.is_refused(open_goal("returns") + "fn toy::m::f: proved", "still proved"))
+
+    def test_what_the_prover_could_not_tell(self):
+        self.assertFalse(self.is_refused("fn toy::m::f: could not tell", "could not tell"))
+        self.assertFalse(self.is_refused("fn toy::m::f: no proof: something else", "no goal of it"))
+
+    def test_what_does_not_compile(self):
+        said = "src/m.rt:7:5: error[type]: a `u8` is wanted here\n" + open_goal("returns") + no_proof("m::f", "returns")
+        self.assertFalse(self.is_refused(said, "doesn't compile"))
+
+    def test_a_check_that_ended_early(self):
+        edit = types.SimpleNamespace(items=["m::f"], theorems=[], lemmas=[])
+        said = open_goal("returns") + no_proof("m::f", "returns")
+        self.assertIsNone(check_output.judged(edit, check_output.Check(2, said))[0])
+
+    def test_a_theorem(self):
+        own, other = ("proofs/Facts.antt", "two"), ("proofs/Facts.antt", "three")
+        said = "./proofs/Facts.antt:4:1: error: `two`: the two sides compute to 2 and 3"
+        self.assertTrue(self.is_refused(said, theorems=[own]))
+        self.assertFalse(self.is_refused(said, theorems=[other]))
+        self.assertFalse(self.is_refused(said, theorems=[own, other]))
+        self.assertFalse(self.is_refused("./proofs/Facts.antt:4:1: error: `two`: `too` is not in scope", theorems=[own]))
+        self.assertFalse(self.is_refused("", theorems=[own]))
+
+
 class Whole(unittest.TestCase):
     """The judge over a crate."""
+
+    def test_a_crate_that_is_not_proved_without_an_edit(self):
+        with tempfile.TemporaryDirectory(prefix="test-judge-") as root:
+            write(os.path.join(toy(root), "src", "lib.rt"), SOURCE.replace("next(a) + 1", "next(a) + 3"))
+            with self.assertRaisesRegex(SystemExit, "toy is not proved without an edit"):
+                judge_edits.main(["--root", root, "--jobs", "1", "--only", "the_less"])
 
     def test_edits_of_a_crate(self):
         with tempfile.TemporaryDirectory(prefix="test-judge-") as root:
@@ -216,7 +315,7 @@ class Whole(unittest.TestCase):
             log = os.path.join(root, "log")
             self.assertEqual(judge_edits.main(["--root", root, "--jobs", "2", "--log", log]), 1)
             said = dict(line.split(": ", 1) for line in edit_files.read(log).splitlines())
-            for name, (_, _, is_refused) in EDITS.items():
+            for name, (_, _, is_refused) in {**EDITS, **EDITS_OF_FACTS}.items():
                 self.assertEqual(said[f"toy/{name}"].startswith("refused at "), is_refused, said[f"toy/{name}"])
             self.assertIn("greater: returns", said["toy/the_less"])
             self.assertIn("near: overflow_add", said["toy/no_room"])
@@ -224,6 +323,7 @@ class Whole(unittest.TestCase):
             self.assertIn("still proved", said["toy/said_otherwise"])
             self.assertIn("doesn't compile", said["toy/no_such_name"])
             self.assertIn("names what is gone", said["toy/name_moved"])
+            self.assertIn("proofs/Facts.antt: two", said["toy/false_fact"])
 
 
 if __name__ == "__main__":

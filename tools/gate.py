@@ -1,0 +1,318 @@
+#!/usr/bin/env python3
+"""The gate: proves everything from nothing, runs every test and program, and has every must-fail edit refused.
+
+usage: tools/gate.py [--one-by-one]
+
+It works in a folder of its own, on copies of the files that git has or would take. So nothing that an earlier run kept
+is used, and nothing here changes. Its parts:
+
+rows      the worked rows stand everywhere as tools/rows.txt has them
+lanes     the word readers are lanes
+proofs    `rt ci` without the must-fail edits: every crate and its tests are proved, every test and program runs
+edits     judge_edits.py on every must-fail edit, over libraries that are proved for it from nothing
+gate      tests of this script, in which no prover runs
+judge     tests of the judge
+programs  what must_not_compile.txt has is refused, or proved
+devices   the programs that `rt ci` has built, over devices that refuse
+
+With --one-by-one `rt ci` tries the edits itself, each in a check of its own, in place of the judge.
+The last line is 'N parts passed, M failed'.
+"""
+import argparse
+import concurrent.futures
+import os
+import re
+import shutil
+import subprocess
+import sys
+import tempfile
+import threading
+import time
+import traceback
+
+sys.dont_write_bytecode = True
+
+import edit_files  # noqa: E402
+import judge_edits  # noqa: E402
+import must_not_compile  # noqa: E402
+
+ROOT = os.path.dirname(os.path.dirname(os.path.abspath(__file__)))
+RT = os.environ.get("RT", "rt")
+# What `rt ci` takes beside the judge's checks, and the most that all take.
+MEMORY_OF_PROOFS, MOST_MEMORY = 5e9, 12e9
+
+
+class Failed(Exception):
+    """A part of the gate that didn't pass."""
+
+
+class Slots:
+    """How many checks may run at once, of all crates' edits and of the small parts."""
+
+    def __init__(self, number):
+        self.number, self.free = number, threading.Semaphore(number)
+
+    def __enter__(self):
+        self.free.acquire()
+
+    def __exit__(self, *_):
+        self.free.release()
+
+    def grow(self, number):
+        for _ in range(self.number, number):
+            self.free.release()
+        self.number = max(self.number, number)
+
+
+def crates_of(root):
+    """The crates of crates.txt, with those that each stands on. A folder of crates/ that isn't there fails the gate."""
+    found = {}
+    for line in edit_files.read(os.path.join(root, "crates.txt")).splitlines():
+        if line.strip() and not line.startswith("#"):
+            name, _, below = line.partition(":")
+            found[name.split()[0]] = below.split()
+    folders = sorted(it for it in os.listdir(os.path.join(root, "crates")))
+    if folders != sorted(found):
+        raise Failed(f"crates.txt has {', '.join(sorted(found))}, and crates/ has {', '.join(folders)}")
+    return found
+
+
+def copy_of_files(to, leave_out=()):
+    """Copies the files that git has or would take, but for those in folders of these names."""
+    ran = subprocess.run(["git", "ls-files", "-z", "--cached", "--others", "--exclude-standard"], cwd=ROOT, check=True,
+                         stdout=subprocess.PIPE)
+    for file in sorted(set(os.fsdecode(ran.stdout).split("\0")) - {""}):
+        of = os.path.join(ROOT, file)
+        if os.path.lexists(of) and not set(file.split("/")) & set(leave_out):
+            os.makedirs(os.path.dirname(os.path.join(to, file)), exist_ok=True)
+            shutil.copy(of, os.path.join(to, file), follow_symlinks=False)
+
+
+def edits_in(root, crates):
+    """The edit files of all crates. Each crate has some, and what is no edit there is a text to be read."""
+    found = []
+    for name in crates:
+        folder = os.path.join(root, "crates", name, "must-fail")
+        files = sorted(os.listdir(folder)) if os.path.isdir(folder) else []
+        others = [it for it in files if not re.fullmatch(r"[\w.-]+\.(?:edit|md)", it)]
+        edits = [it for it in files if it.endswith(".edit")]
+        if others or not edits:
+            raise Failed(f"{name}: " + (f"{others[0]} is no edit" if others else "it has no must-fail edit"))
+        found += edits
+    return found
+
+
+def last_line(said):
+    return (said.strip() or "it said nothing").split("\n")[-1]
+
+
+def tests_run(said):
+    ran = re.search(r"(?m)^Ran ([1-9]\d*) tests", said)
+    if not ran:
+        raise Failed(f"no test ran:\n{said}")
+    return f"{ran[1]} tests"
+
+
+def counts_of(said):
+    """How many functions and tests `rt ci` says that it has proved."""
+    numbers = [sum(map(int, re.findall(rf"(?m)^logic=proved.* {word}=(\d+)", said))) for word in ("functions", "tests")]
+    return f"{numbers[0]} functions, {numbers[1]} of them tests"
+
+
+class Gate:
+    """The parts, on a copy for `rt ci` and another one for all else."""
+
+    def __init__(self, folder, is_one_by_one):
+        self.folder, self.is_one_by_one = folder, is_one_by_one
+        self.proofs_root, self.root = os.path.join(folder, "proofs"), os.path.join(folder, "edits")
+        copy_of_files(self.root)
+        copy_of_files(self.proofs_root, leave_out=[] if is_one_by_one else ["must-fail"])
+        self.crates = crates_of(self.root)
+        self.edits = len(edits_in(self.root, self.crates))
+        # What others wait for: a library of the copy for the edits, and the programs that `rt ci` builds.
+        self.built = {name: concurrent.futures.Future() for name in self.libraries()}
+        self.proofs_end = concurrent.futures.Future()
+        self.start, self.lock = time.time(), threading.Lock()
+        self.cores = len(os.sched_getaffinity(0))
+        # Half of the processors are for `rt ci`, as long as it runs.
+        self.lanes = self.cores if is_one_by_one else max(1, min(4, self.cores // 2))
+        self.slots = Slots(self.checks_for(self.cores - self.lanes, MEMORY_OF_PROOFS))
+
+    @staticmethod
+    def checks_for(cores, taken):
+        """How many checks these processors and the memory beside what is taken have room for."""
+        memory = min(judge_edits.free_memory(), MOST_MEMORY) - taken
+        return max(1, min(cores, int(memory / judge_edits.MEMORY)))
+
+    def say(self, text):
+        with self.lock:
+            print(f"{time.time() - self.start:5.0f} s  {text}", flush=True)
+
+    def run(self):
+        """Runs all parts, and answers whether each of them passed."""
+        self.say(f"gate begins: {len(self.crates)} crates, {self.edits} edits, {self.cores} processors")
+        parts = {"rows": (None, self.rows), "lanes": (None, self.word_readers), "proofs": (None, self.proofs),
+                 "edits": (None, self.all_edits), "gate": (None, self.tests_of_gate),
+                 "judge": (None, self.tests_of_judge),
+                 "programs": (self.libraries_are_built, self.programs), "devices": (self.proofs_passed, self.devices)}
+        if self.is_one_by_one:
+            del parts["edits"], parts["judge"]
+            parts["programs"] = self.proofs_passed, self.programs
+        with concurrent.futures.ThreadPoolExecutor(len(parts)) as pool:
+            told = [it.result() for it in [pool.submit(self.part, name, *calls) for name, calls in parts.items()]]
+        self.say("gate ends")
+        for name, passed, seconds, text in told:
+            print(f"{name:9}{'passed' if passed else 'FAILED'} {seconds:5.0f} s  {text.splitlines()[-1]}")
+        failed = sum(not passed for _, passed, _, _ in told)
+        print(f"{len(told) - failed} parts passed, {failed} failed", flush=True)
+        return not failed
+
+    def part(self, name, wait, call):
+        """Runs a part, and answers its name, whether it passed, its seconds, and what it says."""
+        start = time.time()
+        try:
+            if wait:
+                wait()
+            start = time.time()
+            self.say(f"{name} begins")
+            passed, text = True, call()
+        except (Failed, judge_edits.NotProved) as why:
+            passed, text = False, str(why)
+        except Exception:  # (what is wrong with the gate itself is no pass)
+            passed, text = False, traceback.format_exc()
+        seconds = time.time() - start
+        self.say(f"{name} {'passed' if passed else 'FAILED'} after {seconds:.0f} s: {text}")
+        return name, passed, seconds, text
+
+    def tool(self, *words, root=None):
+        """Runs a script of tools/ in a copy, and answers what it said."""
+        root = root or self.root
+        script = os.path.join(root, "tools", words[0])
+        by = [sys.executable, script] if script.endswith(".py") else [script]
+        ran = subprocess.run([*by, *words[1:]], cwd=root, stdin=subprocess.DEVNULL, stdout=subprocess.PIPE,
+                             stderr=subprocess.STDOUT, text=True, errors="replace")
+        if ran.returncode:
+            raise Failed(f"tools/{words[0]} ended with status {ran.returncode}:\n{ran.stdout[-8000:]}")
+        return ran.stdout
+
+    def rows(self):
+        return last_line(self.tool("rows.py", "--check"))
+
+    def word_readers(self):
+        self.tool("lanes.sh")
+        return "the word readers are lanes"
+
+    def proofs(self):
+        """Runs `rt ci`, and says of each crate when it is proved."""
+        said, env = [], {**os.environ, "PYTHONUNBUFFERED": "1"}
+        if not self.is_one_by_one:
+            env["RT_JOBS"] = str(self.lanes)
+        is_well = False
+        try:
+            with subprocess.Popen([RT, "ci"], cwd=self.proofs_root, env=env, stdin=subprocess.DEVNULL, text=True,
+                                  stdout=subprocess.PIPE, stderr=subprocess.STDOUT, errors="replace") as started:
+                for line in started.stdout:
+                    said.append(line)
+                    self.hear(line)
+                status = started.wait()
+            wanted = f"{len(self.crates) + (self.edits if self.is_one_by_one else 0)} passed, 0 failed\n"
+            is_well = status == 0 and said[-1:] == [wanted]
+        finally:
+            self.slots.grow(self.checks_for(self.cores, 0))
+            self.proofs_end.set_result(is_well)
+        if not is_well:
+            raise Failed(f"rt ci ended with status {status}, and its last line is not '{wanted.strip()}':\n"
+                         + "".join(said)[-20000:])
+        return f"{wanted.strip()}: {counts_of(''.join(said))}"
+
+    def hear(self, line):
+        """Passes on a line of `rt ci` that says how far it is."""
+        if line.startswith("rt: "):
+            self.say(f"proofs: {line[len('rt: '):].strip()[:200]}")
+
+    def libraries(self):
+        """The crates that others stand on."""
+        return [name for name in self.crates if any(name in below for below in self.crates.values())]
+
+    def build(self, name):
+        """Proves a library from nothing in the copy for the edits, and tells those that wait for it."""
+        is_well = False
+        try:
+            self.wait_for(self.crates[name])
+            with self.slots:
+                start = time.time()
+                ran = subprocess.run([RT, "lib", "--jobs", "1"], cwd=os.path.join(self.root, "crates", name),
+                                     stdin=subprocess.DEVNULL, stdout=subprocess.PIPE, stderr=subprocess.STDOUT,
+                                     text=True, errors="replace")
+            is_well = ran.returncode == 0
+            if not is_well:
+                raise Failed(f"{name} is not proved:\n{ran.stdout[-4000:]}")
+            self.say(f"edits: {name} proved in {time.time() - start:.0f} s")
+        finally:
+            self.built[name].set_result(is_well)
+
+    def wait_for(self, crates):
+        for name in crates:
+            if not self.built[name].result():
+                raise Failed(f"{name} is not proved")
+
+    def libraries_are_built(self):
+        self.wait_for(must_not_compile.BELOW)
+
+    def proofs_passed(self):
+        if not self.proofs_end.result():
+            raise Failed("the proofs did not pass")
+
+    def all_edits(self):
+        """Has the edits of all crates judged side by side. Their sum has to be the number of edit files."""
+        with concurrent.futures.ThreadPoolExecutor(2 * len(self.crates)) as pool:
+            running = [pool.submit(self.build, name) for name in self.libraries()]
+            judged = [pool.submit(self.edits_of, name) for name in self.crates]
+        failed = [str(it.exception()) for it in running + judged if it.exception()]
+        refused = sum(it.result() for it in judged if not it.exception())
+        if failed or refused != self.edits:
+            raise Failed("\n".join([*failed, f"{refused} of {self.edits} edits are refused at their own functions"]))
+        return f"{refused} of {self.edits} edits refused, each at its own function"
+
+    def edits_of(self, name):
+        """How many edits of the crate are refused."""
+        self.wait_for(self.crates[name] + [name] * (name in self.built))
+        options = judge_edits.options_of(["--jobs", str(self.checks_for(self.cores, 0))])
+        say = lambda line: self.say(f"edits: {line}")
+        judge = judge_edits.Judge(self.root, name, options, say, say, self.slots)
+        with tempfile.TemporaryDirectory(dir=self.folder) as rooms:
+            refused, others = judge.run(rooms)
+        self.say(f"edits: {name} ends: {refused} refused, {others} not")
+        return refused
+
+    def tests_of_gate(self):
+        return tests_run(self.tool("test_gate.py"))
+
+    def tests_of_judge(self):
+        with self.slots:
+            return tests_run(self.tool("test_judge.py"))
+
+    def programs(self):
+        with self.slots:
+            return last_line(self.tool("must_not_compile.py"))
+
+    def devices(self):
+        out = os.path.join(self.proofs_root, "crates", "lexint", "out")
+        built = [os.path.join(out, name) for name in ("lexint", "lexint.by-rattle")]
+        return last_line(self.tool("devices.py", *built, root=self.proofs_root))
+
+
+def main(words):
+    parser = argparse.ArgumentParser(usage=__doc__.split("usage: ")[1].split("\n")[0])
+    parser.add_argument("--one-by-one", action="store_true")
+    options = parser.parse_args(words)
+    with tempfile.TemporaryDirectory(prefix="gate-") as folder:
+        try:
+            return 0 if Gate(folder, options.one_by_one).run() else 1
+        except Failed as why:
+            print(f"{why}\n0 parts passed, 1 failed")
+            return 1
+
+
+if __name__ == "__main__":
+    sys.exit(main(sys.argv[1:]))

@@ -1,0 +1,158 @@
+#!/usr/bin/env python3
+"""Tests of gate.py: what makes the gate fail.
+
+usage: tools/test_gate.py
+
+No prover runs here. A script stands in for `rt`, empty ones for the tools, and a class for the judge, over a repository
+of two crates that is written into a temporary folder.
+"""
+import contextlib
+import io
+import os
+import subprocess
+import sys
+import tempfile
+import unittest
+from unittest import mock
+
+sys.dont_write_bytecode = True
+
+import gate  # noqa: E402
+
+STAND_IN = """#!/bin/sh
+case $1 in
+ci) echo 'logic=proved functions=3'; echo "rt: low proved"; cat said ;;
+lib) exit 0 ;;
+esac
+"""
+
+FILES = {
+    "crates.txt": "# The crates.\nlow:\nhigh: low\n",
+    "crates/low/must-fail/one.edit": "",
+    "crates/low/must-fail/two.edit": "",
+    "crates/low/must-fail/README.md": "",
+    "crates/high/must-fail/three.edit": "",
+    "crates/high/src/main.rt": "",
+    "said": "2 passed, 0 failed\n",
+    "tools/rows.py": "print('5 rows')\n",
+    "tools/lanes.sh": "#!/bin/sh\n",
+    "tools/test_gate.py": "print('Ran 2 tests in 1s')\n",
+    "tools/test_judge.py": "print('Ran 3 tests in 1s')\n",
+    "tools/must_not_compile.py": "print('4 programs, 0 failed')\n",
+    "tools/devices.py": "import sys\nassert len(sys.argv) == 3\nprint('9 runs, 0 failed')\n",
+}
+
+
+class Judge:
+    """Refuses every edit but those of one name."""
+
+    let_through = None
+
+    def __init__(self, root, name, options, say, progress, slots):
+        self.folder = os.path.join(root, "crates", name, "must-fail")
+
+    def run(self, temporary):
+        edits = [it for it in os.listdir(self.folder) if it.endswith(".edit")]
+        through = sum(it == self.let_through for it in edits)
+        return len(edits) - through, through
+
+
+class GateTests(unittest.TestCase):
+    def setUp(self):
+        self.room = tempfile.TemporaryDirectory(prefix="test-gate-")
+        self.root = self.room.name
+        for path, text in FILES.items():
+            self.write(path, text)
+        self.write("rt", STAND_IN)
+        os.chmod(os.path.join(self.root, "rt"), 0o755)
+        os.chmod(os.path.join(self.root, "tools/lanes.sh"), 0o755)
+        subprocess.run(["git", "init", "-q", self.root], check=True)
+        for it in (mock.patch.multiple(gate, ROOT=self.root, RT=os.path.join(self.root, "rt")),
+                   mock.patch.object(gate.judge_edits, "Judge", Judge),
+                   mock.patch.object(gate.must_not_compile, "BELOW", ("low",))):
+            it.start()
+            self.addCleanup(it.stop)
+        self.addCleanup(self.room.cleanup)
+
+    def write(self, path, text):
+        path = os.path.join(self.root, path)
+        os.makedirs(os.path.dirname(path), exist_ok=True)
+        with open(path, "w", encoding="utf-8") as file:
+            file.write(text)
+
+    def said(self, *words):
+        """The gate's status and what it said."""
+        out = io.StringIO()
+        with contextlib.redirect_stdout(out):
+            status = gate.main(list(words))
+        return status, out.getvalue()
+
+    def fails(self, why, failed=1):
+        status, said = self.said()
+        self.assertEqual(status, 1)
+        self.assertIn(why, said)
+        self.assertTrue(said.endswith(f" parts passed, {failed} failed\n"), said)
+
+    def test_all_is_well(self):
+        status, said = self.said()
+        self.assertEqual((status, said.splitlines()[-1]), (0, "8 parts passed, 0 failed"), said)
+        self.assertIn("3 of 3 edits refused", said)
+        self.assertIn("2 passed, 0 failed: 3 functions, 0 of them tests", said)
+
+    def test_one_by_one_wants_the_edits_of_the_toolchain(self):
+        self.assertIn("its last line is not '5 passed, 0 failed'", self.said("--one-by-one")[1])
+        self.write("said", "5 passed, 0 failed\n")
+        status, said = self.said("--one-by-one")
+        self.assertEqual((status, said.splitlines()[-1]), (0, "6 parts passed, 0 failed"), said)
+
+    def test_the_proofs_run_without_edits_and_the_judge_with_them(self):
+        self.write("rt", STAND_IN.replace("ci)", "ci) test ! -e crates/low/must-fail || exit 1;"))
+        self.assertEqual(self.said()[0], 0)
+
+    def test_an_edit_that_is_not_refused(self):
+        with mock.patch.object(Judge, "let_through", "two.edit"):
+            self.fails("2 of 3 edits are refused")
+
+    def test_a_crate_that_is_not_judged(self):
+        with mock.patch.object(Judge, "run", lambda *_: (0, 0)):
+            self.fails("0 of 3 edits are refused")
+
+    def test_a_crate_that_is_not_proved(self):
+        self.write("said", "1 passed, 0 failed\n")
+        self.fails("its last line is not '2 passed, 0 failed'", failed=2)
+
+    def test_a_library_that_is_not_proved_for_the_judge(self):
+        self.write("rt", STAND_IN.replace("exit 0", "exit 1"))
+        self.fails("low is not proved", failed=2)
+
+    def test_no_toolchain(self):
+        with mock.patch.object(gate, "RT", "/nowhere/rt"):
+            self.fails("No such file", failed=4)
+
+    def test_a_tool_that_fails(self):
+        self.write("tools/devices.py", "import sys\nsys.exit(1)\n")
+        self.fails("tools/devices.py ended with status 1")
+
+    def test_no_test_of_the_judge(self):
+        self.write("tools/test_judge.py", "print('Ran 0 tests in 0s')\n")
+        self.fails("no test ran")
+
+    def test_a_tool_that_is_gone(self):
+        os.remove(os.path.join(self.root, "tools/lanes.sh"))
+        self.fails("lanes.sh")
+
+    def test_a_folder_that_is_no_crate(self):
+        self.write("crates/lost/src/lib.rt", "")
+        self.fails("crates.txt has high, low, and crates/ has high, lost, low")
+
+    def test_a_crate_without_edits(self):
+        os.remove(os.path.join(self.root, "crates/high/must-fail/three.edit"))
+        self.fails("high: it has no must-fail edit")
+
+    def test_a_file_that_is_no_edit(self):
+        self.write("crates/low/must-fail/three.edits", "")
+        self.fails("low: three.edits is no edit")
+
+
+if __name__ == "__main__":
+    unittest.main()
