@@ -40,6 +40,11 @@ class CFormat(ctypes.Structure):
     _fields_ = list(fields_of_format())
 
 
+MISSING = {*FLAG_FIELDS, *BYTE_FIELDS} - {name for name, _ in CFormat._fields_}
+if MISSING:  # ctypes would take a field that isn't there without a word
+    raise ImportError(f"include/jadvolni.h lacks {', '.join(sorted(MISSING))}")
+
+
 class CResult(ctypes.Structure):
     """jadvolni_result."""
 
