@@ -6,7 +6,8 @@
 # make test-one-by-one  the same, with each edit tried alone by the toolchain: slower, and without the judge
 # make devices runs the program alone over devices that refuse, which make test does too
 # make lexint  the program alone, as crates/lexint/out/lexint
-# make install puts it into $(PREFIX)/bin
+# make install puts it into $(PREFIX)/bin, and the library for C, C++ and Rust where users look; make uninstall takes all away
+# make lib     proves and builds that library; tools/lib.mk has this and its tests, make test-c and make check-c
 # make rows    writes the theorems and tests of the worked rows anew from tools/rows.txt
 # make docs    writes the documents that are made from the source: docs/MAP.md, docs/CONTRACTS.md, code blocks
 # make check-docs  fails where one of them isn't as the source has it, which make test does too
@@ -22,7 +23,8 @@ PREFIX ?= /usr/local
 PROGRAM := crates/lexint/out/lexint
 SOURCES := $(shell find crates -name out -prune -o -type f \( -name '*.rt' -o -name '*.antt' \) -print) crates.txt
 
-.PHONY: run test test-one-by-one devices lexint install rows docs check-docs bench judge test-judge must-not-compile fuzz
+.PHONY: run test test-one-by-one devices lexint install uninstall install-lexint uninstall-lexint rows docs check-docs
+.PHONY: bench judge test-judge must-not-compile fuzz
 
 run: $(PROGRAM)
 	@./$(PROGRAM)
@@ -43,9 +45,19 @@ test-one-by-one:
 devices: $(PROGRAM)
 	@RT=$(RT) tools/devices.py $(PROGRAM)
 
-install: $(PROGRAM)
-	install -d $(DESTDIR)$(PREFIX)/bin
+include tools/lib.mk
+
+install: install-lexint install-lib
+
+uninstall: uninstall-lexint uninstall-lib
+
+install-lexint: $(PROGRAM)
+	install -d $(DESTDIR)$(PREFIX)/bin $(DESTDIR)$(MANDIR)/man1
 	install -m 755 $(PROGRAM) $(DESTDIR)$(PREFIX)/bin/lexint
+	$(FILL) packaging/lexint.1.in > $(DESTDIR)$(MANDIR)/man1/lexint.1
+
+uninstall-lexint:
+	rm -f $(DESTDIR)$(PREFIX)/bin/lexint $(DESTDIR)$(MANDIR)/man1/lexint.1
 
 rows:
 	@python3 tools/rows.py

@@ -16,6 +16,7 @@ gate      tests of this script, in which no prover runs
 judge     tests of the judge
 programs  what must_not_compile.txt has is refused, or proved
 devices   the programs that `rt ci` has built, over devices that refuse
+callers   the library for C is built, and its callers in C, C++ and Rust run; what no compiler is there for is counted
 
 With --one-by-one `rt ci` tries the edits itself, each in a check of its own, in place of the judge.
 The last line is 'N parts passed, M failed'.
@@ -155,10 +156,12 @@ class Gate:
                  "house": (None, self.measures), "proofs": (None, self.proofs), "edits": (None, self.all_edits),
                  "gate": (None, self.tests_of_gate),
                  "judge": (None, self.tests_of_judge),
-                 "programs": (self.libraries_are_built, self.programs), "devices": (self.proofs_passed, self.devices)}
+                 "programs": (self.libraries_are_built, self.programs), "devices": (self.proofs_passed, self.devices),
+                 "callers": (self.libraries_are_built, self.callers)}
         if self.is_one_by_one:
             del parts["edits"], parts["judge"]
             parts["programs"] = self.proofs_passed, self.programs
+            parts["callers"] = self.proofs_passed, self.callers
         with concurrent.futures.ThreadPoolExecutor(len(parts)) as pool:
             told = [it.result() for it in [pool.submit(self.part, name, *calls) for name, calls in parts.items()]]
         self.say("gate ends")
@@ -308,6 +311,14 @@ class Gate:
         out = os.path.join(self.proofs_root, "crates", "lexint", "out")
         built = [os.path.join(out, name) for name in ("lexint", "lexint.by-rattle")]
         return last_line(self.tool("devices.py", *built, root=self.proofs_root))
+
+    def callers(self):
+        with self.slots:
+            ran = subprocess.run(["make", "-s", "test-c", f"RT={RT}"], cwd=self.root, stdin=subprocess.DEVNULL,
+                                 stdout=subprocess.PIPE, stderr=subprocess.STDOUT, text=True, errors="replace")
+        if ran.returncode:
+            raise Failed(f"make test-c ended with status {ran.returncode}:\n{ran.stdout[-8000:]}")
+        return last_line(ran.stdout)
 
 
 def main(words):

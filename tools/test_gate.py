@@ -34,6 +34,7 @@ FILES = {
     "crates/high/src/main.rt": "",
     "crates/low/out/rlib/stamp": "what an earlier run has kept",
     "said": "2 passed, 0 failed\n",
+    "Makefile": "test-c:\n\t@echo 'callers of the library: 6 passed'\n",
     "tools/rows.py": "print('5 rows')\n",
     "tools/lanes.sh": "#!/bin/sh\n",
     "tools/documents.py": "import sys\nassert sys.argv[1:] == ['--check']\nprint('7 documents')\n",
@@ -100,6 +101,7 @@ class GateTests(unittest.TestCase):
         self.assertEqual((status, said.splitlines()[-1]), (0, "9 parts passed, 0 failed"), said)
         self.assertIn("3 of 3 edits refused", said)
         self.assertIn("2 passed, 0 failed: 3 functions and 2 tests", said)
+        self.assertIn("callers of the library: 6 passed", said)
 
     def test_one_by_one_wants_the_edits_of_the_toolchain(self):
         self.assertIn("its last line is not '5 passed, 0 failed'", self.said("--one-by-one")[1])
@@ -131,11 +133,11 @@ class GateTests(unittest.TestCase):
 
     def test_a_library_that_is_not_proved_for_the_judge(self):
         self.write("rt", STAND_IN.replace("exit 0", "exit 1"))
-        self.fails("low is not proved", failed=2)
+        self.fails("low is not proved", failed=3)
 
     def test_no_toolchain(self):
         with mock.patch.object(gate, "RT", "/nowhere/rt"):
-            self.fails("No such file", failed=4)
+            self.fails("No such file", failed=5)
 
     def test_a_tool_that_fails(self):
         self.write("tools/devices.py", "import sys\nsys.exit(1)\n")
@@ -144,6 +146,10 @@ class GateTests(unittest.TestCase):
     def test_an_old_document(self):
         self.write("tools/documents.py", "import sys\nsys.exit(1)\n")
         self.fails("tools/documents.py ended with status 1")
+
+    def test_a_caller_of_the_library_that_fails(self):
+        self.write("Makefile", "test-c:\n\t@false\n")
+        self.fails("make test-c ended with status 2")
 
     def test_no_test_of_the_judge(self):
         self.write("tools/test_judge.py", "print('Ran 0 tests in 0s')\n")

@@ -1,0 +1,111 @@
+//! What can be wrong with a text, or with the format that it is read under.
+
+use core::fmt;
+use jadvolni_sys::Outcome;
+
+/// What is wrong with a text, with its place, or with the format that it is read under.
+///
+/// A place counts the bytes of the whole text from 0, sign and prefix included.
+#[derive(Debug, Copy, Clone, PartialEq, Eq, Hash)]
+#[non_exhaustive]
+pub enum Error {
+    /// The number is greater than the type's greatest. The place is that of the digit with which it
+    /// leaves the type.
+    Overflow(usize),
+    /// The number is less than the type's least. The place is that of the digit with which it leaves
+    /// the type.
+    Underflow(usize),
+    /// The text goes on at the place where the number has ended.
+    InvalidDigit(usize),
+    /// A digit is missing at the place.
+    Empty(usize),
+    /// The format requires a sign. The place is 0.
+    MissingSign(usize),
+    /// The format forbids the plus. The place is 0.
+    InvalidPositiveSign(usize),
+    /// The format forbids the zero at the place, in front of another digit.
+    InvalidLeadingZeros(usize),
+    /// The format's radix isn't from 2 to 36.
+    InvalidMantissaRadix,
+    /// The format's separator isn't ASCII, or it is `+`, `-` or a digit.
+    InvalidDigitSeparator,
+    /// The format's prefix isn't ASCII, or it is `+`, `-` or a digit.
+    InvalidBasePrefix,
+    /// The format's suffix isn't ASCII, or it is `+`, `-` or a digit.
+    InvalidBaseSuffix,
+    /// Two of separator, prefix and suffix are alike.
+    InvalidPunctuation,
+    /// The format can't have literal prefixes beside its radix, prefix, separator or suffix.
+    InvalidLiteralPrefixes,
+    /// A status that only a later library has.
+    Unknown(u32),
+}
+
+impl Error {
+    /// What a call has answered: `None` where it read a number.
+    #[inline]
+    pub(crate) fn of(outcome: Outcome) -> Option<Error> {
+        Some(match outcome.status {
+            0 => return None,
+            1 => Error::Overflow(outcome.place),
+            2 => Error::Underflow(outcome.place),
+            3 => Error::InvalidDigit(outcome.place),
+            4 => Error::Empty(outcome.place),
+            5 => Error::MissingSign(outcome.place),
+            6 => Error::InvalidPositiveSign(outcome.place),
+            7 => Error::InvalidLeadingZeros(outcome.place),
+            8 => Error::InvalidMantissaRadix,
+            9 => Error::InvalidDigitSeparator,
+            10 => Error::InvalidBasePrefix,
+            11 => Error::InvalidBaseSuffix,
+            12 => Error::InvalidPunctuation,
+            13 => Error::InvalidLiteralPrefixes,
+            other => Error::Unknown(other),
+        })
+    }
+
+    /// The place of a fault of the text, and `None` for a fault of the format.
+    pub fn place(&self) -> Option<usize> {
+        match *self {
+            Error::Overflow(place)
+            | Error::Underflow(place)
+            | Error::InvalidDigit(place)
+            | Error::Empty(place)
+            | Error::MissingSign(place)
+            | Error::InvalidPositiveSign(place)
+            | Error::InvalidLeadingZeros(place) => Some(place),
+            _ => None,
+        }
+    }
+}
+
+impl fmt::Display for Error {
+    fn fmt(&self, f: &mut fmt::Formatter<'_>) -> fmt::Result {
+        match *self {
+            Error::Overflow(place) => write!(f, "overflow at byte {place}"),
+            Error::Underflow(place) => write!(f, "underflow at byte {place}"),
+            Error::InvalidDigit(place) => write!(f, "invalid digit at byte {place}"),
+            Error::Empty(place) => write!(f, "missing digit at byte {place}"),
+            Error::MissingSign(place) => write!(f, "missing sign at byte {place}"),
+            Error::InvalidPositiveSign(place) => write!(f, "forbidden plus sign at byte {place}"),
+            Error::InvalidLeadingZeros(place) => write!(f, "forbidden leading zero at byte {place}"),
+            Error::InvalidMantissaRadix => f.write_str("the radix of the format is not from 2 to 36"),
+            Error::InvalidDigitSeparator => {
+                f.write_str("the separator of the format is not ASCII, or is a sign or a digit")
+            }
+            Error::InvalidBasePrefix => {
+                f.write_str("the prefix of the format is not ASCII, or is a sign or a digit")
+            }
+            Error::InvalidBaseSuffix => {
+                f.write_str("the suffix of the format is not ASCII, or is a sign or a digit")
+            }
+            Error::InvalidPunctuation => {
+                f.write_str("two of separator, prefix and suffix of the format are alike")
+            }
+            Error::InvalidLiteralPrefixes => f.write_str("the format cannot have literal prefixes"),
+            Error::Unknown(status) => write!(f, "the library answered with status {status}"),
+        }
+    }
+}
+
+impl core::error::Error for Error {}

@@ -1,0 +1,115 @@
+//! The twelve integer types, and the four calls of each.
+
+use crate::{Error, Format};
+use core::convert::identity;
+use jadvolni_sys as sys;
+
+/// One of the twelve integer types: `u8` to `u128`, `usize`, `i8` to `i128`, `isize`.
+pub trait Integer: Copy + Calls {}
+
+type Call<Kept> = unsafe extern "C" fn(*const u8, usize, *mut Kept) -> sys::Outcome;
+type CallUnder<Kept> =
+    unsafe extern "C" fn(*const u8, usize, *const sys::Format, *mut Kept) -> sys::Outcome;
+
+/// What the library keeps a number in, and its four calls. Each reads the text and the format that
+/// it is handed, writes a `Kept` at most, and keeps nothing.
+pub trait Calls: Sized {
+    type Kept: Default;
+    const COMPLETE: Call<Self::Kept>;
+    const PARTIAL: Call<Self::Kept>;
+    const COMPLETE_UNDER: CallUnder<Self::Kept>;
+    const PARTIAL_UNDER: CallUnder<Self::Kept>;
+
+    /// The number that is kept.
+    fn number(kept: Self::Kept) -> Self;
+}
+
+#[inline]
+fn call<T: Calls>(text: &[u8], call: Call<T::Kept>) -> Result<(T, usize), Error> {
+    let mut kept = T::Kept::default();
+    // SAFETY: the pointers are those of a slice with its length, and of a value of the call's type.
+    let outcome = unsafe { call(text.as_ptr(), text.len(), &mut kept) };
+    match Error::of(outcome) {
+        None => Ok((T::number(kept), outcome.place)),
+        Some(error) => Err(error),
+    }
+}
+
+#[inline]
+fn call_under<T: Calls>(
+    text: &[u8],
+    format: &Format,
+    call: CallUnder<T::Kept>,
+) -> Result<(T, usize), Error> {
+    let mut kept = T::Kept::default();
+    // SAFETY: as above, and the format is a value of its own.
+    let outcome = unsafe { call(text.as_ptr(), text.len(), &format.bytes(), &mut kept) };
+    match Error::of(outcome) {
+        None => Ok((T::number(kept), outcome.place)),
+        Some(error) => Err(error),
+    }
+}
+
+#[inline]
+pub(crate) fn complete<T: Integer>(text: &[u8]) -> Result<T, Error> {
+    call(text, T::COMPLETE).map(|(number, _)| number)
+}
+
+#[inline]
+pub(crate) fn partial<T: Integer>(text: &[u8]) -> Result<(T, usize), Error> {
+    call(text, T::PARTIAL)
+}
+
+#[inline]
+pub(crate) fn complete_with<T: Integer>(text: &[u8], format: &Format) -> Result<T, Error> {
+    call_under(text, format, T::COMPLETE_UNDER).map(|(number, _)| number)
+}
+
+#[inline]
+pub(crate) fn partial_with<T: Integer>(
+    text: &[u8],
+    format: &Format,
+) -> Result<(T, usize), Error> {
+    call_under(text, format, T::PARTIAL_UNDER)
+}
+
+/// A type, what its numbers are kept in, how one is had from that, and its four calls.
+macro_rules! integer {
+    ($type:ty, $kept:ty, $number:expr, $complete:ident $partial:ident $complete_under:ident $partial_under:ident) => {
+        impl Integer for $type {}
+
+        impl Calls for $type {
+            type Kept = $kept;
+            const COMPLETE: Call<$kept> = sys::$complete;
+            const PARTIAL: Call<$kept> = sys::$partial;
+            const COMPLETE_UNDER: CallUnder<$kept> = sys::$complete_under;
+            const PARTIAL_UNDER: CallUnder<$kept> = sys::$partial_under;
+
+            #[inline]
+            fn number(kept: $kept) -> $type {
+                $number(kept)
+            }
+        }
+    };
+}
+
+fn unsigned(halves: sys::Unsigned128) -> u128 {
+    (halves.high as u128) << 64 | halves.low as u128
+}
+
+fn signed(halves: sys::Signed128) -> i128 {
+    (halves.high as i128) << 64 | halves.low as i128
+}
+
+integer!(u8, u8, identity, jadvolni_u8 jadvolni_u8_partial jadvolni_u8_with_format jadvolni_u8_partial_with_format);
+integer!(u16, u16, identity, jadvolni_u16 jadvolni_u16_partial jadvolni_u16_with_format jadvolni_u16_partial_with_format);
+integer!(u32, u32, identity, jadvolni_u32 jadvolni_u32_partial jadvolni_u32_with_format jadvolni_u32_partial_with_format);
+integer!(u64, u64, identity, jadvolni_u64 jadvolni_u64_partial jadvolni_u64_with_format jadvolni_u64_partial_with_format);
+integer!(u128, sys::Unsigned128, unsigned, jadvolni_u128 jadvolni_u128_partial jadvolni_u128_with_format jadvolni_u128_partial_with_format);
+integer!(usize, usize, identity, jadvolni_usize jadvolni_usize_partial jadvolni_usize_with_format jadvolni_usize_partial_with_format);
+integer!(i8, i8, identity, jadvolni_i8 jadvolni_i8_partial jadvolni_i8_with_format jadvolni_i8_partial_with_format);
+integer!(i16, i16, identity, jadvolni_i16 jadvolni_i16_partial jadvolni_i16_with_format jadvolni_i16_partial_with_format);
+integer!(i32, i32, identity, jadvolni_i32 jadvolni_i32_partial jadvolni_i32_with_format jadvolni_i32_partial_with_format);
+integer!(i64, i64, identity, jadvolni_i64 jadvolni_i64_partial jadvolni_i64_with_format jadvolni_i64_partial_with_format);
+integer!(i128, sys::Signed128, signed, jadvolni_i128 jadvolni_i128_partial jadvolni_i128_with_format jadvolni_i128_partial_with_format);
+integer!(isize, isize, identity, jadvolni_isize jadvolni_isize_partial jadvolni_isize_with_format jadvolni_isize_partial_with_format);

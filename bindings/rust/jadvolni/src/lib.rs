@@ -1,0 +1,81 @@
+//! Integers from bytes, by a library that is proved to answer what its grammar says.
+//!
+//! ```
+//! use jadvolni::{parse, parse_partial, parse_with, Error, Format};
+//!
+//! assert_eq!(parse::<u64>("18446744073709551616"), Err(Error::Overflow(19)));
+//! assert_eq!(parse_partial::<u64>(b"1234 }"), Ok((1234, 4)));
+//! let hexadecimal = Format { mantissa_radix: 16, base_prefix: Some(b'x'), ..Format::STANDARD };
+//! assert_eq!(parse_with::<u8>("0x1F", &hexadecimal), Ok(31));
+//! ```
+//!
+//! No call allocates or panics. The proofs are of the library behind these calls: that this crate hands
+//! its texts over and its answers back is tested.
+#![no_std]
+
+// The example of the README is a test too.
+#[cfg(doctest)]
+#[doc = include_str!("../../README.md")]
+struct Readme;
+
+mod error;
+mod format;
+mod integer;
+
+pub use error::Error;
+pub use format::Format;
+pub use integer::Integer;
+
+use jadvolni_sys as sys;
+
+/// The whole text as a `T`: decimal digits behind an optional sign.
+///
+/// ```
+/// assert_eq!(jadvolni::parse::<i8>("-128"), Ok(-128));
+/// assert_eq!(jadvolni::parse::<i8>(b"12x"), Err(jadvolni::Error::InvalidDigit(2)));
+/// ```
+#[inline]
+pub fn parse<T: Integer>(text: impl AsRef<[u8]>) -> Result<T, Error> {
+    integer::complete(text.as_ref())
+}
+
+/// The front of the text as a `T`, and where reading stopped. A front of no digits is 0 at place 0.
+///
+/// ```
+/// assert_eq!(jadvolni::parse_partial::<u64>("1234 }"), Ok((1234, 4)));
+/// ```
+#[inline]
+pub fn parse_partial<T: Integer>(text: impl AsRef<[u8]>) -> Result<(T, usize), Error> {
+    integer::partial(text.as_ref())
+}
+
+/// The whole text as a `T`, under a format.
+///
+/// ```
+/// use jadvolni::{Error, Format};
+/// assert_eq!(jadvolni::parse_with::<u32>("0xFF_FF", &Format::LITERAL), Ok(65535));
+/// assert_eq!(jadvolni::parse_with::<u32>("01", &Format::JSON), Err(Error::InvalidLeadingZeros(0)));
+/// ```
+#[inline]
+pub fn parse_with<T: Integer>(text: impl AsRef<[u8]>, format: &Format) -> Result<T, Error> {
+    integer::complete_with(text.as_ref(), format)
+}
+
+/// The front of the text as a `T`, under a format, and where reading stopped.
+///
+/// ```
+/// assert_eq!(jadvolni::parse_partial_with::<u64>("0b102", &jadvolni::Format::LITERAL), Ok((2, 4)));
+/// ```
+#[inline]
+pub fn parse_partial_with<T: Integer>(
+    text: impl AsRef<[u8]>,
+    format: &Format,
+) -> Result<(T, usize), Error> {
+    integer::partial_with(text.as_ref(), format)
+}
+
+/// The version of the library that was linked: 100 for 0.1.0.
+pub fn library_version() -> u32 {
+    // SAFETY: the call has no argument and reads nothing.
+    unsafe { sys::jadvolni_version() }
+}

@@ -1,0 +1,116 @@
+//! Each fault of each call, and the calls beside those of std.
+use jadvolni::{parse, parse_partial, parse_partial_with, parse_with, Error, Format, Integer};
+
+#[test]
+fn faults_of_texts() {
+    let with_sign = Format { required_mantissa_sign: true, ..Format::STANDARD };
+    assert_eq!(parse::<u64>("18446744073709551616"), Err(Error::Overflow(19)));
+    assert_eq!(parse::<i8>("-129"), Err(Error::Underflow(3)));
+    assert_eq!(parse::<u8>("1a"), Err(Error::InvalidDigit(1)));
+    assert_eq!(parse::<u8>(""), Err(Error::Empty(0)));
+    assert_eq!(parse_with::<i64>("12", &with_sign), Err(Error::MissingSign(0)));
+    assert_eq!(parse_with::<i64>("+1", &Format::JSON), Err(Error::InvalidPositiveSign(0)));
+    assert_eq!(parse_with::<i64>("-01", &Format::JSON), Err(Error::InvalidLeadingZeros(1)));
+    assert_eq!(parse_partial::<u64>("1234 }, {\"Key\""), Ok((1234, 4)));
+    assert_eq!(parse_partial_with::<u64>("0b102", &Format::LITERAL), Ok((2, 4)));
+}
+
+#[test]
+fn faults_of_formats() {
+    let clash = Format { base_prefix: Some(b'x'), literal_prefixes: true, ..Format::STANDARD };
+    let shared = Format { base_suffix: Some(b'X'), ..clash };
+    let suffix = Format { base_suffix: Some(b'-'), ..clash };
+    let prefix = Format { base_prefix: Some(b'0'), ..suffix };
+    let separator = Format { digit_separator: Some(200), ..prefix };
+    let radix = Format { mantissa_radix: 0, ..separator };
+    let broken = [
+        (clash, Error::InvalidLiteralPrefixes),
+        (shared, Error::InvalidPunctuation),
+        (suffix, Error::InvalidBaseSuffix),
+        (prefix, Error::InvalidBasePrefix),
+        (separator, Error::InvalidDigitSeparator),
+        (radix, Error::InvalidMantissaRadix),
+    ];
+    for (format, fault) in broken {
+        assert_eq!(format.error(), Some(fault));
+        assert_eq!(parse_with::<u8>("1", &format), Err(fault));
+        assert_eq!(parse_partial_with::<u8>("1", &format), Err(fault));
+        assert_eq!(fault.place(), None);
+    }
+    assert_eq!(Format::default().error(), None);
+}
+
+#[test]
+fn nul_is_a_byte_like_others() {
+    let utf16 = Format {
+        digit_separator: Some(0),
+        integer_internal_digit_separator: true,
+        integer_trailing_digit_separator: true,
+        ..Format::STANDARD
+    };
+    assert_eq!(parse_with::<u16>(b"1\x002\x003\x00", &utf16), Ok(123));
+    assert_eq!(parse::<u16>(b"1\x002\x003\x00"), Err(Error::InvalidDigit(1)));
+}
+
+#[test]
+fn faults_as_texts() {
+    let fault: Box<dyn std::error::Error> = Box::new(parse::<u8>("256").unwrap_err());
+    assert_eq!(fault.to_string(), "overflow at byte 2");
+    assert_eq!(parse::<u8>("256").unwrap_err().place(), Some(2));
+    assert_eq!(jadvolni::library_version(), 100);
+}
+
+/// The least and the greatest number of a type, by all four calls.
+fn ends<T: Integer + ToString + PartialEq + std::fmt::Debug>(ends: [T; 2]) {
+    for end in ends {
+        let text = end.to_string();
+        assert_eq!(parse::<T>(&text), Ok(end));
+        assert_eq!(parse_partial::<T>(&text), Ok((end, text.len())));
+        assert_eq!(parse_with::<T>(&text, &Format::STANDARD), Ok(end));
+        assert_eq!(parse_partial_with::<T>(&text, &Format::STANDARD), Ok((end, text.len())));
+    }
+}
+
+#[test]
+fn ends_of_types() {
+    ends([u8::MIN, u8::MAX]);
+    ends([u16::MIN, u16::MAX]);
+    ends([u32::MIN, u32::MAX]);
+    ends([u64::MIN, u64::MAX]);
+    ends([u128::MIN, u128::MAX]);
+    ends([usize::MIN, usize::MAX]);
+    ends([i8::MIN, i8::MAX]);
+    ends([i16::MIN, i16::MAX]);
+    ends([i32::MIN, i32::MAX]);
+    ends([i64::MIN, i64::MAX]);
+    ends([i128::MIN, i128::MAX]);
+    ends([isize::MIN, isize::MAX]);
+}
+
+/// Random texts, most of them of digits, beside `str::parse`.
+#[test]
+fn beside_std() {
+    let mut state = 7u64;
+    let mut next = move |below: u64| {
+        state = state.wrapping_mul(6364136223846793005).wrapping_add(1442695040888963407);
+        (state >> 33) % below
+    };
+    for _ in 0..100_000 {
+        let length = next(42);
+        let text: String = (0..length)
+            .map(|place| match (place, next(40)) {
+                (0, 0..=12) => '-',
+                (0, 13..=16) => '+',
+                (_, 17) => 'x',
+                _ => char::from(b'0' + next(10) as u8),
+            })
+            .collect();
+        let front = &text[..text.len().min(1 + next(20) as usize)];
+        assert_eq!(parse::<u8>(&front[..front.len().min(4)]).ok(), front[..front.len().min(4)].parse().ok());
+        assert_eq!(parse::<i32>(front).ok(), front.parse().ok(), "{front}");
+        assert_eq!(parse::<u64>(front).ok(), front.parse().ok(), "{front}");
+        assert_eq!(parse::<i64>(front).ok(), front.parse().ok(), "{front}");
+        assert_eq!(parse::<u128>(&text).ok(), text.parse().ok(), "{text}");
+        assert_eq!(parse::<i128>(&text).ok(), text.parse().ok(), "{text}");
+    }
+}

@@ -1,0 +1,103 @@
+//! The four calls of every type, which the exports of that type make.
+
+ghost use Rattle.std.specs.Prelude.{◌≡◌};
+ghost use Rattle.lexical_parse_integer.specs.Answer.{with_place, view_of};
+ghost use Rattle.jadvolni.specs.Effect.{effect, complete_effect, partial_effect};
+ghost use Rattle.jadvolni.specs.Effect.{complete_call, complete_call_under, partial_call, partial_call_under};
+
+use crate::format::FormatFields;
+use crate::outcome::{Outcome, UNKNOWN_FIELD};
+use crate::slot::Slot;
+use lexical_parse_integer::{FromLexical, FromLexicalWithOptions, Options, Result, options};
+use lexical_util::num::Integer;
+
+// Hands over a complete answer of a text of so many bytes.
+#[inline(always)]
+fn give<T: Integer, S: Slot<T>>(answer: Result<T>, size: usize, value: &mut S) -> Outcome
+    ensures { effect result (S.number value.new)
+        ≡ complete_effect size (S.number value.old) (view_of T.number answer) }
+{
+    match answer {
+        Ok(number) => {
+            value.put(number);
+            Outcome {
+                status: 0,
+                place: size,
+            }
+        }
+        Err(error) => Outcome::of_fault(error),
+    }
+}
+
+// Hands over a partial answer.
+#[inline(always)]
+fn give_front<T: Integer, S: Slot<T>>(answer: Result<(T, usize)>, value: &mut S) -> Outcome
+    ensures { effect result (S.number value.new)
+        ≡ partial_effect (S.number value.old) (view_of (with_place T.number) answer) }
+{
+    match answer {
+        Ok((number, place)) => {
+            value.put(number);
+            Outcome { status: 0, place }
+        }
+        Err(error) => Outcome::of_fault(error),
+    }
+}
+
+/// The whole text, under the standard format.
+#[inline(always)]
+pub fn complete<T: FromLexical, S: Slot<T>>(text: &[u8], value: &mut S) -> Outcome
+    ensures { effect result (S.number value.new)
+        ≡ complete_call T.TYPE text.now (S.number value.old) }
+{
+    give(T::from_lexical(text), text.len(), value)
+}
+
+/// The text's front, under the standard format.
+#[inline(always)]
+pub fn partial<T: FromLexical, S: Slot<T>>(text: &[u8], value: &mut S) -> Outcome
+    ensures { effect result (S.number value.new)
+        ≡ partial_call T.TYPE text.now (S.number value.old) }
+{
+    give_front(T::from_lexical_partial(text), value)
+}
+
+// What a format with an unknown field is to C.
+const UNKNOWN: Outcome = Outcome {
+    status: UNKNOWN_FIELD,
+    place: 0,
+};
+
+/// The whole text, under a format that may be invalid.
+#[inline(always)]
+pub fn complete_under<T: FromLexicalWithOptions<Options = Options>, S: Slot<T>>(
+    text: &[u8],
+    fields: &FormatFields,
+    value: &mut S,
+) -> Outcome
+    ensures { effect result (S.number value.new)
+        ≡ complete_call_under fields.now T.TYPE text.now (S.number value.old) }
+{
+    if !fields.are_known() {
+        return UNKNOWN;
+    }
+    let answer = T::from_lexical_with_options(text, &fields.format(), &options::STANDARD);
+    give(answer, text.len(), value)
+}
+
+/// The text's front, under a format that may be invalid.
+#[inline(always)]
+pub fn partial_under<T: FromLexicalWithOptions<Options = Options>, S: Slot<T>>(
+    text: &[u8],
+    fields: &FormatFields,
+    value: &mut S,
+) -> Outcome
+    ensures { effect result (S.number value.new)
+        ≡ partial_call_under fields.now T.TYPE text.now (S.number value.old) }
+{
+    if !fields.are_known() {
+        return UNKNOWN;
+    }
+    let answer = T::from_lexical_partial_with_options(text, &fields.format(), &options::STANDARD);
+    give_front(answer, value)
+}

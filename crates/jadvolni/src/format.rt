@@ -1,0 +1,110 @@
+//! Formats as C writes them, and what is wrong with one.
+
+ghost use Rattle.std.specs.Prelude.{◌≡◌};
+ghost use Rattle.jadvolni.specs.Effect.{format_status};
+ghost use Rattle.jadvolni.specs.FormatFields.{are_known, flag, format_of, punctuation};
+
+use crate::outcome::{UNKNOWN_FIELD, status_of};
+use lexical_parse_integer::{NumberFormat, NumberFormatBuilder};
+
+/// A format, byte by byte: `jadvolni_format` in C, where each field is described.
+///
+/// The names are those of `NumberFormatBuilder`. A flag is set by every byte but 0. A separator,
+/// prefix or suffix of 0 is none, or the byte 0 itself where the flag `.._is_nul` beside it is set.
+/// Any bytes may stand here: the calls refuse what breaks a rule.
+#[repr(C)]
+#[derive(Copy, Clone)]
+pub struct FormatFields {
+    pub mantissa_radix: u8,
+    pub digit_separator: u8,
+    pub base_prefix: u8,
+    pub base_suffix: u8,
+    pub case_sensitive_base_prefix: u8,
+    pub case_sensitive_base_suffix: u8,
+    pub required_integer_digits: u8,
+    pub required_mantissa_digits: u8,
+    pub no_positive_mantissa_sign: u8,
+    pub required_mantissa_sign: u8,
+    pub no_integer_leading_zeros: u8,
+    pub integer_leading_digit_separator: u8,
+    pub integer_internal_digit_separator: u8,
+    pub integer_trailing_digit_separator: u8,
+    pub integer_consecutive_digit_separator: u8,
+    pub literal_prefixes: u8,
+    pub digit_separator_is_nul: u8,
+    pub base_prefix_is_nul: u8,
+    pub base_suffix_is_nul: u8,
+    pub reserved: [u8; 5],
+}
+
+// A flag, which every byte but 0 sets.
+#[inline(always)]
+fn flag(byte: u8) -> bool
+    ensures { result ≡ flag byte }
+{
+    byte != 0
+}
+
+// A byte of punctuation, or none.
+#[inline(always)]
+fn punctuation(byte: u8, is_nul: u8) -> Option<u8>
+    ensures { result ≡ punctuation byte is_nul }
+{
+    if byte == 0 && !flag(is_nul) {
+        None
+    } else {
+        Some(byte)
+    }
+}
+
+impl FormatFields {
+    /// Whether the bytes that are kept for later versions are 0.
+    #[inline(always)]
+    pub fn are_known(&self) -> bool
+        ensures { result ≡ are_known self.now }
+    {
+        let [first, second, third, fourth, fifth] = self.reserved;
+        first == 0 && second == 0 && third == 0 && fourth == 0 && fifth == 0
+    }
+
+    /// The format that the fields stand for, which may be invalid.
+    #[inline(always)]
+    pub fn format(&self) -> NumberFormat
+        ensures { result ≡ format_of self.now }
+    {
+        NumberFormatBuilder::new()
+            .mantissa_radix(self.mantissa_radix)
+            .digit_separator(punctuation(self.digit_separator, self.digit_separator_is_nul))
+            .base_prefix(punctuation(self.base_prefix, self.base_prefix_is_nul))
+            .base_suffix(punctuation(self.base_suffix, self.base_suffix_is_nul))
+            .case_sensitive_base_prefix(flag(self.case_sensitive_base_prefix))
+            .case_sensitive_base_suffix(flag(self.case_sensitive_base_suffix))
+            .required_integer_digits(flag(self.required_integer_digits))
+            .required_mantissa_digits(flag(self.required_mantissa_digits))
+            .no_positive_mantissa_sign(flag(self.no_positive_mantissa_sign))
+            .required_mantissa_sign(flag(self.required_mantissa_sign))
+            .no_integer_leading_zeros(flag(self.no_integer_leading_zeros))
+            .integer_leading_digit_separator(flag(self.integer_leading_digit_separator))
+            .integer_internal_digit_separator(flag(self.integer_internal_digit_separator))
+            .integer_trailing_digit_separator(flag(self.integer_trailing_digit_separator))
+            .integer_consecutive_digit_separator(flag(self.integer_consecutive_digit_separator))
+            .literal_prefixes(flag(self.literal_prefixes))
+            .build_unchecked()
+    }
+}
+
+/// 0 where the format is valid, and else the status of the first rule that it breaks.
+///
+/// A reserved byte that isn't 0 is told first, by status 64.
+#[unsafe(no_mangle)]
+pub extern "C" fn jadvolni_format_error(format: &FormatFields) -> u32
+    ensures { result ≡ format_status format.now }
+{
+    if !format.are_known() {
+        return UNKNOWN_FIELD;
+    }
+    match format.format().error() {
+        None => 0,
+        Some(error) => status_of(&error),
+    }
+}

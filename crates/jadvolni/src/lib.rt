@@ -1,0 +1,13 @@
+//! The parsers as C calls them: a static library, whose header is `include/jadvolni.h`.
+#![tactic(auto)]
+
+pub mod calls;
+pub mod format;
+pub mod halves;
+pub mod outcome;
+pub mod signed;
+pub mod slot;
+#[cfg(test)]
+mod tests;
+pub mod unsigned;
+pub mod version;

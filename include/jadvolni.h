@@ -1,0 +1,347 @@
+/*
+ * jadvolni.h - integers from bytes, proved.
+ *
+ * A call reads one integer from the `len` bytes at `text`. They may be any bytes, and no NUL has to
+ * follow them:
+ *
+ *     uint16_t port;
+ *     jadvolni_result r = jadvolni_u16(text, len, &port);
+ *     if (r.status != JADVOLNI_OK)
+ *         fprintf(stderr, "%s at byte %zu\n", jadvolni_status_name(r.status), r.place);
+ *
+ * THE CALLS. Each of the twelve types u8, u16, u32, u64, u128, usize, i8, i16, i32, i64, i128 and
+ * isize has four, shown here for u64:
+ *
+ *     jadvolni_u64(text, len, &value)                               the whole text
+ *     jadvolni_u64_partial(text, len, &value)                       the front of the text
+ *     jadvolni_u64_with_format(text, len, &format, &value)          the whole text, under a format
+ *     jadvolni_u64_partial_with_format(text, len, &format, &value)  its front, under a format
+ *
+ * The first two read what JADVOLNI_FORMAT_STANDARD says: decimal digits, behind a "+" or nothing,
+ * or behind a "-" where the type is signed. The calls on the front stop at the first byte that
+ * doesn't belong to the number: "12, 13" gives 12, and the place 2. A front of no digits, in front
+ * of other bytes, is 0 at place 0, as under the standard format "x" is: look at the place.
+ *
+ * WHAT A CALL ANSWERS
+ *
+ *     r.status  JADVOLNI_OK, or what is wrong with the text or with the format.
+ *     r.place   At JADVOLNI_OK how many bytes were read. At a fault of the text the place of the
+ *               byte that it is about, where the first byte of the text has place 0; it may be
+ *               `len`, where something is missing at the end. At a fault of the format 0.
+ *     *value    The number at JADVOLNI_OK. At every other status it is as it was before the call.
+ *
+ * WHAT THE CALLER HAS TO KEEP
+ *
+ *     `text` points to `len` bytes that may be read. It may be NULL where `len` is 0, and such a
+ *     text is JADVOLNI_EMPTY under the standard format.
+ *     `len` is at most PTRDIFF_MAX.
+ *     `value` and `format` are not NULL.
+ *     `*value` lies neither in the text nor in the format.
+ *     No other thread writes to the text or the format while the call reads them.
+ *
+ * WHAT NO CALL DOES. None allocates memory, keeps state from one call to the next, sets errno,
+ * reads a locale, skips spaces, or calls any other function. So calls may be made from any number
+ * of threads at once, and from signal handlers.
+ *
+ * That each call returns, reads nothing outside the text and the format, and answers exactly what
+ * the grammar says, is proved for every text and every format. docs/GRAMMAR.md has the grammar in
+ * words, and docs/PROOFS.md what is proved, and where proof ends.
+ */
+#ifndef JADVOLNI_H
+#define JADVOLNI_H
+
+#include <stddef.h>
+#include <stdint.h>
+
+#ifdef __cplusplus
+extern "C" {
+#endif
+
+/* ---- version ---- */
+
+/* The version of this header. */
+#define JADVOLNI_VERSION_MAJOR 0
+#define JADVOLNI_VERSION_MINOR 1
+#define JADVOLNI_VERSION_PATCH 0
+#define JADVOLNI_VERSION_STRING "0.1.0"
+
+/* The same as one number: 10000 * major + 100 * minor + patch. */
+#define JADVOLNI_VERSION 100
+
+/* The version of the library that the program was linked with, as such a number. */
+uint32_t jadvolni_version(void);
+
+/* ---- what a call answers ---- */
+
+typedef enum jadvolni_status {
+    /* The number was read. */
+    JADVOLNI_OK = 0,
+
+    /* The number is greater than the type's greatest. The place is that of the first digit with
+     * which it leaves the type, whatever follows: 2 in "2566" as u8. */
+    JADVOLNI_OVERFLOW = 1,
+
+    /* The number is less than the type's least. The place is that of the first digit with which it
+     * leaves the type, whatever follows: 3 in "-1290" as i8. */
+    JADVOLNI_UNDERFLOW = 2,
+
+    /* The whole text was asked for, and it goes on where the number has ended. The place is where
+     * that is: 2 in "12x", and 0 in "x". */
+    JADVOLNI_INVALID_DIGIT = 3,
+
+    /* A digit is required and there is none, or the text ends with its prefix. The place is where
+     * it is missing: 0 in "", 1 in "+", and 2 in "0x" with the prefix 'x'. */
+    JADVOLNI_EMPTY = 4,
+
+    /* The format requires a sign, and the text doesn't begin with one. The place is 0. */
+    JADVOLNI_MISSING_SIGN = 5,
+
+    /* The text begins with "+", which the format forbids. The place is 0. */
+    JADVOLNI_INVALID_POSITIVE_SIGN = 6,
+
+    /* A zero stands in front of another digit, which the format forbids. The place is that of the
+     * first zero: 1 in "-01". */
+    JADVOLNI_INVALID_LEADING_ZEROS = 7,
+
+    /* The format's radix isn't from 2 to 36. For this and all others below the place is 0. */
+    JADVOLNI_INVALID_MANTISSA_RADIX = 8,
+
+    /* The format's separator isn't ASCII, or it is '+', '-' or a digit of the radix. */
+    JADVOLNI_INVALID_DIGIT_SEPARATOR = 9,
+
+    /* The format's prefix isn't ASCII, or it is '+', '-' or a digit of the radix. */
+    JADVOLNI_INVALID_BASE_PREFIX = 10,
+
+    /* The format's suffix isn't ASCII, or it is '+', '-' or a digit of the radix. */
+    JADVOLNI_INVALID_BASE_SUFFIX = 11,
+
+    /* Two of the format's separator, prefix and suffix are one byte, or one letter in two cases. */
+    JADVOLNI_INVALID_PUNCTUATION = 12,
+
+    /* The format asks for literal prefixes, and its radix isn't 10, it has a prefix of its own, or
+     * its separator or suffix could be taken for a part of "0x", "0o", "0b" or of their digits. */
+    JADVOLNI_INVALID_LITERAL_PREFIXES = 13,
+
+    /* A reserved byte of the format isn't 0: it was written for a later version of the library, or
+     * it was never set. */
+    JADVOLNI_UNKNOWN_FIELD = 64
+} jadvolni_status;
+
+/* What a call answers. It is handed back by value, in two registers. */
+typedef struct jadvolni_result {
+    uint32_t status; /* a jadvolni_status */
+    size_t place;
+} jadvolni_result;
+
+/* ---- formats ---- */
+
+/*
+ * What a text may look like. Start from one of the three formats below, and change what differs:
+ *
+ *     jadvolni_format hexadecimal = JADVOLNI_FORMAT_STANDARD;
+ *     hexadecimal.mantissa_radix = 16;
+ *     hexadecimal.base_prefix = 'x';
+ *
+ * A flag is set by every byte but 0. A separator, prefix or suffix of 0 is none; to have the byte 0
+ * itself (as in texts of UTF-16), set the flag `.._is_nul` beside it. A format needs no call to
+ * make it or to free it. Any bytes may stand in one: each call refuses a format that breaks a rule,
+ * whatever the text is, and jadvolni_format_error tells beforehand.
+ */
+typedef struct jadvolni_format {
+    /* The radix, from 2 to 36. Digits above 9 are letters, in either case. */
+    uint8_t mantissa_radix;
+
+    /* A byte that counts for nothing among the digits: '_' in "1_000". Where it may stand, the four
+     * flags below say; with none of them it is no part of a number. */
+    uint8_t digit_separator;
+
+    /* A byte that may follow a 0 in front of the digits: with 'x', "0x1F" is read as "1F" is. The
+     * radix stays. */
+    uint8_t base_prefix;
+
+    /* A byte that may follow the digits: with 'h', "1Fh" is read as "1F" is. */
+    uint8_t base_suffix;
+
+    /* Flag: the prefix is matched exactly. Else a letter is matched in either case. */
+    uint8_t case_sensitive_base_prefix;
+
+    /* Flag: the suffix is matched exactly. Else a letter is matched in either case. */
+    uint8_t case_sensitive_base_suffix;
+
+    /* Flags: a digit is required where either is set. Else a text without digits is 0. */
+    uint8_t required_integer_digits;
+    uint8_t required_mantissa_digits;
+
+    /* Flag: a "+" is refused. */
+    uint8_t no_positive_mantissa_sign;
+
+    /* Flag: a text without a sign is refused. */
+    uint8_t required_mantissa_sign;
+
+    /* Flag: a zero in front of another digit is refused, as in "01". Behind a prefix it is not. */
+    uint8_t no_integer_leading_zeros;
+
+    /* Flag: separators may stand in front of all digits: "_12". */
+    uint8_t integer_leading_digit_separator;
+
+    /* Flag: separators may stand between two digits: "1_2". */
+    uint8_t integer_internal_digit_separator;
+
+    /* Flag: separators may stand behind all digits: "12_". */
+    uint8_t integer_trailing_digit_separator;
+
+    /* Flag: where one separator may stand, more may: "1__2". */
+    uint8_t integer_consecutive_digit_separator;
+
+    /* Flag: "0x", "0o" and "0b" choose the radix 16, 8 or 2 for the digits behind them; so do "0X",
+     * "0O" and "0B", unless the prefix is matched exactly. `mantissa_radix` has to be 10, and is the
+     * radix of a text without one of them. */
+    uint8_t literal_prefixes;
+
+    /* Flag: the separator is the byte 0, where `digit_separator` is 0. */
+    uint8_t digit_separator_is_nul;
+
+    /* Flag: the prefix is the byte 0, where `base_prefix` is 0. */
+    uint8_t base_prefix_is_nul;
+
+    /* Flag: the suffix is the byte 0, where `base_suffix` is 0. */
+    uint8_t base_suffix_is_nul;
+
+    /* 0, each of them. They are for fields of later versions: a program that sets such a field, and
+     * runs with this version of the library, is told so by JADVOLNI_UNKNOWN_FIELD. */
+    uint8_t reserved[5];
+} jadvolni_format;
+
+/* Decimal digits behind an optional sign. A digit is required. */
+#define JADVOLNI_FORMAT_STANDARD \
+    {10, 0, 0, 0, 0, 0, 0, 1, 0, 0, 0, 0, 0, 0, 0, 0, 0, 0, 0, {0, 0, 0, 0, 0}}
+
+/* Integers as JSON has them (RFC 8259): no "+", and no zero in front of another digit. */
+#define JADVOLNI_FORMAT_JSON \
+    {10, 0, 0, 0, 0, 0, 1, 1, 1, 0, 1, 0, 0, 0, 0, 0, 0, 0, 0, {0, 0, 0, 0, 0}}
+
+/* Literals as sources of programs have them: "1_000", "0xFF", "0o17", "0b1". */
+#define JADVOLNI_FORMAT_LITERAL \
+    {10, '_', 0, 0, 0, 0, 0, 1, 0, 0, 0, 0, 1, 0, 1, 1, 0, 0, 0, {0, 0, 0, 0, 0}}
+
+/* JADVOLNI_OK where the format breaks no rule, and else the status of the first that it breaks. */
+uint32_t jadvolni_format_error(const jadvolni_format *format);
+
+/* ---- numbers of 128 bits ---- */
+
+/* A u128, which is high * 2^64 + low. */
+typedef struct jadvolni_uint128 {
+    uint64_t low;
+    uint64_t high;
+} jadvolni_uint128;
+
+/* An i128, which is high * 2^64 + low. -1 has the high half -1 and the low half UINT64_MAX. */
+typedef struct jadvolni_int128 {
+    uint64_t low;
+    int64_t high;
+} jadvolni_int128;
+
+/* ---- the calls ---- */
+
+/* The four calls of the type `name`, whose numbers C keeps in a `type`. */
+#define JADVOLNI_CALLS_(name, type)                                                             \
+    jadvolni_result jadvolni_##name(const char *text, size_t len, type *value);                 \
+    jadvolni_result jadvolni_##name##_partial(const char *text, size_t len, type *value);       \
+    jadvolni_result jadvolni_##name##_with_format(const char *text, size_t len,                 \
+                                                  const jadvolni_format *format, type *value);  \
+    jadvolni_result jadvolni_##name##_partial_with_format(const char *text, size_t len,         \
+                                                          const jadvolni_format *format,        \
+                                                          type *value)
+
+JADVOLNI_CALLS_(u8, uint8_t);
+JADVOLNI_CALLS_(u16, uint16_t);
+JADVOLNI_CALLS_(u32, uint32_t);
+JADVOLNI_CALLS_(u64, uint64_t);
+JADVOLNI_CALLS_(u128, jadvolni_uint128);
+JADVOLNI_CALLS_(usize, size_t);
+JADVOLNI_CALLS_(i8, int8_t);
+JADVOLNI_CALLS_(i16, int16_t);
+JADVOLNI_CALLS_(i32, int32_t);
+JADVOLNI_CALLS_(i64, int64_t);
+JADVOLNI_CALLS_(i128, jadvolni_int128);
+JADVOLNI_CALLS_(isize, ptrdiff_t);
+
+#undef JADVOLNI_CALLS_
+
+/* ---- helpers, written in C: they are tested, and nothing of them is proved ---- */
+
+/* The name of a status, as "Overflow" for JADVOLNI_OVERFLOW; "Unknown" for a number that is none. */
+static inline const char *jadvolni_status_name(uint32_t status)
+{
+    switch (status) {
+    case JADVOLNI_OK: return "Ok";
+    case JADVOLNI_OVERFLOW: return "Overflow";
+    case JADVOLNI_UNDERFLOW: return "Underflow";
+    case JADVOLNI_INVALID_DIGIT: return "InvalidDigit";
+    case JADVOLNI_EMPTY: return "Empty";
+    case JADVOLNI_MISSING_SIGN: return "MissingSign";
+    case JADVOLNI_INVALID_POSITIVE_SIGN: return "InvalidPositiveSign";
+    case JADVOLNI_INVALID_LEADING_ZEROS: return "InvalidLeadingZeros";
+    case JADVOLNI_INVALID_MANTISSA_RADIX: return "InvalidMantissaRadix";
+    case JADVOLNI_INVALID_DIGIT_SEPARATOR: return "InvalidDigitSeparator";
+    case JADVOLNI_INVALID_BASE_PREFIX: return "InvalidBasePrefix";
+    case JADVOLNI_INVALID_BASE_SUFFIX: return "InvalidBaseSuffix";
+    case JADVOLNI_INVALID_PUNCTUATION: return "InvalidPunctuation";
+    case JADVOLNI_INVALID_LITERAL_PREFIXES: return "InvalidLiteralPrefixes";
+    case JADVOLNI_UNKNOWN_FIELD: return "UnknownField";
+    default: return "Unknown";
+    }
+}
+
+#ifdef __SIZEOF_INT128__
+/* The types of 128 bits that gcc and clang have. */
+__extension__ typedef unsigned __int128 jadvolni_native_uint128;
+__extension__ typedef __int128 jadvolni_native_int128;
+
+/* The number of two halves. */
+static inline jadvolni_native_uint128 jadvolni_u128_number(jadvolni_uint128 halves)
+{
+    return (jadvolni_native_uint128)halves.high << 64 | halves.low;
+}
+
+/* The number of two halves, of which the high one has the sign. */
+static inline jadvolni_native_int128 jadvolni_i128_number(jadvolni_int128 halves)
+{
+    return (jadvolni_native_int128)((jadvolni_native_uint128)(uint64_t)halves.high << 64
+                                    | halves.low);
+}
+#endif
+
+#ifdef __cplusplus
+}
+#endif
+
+/* ---- the layout that the library was built for ---- */
+
+#if defined __cplusplus
+#define JADVOLNI_ASSERT_(name, condition) static_assert(condition, #name)
+#elif defined __STDC_VERSION__ && __STDC_VERSION__ >= 201112L
+#define JADVOLNI_ASSERT_(name, condition) _Static_assert(condition, #name)
+#else
+#define JADVOLNI_ASSERT_(name, condition) typedef char jadvolni_##name##_[(condition) ? 1 : -1]
+#endif
+
+JADVOLNI_ASSERT_(bytes_have_8_bits, (unsigned char)-1 == 255);
+JADVOLNI_ASSERT_(size_t_has_64_bits, sizeof(size_t) == 8 && sizeof(ptrdiff_t) == 8);
+JADVOLNI_ASSERT_(result_has_16_bytes, sizeof(jadvolni_result) == 16);
+JADVOLNI_ASSERT_(status_is_at_0, offsetof(jadvolni_result, status) == 0);
+JADVOLNI_ASSERT_(place_is_at_8, offsetof(jadvolni_result, place) == 8);
+JADVOLNI_ASSERT_(format_has_24_bytes, sizeof(jadvolni_format) == 24);
+JADVOLNI_ASSERT_(mantissa_radix_is_at_0, offsetof(jadvolni_format, mantissa_radix) == 0);
+JADVOLNI_ASSERT_(base_suffix_is_at_3, offsetof(jadvolni_format, base_suffix) == 3);
+JADVOLNI_ASSERT_(literal_prefixes_is_at_15, offsetof(jadvolni_format, literal_prefixes) == 15);
+JADVOLNI_ASSERT_(base_suffix_is_nul_is_at_18, offsetof(jadvolni_format, base_suffix_is_nul) == 18);
+JADVOLNI_ASSERT_(reserved_is_at_19, offsetof(jadvolni_format, reserved) == 19);
+JADVOLNI_ASSERT_(uint128_has_16_bytes, sizeof(jadvolni_uint128) == 16);
+JADVOLNI_ASSERT_(uint128_high_is_at_8, offsetof(jadvolni_uint128, high) == 8);
+JADVOLNI_ASSERT_(int128_has_16_bytes, sizeof(jadvolni_int128) == 16);
+JADVOLNI_ASSERT_(int128_high_is_at_8, offsetof(jadvolni_int128, high) == 8);
+
+#undef JADVOLNI_ASSERT_
+
+#endif

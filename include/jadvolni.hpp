@@ -1,0 +1,269 @@
+// jadvolni.hpp - jadvolni.h for C++17. It is a header alone: link the same library.
+//
+//     if (auto port = jadvolni::parse<std::uint16_t>(text))
+//         use(*port);
+//     else
+//         std::cerr << port.name() << " at byte " << port.place() << '\n';
+//
+//     auto [ptr, ec] = jadvolni::from_chars(first, last, value); // as std::from_chars
+//
+// T may be any integer type of C++ but bool and the types of wide characters, and, with gcc and
+// clang, a type of 128 bits. No call throws or allocates, and the header compiles without exceptions
+// too. What the calls of jadvolni.h answer is proved; what this header adds to them is tested.
+#pragma once
+
+#include "jadvolni.h"
+
+#include <cassert>
+#include <charconv>
+#include <cstddef>
+#include <cstdint>
+#include <optional>
+#include <string_view>
+#include <system_error>
+#include <type_traits>
+
+namespace jadvolni {
+
+// The statuses of jadvolni.h, where each is described.
+enum class status : std::uint32_t {
+    ok = JADVOLNI_OK,
+    overflow = JADVOLNI_OVERFLOW,
+    underflow = JADVOLNI_UNDERFLOW,
+    invalid_digit = JADVOLNI_INVALID_DIGIT,
+    empty = JADVOLNI_EMPTY,
+    missing_sign = JADVOLNI_MISSING_SIGN,
+    invalid_positive_sign = JADVOLNI_INVALID_POSITIVE_SIGN,
+    invalid_leading_zeros = JADVOLNI_INVALID_LEADING_ZEROS,
+    invalid_mantissa_radix = JADVOLNI_INVALID_MANTISSA_RADIX,
+    invalid_digit_separator = JADVOLNI_INVALID_DIGIT_SEPARATOR,
+    invalid_base_prefix = JADVOLNI_INVALID_BASE_PREFIX,
+    invalid_base_suffix = JADVOLNI_INVALID_BASE_SUFFIX,
+    invalid_punctuation = JADVOLNI_INVALID_PUNCTUATION,
+    invalid_literal_prefixes = JADVOLNI_INVALID_LITERAL_PREFIXES,
+    unknown_field = JADVOLNI_UNKNOWN_FIELD
+};
+
+// The name of a status, as "Overflow".
+inline const char *name(status of) noexcept
+{
+    return jadvolni_status_name(static_cast<std::uint32_t>(of));
+}
+
+// What a text may look like. Copy one of the three and change its fields.
+using format = jadvolni_format;
+inline constexpr format standard = JADVOLNI_FORMAT_STANDARD;
+inline constexpr format json = JADVOLNI_FORMAT_JSON;
+inline constexpr format literal = JADVOLNI_FORMAT_LITERAL;
+
+// The first rule that the format breaks, and status::ok where it breaks none.
+inline status format_error(const format &of) noexcept
+{
+    return static_cast<status>(jadvolni_format_error(&of));
+}
+
+// A number with the count of bytes that were read, or a fault with the place of its byte.
+template <class T>
+class result {
+public:
+    result(T number, jadvolni_result answer) noexcept
+        : number_(number), place_(answer.place), status_(static_cast<jadvolni::status>(answer.status))
+    {
+    }
+
+    // Whether there is a number.
+    explicit operator bool() const noexcept { return status_ == jadvolni::status::ok; }
+    bool has_value() const noexcept { return status_ == jadvolni::status::ok; }
+
+    // The number. There has to be one.
+    const T &operator*() const noexcept
+    {
+        assert(has_value());
+        return number_;
+    }
+
+    // The number, or the other one where there is none.
+    T value_or(T other) const noexcept { return has_value() ? number_ : other; }
+    std::optional<T> optional() const noexcept
+    {
+        return has_value() ? std::optional<T>(number_) : std::nullopt;
+    }
+
+    // What is wrong, and its name.
+    jadvolni::status status() const noexcept { return status_; }
+    const char *name() const noexcept { return jadvolni::name(status_); }
+
+    // How many bytes were read, or the place of the fault.
+    std::size_t place() const noexcept { return place_; }
+
+private:
+    T number_;
+    std::size_t place_;
+    jadvolni::status status_;
+};
+
+namespace detail {
+
+// The four calls for numbers that are kept in a Kept.
+template <class Kept>
+struct calls;
+
+#define JADVOLNI_CALLS_OF_(kept, name)                                                 \
+    template <>                                                                        \
+    struct calls<kept> {                                                               \
+        static constexpr auto complete = &jadvolni_##name;                             \
+        static constexpr auto partial = &jadvolni_##name##_partial;                    \
+        static constexpr auto complete_under = &jadvolni_##name##_with_format;         \
+        static constexpr auto partial_under = &jadvolni_##name##_partial_with_format;  \
+    }
+JADVOLNI_CALLS_OF_(std::uint8_t, u8);
+JADVOLNI_CALLS_OF_(std::uint16_t, u16);
+JADVOLNI_CALLS_OF_(std::uint32_t, u32);
+JADVOLNI_CALLS_OF_(std::uint64_t, u64);
+JADVOLNI_CALLS_OF_(jadvolni_uint128, u128);
+JADVOLNI_CALLS_OF_(std::int8_t, i8);
+JADVOLNI_CALLS_OF_(std::int16_t, i16);
+JADVOLNI_CALLS_OF_(std::int32_t, i32);
+JADVOLNI_CALLS_OF_(std::int64_t, i64);
+JADVOLNI_CALLS_OF_(jadvolni_int128, i128);
+#undef JADVOLNI_CALLS_OF_
+
+template <class T, class... Others>
+inline constexpr bool is_one_of = (std::is_same_v<T, Others> || ...);
+
+// The type of the calls in which a T is kept: that of its width and sign. So `long` and `long long`,
+// which are two types of one width, are both read.
+template <class T, class = void>
+struct kept_as {
+    static_assert(std::is_integral_v<T> && !std::is_const_v<T> && !std::is_volatile_v<T>
+                      && !is_one_of<T, bool, wchar_t, char16_t, char32_t> && sizeof(T) <= 8,
+                  "jadvolni reads integers");
+    using narrow = std::conditional_t<sizeof(T) == 1, std::int8_t, std::int16_t>;
+    using wide = std::conditional_t<sizeof(T) == 4, std::int32_t, std::int64_t>;
+    using with_sign = std::conditional_t<sizeof(T) <= 2, narrow, wide>;
+    using type = std::conditional_t<std::is_signed_v<T>, with_sign, std::make_unsigned_t<with_sign>>;
+    static T number(type kept) noexcept { return static_cast<T>(kept); }
+};
+
+#ifdef __SIZEOF_INT128__
+template <>
+struct kept_as<jadvolni_native_uint128> {
+    using type = jadvolni_uint128;
+    static jadvolni_native_uint128 number(type kept) noexcept { return jadvolni_u128_number(kept); }
+};
+
+template <>
+struct kept_as<jadvolni_native_int128> {
+    using type = jadvolni_int128;
+    static jadvolni_native_int128 number(type kept) noexcept { return jadvolni_i128_number(kept); }
+};
+#endif
+
+} // namespace detail
+
+// The whole text as a T.
+template <class T>
+[[nodiscard]] result<T> parse(std::string_view text) noexcept
+{
+    typename detail::kept_as<T>::type kept{};
+    auto answer = detail::calls<decltype(kept)>::complete(text.data(), text.size(), &kept);
+    return {detail::kept_as<T>::number(kept), answer};
+}
+
+// The whole text as a T, under a format.
+template <class T>
+[[nodiscard]] result<T> parse(std::string_view text, const format &under) noexcept
+{
+    typename detail::kept_as<T>::type kept{};
+    auto answer =
+        detail::calls<decltype(kept)>::complete_under(text.data(), text.size(), &under, &kept);
+    return {detail::kept_as<T>::number(kept), answer};
+}
+
+// The front of the text as a T. Its place() is where reading stopped.
+template <class T>
+[[nodiscard]] result<T> parse_partial(std::string_view text) noexcept
+{
+    typename detail::kept_as<T>::type kept{};
+    auto answer = detail::calls<decltype(kept)>::partial(text.data(), text.size(), &kept);
+    return {detail::kept_as<T>::number(kept), answer};
+}
+
+// The front of the text as a T, under a format.
+template <class T>
+[[nodiscard]] result<T> parse_partial(std::string_view text, const format &under) noexcept
+{
+    typename detail::kept_as<T>::type kept{};
+    auto answer =
+        detail::calls<decltype(kept)>::partial_under(text.data(), text.size(), &under, &kept);
+    return {detail::kept_as<T>::number(kept), answer};
+}
+
+// The front of [first, last) as a T, under a format. At std::errc() `ptr` is where reading stopped.
+// A number that the type hasn't is std::errc::result_out_of_range, and `ptr` is at the digit with
+// which it leaves the type. Every other fault is std::errc::invalid_argument at `first`, also that of
+// an invalid format. `value` changes at std::errc() alone.
+template <class T>
+std::from_chars_result from_chars(const char *first, const char *last, T &value,
+                                  const format &under) noexcept
+{
+    auto read = parse_partial<T>({first, static_cast<std::size_t>(last - first)}, under);
+    switch (read.status()) {
+    case status::ok:
+        value = *read;
+        return {first + read.place(), std::errc()};
+    case status::overflow:
+    case status::underflow:
+        return {first + read.place(), std::errc::result_out_of_range};
+    default:
+        return {first, std::errc::invalid_argument};
+    }
+}
+
+namespace detail {
+
+// What a byte is worth as a digit: 0 to 35, and 36 where it is none.
+inline int digit_value(char byte) noexcept
+{
+    if (byte >= '0' && byte <= '9') return byte - '0';
+    if (byte >= 'a' && byte <= 'z') return byte - 'a' + 10;
+    if (byte >= 'A' && byte <= 'Z') return byte - 'A' + 10;
+    return 36;
+}
+
+} // namespace detail
+
+// std::from_chars, with its answers: the front of [first, last) as a T in a base from 2 to 36, with no
+// plus. `ptr` is behind the digits, also where the type hasn't the number; where there are no digits
+// it is `first`, with std::errc::invalid_argument.
+template <class T>
+std::from_chars_result from_chars(const char *first, const char *last, T &value,
+                                  int base = 10) noexcept
+{
+    if (first == last || *first == '+') return {first, std::errc::invalid_argument};
+    T number{};
+    std::from_chars_result read{};
+    if (base == 10) {
+        auto answer = parse_partial<T>({first, static_cast<std::size_t>(last - first)});
+        number = answer.value_or(T{});
+        read.ptr = first + answer.place();
+        read.ec = answer                              ? std::errc()
+                  : answer.status() == status::empty  ? std::errc::invalid_argument
+                                                      : std::errc::result_out_of_range;
+    } else {
+        format in_base = standard;
+        in_base.mantissa_radix = static_cast<std::uint8_t>(base);
+        read = from_chars(first, last, number, in_base);
+    }
+    if (read.ec == std::errc::result_out_of_range) {
+        while (read.ptr != last && detail::digit_value(*read.ptr) < base) ++read.ptr;
+        return read;
+    }
+    // A front without digits is 0 to jadvolni_*_partial, at the start or behind the minus.
+    bool is_empty = read.ptr == first || (read.ptr == first + 1 && *first == '-');
+    if (read.ec != std::errc() || is_empty) return {first, std::errc::invalid_argument};
+    value = number;
+    return read;
+}
+
+} // namespace jadvolni

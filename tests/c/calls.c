@@ -1,0 +1,228 @@
+/* Every call of jadvolni.h, every status, and the ends of what a caller may hand over. */
+#include "jadvolni.h"
+
+#include <inttypes.h>
+#include <stdio.h>
+#include <stdlib.h>
+#include <string.h>
+
+static int checks, wrong;
+
+static void check(int line, int holds, const char *what)
+{
+    checks++;
+    if (!holds) {
+        wrong++;
+        fprintf(stderr, "calls.c:%d: %s\n", line, what);
+    }
+}
+
+#define CHECK(condition) check(__LINE__, condition, #condition)
+
+/* The text on the heap, without a byte more: so a sanitizer sees each read outside of it. */
+static char *exactly(const char *text, size_t len)
+{
+    char *copy = malloc(len ? len : 1);
+    if (!copy) abort();
+    memcpy(copy, text, len);
+    return copy;
+}
+
+/* Checks what a call answers, and what is then behind the pointer, where 77 was. */
+#define EXPECT(call, type, format_argument, text, wanted_status, wanted_place, wanted_number)      \
+    do {                                                                                           \
+        type value = 77;                                                                           \
+        size_t len = sizeof(text) - 1;                                                             \
+        char *bytes = exactly(text, len);                                                          \
+        jadvolni_result r = call(bytes, len, format_argument &value);                              \
+        free(bytes);                                                                               \
+        CHECK(r.status == (wanted_status) && r.place == (wanted_place));                           \
+        CHECK(value == (wanted_number));                                                           \
+    } while (0)
+
+#define NO_FORMAT
+#define UNDER(format) &(format),
+
+/* The four calls of a type at the ends of its range, and at a text of no number. */
+#define EACH_CALL(name, type, greatest, len)                                                             \
+    do {                                                                                                 \
+        jadvolni_format standard = JADVOLNI_FORMAT_STANDARD;                                             \
+        EXPECT(jadvolni_##name, type, NO_FORMAT, #greatest, JADVOLNI_OK, len, (type)greatest##u);        \
+        EXPECT(jadvolni_##name, type, NO_FORMAT, #greatest ",", JADVOLNI_INVALID_DIGIT, len, 77);        \
+        EXPECT(jadvolni_##name##_partial, type, NO_FORMAT, #greatest ",", JADVOLNI_OK, len,              \
+               (type)greatest##u);                                                                       \
+        EXPECT(jadvolni_##name##_partial, type, NO_FORMAT, #greatest "0", JADVOLNI_OVERFLOW, len, 77);   \
+        EXPECT(jadvolni_##name##_with_format, type, UNDER(standard), #greatest, JADVOLNI_OK, len,        \
+               (type)greatest##u);                                                                       \
+        EXPECT(jadvolni_##name##_with_format, type, UNDER(standard), "", JADVOLNI_EMPTY, 0, 77);         \
+        EXPECT(jadvolni_##name##_partial_with_format, type, UNDER(standard), #greatest ",", JADVOLNI_OK, \
+               len, (type)greatest##u);                                                                  \
+        standard.mantissa_radix = 37;                                                                    \
+        EXPECT(jadvolni_##name##_with_format, type, UNDER(standard), "1",                                \
+               JADVOLNI_INVALID_MANTISSA_RADIX, 0, 77);                                                  \
+        EXPECT(jadvolni_##name##_partial_with_format, type, UNDER(standard), "1",                        \
+               JADVOLNI_INVALID_MANTISSA_RADIX, 0, 77);                                                  \
+    } while (0)
+
+static void each_type(void)
+{
+    EACH_CALL(u8, uint8_t, 255, 3);
+    EACH_CALL(u16, uint16_t, 65535, 5);
+    EACH_CALL(u32, uint32_t, 4294967295, 10);
+    EACH_CALL(u64, uint64_t, 18446744073709551615, 20);
+    EACH_CALL(usize, size_t, 18446744073709551615, 20);
+    EACH_CALL(i8, int8_t, 127, 3);
+    EACH_CALL(i16, int16_t, 32767, 5);
+    EACH_CALL(i32, int32_t, 2147483647, 10);
+    EACH_CALL(i64, int64_t, 9223372036854775807, 19);
+    EACH_CALL(isize, ptrdiff_t, 9223372036854775807, 19);
+    EXPECT(jadvolni_i8, int8_t, NO_FORMAT, "-128", JADVOLNI_OK, 4, INT8_MIN);
+    EXPECT(jadvolni_i8, int8_t, NO_FORMAT, "-1290", JADVOLNI_UNDERFLOW, 3, 77);
+    EXPECT(jadvolni_i16, int16_t, NO_FORMAT, "-32768", JADVOLNI_OK, 6, INT16_MIN);
+    EXPECT(jadvolni_i32, int32_t, NO_FORMAT, "-2147483648", JADVOLNI_OK, 11, INT32_MIN);
+    EXPECT(jadvolni_i64, int64_t, NO_FORMAT, "-9223372036854775808", JADVOLNI_OK, 20, INT64_MIN);
+    EXPECT(jadvolni_isize, ptrdiff_t, NO_FORMAT, "-9223372036854775808", JADVOLNI_OK, 20, INT64_MIN);
+}
+
+/* Each fault of a text, where it stands. */
+static void faults_of_texts(void)
+{
+    jadvolni_format json = JADVOLNI_FORMAT_JSON, with_sign = JADVOLNI_FORMAT_STANDARD;
+    with_sign.required_mantissa_sign = 255; /* every byte but 0 sets a flag */
+    EXPECT(jadvolni_u64, uint64_t, NO_FORMAT, "18446744073709551616", JADVOLNI_OVERFLOW, 19, 77);
+    EXPECT(jadvolni_u8, uint8_t, NO_FORMAT, "2566x", JADVOLNI_OVERFLOW, 2, 77);
+    EXPECT(jadvolni_i8, int8_t, NO_FORMAT, "-129", JADVOLNI_UNDERFLOW, 3, 77);
+    EXPECT(jadvolni_u8, uint8_t, NO_FORMAT, "1a", JADVOLNI_INVALID_DIGIT, 1, 77);
+    EXPECT(jadvolni_i64, int64_t, NO_FORMAT, "1\0002", JADVOLNI_INVALID_DIGIT, 1, 77);
+    EXPECT(jadvolni_u8, uint8_t, NO_FORMAT, "+", JADVOLNI_EMPTY, 1, 77);
+    EXPECT(jadvolni_i64_with_format, int64_t, UNDER(with_sign), "12", JADVOLNI_MISSING_SIGN, 0, 77);
+    EXPECT(jadvolni_i64_with_format, int64_t, UNDER(with_sign), "-12", JADVOLNI_OK, 3, -12);
+    EXPECT(jadvolni_i32_with_format, int32_t, UNDER(json), "+1", JADVOLNI_INVALID_POSITIVE_SIGN, 0, 77);
+    EXPECT(jadvolni_i32_with_format, int32_t, UNDER(json), "-01", JADVOLNI_INVALID_LEADING_ZEROS, 1, 77);
+    EXPECT(jadvolni_u64_partial, uint64_t, NO_FORMAT, "1234 }, {\"Key\"", JADVOLNI_OK, 4, 1234);
+    EXPECT(jadvolni_u32_partial, uint32_t, NO_FORMAT, "-12345", JADVOLNI_OK, 0, 0);
+}
+
+/* The rules that a format may break, in their order. */
+static void faults_of_formats(void)
+{
+    jadvolni_format format = JADVOLNI_FORMAT_STANDARD;
+    CHECK(jadvolni_format_error(&format) == JADVOLNI_OK);
+    format.base_prefix = 'x';
+    format.literal_prefixes = 1;
+    CHECK(jadvolni_format_error(&format) == JADVOLNI_INVALID_LITERAL_PREFIXES);
+    format.digit_separator = 'X';
+    CHECK(jadvolni_format_error(&format) == JADVOLNI_INVALID_PUNCTUATION);
+    format.base_suffix = 0x80;
+    CHECK(jadvolni_format_error(&format) == JADVOLNI_INVALID_BASE_SUFFIX);
+    format.base_prefix = '9';
+    CHECK(jadvolni_format_error(&format) == JADVOLNI_INVALID_BASE_PREFIX);
+    format.digit_separator = '+';
+    CHECK(jadvolni_format_error(&format) == JADVOLNI_INVALID_DIGIT_SEPARATOR);
+    format.mantissa_radix = 1;
+    CHECK(jadvolni_format_error(&format) == JADVOLNI_INVALID_MANTISSA_RADIX);
+    EXPECT(jadvolni_i64_with_format, int64_t, UNDER(format), "1", JADVOLNI_INVALID_MANTISSA_RADIX, 0, 77);
+    format.reserved[4] = 1;
+    CHECK(jadvolni_format_error(&format) == JADVOLNI_UNKNOWN_FIELD);
+    EXPECT(jadvolni_i64_with_format, int64_t, UNDER(format), "1", JADVOLNI_UNKNOWN_FIELD, 0, 77);
+    EXPECT(jadvolni_i64_partial_with_format, int64_t, UNDER(format), "1", JADVOLNI_UNKNOWN_FIELD, 0, 77);
+    memset(&format, 0, sizeof format);
+    CHECK(jadvolni_format_error(&format) == JADVOLNI_INVALID_MANTISSA_RADIX);
+}
+
+static void formats(void)
+{
+    jadvolni_format literal = JADVOLNI_FORMAT_LITERAL, hexadecimal = JADVOLNI_FORMAT_STANDARD;
+    jadvolni_format utf16 = JADVOLNI_FORMAT_STANDARD;
+    EXPECT(jadvolni_u64_with_format, uint64_t, UNDER(literal), "0xFF_FF", JADVOLNI_OK, 7, 65535);
+    EXPECT(jadvolni_u64_partial_with_format, uint64_t, UNDER(literal), "0b102", JADVOLNI_OK, 4, 2);
+    EXPECT(jadvolni_u64_with_format, uint64_t, UNDER(literal), "0o8", JADVOLNI_INVALID_DIGIT, 2, 77);
+    hexadecimal.mantissa_radix = 16;
+    hexadecimal.base_prefix = 'x';
+    EXPECT(jadvolni_i64_with_format, int64_t, UNDER(hexadecimal), "-0XfF", JADVOLNI_OK, 5, -255);
+    EXPECT(jadvolni_u8_with_format, uint8_t, UNDER(hexadecimal), "0x", JADVOLNI_EMPTY, 2, 77);
+    /* A NUL behind each digit: 0 alone is no separator, and with the flag beside it it is. */
+    utf16.integer_internal_digit_separator = 1;
+    utf16.integer_trailing_digit_separator = 1;
+    EXPECT(jadvolni_u16_with_format, uint16_t, UNDER(utf16), "1\0002\0003\0", JADVOLNI_INVALID_DIGIT, 1, 77);
+    utf16.digit_separator_is_nul = 1;
+    EXPECT(jadvolni_u16_with_format, uint16_t, UNDER(utf16), "1\0002\0003\0", JADVOLNI_OK, 6, 123);
+    utf16.base_suffix_is_nul = 1;
+    CHECK(jadvolni_format_error(&utf16) == JADVOLNI_INVALID_PUNCTUATION);
+    utf16.digit_separator_is_nul = 0;
+    EXPECT(jadvolni_u16_with_format, uint16_t, UNDER(utf16), "12\0", JADVOLNI_OK, 3, 12);
+    utf16.base_suffix_is_nul = 0;
+    utf16.base_prefix_is_nul = 1;
+    EXPECT(jadvolni_u16_with_format, uint16_t, UNDER(utf16), "0\00012", JADVOLNI_OK, 4, 12);
+}
+
+static void halves(void)
+{
+    jadvolni_format standard = JADVOLNI_FORMAT_STANDARD;
+    jadvolni_uint128 u = {7, 7};
+    jadvolni_int128 i = {7, 7};
+    jadvolni_result r = jadvolni_u128("340282366920938463463374607431768211456", 39, &u);
+    CHECK(r.status == JADVOLNI_OVERFLOW && r.place == 38 && u.low == 7 && u.high == 7);
+    r = jadvolni_u128("340282366920938463463374607431768211455", 39, &u);
+    CHECK(r.status == JADVOLNI_OK && r.place == 39 && u.low == UINT64_MAX && u.high == UINT64_MAX);
+    r = jadvolni_u128_partial("18446744073709551616.", 21, &u);
+    CHECK(r.status == JADVOLNI_OK && r.place == 20 && u.low == 0 && u.high == 1);
+    r = jadvolni_u128_with_format("18446744073709551617", 20, &standard, &u);
+    CHECK(r.status == JADVOLNI_OK && r.place == 20 && u.low == 1 && u.high == 1);
+    r = jadvolni_u128_partial_with_format("5;", 2, &standard, &u);
+    CHECK(r.status == JADVOLNI_OK && r.place == 1 && u.low == 5 && u.high == 0);
+    r = jadvolni_i128("-170141183460469231731687303715884105729", 40, &i);
+    CHECK(r.status == JADVOLNI_UNDERFLOW && r.place == 39 && i.low == 7 && i.high == 7);
+    r = jadvolni_i128("-170141183460469231731687303715884105728", 40, &i);
+    CHECK(r.status == JADVOLNI_OK && r.place == 40 && i.low == 0 && i.high == INT64_MIN);
+#ifdef __SIZEOF_INT128__
+    CHECK(jadvolni_i128_number(i) < 0 && jadvolni_u128_number(u) == 5);
+#endif
+    r = jadvolni_i128_partial("-1e5", 4, &i);
+    CHECK(r.status == JADVOLNI_OK && r.place == 2 && i.low == UINT64_MAX && i.high == -1);
+    r = jadvolni_i128_with_format("-18446744073709551616", 21, &standard, &i);
+    CHECK(r.status == JADVOLNI_OK && r.place == 21 && i.low == 0 && i.high == -1);
+    r = jadvolni_i128_partial_with_format("12", 2, &standard, &i);
+    CHECK(r.status == JADVOLNI_OK && r.place == 2 && i.low == 12 && i.high == 0);
+}
+
+/* A text of no bytes may be NULL. */
+static void null_texts(void)
+{
+    jadvolni_format optional = JADVOLNI_FORMAT_STANDARD;
+    uint64_t value = 77;
+    jadvolni_result r = jadvolni_u64(NULL, 0, &value);
+    CHECK(r.status == JADVOLNI_EMPTY && r.place == 0 && value == 77);
+    r = jadvolni_u64_partial(NULL, 0, &value);
+    CHECK(r.status == JADVOLNI_EMPTY && r.place == 0 && value == 77);
+    optional.required_mantissa_digits = 0;
+    r = jadvolni_u64_with_format(NULL, 0, &optional, &value);
+    CHECK(r.status == JADVOLNI_OK && r.place == 0 && value == 0);
+}
+
+static void names(void)
+{
+    static const char *const known[] = {
+        "Ok", "Overflow", "Underflow", "InvalidDigit", "Empty", "MissingSign", "InvalidPositiveSign",
+        "InvalidLeadingZeros", "InvalidMantissaRadix", "InvalidDigitSeparator", "InvalidBasePrefix",
+        "InvalidBaseSuffix", "InvalidPunctuation", "InvalidLiteralPrefixes"};
+    uint32_t status;
+    for (status = 0; status < sizeof known / sizeof *known; status++)
+        CHECK(strcmp(jadvolni_status_name(status), known[status]) == 0);
+    CHECK(strcmp(jadvolni_status_name(JADVOLNI_UNKNOWN_FIELD), "UnknownField") == 0);
+    CHECK(strcmp(jadvolni_status_name(65), "Unknown") == 0);
+}
+
+int main(void)
+{
+    CHECK(jadvolni_version() == JADVOLNI_VERSION);
+    each_type();
+    faults_of_texts();
+    faults_of_formats();
+    formats();
+    halves();
+    null_texts();
+    names();
+    printf("%d checks, %d wrong\n", checks, wrong);
+    return wrong != 0;
+}

@@ -1,0 +1,149 @@
+// The header for C++: each status, each kind of call, and from_chars beside that of the standard library.
+#include "jadvolni.hpp"
+
+#include <climits>
+#include <cstdio>
+#include <cstring>
+#include <random>
+#include <string>
+
+static int checks = 0, wrong = 0;
+
+static void check(int line, bool holds, const char *what)
+{
+    ++checks;
+    if (!holds) {
+        ++wrong;
+        std::fprintf(stderr, "wrapper.cpp:%d: %s\n", line, what);
+    }
+}
+
+#define CHECK(...) check(__LINE__, bool(__VA_ARGS__), #__VA_ARGS__)
+
+using jadvolni::parse, jadvolni::parse_partial, jadvolni::status;
+
+template <class T>
+static bool is_fault(const jadvolni::result<T> &read, status wanted, std::size_t place)
+{
+    return !read && read.status() == wanted && read.place() == place && !read.optional()
+        && read.value_or(5) == 5 && std::strcmp(read.name(), jadvolni::name(wanted)) == 0;
+}
+
+static void faults_of_texts()
+{
+    auto with_sign = jadvolni::standard;
+    with_sign.required_mantissa_sign = 1;
+    CHECK(is_fault(parse<std::uint64_t>("18446744073709551616"), status::overflow, 19));
+    CHECK(is_fault(parse<signed char>("-129"), status::underflow, 3));
+    CHECK(is_fault(parse<int>("12x"), status::invalid_digit, 2));
+    CHECK(is_fault(parse<int>(std::string_view()), status::empty, 0)); // its data() is nullptr
+    CHECK(is_fault(parse<int>("12", with_sign), status::missing_sign, 0));
+    CHECK(is_fault(parse<int>("+1", jadvolni::json), status::invalid_positive_sign, 0));
+    CHECK(is_fault(parse<int>("-01", jadvolni::json), status::invalid_leading_zeros, 1));
+    CHECK(is_fault(parse_partial<short>("-32769,"), status::underflow, 5));
+}
+
+static void faults_of_formats()
+{
+    auto broken = jadvolni::standard;
+    auto says = [&broken](status wanted) {
+        return jadvolni::format_error(broken) == wanted && is_fault(parse<int>("1", broken), wanted, 0)
+            && is_fault(parse_partial<int>("1", broken), wanted, 0);
+    };
+    CHECK(jadvolni::format_error(broken) == status::ok);
+    broken.base_prefix = 'x';
+    broken.literal_prefixes = 1;
+    CHECK(says(status::invalid_literal_prefixes));
+    broken.base_suffix = 'X';
+    CHECK(says(status::invalid_punctuation));
+    broken.base_suffix = '-';
+    CHECK(says(status::invalid_base_suffix));
+    broken.base_prefix = '0';
+    CHECK(says(status::invalid_base_prefix));
+    broken.digit_separator = 200;
+    CHECK(says(status::invalid_digit_separator));
+    broken.mantissa_radix = 0;
+    CHECK(says(status::invalid_mantissa_radix));
+    broken.reserved[0] = 1;
+    CHECK(says(status::unknown_field));
+}
+
+static void numbers()
+{
+    CHECK(parse<std::uint16_t>("8080") && *parse<std::uint16_t>("8080") == 8080);
+    CHECK(*parse<long>("-12") == -12 && *parse<long long>("-12") == -12 && *parse<unsigned long>("12") == 12);
+    CHECK(*parse<char>("65") == 'A' && *parse<unsigned char>("255") == 255 && *parse<std::size_t>("7") == 7);
+    CHECK(parse<int>("7").optional() == 7 && parse<int>("7").value_or(5) == 7 && parse<int>("7").has_value());
+    auto front = parse_partial<int>("-12, 3");
+    CHECK(*front == -12 && front.place() == 3);
+    CHECK(*parse<long>("0b1_01", jadvolni::literal) == 5);
+    CHECK(parse_partial<long>("0x_1", jadvolni::literal).place() == 2);
+#ifdef __SIZEOF_INT128__
+    CHECK(*parse<jadvolni_native_int128>("-170141183460469231731687303715884105728") < 0);
+    CHECK(*parse<jadvolni_native_uint128>("18446744073709551616") == jadvolni_native_uint128(1) << 64);
+#endif
+}
+
+static void fronts_under_a_format()
+{
+    const std::string text = "1_000_000;";
+    const char *first = text.data(), *last = first + text.size();
+    int value = 77;
+    auto read = jadvolni::from_chars(first, last, value, jadvolni::literal);
+    CHECK(read.ec == std::errc() && read.ptr == first + 9 && value == 1000000);
+    std::uint8_t narrow = 77;
+    read = jadvolni::from_chars(first, last, narrow, jadvolni::literal);
+    CHECK(read.ec == std::errc::result_out_of_range && read.ptr == first + 4 && narrow == 77);
+    auto broken = jadvolni::literal;
+    broken.mantissa_radix = 2;
+    read = jadvolni::from_chars(first, last, value, broken);
+    CHECK(read.ec == std::errc::invalid_argument && read.ptr == first && value == 1000000);
+}
+
+template <class T>
+static void beside_std(const std::string &text, int base)
+{
+    T ours = 77, theirs = 77;
+    const char *first = text.data(), *last = first + text.size();
+    auto a = jadvolni::from_chars(first, last, ours, base);
+    auto b = std::from_chars(first, last, theirs, base);
+    ++checks;
+    if (a.ptr != b.ptr || a.ec != b.ec || ours != theirs) {
+        ++wrong;
+        std::fprintf(stderr, "'%s' in base %d: ours stops at %td with %d, theirs at %td with %d\n", text.c_str(), base,
+                     a.ptr - first, int(a.ec), b.ptr - first, int(b.ec));
+    }
+}
+
+// Random texts, most of them of digits.
+static void beside_from_chars(int texts)
+{
+    std::mt19937 random(1);
+    const char bytes[] = "0123456789+-abzXZ_ 00011999";
+    for (int i = 0; i < texts; ++i) {
+        std::string text(random() % 24, '0');
+        bool of_digits = random() % 2;
+        for (auto &byte : text) byte = of_digits ? char('0' + random() % 10) : bytes[random() % (sizeof bytes - 1)];
+        if (!text.empty() && random() % 3 == 0) text[0] = '-';
+        int base = i % 3 ? 10 : 2 + int(random() % 35);
+        beside_std<std::uint64_t>(text, base);
+        beside_std<std::int64_t>(text, base);
+        beside_std<std::uint8_t>(text, base);
+        beside_std<std::int8_t>(text, base);
+        beside_std<int>(text, base);
+        beside_std<unsigned short>(text, base);
+        beside_std<char>(text, base);
+        beside_std<long long>(text, base);
+    }
+}
+
+int main()
+{
+    faults_of_texts();
+    faults_of_formats();
+    numbers();
+    fronts_under_a_format();
+    beside_from_chars(25000);
+    std::printf("%d checks, %d wrong\n", checks, wrong);
+    return wrong != 0;
+}

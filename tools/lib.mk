@@ -1,0 +1,65 @@
+# The library for C, C++ and Rust: built, installed and tested. The Makefile includes this file.
+
+# make lib       proves the library and builds it, as build/libjadvolni.a and build/libjadvolni.so
+# make install-lib, make uninstall-lib   puts what users of the library need where they look, and takes it away
+# make test-c    runs the callers in C, C++ and Rust, over the built library
+# make check-c   runs a million random parses through the C calls, beside the slow reading of the grammar
+
+CC ?= cc
+INCLUDEDIR ?= $(PREFIX)/include
+LIBDIR ?= $(PREFIX)/lib
+MANDIR ?= $(PREFIX)/share/man
+# The version stands in the header alone. Programs that were linked with one SOVERSION run with each library of it.
+VERSION := $(shell sed -n 's/.*JADVOLNI_VERSION_STRING "\(.*\)"/\1/p' include/jadvolni.h)
+SOVERSION := 0
+LIBRARIES := build/libjadvolni.a build/libjadvolni.so
+LIBRARY_SOURCES := $(shell find crates/jadvolni crates/lexical_parse_integer crates/lexical_util -name out -prune -o -type f \( -name '*.rt' -o -name '*.antt' \) -print) crates.txt
+
+.PHONY: lib install-lib uninstall-lib test-c check-c
+
+lib: $(LIBRARIES)
+
+build/libjadvolni.a: $(LIBRARY_SOURCES)
+	@mkdir -p build
+	@cd crates/jadvolni && $(RT) lib </dev/null >&2
+	@cp crates/jadvolni/out/libjadvolni.a $@
+
+# It needs no other library, not even that of C: -nostdlib leaves it out, and -z defs fails if anything is missing.
+build/libjadvolni.so: build/libjadvolni.a
+	@$(CC) -shared -nostdlib -o $@ -Wl,-soname,libjadvolni.so.$(SOVERSION) \
+	    -Wl,-z,defs,-z,relro,-z,now,-z,noexecstack -Wl,--whole-archive $< -Wl,--no-whole-archive
+
+# What the templates of pkg-config, CMake and man leave open.
+FILL = sed -e 's|@PREFIX@|$(PREFIX)|; s|@LIBDIR@|$(LIBDIR)|; s|@INCLUDEDIR@|$(INCLUDEDIR)|' \
+    -e 's|@VERSION@|$(VERSION)|; s|@SOVERSION@|$(SOVERSION)|'
+
+install-lib: $(LIBRARIES)
+	install -d $(DESTDIR)$(INCLUDEDIR) $(DESTDIR)$(LIBDIR)/pkgconfig $(DESTDIR)$(LIBDIR)/cmake/jadvolni
+	install -d $(DESTDIR)$(MANDIR)/man3
+	install -m 644 include/jadvolni.h include/jadvolni.hpp $(DESTDIR)$(INCLUDEDIR)
+	install -m 644 build/libjadvolni.a $(DESTDIR)$(LIBDIR)
+	install -m 755 build/libjadvolni.so $(DESTDIR)$(LIBDIR)/libjadvolni.so.$(VERSION)
+	ln -sf libjadvolni.so.$(VERSION) $(DESTDIR)$(LIBDIR)/libjadvolni.so.$(SOVERSION)
+	ln -sf libjadvolni.so.$(SOVERSION) $(DESTDIR)$(LIBDIR)/libjadvolni.so
+	$(FILL) packaging/jadvolni.pc.in > $(DESTDIR)$(LIBDIR)/pkgconfig/jadvolni.pc
+	$(FILL) packaging/jadvolniConfig.cmake.in > $(DESTDIR)$(LIBDIR)/cmake/jadvolni/jadvolniConfig.cmake
+	$(FILL) packaging/jadvolniConfigVersion.cmake.in > $(DESTDIR)$(LIBDIR)/cmake/jadvolni/jadvolniConfigVersion.cmake
+	$(FILL) packaging/jadvolni.3.in > $(DESTDIR)$(MANDIR)/man3/jadvolni.3
+
+uninstall-lib:
+	rm -f $(DESTDIR)$(INCLUDEDIR)/jadvolni.h $(DESTDIR)$(INCLUDEDIR)/jadvolni.hpp
+	rm -f $(DESTDIR)$(LIBDIR)/libjadvolni.a $(DESTDIR)$(LIBDIR)/libjadvolni.so
+	rm -f $(DESTDIR)$(LIBDIR)/libjadvolni.so.$(SOVERSION) $(DESTDIR)$(LIBDIR)/libjadvolni.so.$(VERSION)
+	rm -f $(DESTDIR)$(LIBDIR)/pkgconfig/jadvolni.pc $(DESTDIR)$(MANDIR)/man3/jadvolni.3
+	rm -rf $(DESTDIR)$(LIBDIR)/cmake/jadvolni
+
+# Without a compiler of C there is no shared library; check_c.py says what it skips then.
+test-c: build/libjadvolni.a $(if $(shell command -v $(CC) 2>/dev/null),build/libjadvolni.so)
+	@python3 tools/check_c.py
+
+# What the random run asks for: the seed that a run before has printed, and how many parses and formats.
+PARSES ?= 1000000
+FORMATS ?= 100000
+
+check-c: $(LIBRARIES)
+	@python3 tools/fuzz_c.py --parses $(PARSES) --formats $(FORMATS) $(if $(SEED),--seed $(SEED))
