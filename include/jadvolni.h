@@ -118,8 +118,9 @@ typedef enum jadvolni_status {
     /* Two of the format's separator, prefix and suffix are one byte, or one letter in two cases. */
     JADVOLNI_INVALID_PUNCTUATION = 12,
 
-    /* The format asks for literal prefixes, and its radix isn't 10, it has a prefix of its own, or
-     * its separator or suffix could be taken for a part of "0x", "0o", "0b" or of their digits. */
+    /* The format asks for literal prefixes or octal zeros, and its radix isn't 10; or it asks for
+     * literal prefixes, and has a prefix of its own, or its separator or suffix could be taken for a
+     * part of "0x", "0o", "0b" or of their digits. */
     JADVOLNI_INVALID_LITERAL_PREFIXES = 13,
 
     /* A reserved byte of the format isn't 0: it was written for a later version of the library, or
@@ -193,10 +194,18 @@ typedef struct jadvolni_format {
     /* Flag: where one separator may stand, more may: "1__2". */
     uint8_t integer_consecutive_digit_separator;
 
+    /* Flag: separators may stand directly behind a prefix, as in "0x_1F", as if they might stand in
+     * front of all digits there. Elsewhere it changes nothing. */
+    uint8_t integer_prefix_digit_separator;
+
     /* Flag: "0x", "0o" and "0b" choose the radix 16, 8 or 2 for the digits behind them; so do "0X",
      * "0O" and "0B", unless the prefix is matched exactly. `mantissa_radix` has to be 10, and is the
      * radix of a text without one of them. */
     uint8_t literal_prefixes;
+
+    /* Flag: a zero in front of another digit, or of the separator, makes the number octal: "0777" is
+     * 511, and "08" ends behind its zero. `mantissa_radix` has to be 10. */
+    uint8_t literal_octal_zero;
 
     /* Flag: the separator is the byte 0, where `digit_separator` is 0. */
     uint8_t digit_separator_is_nul;
@@ -209,20 +218,20 @@ typedef struct jadvolni_format {
 
     /* 0, each of them. They are for fields of later versions: a program that sets such a field, and
      * runs with this version of the library, is told so by JADVOLNI_UNKNOWN_FIELD. */
-    uint8_t reserved[5];
+    uint8_t reserved[3];
 } jadvolni_format;
 
 /* Decimal digits behind an optional sign. A digit is required. */
 #define JADVOLNI_FORMAT_STANDARD \
-    {10, 0, 0, 0, 0, 0, 0, 1, 0, 0, 0, 0, 0, 0, 0, 0, 0, 0, 0, {0, 0, 0, 0, 0}}
+    {10, 0, 0, 0, 0, 0, 0, 1, 0, 0, 0, 0, 0, 0, 0, 0, 0, 0, 0, 0, 0, {0, 0, 0}}
 
 /* Integers as JSON has them (RFC 8259): no "+", and no zero in front of another digit. */
 #define JADVOLNI_FORMAT_JSON \
-    {10, 0, 0, 0, 0, 0, 1, 1, 1, 0, 1, 0, 0, 0, 0, 0, 0, 0, 0, {0, 0, 0, 0, 0}}
+    {10, 0, 0, 0, 0, 0, 1, 1, 1, 0, 1, 0, 0, 0, 0, 0, 0, 0, 0, 0, 0, {0, 0, 0}}
 
 /* Literals as sources of programs have them: "1_000", "0xFF", "0o17", "0b1". */
 #define JADVOLNI_FORMAT_LITERAL \
-    {10, '_', 0, 0, 0, 0, 0, 1, 0, 0, 0, 0, 1, 0, 1, 1, 0, 0, 0, {0, 0, 0, 0, 0}}
+    {10, '_', 0, 0, 0, 0, 0, 1, 0, 0, 0, 0, 1, 0, 1, 0, 1, 0, 0, 0, 0, {0, 0, 0}}
 
 /* JADVOLNI_OK where the format breaks no rule, and else the status of the first that it breaks. */
 uint32_t jadvolni_format_error(const jadvolni_format *format);
@@ -334,9 +343,9 @@ JADVOLNI_ASSERT_(place_is_at_8, offsetof(jadvolni_result, place) == 8);
 JADVOLNI_ASSERT_(format_has_24_bytes, sizeof(jadvolni_format) == 24);
 JADVOLNI_ASSERT_(mantissa_radix_is_at_0, offsetof(jadvolni_format, mantissa_radix) == 0);
 JADVOLNI_ASSERT_(base_suffix_is_at_3, offsetof(jadvolni_format, base_suffix) == 3);
-JADVOLNI_ASSERT_(literal_prefixes_is_at_15, offsetof(jadvolni_format, literal_prefixes) == 15);
-JADVOLNI_ASSERT_(base_suffix_is_nul_is_at_18, offsetof(jadvolni_format, base_suffix_is_nul) == 18);
-JADVOLNI_ASSERT_(reserved_is_at_19, offsetof(jadvolni_format, reserved) == 19);
+JADVOLNI_ASSERT_(literal_prefixes_is_at_16, offsetof(jadvolni_format, literal_prefixes) == 16);
+JADVOLNI_ASSERT_(base_suffix_is_nul_is_at_20, offsetof(jadvolni_format, base_suffix_is_nul) == 20);
+JADVOLNI_ASSERT_(reserved_is_at_21, offsetof(jadvolni_format, reserved) == 21);
 JADVOLNI_ASSERT_(uint128_has_16_bytes, sizeof(jadvolni_uint128) == 16);
 JADVOLNI_ASSERT_(uint128_high_is_at_8, offsetof(jadvolni_uint128, high) == 8);
 JADVOLNI_ASSERT_(int128_has_16_bytes, sizeof(jadvolni_int128) == 16);

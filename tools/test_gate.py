@@ -98,7 +98,7 @@ class GateTests(unittest.TestCase):
 
     def test_all_is_well(self):
         status, said = self.said()
-        self.assertEqual((status, said.splitlines()[-1]), (0, "9 parts passed, 0 failed"), said)
+        self.assertEqual((status, said.splitlines()[-1]), (0, "11 parts passed, 0 failed"), said)
         self.assertIn("3 of 3 edits refused", said)
         self.assertIn("2 passed, 0 failed: 3 functions and 2 tests", said)
         self.assertIn("callers of the library: 6 passed", said)
@@ -107,7 +107,7 @@ class GateTests(unittest.TestCase):
         self.assertIn("its last line is not '5 passed, 0 failed'", self.said("--one-by-one")[1])
         self.write("said", "5 passed, 0 failed\n")
         status, said = self.said("--one-by-one")
-        self.assertEqual((status, said.splitlines()[-1]), (0, "7 parts passed, 0 failed"), said)
+        self.assertEqual((status, said.splitlines()[-1]), (0, "9 parts passed, 0 failed"), said)
 
     def test_the_proofs_run_without_edits_and_the_judge_with_them(self):
         self.write("rt", STAND_IN.replace("ci)", "ci) test ! -e crates/low/must-fail || exit 1;")

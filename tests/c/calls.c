@@ -122,7 +122,7 @@ static void faults_of_formats(void)
     format.mantissa_radix = 1;
     CHECK(jadvolni_format_error(&format) == JADVOLNI_INVALID_MANTISSA_RADIX);
     EXPECT(jadvolni_i64_with_format, int64_t, UNDER(format), "1", JADVOLNI_INVALID_MANTISSA_RADIX, 0, 77);
-    format.reserved[4] = 1;
+    format.reserved[2] = 1;
     CHECK(jadvolni_format_error(&format) == JADVOLNI_UNKNOWN_FIELD);
     EXPECT(jadvolni_i64_with_format, int64_t, UNDER(format), "1", JADVOLNI_UNKNOWN_FIELD, 0, 77);
     EXPECT(jadvolni_i64_partial_with_format, int64_t, UNDER(format), "1", JADVOLNI_UNKNOWN_FIELD, 0, 77);
@@ -137,6 +137,12 @@ static void formats(void)
     EXPECT(jadvolni_u64_with_format, uint64_t, UNDER(literal), "0xFF_FF", JADVOLNI_OK, 7, 65535);
     EXPECT(jadvolni_u64_partial_with_format, uint64_t, UNDER(literal), "0b102", JADVOLNI_OK, 4, 2);
     EXPECT(jadvolni_u64_with_format, uint64_t, UNDER(literal), "0o8", JADVOLNI_INVALID_DIGIT, 2, 77);
+    EXPECT(jadvolni_u64_with_format, uint64_t, UNDER(literal), "0x_1", JADVOLNI_INVALID_DIGIT, 2, 77);
+    literal.integer_prefix_digit_separator = 1;
+    EXPECT(jadvolni_u64_with_format, uint64_t, UNDER(literal), "0x_1F", JADVOLNI_OK, 5, 31);
+    EXPECT(jadvolni_u64_with_format, uint64_t, UNDER(literal), "0777", JADVOLNI_OK, 4, 777);
+    literal.literal_octal_zero = 1;
+    EXPECT(jadvolni_u64_with_format, uint64_t, UNDER(literal), "0777", JADVOLNI_OK, 4, 511);
     hexadecimal.mantissa_radix = 16;
     hexadecimal.base_prefix = 'x';
     EXPECT(jadvolni_i64_with_format, int64_t, UNDER(hexadecimal), "-0XfF", JADVOLNI_OK, 5, -255);

@@ -38,5 +38,7 @@ format_of fields = record {
   integer_internal_digit_separator = flag fields.integer_internal_digit_separator;
   integer_trailing_digit_separator = flag fields.integer_trailing_digit_separator;
   integer_consecutive_digit_separator = flag fields.integer_consecutive_digit_separator;
+  integer_prefix_digit_separator = flag fields.integer_prefix_digit_separator;
   literal_prefixes = flag fields.literal_prefixes;
+  literal_octal_zero = flag fields.literal_octal_zero;
 }

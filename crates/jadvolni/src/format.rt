@@ -30,11 +30,13 @@ pub struct FormatFields {
     pub integer_internal_digit_separator: u8,
     pub integer_trailing_digit_separator: u8,
     pub integer_consecutive_digit_separator: u8,
+    pub integer_prefix_digit_separator: u8,
     pub literal_prefixes: u8,
+    pub literal_octal_zero: u8,
     pub digit_separator_is_nul: u8,
     pub base_prefix_is_nul: u8,
     pub base_suffix_is_nul: u8,
-    pub reserved: [u8; 5],
+    pub reserved: [u8; 3],
 }
 
 // A flag, which every byte but 0 sets.
@@ -63,8 +65,8 @@ impl FormatFields {
     pub fn are_known(&self) -> bool
         ensures { result ≡ are_known self.now }
     {
-        let [first, second, third, fourth, fifth] = self.reserved;
-        first == 0 && second == 0 && third == 0 && fourth == 0 && fifth == 0
+        let [first, second, third] = self.reserved;
+        first == 0 && second == 0 && third == 0
     }
 
     /// The format that the fields stand for, which may be invalid.
@@ -88,7 +90,9 @@ impl FormatFields {
             .integer_internal_digit_separator(flag(self.integer_internal_digit_separator))
             .integer_trailing_digit_separator(flag(self.integer_trailing_digit_separator))
             .integer_consecutive_digit_separator(flag(self.integer_consecutive_digit_separator))
+            .integer_prefix_digit_separator(flag(self.integer_prefix_digit_separator))
             .literal_prefixes(flag(self.literal_prefixes))
+            .literal_octal_zero(flag(self.literal_octal_zero))
             .build_unchecked()
     }
 }

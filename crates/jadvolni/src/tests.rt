@@ -27,11 +27,13 @@ fn standard() -> FormatFields {
         integer_internal_digit_separator: 0,
         integer_trailing_digit_separator: 0,
         integer_consecutive_digit_separator: 0,
+        integer_prefix_digit_separator: 0,
         literal_prefixes: 0,
+        literal_octal_zero: 0,
         digit_separator_is_nul: 0,
         base_prefix_is_nul: 0,
         base_suffix_is_nul: 0,
-        reserved: [0; 5],
+        reserved: [0; 3],
     }
 }
 
@@ -74,7 +76,7 @@ fn nul_and_reserved_bytes(rt: HostRuntime) {
     format.integer_internal_digit_separator = 1;
     let read = jadvolni_u16_partial_with_format(b"1\x002 3", &format, &mut value);
     assert_eq!(rt; (read.status, read.place, value), (0, 3, 12));
-    format.reserved = [0, 0, 0, 0, 1];
+    format.reserved = [0, 0, 1];
     assert_eq!(rt; jadvolni_format_error(&format), 64);
     let read = jadvolni_u16_partial_with_format(b"1", &format, &mut value);
     assert_eq!(rt; (read.status, read.place, value), (64, 0, 12));

@@ -30,11 +30,13 @@ pub struct Format {
     pub integer_internal_digit_separator: u8,
     pub integer_trailing_digit_separator: u8,
     pub integer_consecutive_digit_separator: u8,
+    pub integer_prefix_digit_separator: u8,
     pub literal_prefixes: u8,
+    pub literal_octal_zero: u8,
     pub digit_separator_is_nul: u8,
     pub base_prefix_is_nul: u8,
     pub base_suffix_is_nul: u8,
-    pub reserved: [u8; 5],
+    pub reserved: [u8; 3],
 }
 
 /// `jadvolni_uint128`: `high * 2^64 + low`.
@@ -57,8 +59,8 @@ pub struct Signed128 {
 const _: () = {
     assert!(size_of::<usize>() == 8);
     assert!(size_of::<Outcome>() == 16 && offset_of!(Outcome, place) == 8);
-    assert!(size_of::<Format>() == 24 && offset_of!(Format, literal_prefixes) == 15);
-    assert!(offset_of!(Format, base_suffix_is_nul) == 18 && offset_of!(Format, reserved) == 19);
+    assert!(size_of::<Format>() == 24 && offset_of!(Format, literal_prefixes) == 16);
+    assert!(offset_of!(Format, base_suffix_is_nul) == 20 && offset_of!(Format, reserved) == 21);
     assert!(size_of::<Unsigned128>() == 16 && offset_of!(Unsigned128, high) == 8);
     assert!(size_of::<Signed128>() == 16 && offset_of!(Signed128, high) == 8);
 };

@@ -39,8 +39,12 @@ pub struct Format {
     pub integer_trailing_digit_separator: bool,
     /// Where one separator may stand, more may.
     pub integer_consecutive_digit_separator: bool,
+    /// Separators may stand directly behind a prefix, as in `0x_1F`.
+    pub integer_prefix_digit_separator: bool,
     /// `0x`, `0o` and `0b` choose the radix for the digits behind them.
     pub literal_prefixes: bool,
+    /// A zero in front of another digit, or of the separator, makes the number octal.
+    pub literal_octal_zero: bool,
 }
 
 impl Format {
@@ -61,7 +65,9 @@ impl Format {
         integer_internal_digit_separator: false,
         integer_trailing_digit_separator: false,
         integer_consecutive_digit_separator: false,
+        integer_prefix_digit_separator: false,
         literal_prefixes: false,
+        literal_octal_zero: false,
     };
 
     /// Integers as JSON has them: no plus, and no zero in front of another digit.
@@ -114,11 +120,13 @@ impl Format {
             integer_internal_digit_separator: self.integer_internal_digit_separator.into(),
             integer_trailing_digit_separator: self.integer_trailing_digit_separator.into(),
             integer_consecutive_digit_separator: self.integer_consecutive_digit_separator.into(),
+            integer_prefix_digit_separator: self.integer_prefix_digit_separator.into(),
             literal_prefixes: self.literal_prefixes.into(),
+            literal_octal_zero: self.literal_octal_zero.into(),
             digit_separator_is_nul: (self.digit_separator == Some(0)).into(),
             base_prefix_is_nul: (self.base_prefix == Some(0)).into(),
             base_suffix_is_nul: (self.base_suffix == Some(0)).into(),
-            reserved: [0; 5],
+            reserved: [0; 3],
         }
     }
 }

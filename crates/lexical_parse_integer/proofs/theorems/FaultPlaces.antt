@@ -51,7 +51,7 @@ partial_faults_within format type text = behind (sign format type text) refl
     behind : (r : Result (Bool × ℕ) Error) → sign format type text ≡ r →
         IfErr (after_head {A = ℤ × ℕ} (head_after format text r) (λ h. let x = numeral_in format text h.start h.radix in first_fault_or (common_faults format type text h x ++ partial_faults format text x) (numeral_value h.is_minus x, x.stop))) (StandsWithin (length text))
     behind (Ok s) e =
-        let h : Head = head_behind format s (prefix_radix format text s.1) in
+        let h : Head = head_behind format text s (prefix_radix format text s.1) in
         let x : Numeral = numeral_in format text h.start h.radix in
         let low : h.start ≤ length text = head_within format text s _ (sign_within format type text s e) refl in
         by_faults (length text) (slice_index x.places 0) x.stop _ _ _ h.is_minus (first_outside type h.is_minus x) (λ m. get_or x.places m 0) (numeral_value h.is_minus x, x.stop)
