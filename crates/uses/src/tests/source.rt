@@ -1,3 +1,4 @@
+// Tests of the readers of C and of Python.
 use crate::source::{c, python};
 use lexical_parse_integer::Error;
 

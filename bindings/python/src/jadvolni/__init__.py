@@ -1,0 +1,25 @@
+"""Integers from bytes, under formats, with the byte at which a text is wrong.
+
+    >>> import jadvolni
+    >>> jadvolni.parse(b"-12", "i8")
+    -12
+    >>> jadvolni.parse("FF", "u8", jadvolni.Format(radix=16))
+    255
+    >>> jadvolni.parse_partial(b"12px", "u16")
+    (12, 2)
+    >>> list(jadvolni.parse_column(b"12,7,", "u64", b","))
+    [12, 7]
+    >>> jadvolni.parse(b"18446744073709551616", "u64")
+    Traceback (most recent call last):
+    ...
+    jadvolni.ParseError: Overflow at byte 19: "18446744073709551616"
+
+The parsers are those of the library `jadvolni`, whose answers are proved. This module hands texts to
+them and numbers back; it is tested, and not proved.
+"""
+
+from ._core import FormatError, ParseError, _check_format, parse, parse_column, parse_partial
+from ._format import Format
+
+__all__ = ["Format", "FormatError", "ParseError", "parse", "parse_column", "parse_partial"]
+__version__ = "0.1.0"

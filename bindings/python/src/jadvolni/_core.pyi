@@ -1,0 +1,33 @@
+"""The calls of the library, by `_core.c`."""
+
+from array import array
+from collections.abc import Buffer
+from typing import Literal, Optional, Union
+
+from ._format import Format
+
+Text = Union[str, Buffer]
+ColumnType = Literal["u8", "u16", "u32", "u64", "usize", "i8", "i16", "i32", "i64", "isize"]
+NumberType = Union[ColumnType, Literal["u128", "i128"]]
+
+class ParseError(ValueError):
+    kind: str
+    place: Optional[int]
+    field: Optional[int]
+    start: Optional[int]
+
+class FormatError(ValueError):
+    kind: str
+    place: None
+
+def parse(text: Text, type: NumberType = "i64", format: Optional[Format] = None) -> int: ...
+def parse_partial(
+    text: Text, type: NumberType = "i64", format: Optional[Format] = None
+) -> tuple[int, int]: ...
+def parse_column(
+    text: Text,
+    type: ColumnType = "i64",
+    separator: Text = b"\n",
+    format: Optional[Format] = None,
+) -> array[int]: ...
+def _check_format(format: Format) -> None: ...

@@ -1,0 +1,283 @@
+"""Tests of the binding: python3 -m unittest discover -s bindings/python/tests, with the wheel installed."""
+
+import array
+import doctest
+import pickle
+import sys
+import threading
+import unittest
+
+import jadvolni
+from jadvolni import Format, FormatError, ParseError, parse, parse_column, parse_partial
+
+# The least and the greatest number of each type.
+BOUNDS = {
+    **{f"u{bits}": (0, 2**bits - 1) for bits in (8, 16, 32, 64, 128)},
+    **{f"i{bits}": (-(2 ** (bits - 1)), 2 ** (bits - 1) - 1) for bits in (8, 16, 32, 64, 128)},
+    "usize": (0, 2**64 - 1),
+    "isize": (-(2**63), 2**63 - 1),
+}
+
+
+class Case(unittest.TestCase):
+    """A case that looks at faults."""
+
+    def fault(self, kind, place, call, *arguments, **named):
+        """The call raises a ParseError of this kind at this place, which is handed back."""
+        with self.assertRaises(ParseError) as caught:
+            call(*arguments, **named)
+        self.assertEqual((caught.exception.kind, caught.exception.place), (kind, place))
+        return caught.exception
+
+
+class Numbers(Case):
+    """Whole texts and fronts."""
+
+    def test_bounds_of_each_type(self):
+        for name, (least, greatest) in BOUNDS.items():
+            with self.subTest(type=name):
+                self.assertEqual(parse(str(greatest), name), greatest)
+                self.assertEqual(parse(str(greatest).encode(), name), greatest)
+                self.fault("Overflow", len(str(greatest)) - 1, parse, str(greatest + 1), name)
+                if least:
+                    self.assertEqual(parse(str(least), name), least)
+                    self.fault("Underflow", len(str(least)) - 1, parse, str(least - 1), name)
+                else:
+                    self.fault("InvalidDigit", 0, parse, "-1", name)
+
+    def test_numbers_round_trip(self):
+        for name, (least, greatest) in BOUNDS.items():
+            for shift in range(greatest.bit_length()):
+                for value in (2**shift, 2**shift - 1, -(2**shift)):
+                    if least <= value <= greatest:
+                        self.assertEqual(parse(str(value), name), value)
+
+    def test_i64_where_no_type_is_given(self):
+        self.assertEqual(parse("-9223372036854775808"), -(2**63))
+        self.assertEqual(parse_partial("7"), (7, 1))
+
+    def test_fronts(self):
+        self.assertEqual(parse_partial(b"12, 13", "u8"), (12, 2))
+        self.assertEqual(parse_partial(b"x", "u8"), (0, 0))
+        self.assertEqual(parse_partial(b"-170141183460469231731687303715884105728;", "i128"), (-(2**127), 40))
+
+    def test_texts_of_each_kind(self):
+        for text in ("12", b"12", bytearray(b"12"), memoryview(b"012")[1:], array.array("b", b"12")):
+            self.assertEqual(parse(text, "u8"), 12)
+        self.assertEqual(parse(text="12", type="u8", format=None), 12)
+
+    def test_faults(self):
+        error = self.fault("Overflow", 19, parse, b"18446744073709551616", "u64")
+        self.assertEqual(str(error), 'Overflow at byte 19: "18446744073709551616"')
+        self.assertIsInstance(error, ValueError)
+        self.assertIsNone(error.field)
+        self.fault("Empty", 0, parse, "", "u8")
+        self.fault("Empty", 1, parse, "+", "u8")
+        self.fault("InvalidDigit", 2, parse, "12 ", "u8")
+        self.fault("InvalidDigit", 0, parse, "١", "u8")
+        self.assertIn('"0000', str(self.fault("InvalidDigit", 999, parse, "0" * 999 + "x")))
+        self.assertLess(len(str(self.fault("InvalidDigit", 999, parse, "0" * 999 + "x"))), 120)
+
+
+class Formats(Case):
+    """Formats, and those that break a rule."""
+
+    def test_radix_and_prefix(self):
+        self.assertEqual(parse("0xFF", "u8", Format(radix=16, prefix="x")), 255)
+        self.assertEqual(parse("zz", "u16", Format(radix=36)), 35 * 37)
+        self.assertEqual(parse("FFh", "u8", Format(radix=16, suffix=b"h")), 255)
+        self.fault("Overflow", 4, parse, "0x100", "u8", Format(radix=16, prefix="x"))
+
+    def test_separators(self):
+        self.assertEqual(parse("1_000", "u16", Format(separator="_")), 1000)
+        self.fault("InvalidDigit", 1, parse, "1__0", "u16", Format(separator="_"))
+        self.assertEqual(parse("1__0", "u16", Format(separator="_", consecutive_separator=True)), 10)
+        self.assertEqual(parse(b"1\x000", "u16", Format(separator=b"\0")), 10)
+
+    def test_flags(self):
+        self.fault("InvalidPositiveSign", 0, parse, "+1", "u8", Format(no_positive_sign=True))
+        self.fault("MissingSign", 0, parse, "1", "u8", Format(required_sign=True))
+        self.fault("InvalidLeadingZeros", 0, parse, "01", "u8", Format(no_leading_zeros=True))
+        self.assertEqual(parse("", "u8", Format(required_digits=False)), 0)
+        self.assertEqual(parse("0b101", "u8", Format(literal_prefixes=True)), 5)
+
+    def test_formats_that_break_a_rule(self):
+        for kind, given in (
+            ("InvalidMantissaRadix", {"radix": 1}),
+            ("InvalidMantissaRadix", {"radix": 37}),
+            ("InvalidMantissaRadix", {"radix": -246}),
+            ("InvalidMantissaRadix", {"radix": 266}),
+            ("InvalidDigitSeparator", {"separator": "5"}),
+            ("InvalidBasePrefix", {"prefix": "-"}),
+            ("InvalidBaseSuffix", {"suffix": b"\xff"}),
+            ("InvalidPunctuation", {"prefix": "x", "suffix": "X"}),
+            ("InvalidLiteralPrefixes", {"literal_prefixes": True, "radix": 16}),
+        ):
+            with self.subTest(given=given), self.assertRaises(FormatError) as caught:
+                Format(**given)
+            self.assertEqual((caught.exception.kind, caught.exception.place), (kind, None))
+
+    def test_arguments_that_are_no_bytes(self):
+        for given in ({"separator": ""}, {"prefix": "ab"}, {"suffix": "é"}):
+            with self.subTest(given=given), self.assertRaises(ValueError):
+                Format(**given)
+        for given in ({"separator": 95}, {"radix": "16"}, {"radix": 16.0}):
+            with self.subTest(given=given), self.assertRaises(TypeError):
+                Format(**given)
+
+    def test_a_format_is_a_value(self):
+        format = Format(radix=16, prefix="x")
+        self.assertEqual(repr(format), "Format(radix=16, prefix='x')")
+        self.assertEqual(format, Format(prefix=b"x", radix=16))
+        self.assertEqual(hash(format), hash(Format(prefix=b"x", radix=16)))
+        self.assertNotEqual(format, Format())
+        self.assertEqual(pickle.loads(pickle.dumps(format)), format)
+        with self.assertRaises(AttributeError):
+            format.radix = 10
+        with self.assertRaises(AttributeError):
+            del format._fields
+
+
+class Columns(Case):
+    """Columns by one call."""
+
+    def test_columns_of_each_type(self):
+        for name, (least, greatest) in BOUNDS.items():
+            if not name.endswith("128"):
+                with self.subTest(type=name):
+                    column = parse_column(f"{least},{greatest},", name, ",")
+                    self.assertIsInstance(column, array.array)
+                    self.assertEqual(list(column), [least, greatest])
+
+    def test_a_last_separator_ends_no_field(self):
+        self.assertEqual(list(parse_column(b"1\n2\n")), [1, 2])
+        self.assertEqual(list(parse_column(b"1\n2")), [1, 2])
+        self.assertEqual(list(parse_column(b"")), [])
+
+    def test_any_byte_parts_fields(self):
+        self.assertEqual(list(parse_column(b"1020", "u8", b"0")), [1, 2])
+        self.assertEqual(list(parse_column("3+4", "u8", "+")), [3, 4])
+        self.assertEqual(list(parse_column(b"1_2", "u8", b"_", Format(separator="_"))), [1, 2])
+        self.assertEqual(list(parse_column(b"1\xff2", "u8", b"\xff")), [1, 2])
+
+    def test_the_first_fault(self):
+        error = self.fault("Overflow", 5, parse_column, b"12\n256\nx\n", "u8")
+        self.assertEqual((error.field, error.start), (1, 3))
+        self.assertEqual(str(error), 'Overflow at byte 5, in field 1: "256"')
+        self.fault("Empty", 0, parse_column, b",,,", "u8", b",")
+        self.fault("Empty", 2, parse_column, b"1,,2", "u8", b",")
+        for field in range(4):
+            text = b",".join(b"x" if k == field else b"%d" % k for k in range(4))
+            self.assertEqual(self.fault("InvalidDigit", 2 * field, parse_column, text, "u8", b",").field, field)
+
+    def test_long_columns(self):
+        numbers = [k * k * k % 2**64 for k in range(100_000)]
+        text = "\n".join(map(str, numbers)).encode()
+        self.assertEqual(list(parse_column(text, "u64")), numbers)
+        self.assertEqual(self.fault("Empty", 0, parse_column, b"\n" * 2**24).field, 0)
+        self.fault("Overflow", 19, parse_column, b"9" * 2**24, "u64")
+
+    def test_the_format_of_each_field(self):
+        self.assertEqual(list(parse_column("0xF F", "u8", " ", Format(radix=16, prefix="x"))), [15, 15])
+
+    def test_threads_share_a_text(self):
+        text = b"".join(b"%d\n" % k for k in range(50_000))
+        sums = []
+        threads = [threading.Thread(target=lambda: sums.append(sum(parse_column(text)))) for _ in range(4)]
+        for thread in threads:
+            thread.start()
+        for thread in threads:
+            thread.join()
+        self.assertEqual(sums, [sum(range(50_000))] * 4)
+
+
+class Arguments(Case):
+    """Bad arguments of every kind, and references."""
+
+    def test_bad_arguments(self):
+        for call in (parse, parse_partial, parse_column):
+            for arguments, named in (
+                ((), {}),
+                ((12,), {}),
+                ((None,), {}),
+                (("1", 8), {}),
+                (("1",), {"text": "1"}),
+                (("1",), {"kind": "u8"}),
+                (("1",), {"format": 16}),
+                (("1",), {"format": object()}),
+                (("1", "u8", ",", None, None), {}),
+                ((memoryview(b"1234")[::2], "u8", 5), {}),
+            ):
+                with self.subTest(call=call.__name__, arguments=arguments, named=named):
+                    self.assertRaises((TypeError, BufferError), call, *arguments, **named)
+            for name in ("", "u7", "U8", "u8\0", "float", "ü8", "\ud800"):
+                with self.subTest(call=call.__name__, type=name):
+                    self.assertRaises(ValueError, call, "1", name)
+        self.assertRaises(UnicodeEncodeError, parse, "\ud800", "u8")
+        self.assertRaises(BufferError, parse, memoryview(b"1234")[::2], "u8")
+
+    def test_separators_that_are_none(self):
+        for separator in (b"", b"ab", "", "é"):
+            with self.subTest(separator=separator):
+                self.assertRaises(ValueError, parse_column, "1", "u8", separator)
+        self.assertRaises(TypeError, parse_column, "1", "u8", 44)
+
+    def test_columns_of_128_bits_are_none(self):
+        self.assertRaises(ValueError, parse_column, "1", "u128")
+
+    def test_objects_that_look_like_formats(self):
+        class Alike:
+            _fields = b"short"
+
+        self.assertRaises(TypeError, parse, "1", "u8", Alike())
+        Alike._fields = b"\x0a" + bytes(23)
+        self.assertEqual(parse("1", "u8", Alike()), 1)
+        Alike._fields = b"\x0a" + bytes(22) + b"\x01"
+        self.assertRaises(FormatError, parse, "1", "u8", Alike())
+
+    def test_a_text_can_be_changed_afterwards(self):
+        for call in (parse, parse_partial, parse_column):
+            for content in (b"12", b"1x"):
+                text = bytearray(content)
+                try:
+                    call(text)
+                except ParseError:
+                    pass
+                text.append(0)
+
+    def test_references_stay(self):
+        text, name, separator, format = bytearray(b"12,x"), "".join(["u", "16"]), bytearray(b","), Format(radix=12)
+        objects = (text, name, separator, format, format._fields, ParseError, FormatError)
+
+        def calls():
+            for call, arguments in (
+                (parse, (text, name, format)),
+                (parse, (b"12", name, format)),
+                (parse_partial, (text, name, format)),
+                (parse_column, (text, name, separator, format)),
+                (parse_column, (b"12,13", name, separator, format)),
+                (parse, (text, name, 5)),
+                (parse, (5, name, format)),
+                (parse, (text, separator)),
+            ):
+                try:
+                    call(*arguments)
+                except (ValueError, TypeError):
+                    pass
+
+        calls()
+        before = [sys.getrefcount(one) for one in objects]
+        for _ in range(1000):
+            calls()
+        self.assertEqual([sys.getrefcount(one) for one in objects], before)
+
+
+def load_tests(loader, tests, pattern):
+    """The examples of the documentation are tests too."""
+    tests.addTests(doctest.DocTestSuite(jadvolni))
+    tests.addTests(doctest.DocTestSuite(sys.modules["jadvolni._format"]))
+    return tests
+
+
+if __name__ == "__main__":
+    unittest.main()
