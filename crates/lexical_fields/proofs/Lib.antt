@@ -1,3 +1,4 @@
+-- The proofs beside the functions, a file for each idea.
 pub mod ColumnNumbers
 pub mod ColumnRows
 pub mod ColumnSteps

@@ -1,3 +1,4 @@
+-- The definitions that contracts name, a file for each subject.
 pub mod Callers
 pub mod Columns
 pub mod Fields

@@ -48,7 +48,9 @@ class Format:
         internal_separator: bool = True,
         trailing_separator: bool = False,
         consecutive_separator: bool = False,
+        prefix_separator: bool = False,
         literal_prefixes: bool = False,
+        octal_zero: bool = False,
     ) -> None:
         """
         radix: from 2 to 36; digits above 9 are letters, in either case.
@@ -62,7 +64,9 @@ class Format:
         no_leading_zeros: a zero in front of another digit is refused.
         leading_separator, internal_separator, trailing_separator: where separators may stand.
         consecutive_separator: where one separator may stand, more may.
+        prefix_separator: separators may stand directly after a prefix, as in "0x_1F".
         literal_prefixes: "0x", "0o" and "0b" choose the radix; `radix` has to be 10.
+        octal_zero: a 0 in front makes the number octal, as in "0777"; `radix` has to be 10.
         """
         if not isinstance(radix, int):
             raise TypeError(f"radix has to be an int, and not {type(radix).__name__}")
@@ -88,9 +92,11 @@ class Format:
             parted and bool(internal_separator),
             parted and bool(trailing_separator),
             parted and bool(consecutive_separator),
+            parted and bool(prefix_separator),
             bool(literal_prefixes),
+            bool(octal_zero),
             *(mark == 0 for mark in marks),
-            *bytes(5),
+            *bytes(3),
         ]
         object.__setattr__(self, "_fields", bytes(fields))
         object.__setattr__(self, "_given", given)
