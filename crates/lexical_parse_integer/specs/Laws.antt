@@ -54,13 +54,14 @@ TellsDigits format type text = (head : Head) (value : ℤ) (place : ℕ)
     → partial format type text ≡ Ok (value, place)
     → stops_after_digit format.mantissa_radix text place
     ≡ nat_lt 0 (digit_count (numeral_in format text head.start head.radix))
+
 -- ---- separators behind a prefix
 
 -- a format with its flag for separators behind a prefix made one for leading separators
 abbrev pub with_leading_behind_prefix : Format → Format
 with_leading_behind_prefix format = record format {
   integer_leading_digit_separator = format.integer_leading_digit_separator
-  || format.integer_prefix_digit_separator;
+      || format.integer_prefix_digit_separator;
   integer_prefix_digit_separator = false;
 }
 

@@ -40,13 +40,7 @@ HaveSameFields format other =
     × (format.base_suffix ≡ other.base_suffix)))))))))))))))))
 
 same_from_fields : (format other : Format) → HaveSameFields format other → format ≡ other
-same_from_fields format other
-    (mantissa_radix, (case_sensitive_base_prefix, (case_sensitive_base_suffix,
-    (required_integer_digits, (required_mantissa_digits, (no_positive_mantissa_sign,
-    (required_mantissa_sign, (no_integer_leading_zeros, (integer_leading_digit_separator,
-    (integer_internal_digit_separator, (integer_trailing_digit_separator,
-    (integer_consecutive_digit_separator, (integer_prefix_digit_separator, (literal_prefixes,
-    (literal_octal_zero, (digit_separator, (base_prefix, base_suffix))))))))))))))))) = λ i. record {
+same_from_fields format other (mantissa_radix, (case_sensitive_base_prefix, (case_sensitive_base_suffix, (required_integer_digits, (required_mantissa_digits, (no_positive_mantissa_sign, (required_mantissa_sign, (no_integer_leading_zeros, (integer_leading_digit_separator, (integer_internal_digit_separator, (integer_trailing_digit_separator, (integer_consecutive_digit_separator, (integer_prefix_digit_separator, (literal_prefixes, (literal_octal_zero, (digit_separator, (base_prefix, base_suffix))))))))))))))))) = λ i. record {
   mantissa_radix = mantissa_radix i;
   case_sensitive_base_prefix = case_sensitive_base_prefix i;
   case_sensitive_base_suffix = case_sensitive_base_suffix i;

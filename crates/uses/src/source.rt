@@ -14,9 +14,12 @@ use lexical_parse_integer::{
 
 // Radix 10, or 16, 8 or 2 behind `0x`, `0o` or `0b`, with this separator between digits, and no sign.
 fn marked(separator: u8) -> NumberFormatBuilder
-    ensures { result ≡ record standard { no_positive_mantissa_sign = true;
-        digit_separator = Some separator; integer_internal_digit_separator = true;
-        literal_prefixes = true } }
+    ensures { result ≡ record standard {
+      no_positive_mantissa_sign = true;
+      digit_separator = Some separator;
+      integer_internal_digit_separator = true;
+      literal_prefixes = true;
+    } }
 {
     NumberFormatBuilder::new()
         .no_positive_mantissa_sign(true)

@@ -40,11 +40,7 @@ fn complete_if_valid<T: Integer>(
 
 // The partial answer under a format that may be invalid.
 #[inline(always)]
-fn partial<T: Integer>(
-    bytes: &[u8],
-    format: &NumberFormat,
-    options: &Options,
-) -> Result<(T, usize)>
+fn partial<T: Integer>(bytes: &[u8], format: &NumberFormat, options: &Options) -> Result<(T, usize)>
     ensures { view_of (with_place T.number) result ≡ partial_if_valid format.now T.TYPE bytes.now }
 {
     match settled_front::<T>(bytes, format) {
