@@ -27,7 +27,6 @@ BUILT = [os.path.join(CRATE, "out", name) for name in ("lexint", "lexint.by-ratt
 READ = b"lexint: read failed\n"
 WRITE = b"lexint: write failed\n"
 MEMORY = b"lexint: out of memory\n"
-WAITING = b"lexint: reads lines; end them with Ctrl-D, and the answers follow\n"
 
 PAGE = 4096
 MEBIBYTE = 1 << 20
@@ -82,17 +81,6 @@ def good_runs(program):
     for name, (given, wanted) in (("the stored run", STORED), ("a long run", LONG)):
         expect(name, run(program, input=given), (0, wanted, b""))
     expect("no input", run(program, stdin=subprocess.DEVNULL), (0, b"", b""))
-
-
-def at_a_terminal(program):
-    """Standard error says what is waited for, and standard output has the answers alone."""
-    ours, end = os.openpty()
-    started = subprocess.Popen([program], stdin=end, stdout=subprocess.PIPE, stderr=subprocess.PIPE)
-    os.close(end)
-    os.write(ours, b"c u8 255\n\x04")
-    out, err = started.communicate(timeout=SECONDS)
-    os.close(ours)
-    expect("a terminal", (started.returncode, out, err), (0, b"ok 255\n", WAITING))
 
 
 def refused_reads(program):
@@ -228,8 +216,7 @@ def main(programs):
     if not programs:
         sys.exit("tools/devices.py: no program is built: make lexint builds it")
     for program in map(os.path.abspath, programs):
-        for check in (good_runs, at_a_terminal, refused_reads, one_byte_a_read, refused_writes, short_writes,
-                      refused_memory):
+        for check in (good_runs, refused_reads, one_byte_a_read, refused_writes, short_writes, refused_memory):
             before = len(failures)
             check(program)
             failures[before:] = [f"{os.path.basename(program)}: {it}" for it in failures[before:]]

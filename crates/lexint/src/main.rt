@@ -24,19 +24,12 @@ pub mod literals {
 
 pub use fault::RunError;
 pub use program::{run, run_from};
-use std::io::IsTerminal;
 use std::process::ExitCode;
 
 /// Runs over standard input and output, and ends with status 0. At a fault its message goes to
-/// standard error, and the status is 2. Where the input is a terminal, standard error says first
-/// what is waited for.
+/// standard error, and the status is 2.
 fn main(rt: HostRuntime) -> ExitCode {
     let mut input = rt.stdin();
-    if input.is_terminal() {
-        let _shown = eprintln!(rt;
-            "lexint: reads lines; end them with Ctrl-D, and the answers follow"
-        );
-    }
     let mut out = rt.stdout();
     match run_from(rt.alloc(), &mut input, &mut out) {
         Ok(()) => ExitCode::SUCCESS,
