@@ -72,7 +72,8 @@ fn tell<W: Write>(
 
 // Sets what a command sets.
 fn obey(command: Option<Command<'_>>, settings: &mut Settings)
-    ensures { settings.new ≡ command_effect settings.old (option_map view_of_command command.entry) }
+    ensures { settings.new
+        ≡ command_effect settings.old (option_map view_of_command command.entry) }
 {
     match command {
         Some(Command::Change(change)) => settings.apply(change),
