@@ -76,28 +76,6 @@ fn reading_stops_where_room_ends(rt: HostRuntime) -> Result<(), Fail> {
 }
 
 #[test]
-fn a_text_is_read_by_pieces(rt: HostRuntime) -> Result<(), Fail> {
-    let text = b"1,22,333,4444,55555";
-    let mut values = [0; 2];
-    let mut sum = 0;
-    let mut place = 0;
-    for _ in 0..3 {
-        match read::<u64>(&text[place..], b',', &mut values) {
-            Ok(column) => {
-                for value in &values[..column.count] {
-                    sum += *value;
-                }
-                place += column.stop;
-            }
-            Err(_) => place = text.len(),
-        }
-    }
-    assert_eq!(rt; place, 19);
-    assert_eq!(rt; sum, 60_355);
-    Ok(())
-}
-
-#[test]
 fn the_first_fault_is_told_with_its_place(rt: HostRuntime) -> Result<(), Fail> {
     let mut values = [9; 4];
     assert_eq!(rt;
