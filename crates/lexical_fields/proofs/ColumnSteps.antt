@@ -9,8 +9,8 @@ use Rattle.lexical_util.specs.Number.{IntegerType}
 use Rattle.lexical_util.specs.Validity.{fault}
 use Rattle.lexical_fields.specs.declared.columns.Column.{Column}
 use Rattle.lexical_fields.specs.declared.columns.ColumnError.{ColumnError}
-use Rattle.lexical_fields.specs.declared.columns.ColumnError.TheVariants.{InvalidField, InvalidFormat}
-use Rattle.std.specs.Prelude.{IsNone, IfOk}
+use Rattle.lexical_fields.specs.declared.columns.ColumnError.TheVariants.{InvalidFormat}
+use Rattle.std.specs.Prelude.{IfOk}
 use Rattle.std.proofs.lemmas.Bool.{cases_lt}
 use Rattle.lexical_fields.specs.Columns.{GoesOn, answer_by, answer_of, answers, column, column_numbers, first_fault, next_start, numbers_by, numbers_of, stopped, values_before_fault}
 use Rattle.lexical_fields.specs.Fields.{FieldView, field_length, fields, fields_from}

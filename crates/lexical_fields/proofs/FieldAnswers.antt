@@ -1,5 +1,5 @@
 -- What a field stands for, by what the parser answered.
-use Rattle.std.proofs.Common.{◌≡◌, ℕ, ◌+◌, ◌<◌, ◌≤◌, ◌^◌, List, length, refl, ap, sym, subst, ◌∙◌, arith, Ok, Err, Result, Option, Some, None}
+use Rattle.std.proofs.Common.{◌≡◌, ℕ, ◌+◌, ◌<◌, ◌≤◌, ◌^◌, List, refl, ap, sym, subst, ◌∙◌, arith, Err, Result, Option, Some, None}
 use Rattle.std.proofs.Math.IntN.{ℤ}
 use Rattle.std.specs.Prelude.{IfErr, IfSome, IsNone}
 use Rattle.lexical_util.specs.declared.error.Error.{Error}
@@ -9,7 +9,7 @@ use Rattle.lexical_util.specs.Number.{IntegerType}
 use Rattle.lexical_util.specs.Validity.{fault}
 use Rattle.lexical_parse_integer.specs.Grammar.{complete, if_valid}
 use Rattle.lexical_parse_integer.specs.Laws.{StandsWithin}
-use Rattle.lexical_fields.specs.Places.{in_text, moved}
+use Rattle.lexical_fields.specs.Places.{in_text}
 use Rattle.lexical_fields.specs.ReadFields.{field_answer}
 
 -- a fault that isn't there

@@ -1,4 +1,4 @@
-use Rattle.std.proofs.Common.{ap, ◌∙◌, arith, length, Ok, Err}
+use Rattle.std.proofs.Common.{ap, ◌∙◌, length, Ok, Err}
 use Rattle.lexical_fields.proofs.FieldAnswers.{answered, fault_within, place_fits}
 use Rattle.lexical_fields.proofs.places.field_answer.Goals as goal
 

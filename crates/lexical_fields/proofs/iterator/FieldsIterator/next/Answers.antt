@@ -1,7 +1,7 @@
 use Rattle.std.proofs.Common.{◌≡◌, ◌+◌, ◌-◌, ◌<◌, ◌∷◌, length, ap, sym, ◌∙◌, rules, arith}
 use Rattle.std.proofs.lemmas.Bool.Decides.{nat_tests}
 use Rattle.lexical_parse_integer.specs.Answer.{view_of}
-use Rattle.lexical_fields.specs.ReadFields.{ReadField, field_answer, read_from}
+use Rattle.lexical_fields.specs.ReadFields.{field_answer, read_from}
 use Rattle.lexical_fields.proofs.FieldAnswers.{refused}
 use Rattle.lexical_fields.proofs.FieldSteps.{next_read}
 use Rattle.lexical_fields.proofs.iterator.FieldsIterator.next.Goals.{in-Some, in-None}
