@@ -14,6 +14,7 @@ WITHOUT_COMMENT = {
     "LICENSE-MIT": "the MIT licence",
     "stdin": "the input of the stored run, which `make test` repeats",
     "stdout": "what the stored run writes",
+    "py.typed": "says that the package has type hints; by its name alone, so it is empty",
 }
 # How a line of a comment begins, by the file's ending; files of other endings begin it with `#`.
 SIGNS = {
@@ -30,7 +31,7 @@ def comment_of(path: str) -> str | None:
         return WITHOUT_COMMENT[name]
     with open(path, encoding="utf-8") as file:
         text = file.read(8192)
-    if ending == ".py":
+    if ending in (".py", ".pyi"):
         found = re.search(r'\A(?:#![^\n]*\n)?"""(.*?)(?:\n\n|""")', text, re.S)
         return found and sentence(found[1])
     lines = [line for line in text.split("\n") if not line.startswith(("#!", "<?xml"))]
