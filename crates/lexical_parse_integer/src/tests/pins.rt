@@ -20,14 +20,16 @@ fn passed_before_fault(text: &[u8]) -> Option<&[u8]>
     }
 }
 
-// At position 0 nothing was read: it answers how many digits were.
+// At position 0 nothing was read: it answers how many digits were. The radix is the format's, where no octal zero can
+// have put another in force.
 fn digits_at_front(c: &Cursor<'_>) -> usize
     requires front { c.now.position ≡ 0 }
     ensures none { result ≡ 0 }
     ensures start { c.now.start ≡ 0 }
     ensures turns { c.now.turns ≡ 0 }
     ensures closed { c.now.closed ≡ false }
-    ensures radix { c.now.radix ≡ c.now.format.mantissa_radix }
+    ensures radix { c.now.format.literal_octal_zero ≡ false
+        → c.now.radix ≡ c.now.format.mantissa_radix }
 {
     c.cursor();
     c.digits()
