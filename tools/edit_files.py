@@ -113,11 +113,12 @@ def arguments_of(header):
 
 
 def as_told(path, told):
-    """The path under which a check tells of an item: the arguments of a type stand in its name, as in `VecU8Buffer`."""
+    """The path under which a check tells of an item: the arguments of a type or a trait stand in its name, as in
+    `VecU8Buffer` or `Signed128SlotI128`."""
     if path in told:
         return path
-    pattern = "::".join(".*?".join(map(re.escape, part)) for part in path.split("::"))
-    name = path.rsplit("::", 1)[-1]
+    *around, name = path.split("::")
+    pattern = "::".join([*(".*?".join(map(re.escape, part)) + ".*?" for part in around), re.escape(name)])
     alike = [it for it in told if it.rsplit("::", 1)[-1] == name and it.count("::") == path.count("::")]
     found = [it for it in alike if re.fullmatch(pattern, it)]
     return found[0] if len(found) == 1 else path

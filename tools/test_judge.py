@@ -153,6 +153,12 @@ class Texts(unittest.TestCase):
         self.assertEqual(edit_files.as_told("a::VecBuffer::append", told), told[0])
         self.assertEqual(edit_files.as_told("a::Other::append", told), "a::Other::append")
 
+    def test_an_item_of_a_trait_with_arguments(self):
+        told = ["a::Signed128SlotI128::put", "a::Unsigned128SlotU128::put", "a::AnySlot::put"]
+        self.assertEqual(edit_files.as_told("a::Signed128Slot::put", told), told[0])
+        self.assertEqual(edit_files.as_told("a::Unsigned128Slot::put", told), told[1])
+        self.assertEqual(edit_files.as_told("a::AnySlot::put", told), told[2])
+
     def test_an_edit_owns_what_it_changes(self):
         self.assertEqual(self.edit("the_less").items, ["greater"])
         self.assertEqual(self.edit("the_less").lines, {("src/lib.rt", 11): "    if a < b { a } else { b }"})
