@@ -1,8 +1,9 @@
-"""What `tools/documents.py --check` asks of the pages: links that lead somewhere, names of files that are there, few words.
+"""What `tools/documents.py --check` asks of the pages: links that lead somewhere, files that are there, true runs, few words.
 
 - A link has to lead to a file of the repository, and its anchor to a heading there. Links to the web aren't followed.
 - A name in backquotes that looks like a file or a folder has to be the end of the path of one. What runs and installers
   make is in MADE.
+- A run of the program over what `printf` gives it has to answer as the slow reading of the grammar does.
 - A page has at most as many words as BUDGETS says, and those of BUDGETS have at most MOST_WORDS together. What a tool
   takes from the source, or a measurement writes, doesn't count. `tools/documents.py --words` prints the counts.
 """
@@ -12,6 +13,8 @@ import fnmatch
 import os
 import posixpath
 import re
+
+import slow_reading
 
 MOST_WORDS = 10000
 BUDGETS = {
@@ -31,6 +34,7 @@ LINK = re.compile(r"\[(?:[^\[\]]|\[[^\]]*\])*\]\(([^()\s]+)\)")
 BLOCK = re.compile(r"(?ms)^<!-- block:[^\n]*-->\n```.*?^```$")
 MEASURED = re.compile(r"(?s)<!-- measured: .*?<!-- end of what was measured -->")
 COMMENT = re.compile(r"(?s)<!--.*?-->")
+RUN = re.compile(r"(?ms)^\$ printf '([^'\n]*)' \| (?:make run|lexint)\n(.*?)(?=^\$ |^```)")
 FILE = re.compile(r"(?:[\w.*-]+/)*[\w*-][\w.*-]*\.(?:md|rt|antt|py|sh|txt|mk|edit|c|h|hpp|cpp|rs|toml|json|tsv|svg|in|a|so|log)")
 FOLDER = re.compile(r"(?:[\w.*-]+/)+")
 
@@ -95,6 +99,17 @@ def wrong_names(page: str, text: str, files: set[str]) -> list[str]:
     return [f"{page}: no file is named `{name}`" for name in names_in(text) if not is_there(name, files)]
 
 
+def wrong_runs(page: str, text: str) -> list[str]:
+    """The runs of the program that the slow reading answers in another way."""
+    found = []
+    for block in FENCE.finditer(text):
+        for given, shown in RUN.findall(block[0]):
+            output = slow_reading.output_of(given.encode().decode("unicode_escape").encode())
+            if output != shown:
+                found.append(f"{page}: the run over '{given}' answers {output!r}")
+    return found
+
+
 def too_long(words: dict[str, int]) -> list[str]:
     """The pages with too many words, and a page of docs/ of which nobody says how many it may have."""
     found = []
@@ -122,7 +137,7 @@ def faults(pages: dict[str, str], names: list[str]) -> list[str]:
     found = []
     for page, text in sorted(pages.items()):
         found += wrong_links(page, text, pages, files)
-        found += [] if page in WRITTEN else wrong_names(page, text, files)
+        found += [] if page in WRITTEN else wrong_names(page, text, files) + wrong_runs(page, text)
     return found + too_long(counts_of(pages))
 
 
@@ -130,5 +145,6 @@ def said(pages: dict[str, str]) -> str:
     """How much was looked at, in one line."""
     links = sum(len(LINK.findall(CODE.sub("", prose_of(text)))) for text in pages.values())
     names = sum(len(names_in(text)) for page, text in pages.items() if page not in WRITTEN)
+    runs = sum(len(RUN.findall(block[0])) for text in pages.values() for block in FENCE.finditer(text))
     words = sum(count for page, count in counts_of(pages).items() if page in BUDGETS)
-    return f"{links} links and {names} names of files, {words} of {MOST_WORDS} words by hand"
+    return f"{links} links and {names} names of files, {runs} runs, {words} of {MOST_WORDS} words by hand"

@@ -163,6 +163,10 @@ GOOD_PAGE = """# A page, with `code`
 ## Twice
 ```
 [a link of code](nowhere.md) `nowhere.md`
+$ printf 'c u8 256\\nc u8 7\\n' | lexint
+err Overflow 2
+ok 7
+$ true
 ```
 """
 
@@ -170,6 +174,7 @@ GOOD_PAGE = """# A page, with `code`
 def test_checks():
     files = {*FILES, "README.md"}
     wrong = lambda text: check_pages.faults({"README.md": text, "docs/GUIDE.md": FILES["docs/GUIDE.md"]}, files)
+    holds("a run that is another one", len(wrong(GOOD_PAGE.replace("ok 7", "ok 8"))) == 2)
     budget = check_pages.too_long({"docs/GUIDE.md": 1})
     holds("a page without budget", len(budget) == 1 and budget[0].startswith("docs/GUIDE.md: say in"))
     holds("a good page", wrong(GOOD_PAGE) == budget)
