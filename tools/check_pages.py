@@ -6,6 +6,7 @@
 - A run of the program over what `printf` gives it has to answer as the slow reading of the grammar does.
 - A page has at most as many words as BUDGETS says, and those of BUDGETS have at most MOST_WORDS together. What a tool
   takes from the source, or a measurement writes, doesn't count. `tools/documents.py --words` prints the counts.
+- The newest version of the changelog is that of the header and of the packages.
 """
 from __future__ import annotations
 
@@ -27,6 +28,11 @@ WRITTEN = ("docs/CONTRACTS.md", "docs/FORMATS.md", "docs/MAP.md")
 # The most words of any other page: of a crate, a binding, an example.
 OF_OTHERS = 900
 MADE = ("out/*", "*/out/*", "build/*", "dist/*", "venv/*", "libjadvolni.*", "liblexical*", "Proof.antt", "ledger.txt")
+# Where the version is written.
+VERSIONS = {
+    "CHANGELOG.md": r"(?m)^## (\S+)", "include/jadvolni.h": r'JADVOLNI_VERSION_STRING "(.*?)"',
+    "bindings/rust/Cargo.toml": r'(?m)^version = "(.*?)"', "bindings/python/pyproject.toml": r'(?m)^version = "(.*?)"',
+}
 
 FENCE = re.compile(r"(?ms)^(```+)[^\n]*\n.*?^\1[ \t]*$")
 CODE = re.compile(r"`([^`\n]+)`")
@@ -124,6 +130,17 @@ def too_long(words: dict[str, int]) -> list[str]:
         found.append(f"{in_all} words by hand in README.md, CONTRIBUTING.md, CHANGELOG.md and docs/, "
                      f"and {MOST_WORDS} are the most")
     return found
+
+
+def wrong_versions(top: str) -> list[str]:
+    """The files whose version isn't that of the changelog."""
+    found = {}
+    for name, pattern in VERSIONS.items():
+        with open(os.path.join(top, name), encoding="utf-8") as file:
+            version = re.search(pattern, file.read())
+        found[name] = version[1] if version else "none"
+    wanted = found["CHANGELOG.md"]
+    return [f"{name}: its version is {it}, and that of CHANGELOG.md {wanted}" for name, it in found.items() if it != wanted]
 
 
 def counts_of(pages: dict[str, str]) -> dict[str, int]:

@@ -139,7 +139,7 @@ def main(arguments: list[str]) -> int:
     old = old_ones(TOP, found)
     if arguments:
         faults += [f"{path}: it isn't as the source has it: make docs writes it anew" for path in old]
-        faults += check_pages.faults(found, files_of(TOP))
+        faults += check_pages.faults(found, files_of(TOP)) + check_pages.wrong_versions(TOP)
     else:
         for path in old:
             with open(os.path.join(TOP, path), "w", encoding="utf-8") as file:

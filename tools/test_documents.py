@@ -190,8 +190,19 @@ def test_checks():
     holds("words by hand", check_pages.words_of("one, two - `three`\n" + made + "| four |\n") == 4)
 
 
+def test_versions(top):
+    files = {"CHANGELOG.md": "# Changelog\n\n## 1.2.0\n\n## 1.1.0\n", "include/jadvolni.h": '#define JADVOLNI_VERSION_STRING "1.2.0"\n',
+             "bindings/rust/Cargo.toml": '[package]\nversion = "1.2.0"\n', "bindings/python/pyproject.toml": 'version = "1.2.0"\n'}
+    write(top, files)
+    holds("one version", check_pages.wrong_versions(top) == [])
+    write(top, {"include/jadvolni.h": '#define JADVOLNI_VERSION_STRING "1.1.0"\n'})
+    holds("another version", len(check_pages.wrong_versions(top)) == 1)
+
+
 def main():
     test_checks()
+    with tempfile.TemporaryDirectory() as top:
+        test_versions(top)
     with tempfile.TemporaryDirectory() as top:
         write(top, FILES)
         test_pages(top)
