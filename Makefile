@@ -3,7 +3,8 @@
 RT ?= rt
 PREFIX ?= /usr/local
 PROGRAM := crates/lexint/out/lexint
-SOURCES := $(shell find crates -name out -prune -o -type f \( -name '*.rt' -o -name '*.antt' \) -print) crates.txt
+PROGRAM_CRATES := lexint $(shell sed -n 's/^lexint: *//p' crates.txt)
+SOURCES := $(shell find $(addprefix crates/,$(PROGRAM_CRATES)) -name out -prune -o -type f \( -name '*.rt' -o -name '*.antt' \) -print) crates.txt
 
 .PHONY: help toolchain run test test-one-by-one devices lexint install uninstall install-lexint uninstall-lexint rows docs
 .PHONY: check-docs bench judge test-judge must-not-compile fuzz

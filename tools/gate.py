@@ -8,7 +8,7 @@ earlier run kept is used, and nothing here changes. Its parts:
 
 rows      the worked rows stand everywhere as tools/rows.txt has them
 lanes     the word readers are lanes
-documents the documents that are made from the source are as the source has them
+documents the documents that are made from the source are as the source has them, and every page's links and runs hold
 house     clauses, files and folders keep their measures
 proofs    `rt ci` without the must-fail edits: every crate and its tests are proved, every test and program runs
 edits     judge_edits.py on every must-fail edit, over libraries that are proved for it from nothing
