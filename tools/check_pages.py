@@ -5,7 +5,8 @@
   make is in MADE.
 - A run of the program over what `printf` gives it has to answer as the slow reading of the grammar does.
 - A page has at most as many words as BUDGETS says, and those of BUDGETS have at most MOST_WORDS together. What a tool
-  takes from the source, or a measurement writes, doesn't count. `tools/documents.py --words` prints the counts.
+  takes from the source or compares with it (blocks, worked rows) and what a measurement writes doesn't count.
+  `tools/documents.py --words` prints the counts.
 - The newest version of the changelog is that of the header and of the packages.
 """
 from __future__ import annotations
@@ -40,6 +41,7 @@ LINK = re.compile(r"\[(?:[^\[\]]|\[[^\]]*\])*\]\(([^()\s]+)\)")
 BLOCK = re.compile(r"(?ms)^<!-- block:[^\n]*-->\n```.*?^```$")
 MEASURED = re.compile(r"(?s)<!-- measured: .*?<!-- end of what was measured -->")
 COMMENT = re.compile(r"(?s)<!--.*?-->")
+EXAMPLES = re.compile(r"(?m)^\| Parser \| Fields \|.*\n(?:\|.*\n)+")
 RUN = re.compile(r"(?ms)^\$ printf '([^'\n]*)' \| (?:make run|lexint)\n(.*?)(?=^\$ |^```)")
 FILE = re.compile(r"(?:[\w.*-]+/)*[\w*-][\w.*-]*\.(?:md|rt|antt|py|sh|txt|mk|edit|c|h|hpp|cpp|rs|toml|json|tsv|svg|in|a|so|log)")
 FOLDER = re.compile(r"(?:[\w.*-]+/)+")
@@ -62,7 +64,7 @@ def anchors_of(text: str) -> set[str]:
 
 def words_of(text: str) -> int:
     """How many words of a page were written by hand."""
-    for made in (BLOCK, MEASURED, COMMENT):
+    for made in (BLOCK, MEASURED, COMMENT, EXAMPLES):
         text = made.sub("", text)
     return len(re.findall(r"\S*\w\S*", text))
 
