@@ -27,7 +27,7 @@ BUDGETS = {
 # The pages that a tool writes whole. A further page of docs/ has to be in one of the two lists.
 WRITTEN = ("docs/CONTRACTS.md", "docs/FORMATS.md", "docs/MAP.md")
 # The most words of any other page: of a crate, a binding, an example.
-OF_OTHERS = 900
+OF_OTHERS = 1000
 MADE = ("out/*", "*/out/*", "build/*", "dist/*", "venv/*", "libjadvolni.*", "liblexical*", "Proof.antt", "ledger.txt")
 # Where the version is written.
 VERSIONS = {
