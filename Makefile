@@ -1,55 +1,45 @@
-# What make does here, by its targets.
-#
-# make run     builds the proved program where needed, and gives it standard input
-# make test    the gate: proves everything from nothing, runs every test, and has every must-fail edit refused, many in
-#              one check
-# make test-one-by-one  the same, with each edit tried alone by the toolchain: slower, and without the judge
-# make devices runs the program alone over devices that refuse, which make test does too
-# make lexint  the program alone, as crates/lexint/out/lexint
-# make install puts it into $(PREFIX)/bin, and the library for C, C++ and Rust where users look; make uninstall takes all away
-# make lib     proves and builds that library; tools/lib.mk has this and its tests, make test-c and make check-c
-# make rows    writes the theorems and tests of the worked rows anew from tools/rows.txt
-# make docs    writes the documents that are made from the source: docs/MAP.md, docs/CONTRACTS.md, code blocks
-# make check-docs  fails where one of them isn't as the source has it, which make test does too
-# make bench   measures the parsers beside others, and writes bench/results.tsv and docs/SPEED.md
-# make judge   tries the must-fail edits alone, many in one check, and holds each to the function that it changes
-# make test-judge  tests the judge and the gate, which make test does too
-# make must-not-compile  checks what the compiler or the prover has to refuse of programs that use the libraries, which
-#              make test does too
-# make fuzz    runs the program beside a slow reading of the grammar: make fuzz SEED=1 LINES=1000000
+# What make does here: `make` alone lists the targets.
 
 RT ?= rt
 PREFIX ?= /usr/local
 PROGRAM := crates/lexint/out/lexint
-SOURCES := $(shell find crates -name out -prune -o -type f \( -name '*.rt' -o -name '*.antt' \) -print) crates.txt
+PROGRAM_CRATES := lexint $(shell sed -n 's/^lexint: *//p' crates.txt)
+SOURCES := $(shell find $(addprefix crates/,$(PROGRAM_CRATES)) -name out -prune -o -type f \( -name '*.rt' -o -name '*.antt' \) -print) crates.txt
 
-.PHONY: run test test-one-by-one devices lexint install uninstall install-lexint uninstall-lexint rows docs check-docs
-.PHONY: bench judge test-judge must-not-compile fuzz
+.PHONY: help toolchain run test test-one-by-one devices lexint install uninstall install-lexint uninstall-lexint rows docs
+.PHONY: check-docs bench judge test-judge must-not-compile fuzz
 
-run: $(PROGRAM)
+# A target is listed by the words after its two number signs.
+help:
+	@echo "make TARGET, where TARGET is"
+	@awk -F ':.*## ' '/^[a-z-]+:.*## / { printf "  %-17s %s\n", $$1, $$2 }' $(MAKEFILE_LIST)
+
+# What needs the toolchain fails at once, and with a sentence, where there is none.
+toolchain:
+	@RT=$(RT) tools/build.py --toolchain
+
+run: $(PROGRAM) ## proves and builds the program where needed, and gives it standard input
 	@./$(PROGRAM)
 
-lexint: $(PROGRAM)
+lexint: $(PROGRAM) ## proves and builds the program, as crates/lexint/out/lexint
 
-# What the prover and the linker say goes to standard error: standard output is the program's alone.
+# What is said on the way goes to standard error: standard output is the program's alone.
 $(PROGRAM): $(SOURCES)
-	@cd crates/lexint && $(RT) run </dev/null >&2
+	@RT=$(RT) tools/build.py lexint
 	@touch $@
 
-test:
+test: | toolchain ## the gate: proves everything from nothing, runs every test, and has every must-fail edit refused
 	@RT=$(RT) tools/gate.py
 
-test-one-by-one:
+test-one-by-one: | toolchain ## the gate, with each edit tried alone by the toolchain: slower, and without the judge
 	@RT=$(RT) tools/gate.py --one-by-one
 
-devices: $(PROGRAM)
+devices: $(PROGRAM) ## runs the program over devices that refuse; a part of the gate
 	@RT=$(RT) tools/devices.py $(PROGRAM)
 
-include tools/lib.mk
+install: install-lexint install-lib ## puts the program and the library where users look: PREFIX, DESTDIR
 
-install: install-lexint install-lib
-
-uninstall: uninstall-lexint uninstall-lib
+uninstall: uninstall-lexint uninstall-lib ## takes both away
 
 install-lexint: $(PROGRAM)
 	install -d $(DESTDIR)$(PREFIX)/bin $(DESTDIR)$(MANDIR)/man1
@@ -59,40 +49,42 @@ install-lexint: $(PROGRAM)
 uninstall-lexint:
 	rm -f $(DESTDIR)$(PREFIX)/bin/lexint $(DESTDIR)$(MANDIR)/man1/lexint.1
 
-rows:
+include tools/lib.mk
+
+rows: | toolchain ## writes the theorems and tests of the worked rows from tools/rows.txt
 	@python3 tools/rows.py
 	@cd crates/rows && $(RT) fmt
 
-docs:
+docs: ## writes what documents have from the source: docs/MAP.md, docs/CONTRACTS.md, code blocks
 	@python3 tools/documents.py
 
-check-docs:
+check-docs: ## checks these, and every link, file name and word count; a part of the gate
 	@python3 tools/test_documents.py
 	@python3 tools/documents.py --check
 
-# BENCH is what bench/run.py is asked: make bench BENCH="--rounds 50 --no-counts".
-BENCH ?=
-
-bench:
-	@RT=$(RT) bench/run.py $(BENCH)
-
-# JUDGE is what judge_edits.py is asked: make judge JUDGE="--crate lexical_util --jobs 2".
+# What judge_edits.py is asked: make judge JUDGE="--crate lexical_util --jobs 2".
 JUDGE ?=
 
-judge:
+judge: | toolchain ## tries the must-fail edits alone: JUDGE="--crate CRATE --only EDIT"
 	@RT=$(RT) tools/judge_edits.py $(JUDGE)
 
-test-judge:
+test-judge: | toolchain ## tests the judge and the gate; a part of the gate
 	@tools/test_gate.py
 	@RT=$(RT) tools/test_judge.py
 
-must-not-compile:
+must-not-compile: | toolchain ## checks that wrong programs over the libraries are refused; a part of the gate
 	@RT=$(RT) tools/must_not_compile.py
 
 # What the fuzz run asks for: the seed that a run before has printed, and how many lines.
 SEED ?=
 LINES ?= 200000
 
-fuzz: $(PROGRAM)
+fuzz: $(PROGRAM) ## runs the program beside a slow reading of the grammar: SEED=1 LINES=1000000
 	@python3 tools/slow_reading.py --check
 	@python3 tools/fuzz.py --tokens --lines $(LINES) $(if $(SEED),--seed $(SEED))
+
+# What bench/run.py is asked: make bench BENCH="--rounds 50 --no-counts".
+BENCH ?=
+
+bench: | toolchain ## measures the parsers beside others, and writes bench/results.tsv and docs/SPEED.md
+	@RT=$(RT) bench/run.py $(BENCH)

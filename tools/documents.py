@@ -2,16 +2,18 @@
 """Writes the documents that are made from the source, or says where they aren't as written.
 
     tools/documents.py           writes docs/MAP.md, docs/CONTRACTS.md, and the marked code blocks of other documents
-    tools/documents.py --check   writes nothing, and ends with status 1 where one of them isn't as it would write it
+    tools/documents.py --check   writes nothing, and ends with status 1 where one of them isn't as it would write it, or
+                                 where check_pages.py finds something wrong
+    tools/documents.py --words   prints how many words of each page were written by hand
 
 A block is marked in a document by the line before it, which names a source file and what is taken of it:
 
     <!-- block: crates/uses/src/ledger.rt: Entry::of, total -->
 
 Functions are taken whole, with their doc comments. `all` takes the file's text from its first `ghost use` or `use` to
-its first test; `body of NAME` what stands between a function's braces, up to its first assertion; and `imports and body
-of NAME` the file's `use` lines too. With `as CRATE` at the end, `crate::` is that crate's name, as a caller elsewhere
-writes it.
+its first test; `body of NAME` what stands between a function's braces, up to its first assertion; `imports and body of
+NAME` the file's `use` lines too; and `whole` the file's text after the comment that it begins with. With `as CRATE` at
+the end, `crate::` is that crate's name, as a caller elsewhere writes it.
 """
 from __future__ import annotations
 
@@ -20,12 +22,14 @@ import os
 import re
 import sys
 
+import check_pages
 import contracts_page
 import edit_files
 import map_page
 
 TOP = os.path.dirname(os.path.dirname(os.path.abspath(__file__)))
-BLOCK = re.compile(r"(?m)^(<!-- block: (?P<file>[^:\n]+): (?P<what>[^\n]*?)(?: as (?P<crate>\w+))? -->\n)```rust\n(?s:.*?)^```$")
+BLOCK = re.compile(r"(?m)^(<!-- block: (?P<file>[^:\n]+): (?P<what>[^\n]*?)(?: as (?P<crate>\w+))? -->\n```(?P<language>\w+)\n)"
+                   r"(?s:.*?)^```$")
 
 
 class Unfit(Exception):
@@ -78,7 +82,9 @@ def block_text(top: str, marker: re.Match[str]) -> str:
     if not os.path.isfile(path):
         raise Unfit(f"there is no file {file}")
     text = edit_files.read(path)
-    if what == "all":
+    if what == "whole":
+        code = re.sub(r"\A(?:/\*(?s:.*?)\*/\n|(?://[^\n]*\n)+)", "", text).strip("\n")
+    elif what == "all":
         begin = re.search(r"(?m)^(?:ghost )?use ", text)
         end = re.search(r"(?m)^#\[test\]", text)
         code = "#![tactic(auto)]\n\n" + text[begin.start():end.start() if end else len(text)].strip()
@@ -96,7 +102,7 @@ def with_blocks(top: str, path: str, faults: list[str]) -> str:
     """A document with its marked blocks as the source has them."""
     def fill(marker: re.Match[str]) -> str:
         try:
-            return f"{marker[1]}```rust\n{block_text(top, marker)}\n```"
+            return f"{marker[1]}{block_text(top, marker)}\n```"
         except Unfit as fault:
             faults.append(f"{path}: {fault}")
             return marker[0]
@@ -122,19 +128,23 @@ def old_ones(top: str, found: dict[str, str]) -> list[str]:
 
 
 def main(arguments: list[str]) -> int:
-    if arguments not in ([], ["--check"]):
+    if arguments not in ([], ["--check"], ["--words"]):
         print(__doc__)
         return 2
     faults: list[str] = []
     found = documents(TOP, faults)
+    if arguments == ["--words"]:
+        print("\n".join(f"{count:6} {page}" for page, count in check_pages.counts_of(found).items()))
+        return 0
     old = old_ones(TOP, found)
     if arguments:
         faults += [f"{path}: it isn't as the source has it: make docs writes it anew" for path in old]
+        faults += check_pages.faults(found, files_of(TOP)) + check_pages.wrong_versions(TOP)
     else:
         for path in old:
             with open(os.path.join(TOP, path), "w", encoding="utf-8") as file:
                 file.write(found[path])
-    said = f"{len(found)} documents looked at, {len(old)} " + ("old" if arguments else "written")
+    said = f"{len(found)} documents looked at, {len(old)} " + (f"old; {check_pages.said(found)}" if arguments else "written")
     print("\n".join([*faults, said]))
     return 1 if faults else 0
 

@@ -8,7 +8,7 @@ earlier run kept is used, and nothing here changes. Its parts:
 
 rows      the worked rows stand everywhere as tools/rows.txt has them
 lanes     the word readers are lanes
-documents the documents that are made from the source are as the source has them
+documents the documents that are made from the source are as the source has them, and every page's links and runs hold
 house     clauses, files and folders keep their measures
 proofs    `rt ci` without the must-fail edits: every crate and its tests are proved, every test and program runs
 edits     judge_edits.py on every must-fail edit, over libraries that are proved for it from nothing
@@ -134,6 +134,7 @@ class Gate:
         self.built = {name: concurrent.futures.Future() for name in self.libraries()}
         self.proofs_end = concurrent.futures.Future()
         self.start, self.lock = time.time(), threading.Lock()
+        self.parts, self.ended = 0, 0
         self.cores = len(os.sched_getaffinity(0))
         # Half of the processors are for `rt ci`, as long as it runs.
         self.lanes = self.cores if is_one_by_one else max(1, min(4, self.cores // 2))
@@ -162,6 +163,7 @@ class Gate:
             del parts["edits"], parts["judge"]
             parts["programs"] = self.proofs_passed, self.programs
             parts["callers"] = self.proofs_passed, self.callers
+        self.parts = len(parts)
         with concurrent.futures.ThreadPoolExecutor(len(parts)) as pool:
             told = [it.result() for it in [pool.submit(self.part, name, *calls) for name, calls in parts.items()]]
         self.say("gate ends")
@@ -185,7 +187,10 @@ class Gate:
         except Exception:  # (what is wrong with the gate itself is no pass)
             passed, text = False, traceback.format_exc()
         seconds = time.time() - start
-        self.say(f"{name} {'passed' if passed else 'FAILED'} after {seconds:.0f} s: {text}")
+        with self.lock:
+            self.ended += 1
+            ended = f"{self.ended} of {self.parts} parts ended"
+        self.say(f"{name} {'passed' if passed else 'FAILED'} after {seconds:.0f} s ({ended}): {text}")
         return name, passed, seconds, text
 
     def tool(self, *words, root=None):

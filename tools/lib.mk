@@ -1,10 +1,5 @@
 # The library for C, C++ and Rust: built, installed and tested. The Makefile includes this file.
 
-# make lib       proves the library and builds it, as build/libjadvolni.a and build/libjadvolni.so
-# make install-lib, make uninstall-lib   puts what users of the library need where they look, and takes it away
-# make test-c    runs the callers in C, C++ and Rust, over the built library
-# make check-c   runs a million random parses through the C calls, beside the slow reading of the grammar
-
 CC ?= cc
 INCLUDEDIR ?= $(PREFIX)/include
 LIBDIR ?= $(PREFIX)/lib
@@ -17,11 +12,11 @@ LIBRARY_SOURCES := $(shell find crates/jadvolni crates/lexical_parse_integer cra
 
 .PHONY: lib install-lib uninstall-lib test-c check-c
 
-lib: $(LIBRARIES)
+lib: $(LIBRARIES) ## proves and builds the library for C, as build/libjadvolni.a and build/libjadvolni.so
 
 build/libjadvolni.a: $(LIBRARY_SOURCES)
 	@mkdir -p build
-	@cd crates/jadvolni && $(RT) lib </dev/null >&2
+	@RT=$(RT) tools/build.py jadvolni
 	@cp crates/jadvolni/out/libjadvolni.a $@
 
 # It needs no other library, not even that of C: -nostdlib leaves it out, and -z defs fails if anything is missing.
@@ -33,7 +28,7 @@ build/libjadvolni.so: build/libjadvolni.a
 FILL = sed -e 's|@PREFIX@|$(PREFIX)|; s|@LIBDIR@|$(LIBDIR)|; s|@INCLUDEDIR@|$(INCLUDEDIR)|' \
     -e 's|@VERSION@|$(VERSION)|; s|@SOVERSION@|$(SOVERSION)|'
 
-install-lib: $(LIBRARIES)
+install-lib: $(LIBRARIES) ## puts the library where compilers look: PREFIX, LIBDIR, DESTDIR
 	install -d $(DESTDIR)$(INCLUDEDIR) $(DESTDIR)$(LIBDIR)/pkgconfig $(DESTDIR)$(LIBDIR)/cmake/jadvolni
 	install -d $(DESTDIR)$(MANDIR)/man3
 	install -m 644 include/jadvolni.h include/jadvolni.hpp $(DESTDIR)$(INCLUDEDIR)
@@ -46,7 +41,7 @@ install-lib: $(LIBRARIES)
 	$(FILL) packaging/jadvolniConfigVersion.cmake.in > $(DESTDIR)$(LIBDIR)/cmake/jadvolni/jadvolniConfigVersion.cmake
 	$(FILL) packaging/jadvolni.3.in > $(DESTDIR)$(MANDIR)/man3/jadvolni.3
 
-uninstall-lib:
+uninstall-lib: ## takes the library away
 	rm -f $(DESTDIR)$(INCLUDEDIR)/jadvolni.h $(DESTDIR)$(INCLUDEDIR)/jadvolni.hpp
 	rm -f $(DESTDIR)$(LIBDIR)/libjadvolni.a $(DESTDIR)$(LIBDIR)/libjadvolni.so
 	rm -f $(DESTDIR)$(LIBDIR)/libjadvolni.so.$(SOVERSION) $(DESTDIR)$(LIBDIR)/libjadvolni.so.$(VERSION)
@@ -54,12 +49,12 @@ uninstall-lib:
 	rm -rf $(DESTDIR)$(LIBDIR)/cmake/jadvolni
 
 # Without a compiler of C there is no shared library; check_c.py says what it skips then.
-test-c: build/libjadvolni.a $(if $(shell command -v $(CC) 2>/dev/null),build/libjadvolni.so)
+test-c: build/libjadvolni.a $(if $(shell command -v $(CC) 2>/dev/null),build/libjadvolni.so) ## runs the callers in C, C++ and Rust; a part of the gate
 	@python3 tools/check_c.py
 
 # What the random run asks for: the seed that a run before has printed, and how many parses and formats.
 PARSES ?= 1000000
 FORMATS ?= 100000
 
-check-c: $(LIBRARIES)
+check-c: $(LIBRARIES) ## runs random parses through the C calls, beside the slow reading: SEED, PARSES, FORMATS
 	@python3 tools/fuzz_c.py --parses $(PARSES) --formats $(FORMATS) $(if $(SEED),--seed $(SEED))

@@ -1,13 +1,14 @@
 #!/usr/bin/env python3
-"""Tests of documents.py and of the two files that it stands on, over a small repository that it writes.
+"""Tests of documents.py and of the files that it stands on, over a small repository that it writes.
 
 Each of its breaks has to be seen: a document that is old, a file that doesn't say what it is, a marker that names
-nothing. Its last line is `N passed, M failed`.
+nothing, a link that leads nowhere, a page that is too long. Its last line is `N passed, M failed`.
 """
 import os
 import sys
 import tempfile
 
+import check_pages
 import documents
 
 SOURCE = """//! Halves of numbers.
@@ -67,8 +68,10 @@ FILES = {
     "crates/small/must-fail/half_is_a_third.edit": "file: src/lib.rt\nold:     x / 2\nnew:     x / 3\n",
     "crates/small/must-fail/hidden_adds_two.edit": "file: src/lib.rt\nold:     x + 1\nnew:     x + 2\n",
     "crates/small/must-fail/halved_is_whole.edit": "file: src/lib.rt\nold:         *self / 2\nnew:         *self\n",
+    "crates/small/ten.c": "/* Ten. */\nint ten = 10;\n",
     "docs/GUIDE.md": "# Guide\n\nHow to halve. And more.\n\n<!-- block: crates/small/src/lib.rt: half -->\n```rust\nold\n```\n\n"
-                     "<!-- block: crates/small/src/lib.rt: imports and body of shown as small -->\n```rust\n```\n",
+                     "<!-- block: crates/small/src/lib.rt: imports and body of shown as small -->\n```rust\n```\n\n"
+                     "<!-- block: crates/small/ten.c: whole -->\n```c\nold\n```\n",
 }
 HALF = """/// Half of a number, rounded down.
 ///
@@ -121,6 +124,7 @@ def test_pages(top):
     holds("the map has nothing that git ignores", "`out/" not in page and "made.o" not in page)
     holds("a block is the function", f"```rust\n{HALF}\n```" in guide)
     holds("a block is a test's body", "```rust\nuse small::other::Other;\n\nlet one = half(3); // 1\n```" in guide)
+    holds("a block is a file's text", "```c\nint ten = 10;\n```" in guide)
     holds("all of them are old", set(documents.old_ones(top, found)) == {"docs/CONTRACTS.md", "docs/MAP.md", "docs/GUIDE.md"})
     write(top, found)
     faults = []
@@ -149,7 +153,56 @@ def test_breaks(top):
         write(top, {path: FILES[path]})
 
 
+GOOD_PAGE = """# A page, with `code`
+
+[there](#a-page-with-code), [again](#twice-1), [below](docs/GUIDE.md#guide), [a folder](crates/small), [out](https://a.b/c)
+
+`src/inner.rt`, `crates/small/`, `must-fail/half_*.edit`, `python3 crates/small/src/lib.rt`, `out/made.log`, `a.field`
+
+## Twice
+## Twice
+```
+[a link of code](nowhere.md) `nowhere.md`
+$ printf 'c u8 256\\nc u8 7\\n' | lexint
+err Overflow 2
+ok 7
+$ true
+```
+"""
+
+
+def test_checks():
+    files = {*FILES, "README.md"}
+    wrong = lambda text: check_pages.faults({"README.md": text, "docs/GUIDE.md": FILES["docs/GUIDE.md"]}, files)
+    holds("a run that is another one", len(wrong(GOOD_PAGE.replace("ok 7", "ok 8"))) == 2)
+    budget = check_pages.too_long({"docs/GUIDE.md": 1})
+    holds("a page without budget", len(budget) == 1 and budget[0].startswith("docs/GUIDE.md: say in"))
+    holds("a good page", wrong(GOOD_PAGE) == budget)
+    for what, text in (("a link to no file", "[a](docs/GONE.md)"), ("a link to no heading", "[a](docs/GUIDE.md#gone)"),
+                       ("a link to no heading here", "[a](#gone)"), ("a name of no file", "`src/gone.rt`"),
+                       ("a name of no file in a command", "`make src/gone.rt`"), ("a name of no folder", "`gone/`")):
+        holds(what, len(wrong(GOOD_PAGE + text)) == 1 + len(budget))
+    holds("a page that is too long", len(wrong(GOOD_PAGE + "word " * check_pages.BUDGETS["README.md"])) == 1 + len(budget))
+    counted = {page: most for page, most in check_pages.BUDGETS.items()}
+    holds("pages that are too long together", (len(check_pages.too_long(counted)) == 1)
+          == (sum(counted.values()) > check_pages.MOST_WORDS))
+    made = "<!-- block: a.rt: all -->\n```rust\nmade by a tool\n```\n<!-- measured: x -->\n1 2 3\n<!-- end of what was measured -->\n"
+    holds("words by hand", check_pages.words_of("one, two - `three`\n" + made + "| four |\n") == 4)
+
+
+def test_versions(top):
+    files = {"CHANGELOG.md": "# Changelog\n\n## 1.2.0\n\n## 1.1.0\n", "include/jadvolni.h": '#define JADVOLNI_VERSION_STRING "1.2.0"\n',
+             "bindings/rust/Cargo.toml": '[package]\nversion = "1.2.0"\n', "bindings/python/pyproject.toml": 'version = "1.2.0"\n'}
+    write(top, files)
+    holds("one version", check_pages.wrong_versions(top) == [])
+    write(top, {"include/jadvolni.h": '#define JADVOLNI_VERSION_STRING "1.1.0"\n'})
+    holds("another version", len(check_pages.wrong_versions(top)) == 1)
+
+
 def main():
+    test_checks()
+    with tempfile.TemporaryDirectory() as top:
+        test_versions(top)
     with tempfile.TemporaryDirectory() as top:
         write(top, FILES)
         test_pages(top)

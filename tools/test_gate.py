@@ -1,5 +1,5 @@
 #!/usr/bin/env python3
-"""Tests of gate.py: what makes the gate fail.
+"""Tests of gate.py and of build.py: what makes the gate fail, and what a build says.
 
 usage: tools/test_gate.py
 
@@ -16,6 +16,7 @@ from unittest import mock
 
 sys.dont_write_bytecode = True
 
+import build  # noqa: E402
 import gate  # noqa: E402
 
 STAND_IN = """#!/bin/sh
@@ -170,6 +171,51 @@ class GateTests(unittest.TestCase):
     def test_a_file_that_is_no_edit(self):
         self.write("crates/low/must-fail/three.edits", "")
         self.fails("low: three.edits is no edit")
+
+
+class BuildTests(unittest.TestCase):
+    """What a build says, over the same two crates."""
+
+    def setUp(self):
+        self.room = tempfile.TemporaryDirectory(prefix="test-build-")
+        self.addCleanup(self.room.cleanup)
+        self.root, self.toolchain = self.room.name, os.path.join(self.room.name, "rt")
+        for path in ("crates/low/src/lib.rt", "crates/high/src/main.rt", "crates.txt"):
+            os.makedirs(os.path.dirname(os.path.join(self.root, path)), exist_ok=True)
+            with open(os.path.join(self.root, path), "w", encoding="utf-8") as file:
+                file.write(FILES.get(path, ""))
+
+    def built(self, status):
+        """Whether a build passes with a toolchain that ends so, and what it says and logs."""
+        with open(self.toolchain, "w", encoding="utf-8") as file:
+            file.write(f'#!/bin/sh\necho "$1 in $(basename $PWD)"\necho noise >&2\nexit {status}\n')
+        os.chmod(self.toolchain, 0o755)
+        told, out = io.StringIO(), io.StringIO()
+        with contextlib.redirect_stderr(told), contextlib.redirect_stdout(out):
+            passed = build.build(self.root, "high", self.toolchain)
+        self.assertEqual(out.getvalue(), "")
+        with open(os.path.join(self.root, "out", "build.log"), encoding="utf-8") as file:
+            return passed, told.getvalue().splitlines(), file.read().splitlines()
+
+    def test_a_line_as_each_crate_begins_and_ends(self):
+        passed, told, logged = self.built(0)
+        self.assertTrue(passed)
+        self.assertEqual([line.split(" in ")[0] for line in told], [
+            "1 of 2  low: proving and building ..", "1 of 2  low: done",
+            "2 of 2  high: proving and building ..", "2 of 2  high: done"])
+        self.assertEqual(logged, ["lib in low", "noise", "run in high", "noise"])
+
+    def test_a_crate_that_is_not_proved(self):
+        passed, told, logged = self.built(1)
+        self.assertFalse(passed)
+        self.assertEqual(told[1:], ["lib in low", "noise", "1 of 2  low: not built; out/build.log has all that was said"])
+        self.assertEqual(logged, ["lib in low", "noise"])
+
+    def test_no_toolchain(self):
+        told = io.StringIO()
+        with mock.patch.dict(os.environ, RT="/nowhere/rt"), contextlib.redirect_stderr(told):
+            self.assertEqual(build.main(["--toolchain"]), 1)
+        self.assertIn("there is no `/nowhere/rt` on the PATH", told.getvalue())
 
 
 if __name__ == "__main__":

@@ -1,0 +1,169 @@
+"""What `tools/documents.py --check` asks of the pages: links that lead somewhere, files that are there, true runs, few words.
+
+- A link has to lead to a file of the repository, and its anchor to a heading there. Links to the web aren't followed.
+- A name in backquotes that looks like a file or a folder has to be the end of the path of one. What runs and installers
+  make is in MADE.
+- A run of the program over what `printf` gives it has to answer as the slow reading of the grammar does.
+- A page has at most as many words as BUDGETS says, and those of BUDGETS have at most MOST_WORDS together. What a tool
+  takes from the source or compares with it (blocks, worked rows) and what a measurement writes doesn't count.
+  `tools/documents.py --words` prints the counts.
+- The newest version of the changelog is that of the header and of the packages.
+"""
+from __future__ import annotations
+
+import fnmatch
+import os
+import posixpath
+import re
+
+import slow_reading
+
+MOST_WORDS = 10000
+BUDGETS = {
+    "README.md": 800, "CONTRIBUTING.md": 800, "CHANGELOG.md": 300, "docs/ARCHITECTURE.md": 1100,
+    "docs/DECISIONS.md": 2000, "docs/DIFFERENCES.md": 1200, "docs/GRAMMAR.md": 2000, "docs/PROOFS.md": 2100,
+    "docs/SPEED.md": 500,
+}
+# The pages that a tool writes whole. A further page of docs/ has to be in one of the two lists.
+WRITTEN = ("docs/CONTRACTS.md", "docs/FORMATS.md", "docs/MAP.md")
+# The most words of any other page: of a crate, a binding, an example.
+OF_OTHERS = 1000
+MADE = ("out/*", "*/out/*", "build/*", "dist/*", "venv/*", "libjadvolni.*", "liblexical*", "Proof.antt", "ledger.txt")
+# Where the version is written.
+VERSIONS = {
+    "CHANGELOG.md": r"(?m)^## (\S+)", "include/jadvolni.h": r'JADVOLNI_VERSION_STRING "(.*?)"',
+    "bindings/rust/Cargo.toml": r'(?m)^version = "(.*?)"', "bindings/python/pyproject.toml": r'(?m)^version = "(.*?)"',
+}
+
+FENCE = re.compile(r"(?ms)^(```+)[^\n]*\n.*?^\1[ \t]*$")
+CODE = re.compile(r"`([^`\n]+)`")
+LINK = re.compile(r"\[(?:[^\[\]]|\[[^\]]*\])*\]\(([^()\s]+)\)")
+BLOCK = re.compile(r"(?ms)^<!-- block:[^\n]*-->\n```.*?^```$")
+MEASURED = re.compile(r"(?s)<!-- measured: .*?<!-- end of what was measured -->")
+COMMENT = re.compile(r"(?s)<!--.*?-->")
+EXAMPLES = re.compile(r"(?m)^\| Parser \| Fields \|.*\n(?:\|.*\n)+")
+RUN = re.compile(r"(?ms)^\$ printf '([^'\n]*)' \| (?:make run|lexint)\n(.*?)(?=^\$ |^```)")
+FILE = re.compile(r"(?:[\w.*-]+/)*[\w*-][\w.*-]*\.(?:md|rt|antt|py|sh|txt|mk|edit|c|h|hpp|cpp|rs|toml|json|tsv|svg|in|a|so|log)")
+FOLDER = re.compile(r"(?:[\w.*-]+/)+")
+
+
+def prose_of(text: str) -> str:
+    """A page without its blocks of code."""
+    return FENCE.sub("", text)
+
+
+def anchors_of(text: str) -> set[str]:
+    """The anchors of a page's headings, as GitHub makes them."""
+    found: dict[str, int] = {}
+    for title in re.findall(r"(?m)^#+ +(.*?) *$", prose_of(text)):
+        shown = re.sub(r"\[([^\]]*)\]\([^)]*\)", r"\1", title).lower()
+        anchor = re.sub(r"[^\w\- ]", "", shown).replace(" ", "-")
+        found[anchor] = found.get(anchor, 0) + 1
+    return {anchor + (f"-{number}" if number else "") for anchor, count in found.items() for number in range(count)}
+
+
+def words_of(text: str) -> int:
+    """How many words of a page were written by hand."""
+    for made in (BLOCK, MEASURED, COMMENT, EXAMPLES):
+        text = made.sub("", text)
+    return len(re.findall(r"\S*\w\S*", text))
+
+
+def wrong_links(page: str, text: str, pages: dict[str, str], files: set[str]) -> list[str]:
+    """The links of a page that lead nowhere."""
+    found = []
+    for target in LINK.findall(CODE.sub("", prose_of(text))):
+        if re.match(r"[a-z]+:", target):
+            continue
+        path, _, anchor = target.partition("#")
+        place = posixpath.normpath(posixpath.join(posixpath.dirname(page), path)) if path else page
+        is_folder = any(it.startswith(place + "/") for it in files)
+        if place not in files and not is_folder:
+            found.append(f"{page}: there is no {target}")
+        elif anchor and anchor not in anchors_of(pages.get(place, "")):
+            found.append(f"{page}: {place} has no heading #{anchor}")
+    return found
+
+
+def names_in(text: str) -> list[str]:
+    """What looks like a file or a folder among the names in backquotes."""
+    found = []
+    for code in CODE.findall(prose_of(text)):
+        whole = FILE.fullmatch(code) or FOLDER.fullmatch(code)
+        parts = [it for it in code.split() if "/" in it and FILE.fullmatch(it)]
+        found += [code] if whole else parts
+    return found
+
+
+def is_there(name: str, files: set[str]) -> bool:
+    """Whether a name is the end of a file's path, or of a folder's."""
+    pattern = name + "*" if name.endswith("/") else name
+    return any(fnmatch.fnmatch(name, it) for it in MADE) or any(
+        fnmatch.fnmatch(it, pattern) or fnmatch.fnmatch(it, "*/" + pattern) for it in files)
+
+
+def wrong_names(page: str, text: str, files: set[str]) -> list[str]:
+    """The names of a page that no file has."""
+    return [f"{page}: no file is named `{name}`" for name in names_in(text) if not is_there(name, files)]
+
+
+def wrong_runs(page: str, text: str) -> list[str]:
+    """The runs of the program that the slow reading answers in another way."""
+    found = []
+    for block in FENCE.finditer(text):
+        for given, shown in RUN.findall(block[0]):
+            output = slow_reading.output_of(given.encode().decode("unicode_escape").encode())
+            if output != shown:
+                found.append(f"{page}: the run over '{given}' answers {output!r}")
+    return found
+
+
+def too_long(words: dict[str, int]) -> list[str]:
+    """The pages with too many words, and a page of docs/ of which nobody says how many it may have."""
+    found = []
+    for page, count in words.items():
+        if page.startswith("docs/") and page not in BUDGETS:
+            found.append(f"{page}: say in tools/check_pages.py how many words it may have")
+        most = BUDGETS.get(page, OF_OTHERS)
+        if count > most:
+            found.append(f"{page}: {count} words by hand, and {most} are the most")
+    in_all = sum(words.get(page, 0) for page in BUDGETS)
+    if in_all > MOST_WORDS:
+        found.append(f"{in_all} words by hand in README.md, CONTRIBUTING.md, CHANGELOG.md and docs/, "
+                     f"and {MOST_WORDS} are the most")
+    return found
+
+
+def wrong_versions(top: str) -> list[str]:
+    """The files whose version isn't that of the changelog."""
+    found = {}
+    for name, pattern in VERSIONS.items():
+        with open(os.path.join(top, name), encoding="utf-8") as file:
+            version = re.search(pattern, file.read())
+        found[name] = version[1] if version else "none"
+    wanted = found["CHANGELOG.md"]
+    return [f"{name}: its version is {it}, and that of CHANGELOG.md {wanted}" for name, it in found.items() if it != wanted]
+
+
+def counts_of(pages: dict[str, str]) -> dict[str, int]:
+    """The words by hand of each page."""
+    return {page: words_of(text) for page, text in sorted(pages.items()) if page not in WRITTEN}
+
+
+def faults(pages: dict[str, str], names: list[str]) -> list[str]:
+    """What is wrong with the pages, among the files of the repository."""
+    files = {*(name.replace(os.sep, "/") for name in names), *pages}
+    found = []
+    for page, text in sorted(pages.items()):
+        found += wrong_links(page, text, pages, files)
+        found += [] if page in WRITTEN else wrong_names(page, text, files) + wrong_runs(page, text)
+    return found + too_long(counts_of(pages))
+
+
+def said(pages: dict[str, str]) -> str:
+    """How much was looked at, in one line."""
+    links = sum(len(LINK.findall(CODE.sub("", prose_of(text)))) for text in pages.values())
+    names = sum(len(names_in(text)) for page, text in pages.items() if page not in WRITTEN)
+    runs = sum(len(RUN.findall(block[0])) for text in pages.values() for block in FENCE.finditer(text))
+    words = sum(count for page, count in counts_of(pages).items() if page in BUDGETS)
+    return f"{links} links and {names} names of files, {runs} runs, {words} of {MOST_WORDS} words by hand"
