@@ -23,6 +23,7 @@ The last line is 'N parts passed, M failed'.
 """
 import argparse
 import concurrent.futures
+import contextlib
 import os
 import re
 import shutil
@@ -44,7 +45,9 @@ RT = os.environ.get("RT", "rt")
 # The folders that no clone has, as .gitignore names them.
 MADE = (".git", "out", "target", "__pycache__")
 # What `rt ci` takes beside the judge's checks, and the most that all take.
-MEMORY_OF_PROOFS, MOST_MEMORY = 5e9, 12e9
+MEMORY_OF_PROOFS, MOST_MEMORY = 7e9, 12e9
+# What comes first where checks wait for each other: libraries, then what is done by one check, then batches of edits.
+LIBRARY, SINGLE, BATCH = range(3)
 
 
 class Failed(Exception):
@@ -52,21 +55,33 @@ class Failed(Exception):
 
 
 class Slots:
-    """How many checks may run at once, of all crates' edits and of the small parts."""
+    """How many checks may run at once, of all crates' edits and of the small parts. Of those that wait, the one of the
+    lowest rank comes first: what others wait for, and then the crates with the most left to do."""
 
     def __init__(self, number):
-        self.number, self.free = number, threading.Semaphore(number)
+        self.number, self.free = number, number
+        self.waiting, self.changed = [], threading.Condition()
 
-    def __enter__(self):
-        self.free.acquire()
-
-    def __exit__(self, *_):
-        self.free.release()
+    @contextlib.contextmanager
+    def at(self, rank):
+        with self.changed:
+            self.waiting.append(rank)
+            self.changed.wait_for(lambda: self.free and rank == min(self.waiting))
+            self.waiting.remove(rank)
+            self.free -= 1
+            self.changed.notify_all()
+        try:
+            yield
+        finally:
+            with self.changed:
+                self.free += 1
+                self.changed.notify_all()
 
     def grow(self, number):
-        for _ in range(self.number, number):
-            self.free.release()
-        self.number = max(self.number, number)
+        with self.changed:
+            self.free += max(number - self.number, 0)
+            self.number = max(number, self.number)
+            self.changed.notify_all()
 
 
 def crates_of(root):
@@ -136,9 +151,9 @@ class Gate:
         self.start, self.lock = time.time(), threading.Lock()
         self.parts, self.ended = 0, 0
         self.cores = len(os.sched_getaffinity(0))
-        # Half of the processors are for `rt ci`, as long as it runs.
-        self.lanes = self.cores if is_one_by_one else max(1, min(4, self.cores // 2))
-        self.slots = Slots(self.checks_for(self.cores - self.lanes, MEMORY_OF_PROOFS))
+        # `rt ci` takes every processor that it has work for. So the judge's checks fill those that it leaves idle, and
+        # each of them takes a little longer, as long as both run.
+        self.slots = Slots(self.checks_for(self.cores, MEMORY_OF_PROOFS))
 
     @staticmethod
     def checks_for(cores, taken):
@@ -221,8 +236,6 @@ class Gate:
     def proofs(self):
         """Runs `rt ci`, and says of each crate when it is proved."""
         said, env = [], {**os.environ, "PYTHONUNBUFFERED": "1"}
-        if not self.is_one_by_one:
-            env["RT_JOBS"] = str(self.lanes)
         is_well = False
         try:
             with subprocess.Popen([RT, "ci"], cwd=self.proofs_root, env=env, stdin=subprocess.DEVNULL, text=True,
@@ -255,9 +268,9 @@ class Gate:
         is_well = False
         try:
             self.wait_for(self.crates[name])
-            with self.slots:
+            with self.slots.at((LIBRARY, 0)):
                 start = time.time()
-                ran = subprocess.run([RT, "lib", "--jobs", "1"], cwd=os.path.join(self.root, "crates", name),
+                ran = subprocess.run([RT, "lib", "--jobs", str(min(4, self.cores))], cwd=os.path.join(self.root, "crates", name),
                                      stdin=subprocess.DEVNULL, stdout=subprocess.PIPE, stderr=subprocess.STDOUT,
                                      text=True, errors="replace")
             is_well = ran.returncode == 0
@@ -295,7 +308,11 @@ class Gate:
         self.wait_for(self.crates[name] + [name] * (name in self.built))
         options = judge_edits.options_of(["--jobs", str(self.checks_for(self.cores, 0))])
         say = lambda line: self.say(f"edits: {line}")
-        judge = judge_edits.Judge(self.root, name, options, say, say, self.slots)
+        # The crate with the most edits takes longest.
+        most_first = -len(edits_in(self.root, [name]))
+        judge = judge_edits.Judge(self.root, name, options, say, say,
+                                  first_slot=lambda: self.slots.at((SINGLE, most_first)),
+                                  slot=lambda: self.slots.at((BATCH, most_first)))
         with tempfile.TemporaryDirectory(dir=self.folder) as rooms:
             refused, others = judge.run(rooms)
         self.say(f"edits: {name} ends: {refused} refused, {others} not")
@@ -305,11 +322,11 @@ class Gate:
         return tests_run(self.tool("test_gate.py"))
 
     def tests_of_judge(self):
-        with self.slots:
+        with self.slots.at((SINGLE, 0)):
             return tests_run(self.tool("test_judge.py"))
 
     def programs(self):
-        with self.slots:
+        with self.slots.at((SINGLE, 0)):
             return last_line(self.tool("must_not_compile.py"))
 
     def devices(self):
@@ -318,7 +335,7 @@ class Gate:
         return last_line(self.tool("devices.py", *built, root=self.proofs_root))
 
     def callers(self):
-        with self.slots:
+        with self.slots.at((SINGLE, 0)):
             ran = subprocess.run(["make", "-s", "test-c", f"RT={RT}"], cwd=self.root, stdin=subprocess.DEVNULL,
                                  stdout=subprocess.PIPE, stderr=subprocess.STDOUT, text=True, errors="replace")
         if ran.returncode:

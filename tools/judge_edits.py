@@ -129,13 +129,13 @@ class NotProved(Exception):
 
 
 class Judge:
-    """The edits of one crate, and how they were judged. Each check takes one of the slots, if any are given, which
-    other judges can share."""
+    """The edits of one crate, and how they were judged. Where several crates share the processors, the first check runs
+    in `first_slot` and each one after it in `slot`, which give their turns."""
 
-    def __init__(self, root, name, options, say, progress, slots=None):
+    def __init__(self, root, name, options, say, progress, first_slot=None, slot=contextlib.nullcontext):
         self.root, self.name, self.options, self.say = root, name, options, say
         self.progress = lambda text: progress(f"{self.name}: {text}")
-        self.slots = slots
+        self.first_slot, self.slot = first_slot, slot
         self.folder = os.path.join(root, "crates", name)
         self.edits, self.bad, self.told = [], {}, {}
         for path in sorted(glob.glob(os.path.join(self.folder, "must-fail", "*.edit"))):
@@ -153,8 +153,9 @@ class Judge:
         for name, why in self.bad.items():
             self.say(f"{self.name}/{name}: NOT REFUSED: {why}")
         if self.edits:
-            self.open_rooms(temporary)
+            first = self.first_room(temporary)
             batches = edit_files.batches_of(self.edits, edit_files.calls_of(self.folder), self.options.most)
+            self.open_rooms(first, temporary, len(batches))
             self.progress(f"{len(self.edits)} edits in {len(batches)} batches, {self.jobs} at once")
             with concurrent.futures.ThreadPoolExecutor(self.jobs) as pool:
                 again = [edit for left in pool.map(self.judge, batches) for edit in left]
@@ -165,17 +166,21 @@ class Judge:
         refused = sum(why is None for _, why in self.told.values())
         return refused, len(self.edits) + len(self.bad) - refused
 
-    def open_rooms(self, temporary):
-        """Checks the crate as it is, and makes a room for each check that runs at once."""
+    def first_room(self, temporary):
+        """Checks the crate as it is, and settles what the edits' functions are called there."""
         first = Room.of(self.root, self.name, os.path.join(temporary, self.name, "0"))
-        with self.slots or contextlib.nullcontext():
-            check, said = first.check({}, jobs=1 if self.slots else None)
+        with (self.first_slot or self.slot)():
+            check, said = first.check({}, jobs=1 if self.first_slot else None)
         if not check.is_proved():
             raise NotProved(f"{self.name} is not proved without an edit:\n{said[-2000:]}")
         for edit in self.edits:
             edit.items = [edit_files.as_told(path, check.functions) for path in edit.items]
             self.settle_constants(edit, check)
-        self.jobs = min(self.options.jobs or jobs_for_memory(), len(self.edits))
+        return first
+
+    def open_rooms(self, first, temporary, most):
+        """Makes a room for each check that runs at once, of which there are no more than these."""
+        self.jobs = min(self.options.jobs or jobs_for_memory(), most)
         self.rooms.put(first)
         for number in range(1, self.jobs):
             self.rooms.put(first.copy(os.path.join(temporary, self.name, str(number))))
@@ -183,7 +188,7 @@ class Judge:
     def close_room(self, _):
         """Checks that the crate is still proved in a room, once no edit is left in it."""
         room = self.rooms.get()
-        with self.slots or contextlib.nullcontext():
+        with self.slot():
             check, said = room.check({})
         if not check.is_proved():
             raise NotProved(f"{self.name} is not proved any more after its edits:\n{said[-2000:]}")
@@ -223,7 +228,7 @@ class Judge:
         room = self.rooms.get()
         try:
             paths = sorted({path for it in batch for path in it.items}) if not batch[0].shifts else []
-            with self.slots or contextlib.nullcontext():
+            with self.slot():
                 start = time.time()
                 check, said = room.check(edit_files.applied(batch, self.folder), paths)
         finally:

@@ -11,6 +11,8 @@ import io
 import os
 import sys
 import tempfile
+import threading
+import time
 import unittest
 from unittest import mock
 
@@ -53,7 +55,7 @@ class Judge:
 
     let_through = None
 
-    def __init__(self, root, name, options, say, progress, slots):
+    def __init__(self, root, name, options, say, progress, first_slot, slot):
         self.folder = os.path.join(root, "crates", name, "must-fail")
 
     def run(self, temporary):
@@ -103,6 +105,31 @@ class GateTests(unittest.TestCase):
         self.assertIn("3 of 3 edits refused", said)
         self.assertIn("2 passed, 0 failed: 3 functions and 2 tests", said)
         self.assertIn("callers of the library: 6 passed", said)
+
+    def test_what_others_wait_for_comes_first(self):
+        slots, order = gate.Slots(1), []
+
+        def check(rank):
+            with slots.at(rank):
+                order.append(rank)
+
+        with slots.at((gate.BATCH, 0)):
+            waiting = [threading.Thread(target=check, args=[it]) for it in ((2, -5), (2, -90), (0, 0), (1, -5))]
+            for it in waiting:
+                it.start()
+            while len(slots.waiting) < len(waiting):
+                time.sleep(0.01)
+        for it in waiting:
+            it.join()
+        self.assertEqual(order, [(0, 0), (1, -5), (2, -90), (2, -5)])
+
+    def test_slots_grow(self):
+        slots = gate.Slots(1)
+        slots.grow(2)
+        with slots.at((0, 0)), slots.at((0, 0)):
+            self.assertEqual(slots.free, 0)
+        slots.grow(1)
+        self.assertEqual(slots.free, 2)
 
     def test_one_by_one_wants_the_edits_of_the_toolchain(self):
         self.assertIn("its last line is not '5 passed, 0 failed'", self.said("--one-by-one")[1])
