@@ -233,6 +233,10 @@ class Edit:
             return False
         return not IMPORT.match(self.lines[line]) and not ITEM.search(blanked(self.lines[line]))
 
+    def shows_beside_items(self):
+        """Whether it may be refused elsewhere than at its items, so that the whole crate has to be checked."""
+        return bool(self.others or self.theorems or self.lemmas)
+
     def names(self):
         return {path.rsplit("::", 1)[-1] for path in self.items}
 

@@ -227,7 +227,7 @@ class Judge:
     def checked(self, batch):
         room = self.rooms.get()
         try:
-            paths = sorted({path for it in batch for path in it.items}) if not batch[0].shifts else []
+            paths = sorted({path for it in batch for path in it.items}) if not batch[0].shows_beside_items() else []
             with self.slot():
                 start = time.time()
                 check, said = room.check(edit_files.applied(batch, self.folder), paths)
