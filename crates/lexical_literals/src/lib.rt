@@ -12,11 +12,11 @@
 //! own: `-5` is a byte and a number. Spaces, tabs, line feeds and carriage returns between tokens are skipped.
 #![tactic(auto)]
 
-ghost use Rattle.std.specs.Prelude.{◌≡◌, ◌+◌, ◌<◌, ◌≤◌, ◌^◌, List, All, IsNone, length, slice_index};
+ghost use Rattle.std.specs.Prelude.{◌≡◌, ◌+◌, ◌<◌, ◌≤◌, ◌^◌, List, All, IfOk, IsNone, length, slice_index};
 ghost use Rattle.std.specs.Iterator.{YieldsFirstBy, item_count};
 ghost use Rattle.std.specs.List.{prefix_len};
 ghost use Rattle.lexical_util.specs.Validity.{fault};
-ghost use Rattle.lexical_literals.specs.Tokens.{FollowInTurn, FollowUnder, IsPartOf, TokenView, front_of, is_skipped, is_word_byte, literals, number_of, view_of_token, tokens, tokens_from, tokens_if_valid, tokens_under, word_length};
+ghost use Rattle.lexical_literals.specs.Tokens.{FollowInTurn, FollowUnder, IsPartOf, TokenView, front_of, is_skipped, is_word_byte, literals, number_of, view_of_token, tokens, tokens_from, tokens_if_valid, word_length};
 
 use lexical_parse_integer::laws::grammar::front_end;
 use lexical_parse_integer::parse::ParseInteger;
@@ -181,9 +181,9 @@ impl<'a> Tokens<'a> {
     /// word from 5 to 6. The clauses say of these tokens what those of [`Tokens::new`] say.
     pub fn with_format(source: &'a [u8], format: &NumberFormat) -> Result<Tokens<'a>>
         ensures tokens { result ≡ tokens_if_valid format.now source.now }
-        ensures order { FollowUnder format.now source.now 0 (tokens_under format.now source.now) }
-        ensures parts { All (IsPartOf source.now) (tokens_under format.now source.now) }
-        ensures count { length (tokens_under format.now source.now) ≤ length source.now }
+        ensures order { IfOk result (FollowUnder format.now source.now 0) }
+        ensures parts { IfOk result (All (IsPartOf source.now)) }
+        ensures count { IfOk result (λ all. length all ≤ length source.now) }
     {
         front_end();
         if let Some(fault) = format.error() {

@@ -1,15 +1,6 @@
 use Rattle.lexical_literals.proofs.TokenLists.{tokens_are_few, tokens_are_parts, tokens_in_turn}
 use Rattle.lexical_literals.proofs.Tokens.with_format.Goals as goal
 
-pub returns-in-Some-clause-order : goal.returns-in-Some-clause-order
-returns-in-Some-clause-order c = tokens_in_turn (record { within = c.front_end.ensures.within; some = c.front_end.ensures.some }) c.args.format.now c.args.source.now
-
-pub returns-in-Some-clause-parts : goal.returns-in-Some-clause-parts
-returns-in-Some-clause-parts c = tokens_are_parts (record { within = c.front_end.ensures.within; some = c.front_end.ensures.some }) c.args.format.now c.args.source.now
-
-pub returns-in-Some-clause-count : goal.returns-in-Some-clause-count
-returns-in-Some-clause-count c = tokens_are_few c.args.format.now c.args.source.now
-
 pub returns-clause-order : goal.returns-clause-order
 returns-clause-order c = tokens_in_turn (record { within = c.front_end.ensures.within; some = c.front_end.ensures.some }) c.args.format.now c.args.source.now
 
