@@ -12,12 +12,18 @@
 //! own: `-5` is a byte and a number. Spaces, tabs, line feeds and carriage returns between tokens are skipped.
 #![tactic(auto)]
 
-ghost use Rattle.std.specs.Prelude.{◌≡◌, ◌+◌, ◌<◌, ◌≤◌, ◌^◌, List, All, IfOk, IsNone, length, slice_index};
-ghost use Rattle.std.specs.Iterator.{YieldsFirstBy, item_count};
-ghost use Rattle.std.specs.List.{prefix_len};
-ghost use Rattle.lexical_util.specs.Validity.{fault};
-ghost use Rattle.lexical_literals.specs.Tokens.{FollowInTurn, FollowUnder, IsPartOf, TokenView, front_of, is_skipped, is_word_byte, literals, number_of, view_of_token, tokens, tokens_from, tokens_if_valid, word_length};
+mod bytes;
+mod decimal;
 
+ghost use Rattle.std.specs.Prelude.{◌≡◌, ◌+◌, ◌<◌, ◌≤◌, ◌^◌, List, All, IfOk, IsNone, IsTrue, is_some, length, slice_index, true};
+ghost use Rattle.std.specs.Iterator.{YieldsFirstBy, item_count};
+ghost use Rattle.lexical_util.specs.Digit.{digit};
+ghost use Rattle.lexical_util.specs.Validity.{fault};
+ghost use Rattle.lexical_literals.specs.Decimal.{IsDecimal};
+ghost use Rattle.lexical_literals.specs.Tokens.{FollowInTurn, FollowUnder, IsPartOf, TokenView, front_of, literals, number_of, view_of_token, tokens, tokens_from, tokens_if_valid};
+
+use bytes::{is_word_byte, skipped_length, word_length};
+use decimal::{decimal_front, is_decimal};
 use lexical_parse_integer::laws::grammar::front_end;
 use lexical_parse_integer::parse::ParseInteger;
 use lexical_parse_integer::{Error, NumberFormat, NumberFormatBuilder, Result, options};
@@ -69,40 +75,24 @@ pub fn literal_format() -> NumberFormat
         .build_unchecked()
 }
 
-// Whether a byte is skipped between tokens.
-#[inline(always)]
-fn is_skipped(byte: u8) -> bool
-    ensures { result ≡ is_skipped byte }
-{
-    matches!(byte, b'\t' | b'\n' | b'\r' | b' ')
-}
-
-// Whether a byte is one of a word.
-#[inline(always)]
-fn is_word_byte(byte: u8) -> bool
-    ensures { result ≡ is_word_byte byte }
-{
-    byte.is_ascii_alphanumeric() || byte == b'_'
-}
-
-// How many bytes are skipped in front of a token.
-fn skipped_length(text: &[u8]) -> usize
-    ensures value { result ≡ prefix_len is_skipped text.now }
-    ensures within { result ≤ length text.now }
-{
-    text.iter().take_while(|byte| is_skipped(**byte)).count()
-}
-
-// How many bytes of a word a text begins with.
-fn word_length(text: &[u8]) -> usize
-    ensures value { result ≡ word_length text.now }
-    ensures within { result ≤ length text.now }
-{
-    text.iter().take_while(|byte| is_word_byte(**byte)).count()
-}
-
 // The number that a text begins with, or its fault, and how many bytes that has.
-fn number(text: &[u8], format: &NumberFormat) -> (Kind, usize)
+#[inline(always)]
+fn number(text: &[u8], format: &NumberFormat, decimal: bool) -> (Kind, usize)
+    requires first { is_some (digit (slice_index text.now 0) format.now.mantissa_radix) ≡ true }
+    requires valid { IsNone (fault format.now) }
+    requires decimal { IsTrue decimal → IsDecimal format.now }
+    ensures { result ≡ number_of format.now text.now }
+{
+    if decimal {
+        if let Some((value, length)) = decimal_front(text, format) {
+            return (Kind::Number(value), length);
+        }
+    }
+    marked_number(text, format)
+}
+
+// The same for any number.
+fn marked_number(text: &[u8], format: &NumberFormat) -> (Kind, usize)
     requires valid { IsNone (fault format.now) }
     ensures { result ≡ number_of format.now text.now }
 {
@@ -113,13 +103,15 @@ fn number(text: &[u8], format: &NumberFormat) -> (Kind, usize)
 }
 
 // What a text begins with, by its first byte, and how many bytes that has.
-fn front(first: u8, text: &[u8], format: &NumberFormat) -> (Kind, usize)
+#[inline(always)]
+fn front(first: u8, text: &[u8], format: &NumberFormat, decimal: bool) -> (Kind, usize)
     requires first { slice_index text.now 0 ≡ first }
     requires valid { IsNone (fault format.now) }
+    requires decimal { IsTrue decimal → IsDecimal format.now }
     ensures { result ≡ front_of format.now text.now }
 {
     if char_is_digit(first, format.radix()) {
-        number(text, format)
+        number(text, format, decimal)
     } else if is_word_byte(first) {
         (Kind::Word, word_length(text))
     } else {
@@ -133,8 +125,9 @@ fn front(first: u8, text: &[u8], format: &NumberFormat) -> (Kind, usize)
 /// It takes no memory. How long it takes is in no contract.
 #[derive(Drop)]
 pub struct Tokens<'a> {
-    // What the numbers look like.
+    // What the numbers look like, and whether decimal digits alone are read as under the standard format.
     format: NumberFormat,
+    decimal: bool,
     // The source behind the last token, and the place in the source at which it begins.
     rest: &'a [u8],
     place: usize,
@@ -145,7 +138,8 @@ impl<'a> Model for Tokens<'a> {
 
     ghost view = { λ t. tokens_from t.format t.place 0 t.rest.now };
 
-    ghost invariant = { λ t. (t.place + length t.rest.now < 2 ^ 64) × IsNone (fault t.format) };
+    ghost invariant = { λ t. (t.place + length t.rest.now < 2 ^ 64) × IsNone (fault t.format)
+        × (IsTrue t.decimal → IsDecimal t.format) };
 }
 
 impl<'a> Tokens<'a> {
@@ -163,8 +157,10 @@ impl<'a> Tokens<'a> {
     {
         // The law by which no number is empty, and each ends within the source.
         front_end();
+        let format = literal_format();
         Tokens {
-            format: literal_format(),
+            decimal: is_decimal(&format),
+            format,
             rest: source,
             place: 0,
         }
@@ -191,6 +187,7 @@ impl<'a> Tokens<'a> {
         }
         Ok(Tokens {
             format: *format,
+            decimal: is_decimal(format),
             rest: source,
             place: 0,
         })
@@ -210,7 +207,7 @@ impl<'a> Iterator for Tokens<'a> {
         front_end();
         let (skipped, rest) = self.rest.split_at(skipped_length(self.rest));
         let first = *rest.first()?;
-        let (kind, length) = front(first, rest, &self.format);
+        let (kind, length) = front(first, rest, &self.format, self.decimal);
         let (text, behind) = rest.split_at(length);
         let start = self.place + skipped.len();
         let stop = start + length;
