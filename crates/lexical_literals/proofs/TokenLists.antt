@@ -3,23 +3,24 @@ use Rattle.std.proofs.Common.{◌≡◌, ℕ, zero, suc, ◌+◌, ◌-◌, ◌<�
 use Rattle.std.proofs.lemmas.Bool.{cases_lt}
 use Rattle.std.proofs.lemmas.List.{drop_all, drop_more}
 use Rattle.std.proofs.lemmas.List.Elements.{All-cons, All-nil}
+use Rattle.lexical_util.specs.Format.{Format}
 use Rattle.lexical_literals.proofs.TokenSteps.{FrontEnds, front_size}
-use Rattle.lexical_literals.specs.Tokens.{AreSkipped, FollowInTurn, IsPartOf, TokenView, front_of, is_skipped, token_at, tokens, tokens_from}
+use Rattle.lexical_literals.specs.Tokens.{AreSkipped, FollowUnder, IsPartOf, TokenView, front_of, is_skipped, token_at, tokens_from, tokens_under}
 
 -- ---- how many
 
-few : (p k : ℕ) (bs : List ℕ) → length (tokens_from p k bs) ≤ length bs
-few p k [] = omega arith
-few p (suc k) (b ∷ bs) = let more = few (p + 1) k bs in omega arith
-few p zero (b ∷ bs) = by_test (is_skipped b) (few (p + 1) 0 bs) (few (p + 1) ((front_of (b ∷ bs)).1 - 1) bs)
+few : (f : Format) (p k : ℕ) (bs : List ℕ) → length (tokens_from f p k bs) ≤ length bs
+few f p k [] = omega arith
+few f p (suc k) (b ∷ bs) = let more = few f (p + 1) k bs in omega arith
+few f p zero (b ∷ bs) = by_test (is_skipped b) (few f (p + 1) 0 bs) (few f (p + 1) ((front_of f (b ∷ bs)).1 - 1) bs)
   where
-    by_test : (t : Bool) → length (tokens_from (p + 1) 0 bs) ≤ length bs → length (tokens_from (p + 1) ((front_of (b ∷ bs)).1 - 1) bs) ≤ length bs
-        → length (cond t (tokens_from (p + 1) 0 bs) (token_at p (b ∷ bs) ∷ tokens_from (p + 1) ((front_of (b ∷ bs)).1 - 1) bs)) ≤ suc (length bs)
+    by_test : (t : Bool) → length (tokens_from f (p + 1) 0 bs) ≤ length bs → length (tokens_from f (p + 1) ((front_of f (b ∷ bs)).1 - 1) bs) ≤ length bs
+        → length (cond t (tokens_from f (p + 1) 0 bs) (token_at f p (b ∷ bs) ∷ tokens_from f (p + 1) ((front_of f (b ∷ bs)).1 - 1) bs)) ≤ suc (length bs)
     by_test true skipped token = omega arith
     by_test false skipped token = omega arith
 
-pub tokens_are_few : (source : List ℕ) → length (tokens source) ≤ length source
-tokens_are_few source = few 0 0 source
+pub tokens_are_few : (f : Format) (source : List ℕ) → length (tokens_under f source) ≤ length source
+tokens_are_few f source = few f 0 0 source
 
 -- ---- what stands at a place of a source
 
@@ -61,9 +62,9 @@ one_more source p to skipped rest k low high =
       | inr ge ↦ let same : p ≡ k = omega arith in subst (λ i. is_skipped (slice_index source i) ≡ true) same skipped
     ]
 
-one_before : (source : List ℕ) (p : ℕ) (ts : List TokenView) → is_skipped (slice_index source p) ≡ true → FollowInTurn source (p + 1) ts → FollowInTurn source p ts
-one_before source p [] skipped follow = one_more source p (length source) skipped follow
-one_before source p (t ∷ ts) skipped follow = (
+one_before : (f : Format) (source : List ℕ) (p : ℕ) (ts : List TokenView) → is_skipped (slice_index source p) ≡ true → FollowUnder f source (p + 1) ts → FollowUnder f source p ts
+one_before f source p [] skipped follow = one_more source p (length source) skipped follow
+one_before f source p (t ∷ ts) skipped follow = (
   record {
     behind = omega (arith, follow.0.behind);
     between = one_more source p t.start skipped follow.0.between;
@@ -73,50 +74,50 @@ one_before source p (t ∷ ts) skipped follow = (
   follow.1,
 )
 
-follow_from : FrontEnds → (source : List ℕ) (p k : ℕ) (bs : List ℕ) → bs ≡ drop p source → k ≤ length bs → FollowInTurn source (p + k) (tokens_from p k bs)
-follow_from ends source p k [] e low = λ i from to. let none : 0 ≡ length source - p = ap length e ∙ length-drop p source in absurd (omega (arith, none))
-follow_from ends source p (suc k) (b ∷ bs) e low =
+follow_from : FrontEnds → (f : Format) (source : List ℕ) (p k : ℕ) (bs : List ℕ) → bs ≡ drop p source → k ≤ length bs → FollowUnder f source (p + k) (tokens_from f p k bs)
+follow_from ends f source p k [] e low = λ i from to. let none : 0 ≡ length source - p = ap length e ∙ length-drop p source in absurd (omega (arith, none))
+follow_from ends f source p (suc k) (b ∷ bs) e low =
     let at = is_at source p b bs e in
     let one : p + 1 + k ≡ p + suc k = omega arith in
-    subst (λ q. FollowInTurn source q (tokens_from (p + 1) k bs)) one (follow_from ends source (p + 1) k bs at.behind (omega arith))
-follow_from ends source p zero (b ∷ bs) e low =
+    subst (λ q. FollowUnder f source q (tokens_from f (p + 1) k bs)) one (follow_from ends f source (p + 1) k bs at.behind (omega arith))
+follow_from ends f source p zero (b ∷ bs) e low =
     let at = is_at source p b bs e in
-    let n = (front_of (b ∷ bs)).1 in
-    let size = front_size ends b bs in
+    let n = (front_of f (b ∷ bs)).1 in
+    let size = front_size ends f b bs in
     let none : p ≡ p + 0 = omega arith in
     let next : p + 1 + 0 ≡ p + 1 = omega arith in
     let stop : p + 1 + (n - 1) ≡ p + n = omega (arith, size.some) in
-    subst (λ q. FollowInTurn source q (tokens_from p 0 (b ∷ bs))) none
+    subst (λ q. FollowUnder f source q (tokens_from f p 0 (b ∷ bs))) none
     (by_test (is_skipped b) (ap is_skipped at.here)
-    (subst (λ q. FollowInTurn source q (tokens_from (p + 1) 0 bs)) next (follow_from ends source (p + 1) 0 bs at.behind (omega arith)))
-    (subst (λ q. FollowInTurn source q (tokens_from (p + 1) (n - 1) bs)) stop (follow_from ends source (p + 1) (n - 1) bs at.behind (omega (arith, size.within, size.some)))))
+    (subst (λ q. FollowUnder f source q (tokens_from f (p + 1) 0 bs)) next (follow_from ends f source (p + 1) 0 bs at.behind (omega arith)))
+    (subst (λ q. FollowUnder f source q (tokens_from f (p + 1) (n - 1) bs)) stop (follow_from ends f source (p + 1) (n - 1) bs at.behind (omega (arith, size.within, size.some)))))
   where
     n : ℕ
-    n = (front_of (b ∷ bs)).1
+    n = (front_of f (b ∷ bs)).1
 
-    by_test : (t : Bool) → is_skipped (slice_index source p) ≡ t → FollowInTurn source (p + 1) (tokens_from (p + 1) 0 bs) → FollowInTurn source (p + n) (tokens_from (p + 1) (n - 1) bs)
-        → FollowInTurn source p (cond t (tokens_from (p + 1) 0 bs) (token_at p (b ∷ bs) ∷ tokens_from (p + 1) (n - 1) bs))
-    by_test true skipped rest token = one_before source p (tokens_from (p + 1) 0 bs) skipped rest
+    by_test : (t : Bool) → is_skipped (slice_index source p) ≡ t → FollowUnder f source (p + 1) (tokens_from f (p + 1) 0 bs) → FollowUnder f source (p + n) (tokens_from f (p + 1) (n - 1) bs)
+        → FollowUnder f source p (cond t (tokens_from f (p + 1) 0 bs) (token_at f p (b ∷ bs) ∷ tokens_from f (p + 1) (n - 1) bs))
+    by_test true skipped rest token = one_before f source p (tokens_from f (p + 1) 0 bs) skipped rest
     by_test false skipped rest token = (
       record {
         behind = omega arith;
         between = λ k low high. absurd (omega arith);
         here = skipped;
-        token_is = ap (token_at p) e;
+        token_is = ap (token_at f p) e;
       },
       token,
     )
 
-pub tokens_in_turn : FrontEnds → (source : List ℕ) → FollowInTurn source 0 (tokens source)
-tokens_in_turn ends source = follow_from ends source 0 0 source refl (omega arith)
+pub tokens_in_turn : FrontEnds → (f : Format) (source : List ℕ) → FollowUnder f source 0 (tokens_under f source)
+tokens_in_turn ends f source = follow_from ends f source 0 0 source refl (omega arith)
 
 -- ---- each by itself
 
-part_at : FrontEnds → (source : List ℕ) (p : ℕ) (b : ℕ) (bs : List ℕ) → b ∷ bs ≡ drop p source → IsPartOf source (token_at p (b ∷ bs))
-part_at ends source p b bs e =
+part_at : FrontEnds → (f : Format) (source : List ℕ) (p : ℕ) (b : ℕ) (bs : List ℕ) → b ∷ bs ≡ drop p source → IsPartOf source (token_at f p (b ∷ bs))
+part_at ends f source p b bs e =
     let at = is_at source p b bs e in
-    let n = (front_of (b ∷ bs)).1 in
-    let size = front_size ends b bs in
+    let n = (front_of f (b ∷ bs)).1 in
+    let size = front_size ends f b bs in
     let back : p + n - p ≡ n = omega arith in
     record {
       some = omega (arith, size.some);
@@ -124,20 +125,20 @@ part_at ends source p b bs e =
       bytes = ap (take n) e ∙ ap (λ k. take k (drop p source)) (sym back);
     }
 
-parts_from : FrontEnds → (source : List ℕ) (p k : ℕ) (bs : List ℕ) → bs ≡ drop p source → All (IsPartOf source) (tokens_from p k bs)
-parts_from ends source p k [] e = All-nil (IsPartOf source)
-parts_from ends source p (suc k) (b ∷ bs) e = parts_from ends source (p + 1) k bs (is_at source p b bs e).behind
-parts_from ends source p zero (b ∷ bs) e =
+parts_from : FrontEnds → (f : Format) (source : List ℕ) (p k : ℕ) (bs : List ℕ) → bs ≡ drop p source → All (IsPartOf source) (tokens_from f p k bs)
+parts_from ends f source p k [] e = All-nil (IsPartOf source)
+parts_from ends f source p (suc k) (b ∷ bs) e = parts_from ends f source (p + 1) k bs (is_at source p b bs e).behind
+parts_from ends f source p zero (b ∷ bs) e =
     let at = is_at source p b bs e in
-    by_test (is_skipped b) (parts_from ends source (p + 1) 0 bs at.behind) (parts_from ends source (p + 1) ((front_of (b ∷ bs)).1 - 1) bs at.behind)
+    by_test (is_skipped b) (parts_from ends f source (p + 1) 0 bs at.behind) (parts_from ends f source (p + 1) ((front_of f (b ∷ bs)).1 - 1) bs at.behind)
   where
     n : ℕ
-    n = (front_of (b ∷ bs)).1
+    n = (front_of f (b ∷ bs)).1
 
-    by_test : (t : Bool) → All (IsPartOf source) (tokens_from (p + 1) 0 bs) → All (IsPartOf source) (tokens_from (p + 1) (n - 1) bs)
-        → All (IsPartOf source) (cond t (tokens_from (p + 1) 0 bs) (token_at p (b ∷ bs) ∷ tokens_from (p + 1) (n - 1) bs))
+    by_test : (t : Bool) → All (IsPartOf source) (tokens_from f (p + 1) 0 bs) → All (IsPartOf source) (tokens_from f (p + 1) (n - 1) bs)
+        → All (IsPartOf source) (cond t (tokens_from f (p + 1) 0 bs) (token_at f p (b ∷ bs) ∷ tokens_from f (p + 1) (n - 1) bs))
     by_test true rest token = rest
-    by_test false rest token = All-cons (IsPartOf source) (token_at p (b ∷ bs)) (tokens_from (p + 1) (n - 1) bs) (part_at ends source p b bs e) token
+    by_test false rest token = All-cons (IsPartOf source) (token_at f p (b ∷ bs)) (tokens_from f (p + 1) (n - 1) bs) (part_at ends f source p b bs e) token
 
-pub tokens_are_parts : FrontEnds → (source : List ℕ) → All (IsPartOf source) (tokens source)
-tokens_are_parts ends source = parts_from ends source 0 0 source refl
+pub tokens_are_parts : FrontEnds → (f : Format) (source : List ℕ) → All (IsPartOf source) (tokens_under f source)
+tokens_are_parts ends f source = parts_from ends f source 0 0 source refl

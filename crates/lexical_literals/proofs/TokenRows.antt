@@ -1,12 +1,14 @@
 -- Worked sources and their tokens.
-use Rattle.std.proofs.Common.{◌≡◌, ℕ, List, [], ◌∷◌, codes, map, refl}
-use Rattle.lexical_util.specs.declared.error.Error.TheVariants.{Overflow, Empty}
+use Rattle.std.proofs.Common.{◌≡◌, ℕ, true, List, [], ◌∷◌, Some, codes, map, refl}
+use Rattle.lexical_util.specs.Ascii.{underscore}
+use Rattle.lexical_util.specs.declared.error.Error.TheVariants.{Overflow, Empty, InvalidLeadingZeros, MissingSign}
+use Rattle.lexical_util.specs.Format.{Format, json, standard}
 use Rattle.lexical_parse_integer.specs.Affixes.{is_affix, literal_radix, marked_radix, matches, numeral_stop, octal_zero_at, prefix_radix, suffix_at}
 use Rattle.lexical_parse_integer.specs.Grammar.{partial, range_fault}
 use Rattle.lexical_parse_integer.specs.Head.{head_of, sign}
 use Rattle.lexical_parse_integer.specs.Numeral.{numeral_in}
 use Rattle.lexical_parse_integer.specs.Runs.{are_same, begin_of, is_in_numeral, digit_at, digits_between, end_of, flag_for, run_passes, separator_at}
-use Rattle.lexical_literals.specs.Tokens.{number_of, tokens}
+use Rattle.lexical_literals.specs.Tokens.{number_of, tokens, tokens_under}
 use Rattle.lexical_literals.specs.declared.Kind.{Kind}
 use Rattle.lexical_literals.specs.declared.Kind.TheVariants.{Number, Word, Byte, Fault}
 
@@ -82,3 +84,34 @@ too_great = refl
 
 other_bytes : spans (195 ∷ 169 ∷ []) ≡ (Byte, 0, 1) ∷ (Byte, 1, 2) ∷ []
 other_bytes = refl
+
+-- ---- under other formats
+
+-- the same under a format
+abbrev spans_under : Format → List ℕ → List (Kind × ℕ × ℕ)
+spans_under format source =
+    map (λ token. (token.kind, token.start, token.stop)) (tokens_under format source)
+
+letters_are_digits : spans_under (record standard { mantissa_radix = 16 }) (codes "fox 1G") ≡ (Number 15, 0, 1) ∷ (Word, 1, 3) ∷ (Number 1, 4, 5) ∷ (Word, 5, 6) ∷ []
+unfolding number_of partial range_fault head_of sign numeral_in numeral_stop suffix_at is_affix matches octal_zero_at prefix_radix marked_radix literal_radix are_same begin_of is_in_numeral digit_at digits_between end_of flag_for run_passes separator_at
+letters_are_digits = refl
+
+digits_begin_words : spans_under (record standard { mantissa_radix = 2 }) (codes "102 9") ≡ (Number 2, 0, 2) ∷ (Word, 2, 3) ∷ (Word, 4, 5) ∷ []
+unfolding number_of partial range_fault head_of sign numeral_in numeral_stop suffix_at is_affix matches octal_zero_at prefix_radix marked_radix literal_radix are_same begin_of is_in_numeral digit_at digits_between end_of flag_for run_passes separator_at
+digits_begin_words = refl
+
+json_zeros : spans_under json (codes "-12,007") ≡ (Byte, 0, 1) ∷ (Number 12, 1, 3) ∷ (Byte, 3, 4) ∷ (Fault (InvalidLeadingZeros 0), 4, 7) ∷ []
+unfolding number_of partial range_fault head_of sign numeral_in numeral_stop suffix_at is_affix matches octal_zero_at prefix_radix marked_radix literal_radix are_same begin_of is_in_numeral digit_at digits_between end_of flag_for run_passes separator_at
+json_zeros = refl
+
+octal_zeros : spans_under (record standard { literal_octal_zero = true }) (codes "0777 089") ≡ (Number 511, 0, 4) ∷ (Number 0, 5, 6) ∷ (Number 89, 6, 8) ∷ []
+unfolding number_of partial range_fault head_of sign numeral_in numeral_stop suffix_at is_affix matches octal_zero_at prefix_radix marked_radix literal_radix are_same begin_of is_in_numeral digit_at digits_between end_of flag_for run_passes separator_at
+octal_zeros = refl
+
+separator_in_front : spans_under (record standard { digit_separator = Some underscore; integer_leading_digit_separator = true }) (codes "_1 2") ≡ (Word, 0, 2) ∷ (Number 2, 3, 4) ∷ []
+unfolding number_of partial range_fault head_of sign numeral_in numeral_stop suffix_at is_affix matches octal_zero_at prefix_radix marked_radix literal_radix are_same begin_of is_in_numeral digit_at digits_between end_of flag_for run_passes separator_at
+separator_in_front = refl
+
+sign_required : spans_under (record standard { required_mantissa_sign = true }) (codes "+12") ≡ (Byte, 0, 1) ∷ (Fault (MissingSign 0), 1, 3) ∷ []
+unfolding number_of partial range_fault head_of sign numeral_in numeral_stop suffix_at is_affix matches octal_zero_at prefix_radix marked_radix literal_radix are_same begin_of is_in_numeral digit_at digits_between end_of flag_for run_passes separator_at
+sign_required = refl

@@ -1,3 +1,4 @@
 -- The definitions that contracts name, a file for each subject.
+pub mod Decimal
 pub mod TokenCallers
 pub mod Tokens

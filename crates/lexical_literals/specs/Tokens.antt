@@ -1,13 +1,15 @@
 -- The tokens of a source: numbers, words and single bytes.
-use Rattle.std.specs.Prelude.{◌≡◌, ℕ, zero, suc, ◌+◌, ◌-◌, ◌<◌, ◌≤◌, Bool, true, false, ◌||◌, ◌==◌, if◌then◌else◌, List, [], ◌∷◌, length, take, drop, slice_range, slice_index, Some, Result, Ok, Err, nat_abs}
-use Rattle.std.specs.Char.{is_ascii_alphanumeric, is_ascii_digit}
+use Rattle.std.specs.Prelude.{◌≡◌, ℕ, zero, suc, ◌+◌, ◌-◌, ◌<◌, ◌≤◌, Bool, true, false, ◌||◌, ◌==◌, if◌then◌else◌, List, [], ◌∷◌, length, take, drop, slice_range, slice_index, Some, is_some, Result, Ok, Err, nat_abs}
+use Rattle.std.specs.Char.{is_ascii_alphanumeric}
 use Rattle.std.specs.List.{prefix_len}
 use lib.IntN.{ℤ}
 use Rattle.lexical_util.specs.Ascii.{carriage_return, line_feed, space, tab, underscore}
 use Rattle.lexical_util.specs.declared.error.Error.{Error}
+use Rattle.lexical_util.specs.Digit.{digit}
 use Rattle.lexical_util.specs.Format.{Format, standard}
 use Rattle.lexical_util.specs.Number.{integer_type}
-use Rattle.lexical_parse_integer.specs.Grammar.{partial}
+use Rattle.lexical_util.specs.Validity.{fault}
+use Rattle.lexical_parse_integer.specs.Grammar.{if_valid, partial}
 use Rattle.lexical_literals.specs.declared.Kind.{Kind}
 use Rattle.lexical_literals.specs.declared.Kind.TheVariants.{Number, Word, Byte, Fault}
 use Rattle.lexical_literals.specs.declared.Token.{Token}
@@ -45,14 +47,15 @@ abbrev pub number_by : List ℕ → Result (ℤ × ℕ) Error → Kind × ℕ
 number_by text (Ok found) = (Number (nat_abs found.0), found.1)
 number_by text (Err fault) = (Fault fault, word_length text)
 
--- what a text begins with whose first byte is `0` to `9`, and how many bytes that has
-unfoldable pub number_of : List ℕ → Kind × ℕ
-number_of text = number_by text (partial literals (integer_type 128 false) text)
+-- what a text begins with whose first byte is a digit of the format's radix, and how many bytes that has
+unfoldable pub number_of : Format → List ℕ → Kind × ℕ
+number_of format text = number_by text (partial format (integer_type 128 false) text)
 
--- what a text begins with, by its first byte, and how many bytes that has
-abbrev pub front_of : List ℕ → Kind × ℕ
-front_of text =
-    if is_ascii_digit (slice_index text 0) then number_of text
+-- what a text begins with, by its first byte, and how many bytes that has: a number begins with a digit of the format's
+-- radix, and with nothing else
+abbrev pub front_of : Format → List ℕ → Kind × ℕ
+front_of format text =
+    if is_some (digit (slice_index text 0) format.mantissa_radix) then number_of format text
     else (if is_word_byte (slice_index text 0) then (Word, word_length text)
     else (Byte, 1))
 
@@ -68,24 +71,32 @@ abbrev pub token_of : ℕ → List ℕ → Kind × ℕ → TokenView
 token_of place text (kind, size) =
     record { kind = kind; start = place; stop = place + size; text = take size text }
 
--- the token that a text begins with, where the text stands at a place
-abbrev pub token_at : ℕ → List ℕ → TokenView
-token_at place text = token_of place text (front_of text)
+-- the token that a text begins with under a format, where the text stands at a place
+abbrev pub token_at : Format → ℕ → List ℕ → TokenView
+token_at format place text = token_of place text (front_of format text)
 
 -- ---- all tokens
 
 -- the tokens of a text that stands at a place, of which the first bytes, so many, belong to the token before it
-abbrev pub tokens_from : ℕ → ℕ → List ℕ → List TokenView
-tokens_from place taken [] = []
-tokens_from place (suc taken) (byte ∷ rest) = tokens_from (place + 1) taken rest
-tokens_from place zero (byte ∷ rest) =
-    if is_skipped byte then tokens_from (place + 1) 0 rest
-    else token_at place (byte ∷ rest)
-    ∷ tokens_from (place + 1) ((front_of (byte ∷ rest)).1 - 1) rest
+abbrev pub tokens_from : Format → ℕ → ℕ → List ℕ → List TokenView
+tokens_from format place taken [] = []
+tokens_from format place (suc taken) (byte ∷ rest) = tokens_from format (place + 1) taken rest
+tokens_from format place zero (byte ∷ rest) =
+    if is_skipped byte then tokens_from format (place + 1) 0 rest
+    else token_at format place (byte ∷ rest)
+    ∷ tokens_from format (place + 1) ((front_of format (byte ∷ rest)).1 - 1) rest
 
--- the tokens of a source
+-- the tokens of a source under a format
+abbrev pub tokens_under : Format → List ℕ → List TokenView
+tokens_under format source = tokens_from format 0 0 source
+
+-- the tokens of a source, with the numbers of literals
 abbrev pub tokens : List ℕ → List TokenView
-tokens source = tokens_from 0 0 source
+tokens source = tokens_under literals source
+
+-- the tokens of a source where the format is valid, and else the fault of its first broken rule
+abbrev pub tokens_if_valid : Format → List ℕ → Result (List TokenView) Error
+tokens_if_valid format source = if_valid (fault format) (Ok (tokens_under format source))
 
 -- a token as the program has it, with its bytes
 abbrev pub view_of_token : Token → TokenView
@@ -101,17 +112,22 @@ AreSkipped source from to =
 
 -- A token begins at the least place, from that one on, whose byte isn't skipped, and is what the source begins with
 -- there.
-pub record BeginsNext (source : List ℕ) (from : ℕ) (token : TokenView) : Type 0 where
+pub record BeginsNext (format : Format) (source : List ℕ) (from : ℕ) (token : TokenView)
+    : Type 0 where
   pub behind : from ≤ token.start
   pub between : AreSkipped source from token.start
   pub here : is_skipped (slice_index source token.start) ≡ false
-  pub token_is : token ≡ token_at token.start (drop token.start source)
+  pub token_is : token ≡ token_at format token.start (drop token.start source)
 
--- from a place of a source on, each token begins next behind the one before it, and behind the last one all is skipped
+-- from a place of a source on, each token begins next after the one before it, and after the last one all is skipped
+abbrev pub FollowUnder : Format → List ℕ → ℕ → List TokenView → Type 0
+FollowUnder format source from [] = AreSkipped source from (length source)
+FollowUnder format source from (token ∷ more) =
+    BeginsNext format source from token × FollowUnder format source token.stop more
+
+-- the same with the numbers of literals
 abbrev pub FollowInTurn : List ℕ → ℕ → List TokenView → Type 0
-FollowInTurn source from [] = AreSkipped source from (length source)
-FollowInTurn source from (token ∷ more) =
-    BeginsNext source from token × FollowInTurn source token.stop more
+FollowInTurn source from tokens = FollowUnder literals source from tokens
 
 -- a token isn't empty, and its bytes are the source from its start to before its stop
 pub record IsPartOf (source : List ℕ) (token : TokenView) : Type 0 where

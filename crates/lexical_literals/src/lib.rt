@@ -2,23 +2,32 @@
 //!
 //! | A token that begins with | is | and reaches |
 //! |---|---|---|
-//! | `0` to `9`, where a number can be read | a number | as far as that is read |
-//! | `0` to `9`, where none can | a fault | over all ASCII letters, `0` to `9` and `_` that follow |
-//! | an ASCII letter or `_` | a word | over all ASCII letters, `0` to `9` and `_` that follow |
+//! | a digit, where a number can be read | a number | as far as that is read |
+//! | a digit, where none can | a fault | over all ASCII letters, `0` to `9` and `_` that follow |
+//! | another ASCII letter, `0` to `9` or `_` | a word | over all ASCII letters, `0` to `9` and `_` that follow |
 //! | any other byte | a byte | over itself |
 //!
-//! Spaces, tabs, line feeds and carriage returns between tokens are skipped. A sign is a byte of its
-//! own: `-5` is two tokens.
+//! A digit is one of the format's radix: `0` to `9` for [`Tokens::new`]. A number begins with a digit and with
+//! nothing else, whatever its format allows. So a sign and a separator before the first digit are tokens of their
+//! own: `-5` is a byte and a number. Spaces, tabs, line feeds and carriage returns between tokens are skipped.
 #![tactic(auto)]
 
-ghost use Rattle.std.specs.Prelude.{◌≡◌, ◌+◌, ◌<◌, ◌≤◌, ◌^◌, List, All, length, slice_index};
-ghost use Rattle.std.specs.Iterator.{YieldsFirstBy, item_count};
-ghost use Rattle.std.specs.List.{prefix_len};
-ghost use Rattle.lexical_literals.specs.Tokens.{FollowInTurn, IsPartOf, TokenView, front_of, is_skipped, is_word_byte, literals, number_of, view_of_token, tokens, tokens_from, word_length};
+mod bytes;
+mod decimal;
 
+ghost use Rattle.std.specs.Prelude.{◌≡◌, ◌+◌, ◌<◌, ◌≤◌, ◌^◌, List, All, IfOk, IsNone, IsTrue, is_some, length, slice_index, true};
+ghost use Rattle.std.specs.Iterator.{YieldsFirstBy, item_count};
+ghost use Rattle.lexical_util.specs.Digit.{digit};
+ghost use Rattle.lexical_util.specs.Validity.{fault};
+ghost use Rattle.lexical_literals.specs.Decimal.{IsDecimal};
+ghost use Rattle.lexical_literals.specs.Tokens.{FollowInTurn, FollowUnder, IsPartOf, TokenView, front_of, literals, number_of, view_of_token, tokens, tokens_from, tokens_if_valid};
+
+use bytes::{is_word_byte, skipped_length, word_length};
+use decimal::{decimal_front, is_decimal};
 use lexical_parse_integer::laws::grammar::front_end;
 use lexical_parse_integer::parse::ParseInteger;
-use lexical_parse_integer::{Error, NumberFormat, NumberFormatBuilder, options};
+use lexical_parse_integer::{Error, NumberFormat, NumberFormatBuilder, Result, options};
+use lexical_util::digit::char_is_digit;
 use std::marker::Model;
 
 /// What a token is.
@@ -26,15 +35,17 @@ use std::marker::Model;
 /// `12_3` is `Number(123)`, `x1` is `Word`, `+` is `Byte`, and `0xg` is `Fault(Error::Empty(2))`.
 #[derive(Debug, PartialEq, Eq, Drop)]
 pub enum Kind {
-    /// A number, by its value: decimal, or behind `0x`, `0o` or `0b`, as [`literal_format`] has it.
+    /// A number, by its value: decimal, or behind `0x`, `0o` or `0b`, as [`literal_format`] has it,
+    /// or as the source's own format has it.
     Number(u128),
-    /// An ASCII letter or `_`, and the ASCII letters, digits and `_` that follow.
+    /// An ASCII letter or `_`, and the ASCII letters, `0` to `9` and `_` that follow. Where a format's radix
+    /// lacks some of `0` to `9`, a word may begin with one of these.
     Word,
     /// Any other byte.
     Byte,
     /// What begins with a digit and is no number of `u128`: `Overflow` where it is too great, and
-    /// `Empty` where no digit stands behind `0x`, `0o` or `0b`. Its place counts the bytes from the
-    /// token's start, from 0.
+    /// `Empty` where no digit stands behind `0x`, `0o` or `0b`; under a format of the caller's choice
+    /// any fault of its partial parser. Its place counts the bytes from the token's start, from 0.
     Fault(Error),
 }
 
@@ -64,55 +75,43 @@ pub fn literal_format() -> NumberFormat
         .build_unchecked()
 }
 
-// Whether a byte is skipped between tokens.
-#[inline(always)]
-fn is_skipped(byte: u8) -> bool
-    ensures { result ≡ is_skipped byte }
-{
-    matches!(byte, b'\t' | b'\n' | b'\r' | b' ')
-}
-
-// Whether a byte is one of a word.
-#[inline(always)]
-fn is_word_byte(byte: u8) -> bool
-    ensures { result ≡ is_word_byte byte }
-{
-    byte.is_ascii_alphanumeric() || byte == b'_'
-}
-
-// How many bytes are skipped in front of a token.
-fn skipped_length(text: &[u8]) -> usize
-    ensures value { result ≡ prefix_len is_skipped text.now }
-    ensures within { result ≤ length text.now }
-{
-    text.iter().take_while(|byte| is_skipped(**byte)).count()
-}
-
-// How many bytes of a word a text begins with.
-fn word_length(text: &[u8]) -> usize
-    ensures value { result ≡ word_length text.now }
-    ensures within { result ≤ length text.now }
-{
-    text.iter().take_while(|byte| is_word_byte(**byte)).count()
-}
-
 // The number that a text begins with, or its fault, and how many bytes that has.
-fn number(text: &[u8]) -> (Kind, usize)
-    ensures { result ≡ number_of text.now }
+#[inline(always)]
+fn number(text: &[u8], format: &NumberFormat, decimal: bool) -> (Kind, usize)
+    requires first { is_some (digit (slice_index text.now 0) format.now.mantissa_radix) ≡ true }
+    requires valid { IsNone (fault format.now) }
+    requires decimal { IsTrue decimal → IsDecimal format.now }
+    ensures { result ≡ number_of format.now text.now }
 {
-    match u128::parse_partial(text, &literal_format(), &options::LARGE_NUMBERS) {
+    if decimal {
+        if let Some((value, length)) = decimal_front(text, format) {
+            return (Kind::Number(value), length);
+        }
+    }
+    marked_number(text, format)
+}
+
+// The same for any number.
+fn marked_number(text: &[u8], format: &NumberFormat) -> (Kind, usize)
+    requires valid { IsNone (fault format.now) }
+    ensures { result ≡ number_of format.now text.now }
+{
+    match u128::parse_partial(text, format, &options::LARGE_NUMBERS) {
         Ok((value, length)) => (Kind::Number(value), length),
         Err(fault) => (Kind::Fault(fault), word_length(text)),
     }
 }
 
 // What a text begins with, by its first byte, and how many bytes that has.
-fn front(first: u8, text: &[u8]) -> (Kind, usize)
-    requires { slice_index text.now 0 ≡ first }
-    ensures { result ≡ front_of text.now }
+#[inline(always)]
+fn front(first: u8, text: &[u8], format: &NumberFormat, decimal: bool) -> (Kind, usize)
+    requires first { slice_index text.now 0 ≡ first }
+    requires valid { IsNone (fault format.now) }
+    requires decimal { IsTrue decimal → IsDecimal format.now }
+    ensures { result ≡ front_of format.now text.now }
 {
-    if first.is_ascii_digit() {
-        number(text)
+    if char_is_digit(first, format.radix()) {
+        number(text, format, decimal)
     } else if is_word_byte(first) {
         (Kind::Word, word_length(text))
     } else {
@@ -126,6 +125,9 @@ fn front(first: u8, text: &[u8]) -> (Kind, usize)
 /// It takes no memory. How long it takes is in no contract.
 #[derive(Drop)]
 pub struct Tokens<'a> {
+    // What the numbers look like, and whether decimal digits alone are read as under the standard format.
+    format: NumberFormat,
+    decimal: bool,
     // The source behind the last token, and the place in the source at which it begins.
     rest: &'a [u8],
     place: usize,
@@ -134,14 +136,15 @@ pub struct Tokens<'a> {
 impl<'a> Model for Tokens<'a> {
     ghost Value = { List TokenView };
 
-    ghost view = { λ t. tokens_from t.place 0 t.rest.now };
+    ghost view = { λ t. tokens_from t.format t.place 0 t.rest.now };
 
-    ghost invariant = { λ t. t.place + length t.rest.now < 2 ^ 64 };
+    ghost invariant = { λ t. (t.place + length t.rest.now < 2 ^ 64) × IsNone (fault t.format)
+        × (IsTrue t.decimal → IsDecimal t.format) };
 }
 
 impl<'a> Tokens<'a> {
-    /// The tokens of a source. `x1 = 0x1F` has a word from 0 to 2, a byte from 3 to 4, and the
-    /// number 31 from 5 to 9.
+    /// The tokens of a source, with the numbers of [`literal_format`]. `x1 = 0x1F` has a word from 0 to 2,
+    /// a byte from 3 to 4, and the number 31 from 5 to 9.
     ///
     /// Each begins at the least place behind the one before it that isn't skipped, and is what the
     /// source begins with there (`order`); none is empty, and its bytes are those of the source
@@ -154,10 +157,40 @@ impl<'a> Tokens<'a> {
     {
         // The law by which no number is empty, and each ends within the source.
         front_end();
+        let format = literal_format();
         Tokens {
+            decimal: is_decimal(&format),
+            format,
             rest: source,
             place: 0,
         }
+    }
+
+    /// The tokens of a source, with the numbers of a format. Where the format is invalid, the fault is the
+    /// first rule that it breaks.
+    ///
+    /// A number begins with a digit of the format's radix, and is what the partial parser reads from there on as
+    /// `u128`. A token begins with no sign and no separator, though the format may allow or require them: under a
+    /// format that requires a sign each number is the fault `MissingSign(0)`. In a radix above 10 letters are digits.
+    ///
+    /// In radix 16, `fox 1G` has the number 15 from 0 to 1, a word from 1 to 3, the number 1 from 4 to 5, and a
+    /// word from 5 to 6. The clauses say of these tokens what those of [`Tokens::new`] say.
+    pub fn with_format(source: &'a [u8], format: &NumberFormat) -> Result<Tokens<'a>>
+        ensures tokens { result ≡ tokens_if_valid format.now source.now }
+        ensures order { IfOk result (FollowUnder format.now source.now 0) }
+        ensures parts { IfOk result (All (IsPartOf source.now)) }
+        ensures count { IfOk result (λ all. length all ≤ length source.now) }
+    {
+        front_end();
+        if let Some(fault) = format.error() {
+            return Err(fault);
+        }
+        Ok(Tokens {
+            format: *format,
+            decimal: is_decimal(format),
+            rest: source,
+            place: 0,
+        })
     }
 }
 
@@ -174,7 +207,7 @@ impl<'a> Iterator for Tokens<'a> {
         front_end();
         let (skipped, rest) = self.rest.split_at(skipped_length(self.rest));
         let first = *rest.first()?;
-        let (kind, length) = front(first, rest);
+        let (kind, length) = front(first, rest, &self.format, self.decimal);
         let (text, behind) = rest.split_at(length);
         let start = self.place + skipped.len();
         let stop = start + length;

@@ -2,9 +2,12 @@
 
 ghost use Rattle.std.specs.Prelude.{◌≡◌, length, count_by, map, IfOk};
 ghost use Rattle.lexical_literals.specs.TokenCallers.{first_fault, is_number};
-ghost use Rattle.lexical_literals.specs.Tokens.{tokens};
+ghost use Rattle.lexical_literals.specs.Tokens.{tokens, tokens_if_valid};
+ghost use Rattle.lexical_parse_integer.specs.Answer.{view_of};
 
 use crate::{Kind, Tokens};
+use lexical_parse_integer::{Error, NumberFormat, NumberFormatBuilder, Result as Parse};
+use lexical_util::format::JSON;
 use std::alloc::{AllocError, Global};
 use std::test::Fail;
 
@@ -22,6 +25,18 @@ fn number_count(source: &[u8]) -> usize
     Tokens::new(source)
         .filter(|token| matches!(token.kind, Kind::Number(_)))
         .count()
+}
+
+/// How many of the tokens under a format are numbers.
+fn number_count_under(source: &[u8], format: &NumberFormat) -> Parse<usize>
+    ensures { result ≡ view_of (count_by is_number) (tokens_if_valid format.now source.now) }
+{
+    let tokens = Tokens::with_format(source, format)?;
+    Ok(
+        tokens
+            .filter(|token| matches!(token.kind, Kind::Number(_)))
+            .count(),
+    )
 }
 
 /// Where each token starts.
@@ -49,6 +64,14 @@ fn callers(rt: HostRuntime) -> Result<(), Fail> {
     let source = b"x1 = 0x1F + 12_3; 0x";
     assert_eq!(rt; token_count(source), 7);
     assert_eq!(rt; number_count(source), 2);
+    assert_eq!(rt; number_count_under(b"[1, 02, -3]", &JSON), Ok(2));
+    let invalid = NumberFormatBuilder::new()
+        .mantissa_radix(1)
+        .build_unchecked();
+    assert_eq!(rt;
+        number_count_under(source, &invalid),
+        Err(Error::InvalidMantissaRadix)
+    );
     assert_eq!(rt;
         starts(rt.alloc(), source)?.as_slice(),
         [0, 3, 5, 10, 12, 16, 18].as_slice()

@@ -1,29 +1,14 @@
 // Sources and their tokens.
 
+use super::{Span, are_tokens};
 use crate::{Kind, Token, Tokens, literal_format};
 use lexical_parse_integer::{Error, FromLexicalWithOptions, Result as Parse, options};
 use std::process::Abort;
 use std::test::Fail;
 
-// What a token is, and where it starts and stops.
-type Span = (Kind, usize, usize);
-
 // The source has these tokens, each with its bytes, and no other.
 fn has_tokens(rt: &impl Abort, source: &[u8], expected: &[Span]) {
-    let mut tokens = Tokens::new(source);
-    for (kind, start, stop) in expected {
-        match tokens.next() {
-            Some(token) => {
-                assert_eq!(rt; token.kind, *kind, "{}", source.escape_ascii());
-                assert_eq!(rt; token.start, *start, "{}", source.escape_ascii());
-                assert_eq!(rt; token.stop, *stop, "{}", source.escape_ascii());
-                assert_eq!(rt; source.get(*start..*stop), Some(token.text));
-            }
-            None => panic!(rt; "{} has too few tokens", source.escape_ascii()),
-        }
-    }
-    assert_eq!(rt; tokens.next(), None, "{}", source.escape_ascii());
-    assert_eq!(rt; tokens.next(), None, "{}", source.escape_ascii());
+    are_tokens(rt, Tokens::new(source), source, expected);
 }
 
 #[test]

@@ -1,0 +1,72 @@
+// Decimal digits alone: what most numbers of a source are. They are read as the standard format reads them, which is soon
+// done, where the format can have no other answer.
+//
+// Only what is sure is answered. `None` says nothing: what is left is read under the format.
+ghost use Rattle.std.specs.Prelude.{◌≡◌, ◌<◌, IfSome, IsTrue, Ok, Some, false, is_some, length, pos, slice_index, true};
+ghost use Rattle.lexical_util.specs.Digit.{digit};
+ghost use Rattle.lexical_util.specs.Number.{integer_type};
+ghost use Rattle.lexical_parse_integer.specs.Grammar.{partial};
+ghost use Rattle.lexical_parse_integer.specs.Runs.{are_same, separator_at};
+ghost use Rattle.lexical_literals.specs.Decimal.{IsDecimal};
+ghost use Rattle.lexical_literals.specs.Tokens.{is_word_byte};
+
+use crate::bytes::is_word_byte;
+use lexical_parse_integer::{FromLexical, NumberFormat};
+
+// Whether the format reads decimal digits alone as the standard one does.
+pub(crate) fn is_decimal(format: &NumberFormat) -> bool
+    ensures { IsTrue result → IsDecimal format.now }
+{
+    format.radix() == 10
+        && !format.required_mantissa_sign()
+        && !format.no_integer_leading_zeros()
+        && !format.literal_octal_zero()
+        && format.base_prefix().is_none()
+        && format.base_suffix().is_none()
+}
+
+// Whether the byte is the format's separator.
+#[inline(always)]
+fn is_separator(byte: u8, format: &NumberFormat) -> bool
+    ensures { result ≡ are_same format.now.digit_separator (Some byte) }
+{
+    match format.digit_separator() {
+        Some(separator) => byte == separator,
+        None => false,
+    }
+}
+
+// Whether so many digits are followed by no separator, by no byte of a word, and so by no letter of a prefix.
+#[inline(always)]
+fn stand_alone(text: &[u8], count: usize, format: &NumberFormat) -> bool
+    ensures word { IsTrue result → count < length text.now
+        → is_word_byte (slice_index text.now count) ≡ false }
+    ensures separator { IsTrue result → count < length text.now
+        → separator_at format.now text.now count ≡ false }
+{
+    if count >= text.len() {
+        return true;
+    }
+    let byte = text[count];
+    !is_word_byte(byte) && !is_separator(byte, format)
+}
+
+// The number of the decimal digits that a text begins with, and how many they are.
+#[inline(always)]
+pub(crate) fn decimal_front(text: &[u8], format: &NumberFormat) -> Option<(u128, usize)>
+    requires first { is_some (digit (slice_index text.now 0) 10) ≡ true }
+    requires decimal { IsDecimal format.now }
+    ensures { IfSome result (λ found.
+        partial format.now (integer_type 128 false) text.now ≡ Ok (pos found.0, found.1)) }
+{
+    match u64::from_lexical_partial(text) {
+        Ok((value, count)) => {
+            if stand_alone(text, count, format) {
+                Some((value as u128, count))
+            } else {
+                None
+            }
+        }
+        Err(_) => None,
+    }
+}
