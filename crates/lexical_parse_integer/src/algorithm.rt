@@ -13,6 +13,7 @@ ghost use Rattle.lexical_parse_integer.specs.Turns.{AsksWords, HasFewTurns};
 mod digits;
 mod head;
 mod lanes;
+mod marked;
 mod multi;
 mod numeral;
 pub(crate) mod plain;
@@ -20,6 +21,7 @@ mod words;
 mod zeros;
 
 use crate::algorithm::head::{is_prefix_alone, read_head};
+use crate::algorithm::marked::settled_marked;
 use crate::algorithm::numeral::read_digits;
 use crate::algorithm::plain::{settled, settled_front};
 use crate::algorithm::zeros::read_first;
@@ -168,7 +170,23 @@ fn complete_over_cursor<T: Integer>(
     requires valid { IsNone (fault format.now) }
     ensures { view_of T.number result ≡ complete format.now T.TYPE bytes.now }
 {
-    algorithm_complete_on::<T>(&mut Cursor::new(bytes, format), options)
+    complete_with_marks::<T>(bytes, format, options)
+}
+
+// The same in place: a numeral under a format with marks is read at once where that is sure, and else over a cursor.
+#[inline(always)]
+pub(crate) fn complete_with_marks<T: Integer>(
+    bytes: &[u8],
+    format: &NumberFormat,
+    options: &Options,
+) -> Result<T>
+    requires valid { IsNone (fault format.now) }
+    ensures { view_of T.number result ≡ complete format.now T.TYPE bytes.now }
+{
+    match settled_marked::<T>(bytes, format) {
+        Some(value) => Ok(value),
+        None => algorithm_complete_on::<T>(&mut Cursor::new(bytes, format), options),
+    }
 }
 
 // The same under the standard format, whose fields the compiler then folds into the code.

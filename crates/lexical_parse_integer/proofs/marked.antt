@@ -1,0 +1,4 @@
+-- Numerals under formats with marks: for the answers of `algorithm::marked`.
+pub mod DigitsAmong
+pub mod GroupedNumerals
+pub mod MarkedAnswers
