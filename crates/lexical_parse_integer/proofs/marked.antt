@@ -2,3 +2,4 @@
 pub mod DigitsAmong
 pub mod GroupedNumerals
 pub mod MarkedAnswers
+pub mod PartedFronts

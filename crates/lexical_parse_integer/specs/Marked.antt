@@ -1,5 +1,5 @@
 -- Numerals under formats with marks: the digits of a region, with separators between them, and what they are worth.
-use Rattle.std.specs.Prelude.{◌≡◌, ◌+◌, ◌-◌, ◌<◌, ◌&&◌, ℕ, ℤ, Bool, true, false, if◌then◌else◌, List, length, get_or, filter_map, is_some, Some}
+use Rattle.std.specs.Prelude.{◌≡◌, ◌+◌, ◌-◌, ◌<◌, ℕ, ℤ, Bool, true, false, if◌then◌else◌, List, length, get_or, filter_map, is_some, Some}
 use Rattle.lexical_util.specs.Digit.{digit}
 use Rattle.lexical_util.specs.Format.{Format}
 use Rattle.lexical_util.specs.Number.{IntegerType, IsNumber}

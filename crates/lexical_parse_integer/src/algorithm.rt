@@ -183,10 +183,10 @@ pub(crate) fn complete_with_marks<T: Integer>(
     requires valid { IsNone (fault format.now) }
     ensures { view_of T.number result ≡ complete format.now T.TYPE bytes.now }
 {
-    match settled_marked::<T>(bytes, format) {
-        Some(value) => Ok(value),
-        None => algorithm_complete_on::<T>(&mut Cursor::new(bytes, format), options),
+    if let Some(value) = settled_marked::<T>(bytes, format) {
+        return Ok(value);
     }
+    algorithm_complete_on::<T>(&mut Cursor::new(bytes, format), options)
 }
 
 // The same under the standard format, whose fields the compiler then folds into the code.

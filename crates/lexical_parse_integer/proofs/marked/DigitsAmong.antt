@@ -1,12 +1,12 @@
 -- The digits among bytes that stand in a text, and what values are known of them.
-use Rattle.std.proofs.Common.{◌≡◌, ℕ, zero, suc, ◌+◌, ◌-◌, ◌<◌, ◌≤◌, Bool, true, false, List, [], ◌∷◌, length, get_or, map, filter, filter_map, refl, sym, ap, ◌∙◌, subst, arith, Option, Some, None, is_some, slice_get, option_and_then}
+use Rattle.std.proofs.Common.{◌≡◌, ℕ, zero, suc, ◌+◌, ◌-◌, ◌<◌, Bool, true, false, List, [], ◌∷◌, length, get_or, map, filter, refl, sym, ap, ◌∙◌, subst, arith, Option, Some, None, is_some, option_and_then}
 use Rattle.std.specs.Prelude.{ℤ, neg_ℤ, pos, if◌then◌else◌}
 use Rattle.std.specs.List.{range_with_len}
 use Rattle.std.specs.Option.{unwrap_or}
 use Rattle.std.proofs.Math.Seq.{take-length}
 use Rattle.lexical_util.specs.Digit.{digit}
 use Rattle.lexical_util.specs.Number.{IntegerType, IsNumber}
-use Rattle.lexical_parse_integer.specs.Marked.{AreDigitsOnly, AreWorth, digits_among, is_digit_in}
+use Rattle.lexical_parse_integer.specs.Marked.{AreDigitsOnly, AreWorth, digits_among}
 use Rattle.lexical_parse_integer.specs.Plain.{StandsFor, WritesValue}
 use Rattle.lexical_parse_integer.specs.Runs.{digit_at, separator_at, are_same}
 use Rattle.lexical_parse_integer.specs.Value.{positional_value, with_sign}

@@ -1,19 +1,15 @@
 -- Where a numeral of digits with separators between them ends, and which digits it has.
-use Rattle.std.proofs.Common.{◌≡◌, ℕ, zero, suc, ◌+◌, ◌-◌, ◌<◌, ◌≤◌, Bool, true, false, ◌&&◌, ◌||◌, cond, List, [], ◌∷◌, length, get_or, map, refl, sym, ap, ◌∙◌, subst, arith, Option, Some, None, is_some, inl, inr, ◌⊎◌}
+use Rattle.std.proofs.Common.{◌≡◌, ℕ, zero, suc, ◌+◌, ◌-◌, ◌<◌, ◌≤◌, Bool, true, false, ◌&&◌, ◌||◌, List, length, get_or, refl, sym, ap, ◌∙◌, arith, Option, Some, None, is_some, inl, inr}
 use Rattle.std.specs.Prelude.{◌==◌, nat_lt}
-use Rattle.std.specs.Option.{unwrap_or}
 use Rattle.std.proofs.lemmas.Bool.{cases_lt, false≢true, lt-ltb}
 use Rattle.std.proofs.lemmas.Bool.Decides.{nat_tests}
-use Rattle.lexical_util.specs.Digit.{digit}
 use Rattle.lexical_util.specs.Format.{Format}
-use Rattle.lexical_parse_integer.specs.Affixes.{numeral_stop, suffix_at}
-use Rattle.lexical_parse_integer.specs.Marked.{AreGrouped, digits_among, is_digit_in, stop_after}
-use Rattle.lexical_parse_integer.specs.Numeral.{Numeral, numeral_in}
-use Rattle.lexical_parse_integer.specs.Runs.{are_same, digit_at, digits_between, end_of, flag_for, is_in_numeral, run_passes, separator_at, stop_of}
+use Rattle.lexical_parse_integer.specs.Marked.{AreGrouped, is_digit_in}
+use Rattle.lexical_parse_integer.specs.Runs.{are_same, digit_at, end_of, flag_for, is_in_numeral, run_passes, separator_at, stop_of}
 use Rattle.lexical_parse_integer.specs.Seeking.{IsAtRunStart, IsSeparatorNoDigit}
 use Rattle.lexical_parse_integer.proofs.grammar.NumeralEnd.{IsStop-end_of, belongs_separator, passes_is}
-use Rattle.lexical_parse_integer.proofs.grammar.Stretches.{HoldsBetween, HoldsBetween-joined, IsStop, IsStop-stop_of, IsStop-unique, true_or_false}
-use Rattle.lexical_parse_integer.proofs.marked.DigitsAmong.{digit_there, separator_there, values_between}
+use Rattle.lexical_parse_integer.proofs.grammar.Stretches.{HoldsBetween, IsStop, IsStop-stop_of, IsStop-unique, true_or_false}
+use Rattle.lexical_parse_integer.proofs.marked.DigitsAmong.{digit_there, separator_there}
 use Rattle.lexical_parse_integer.proofs.words.WordsInTexts.{StandsAt}
 
 none_from : (o : Option ℕ) → is_some o ≡ false → o ≡ None

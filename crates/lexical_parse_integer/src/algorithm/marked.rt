@@ -2,7 +2,7 @@
 //
 // As under formats without marks, only what is sure is answered: a numeral whose runs of separators all stand between
 // digits, where its type has the value. `None` says nothing: what is left goes over a cursor.
-ghost use Rattle.std.specs.Prelude.{◌≡◌, ◌+◌, ◌<◌, ◌≤◌, ◌||◌, IfSome, IsNone, IsTrue, Ok, length};
+ghost use Rattle.std.specs.Prelude.{◌≡◌, ◌+◌, ◌<◌, ◌≤◌, ◌||◌, IfSome, IsNone, IsTrue, Ok, Some, length};
 ghost use Rattle.lexical_util.specs.Digit.{IsRadix};
 ghost use Rattle.lexical_util.specs.Validity.{fault};
 ghost use Rattle.lexical_parse_integer.specs.Answer.{with_place};
@@ -11,7 +11,10 @@ ghost use Rattle.lexical_parse_integer.specs.Head.{head_of, sign};
 ghost use Rattle.lexical_parse_integer.specs.Marked.{AreDigitsOnly, AreGrouped, AreWorth, stop_after};
 ghost use Rattle.lexical_parse_integer.specs.Plain.{keeps_zero_rule};
 
+mod separated;
+
 use crate::affixes::{octal_zero_at, prefix_radix, suffix_at};
+use crate::algorithm::marked::separated::value_of_groups;
 use crate::algorithm::plain::fronts::value_of_digits;
 use crate::algorithm::plain::keeps_zero_rule;
 use crate::algorithm::plain::table::value_by_table;
@@ -118,6 +121,40 @@ fn value_of_row<T: Integer>(digits: &[u8], radix: u32, negative: bool) -> Option
     value_by_table::<T>(digits, radix, negative)
 }
 
+// Whether a separator stands where one does in digits that are grouped by three.
+#[inline(always)]
+fn seems_parted(digits: &[u8], separator: Option<u8>) -> bool {
+    match separator {
+        Some(separator) => digits.len() >= 4 && digits[digits.len() - 4] == separator,
+        None => false,
+    }
+}
+
+// The value of digits with separators between them, where the format admits these.
+#[inline(always)]
+fn value_of_parts<T: Integer>(
+    digits: &[u8],
+    format: &NumberFormat,
+    separator: u8,
+    radix: u32,
+    negative: bool,
+) -> Option<T>
+    requires some { 1 ≤ length digits.now }
+    requires radix { IsRadix radix }
+    requires separator { format.now.digit_separator ≡ Some separator }
+    ensures grouped { IfSome result (λ value. AreGrouped format.now radix digits.now) }
+    ensures worth { IfSome result
+        (λ value. AreWorth T.TYPE radix negative digits.now (T.number value)) }
+{
+    if !format.integer_internal_digit_separator() {
+        return None;
+    }
+    if radix == 10 {
+        return value_of_groups::<T>(digits, format, separator, 10, negative);
+    }
+    value_of_groups::<T>(digits, format, separator, radix, negative)
+}
+
 // The value of the numeral of a region, behind a minus where that is negative.
 #[inline(always)]
 fn value_of_region<T: Integer>(
@@ -133,7 +170,16 @@ fn value_of_region<T: Integer>(
     ensures worth { IfSome result
         (λ value. AreWorth T.TYPE radix negative digits.now (T.number value)) }
 {
-    value_of_row::<T>(digits, radix, negative)
+    let separator = format.digit_separator();
+    if !seems_parted(digits, separator) {
+        if let Some(value) = value_of_row::<T>(digits, radix, negative) {
+            return Some(value);
+        }
+    }
+    match separator {
+        Some(separator) => value_of_parts::<T>(digits, format, separator, radix, negative),
+        None => None,
+    }
 }
 
 // Whether no zero stands in front of another digit, where that is forbidden: it never is where the radix is marked.
