@@ -21,7 +21,7 @@ mod words;
 mod zeros;
 
 use crate::algorithm::head::{is_prefix_alone, read_head};
-use crate::algorithm::marked::settled_marked;
+use crate::algorithm::marked::{settled_marked, settled_marked_front};
 use crate::algorithm::numeral::read_digits;
 use crate::algorithm::plain::{settled, settled_front};
 use crate::algorithm::zeros::read_first;
@@ -230,6 +230,22 @@ fn partial_over_cursor<T: Integer>(
     requires valid { IsNone (fault format.now) }
     ensures { view_of (with_place T.number) result ≡ partial format.now T.TYPE bytes.now }
 {
+    partial_with_marks::<T>(bytes, format, options)
+}
+
+// The same in place, as that of the complete parser.
+#[inline(always)]
+pub(crate) fn partial_with_marks<T: Integer>(
+    bytes: &[u8],
+    format: &NumberFormat,
+    options: &Options,
+) -> Result<(T, usize)>
+    requires valid { IsNone (fault format.now) }
+    ensures { view_of (with_place T.number) result ≡ partial format.now T.TYPE bytes.now }
+{
+    if let Some(found) = settled_marked_front::<T>(bytes, format) {
+        return Ok(found);
+    }
     algorithm_partial_on::<T>(&mut Cursor::new(bytes, format), options)
 }
 

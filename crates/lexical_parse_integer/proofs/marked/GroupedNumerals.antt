@@ -12,7 +12,7 @@ use Rattle.lexical_parse_integer.proofs.grammar.Stretches.{HoldsBetween, IsStop,
 use Rattle.lexical_parse_integer.proofs.marked.DigitsAmong.{digit_there, separator_there}
 use Rattle.lexical_parse_integer.proofs.words.WordsInTexts.{StandsAt}
 
-none_from : (o : Option ℕ) → is_some o ≡ false → o ≡ None
+pub none_from : (o : Option ℕ) → is_some o ≡ false → o ≡ None
 none_from None e = refl
 none_from (Some d) e = absurd (false≢true (sym e))
 

@@ -1,5 +1,5 @@
 -- What the parsers answer where a numeral of digits, with separators between them, stands behind sign and prefix.
-use Rattle.std.proofs.Common.{◌≡◌, ℕ, ◌+◌, ◌-◌, ◌<◌, ◌≤◌, Bool, true, false, not, ◌&&◌, ◌||◌, cond, List, [], ◌∷◌, ◌++◌, length, refl, sym, ap, ◌∙◌, subst, arith, Option, Some, None, IsNone, is_some, Ok, Err, Result}
+use Rattle.std.proofs.Common.{◌≡◌, ℕ, ◌+◌, ◌-◌, ◌<◌, ◌≤◌, Bool, true, false, not, ◌&&◌, ◌||◌, cond, List, [], ◌∷◌, ◌++◌, length, get_or, refl, sym, ap, ◌∙◌, subst, arith, Option, Some, None, IsNone, is_some, Ok, Err, Result}
 use Rattle.std.specs.Prelude.{◌==◌, nat_le, nat_lt, slice_index, slice_range, ℤ, IfSome}
 use Rattle.std.specs.Option.{unwrap_or}
 use Rattle.std.proofs.Math.Bool.{and-false}
@@ -19,13 +19,13 @@ use Rattle.lexical_parse_integer.specs.Head.{Head, head_after, head_behind, head
 use Rattle.lexical_parse_integer.specs.Marked.{AreDigitsOnly, AreGrouped, AreWorth, digits_among, is_digit_in, stop_after}
 use Rattle.lexical_parse_integer.specs.Numeral.{Numeral, digit_count, numeral_in, numeral_value}
 use Rattle.lexical_parse_integer.specs.Plain.{keeps_zero_rule}
-use Rattle.lexical_parse_integer.specs.Runs.{digit_at, digits_between, end_of, is_in_numeral, places, separator_at}
+use Rattle.lexical_parse_integer.specs.Runs.{are_same, digit_at, digits_between, end_of, is_in_numeral, places, separator_at}
 use Rattle.lexical_parse_integer.specs.Value.{positional_value, with_sign}
 use Rattle.lexical_parse_integer.proofs.grammar.FrontValues.{fitting_fault}
 use Rattle.lexical_parse_integer.proofs.grammar.NumeralEnd.{belongs_other}
 use Rattle.lexical_parse_integer.proofs.grammar.RangeOfFronts.{shorter_fronts_fit}
-use Rattle.lexical_parse_integer.proofs.marked.DigitsAmong.{values_between}
-use Rattle.lexical_parse_integer.proofs.marked.GroupedNumerals.{grouped_end}
+use Rattle.lexical_parse_integer.proofs.marked.DigitsAmong.{digit_there, separator_there, values_between}
+use Rattle.lexical_parse_integer.proofs.marked.GroupedNumerals.{grouped_end, none_from}
 use Rattle.lexical_parse_integer.proofs.reading.FormatBytes.{IsFit, fits, fits_octal, fits_prefix}
 use Rattle.lexical_parse_integer.proofs.reading.ParserAnswers.{sign_minus}
 use Rattle.lexical_parse_integer.proofs.reading.Soundness.{separator_no_digit, suffix_no_digit, suffix_no_separator}
@@ -308,3 +308,24 @@ region_read f t text h end value valid head some within reached rule grouped wor
     let place : h.start + length (slice_range text h.start end) ≡ end = omega arith in
     let m : IsMarked f t text h (slice_range text h.start end) value = record { head = head; fit = fits_head f t text h valid head; stands = stands; grouped = grouped; rule = rule; worth = worth } in
     whole_marked f t text h (slice_range text h.start end) value m (ap (stop_after f text) place ∙ reached)
+
+-- the same at the front of a text, where neither a digit nor a separator follows so many bytes
+pub front_read : (f : Format) (t : IntegerType) (text : List ℕ) (h : Head) (count stop : ℕ) (value : ℤ) → IsNone (fault f) → head_of f t text ≡ Ok h → h.start ≤ length text → count ≤ length (slice_range text h.start (length text)) →
+    (count < length (slice_range text h.start (length text)) → is_digit_in h.radix (slice_range text h.start (length text)) count ≡ false) →
+    (count < length (slice_range text h.start (length text)) → are_same f.digit_separator (Some (get_or (slice_range text h.start (length text)) count 0)) ≡ false) →
+    (h.is_marked || keeps_zero_rule f (slice_range text h.start (h.start + count))) ≡ true → AreGrouped f h.radix (slice_range text h.start (h.start + count)) → AreWorth t h.radix h.is_minus (slice_range text h.start (h.start + count)) value →
+    stop ≡ stop_after f text (h.start + count) → partial f t text ≡ Ok (value, stop)
+front_read f t text h count stop value valid head low within no_digit no_separator rule grouped worth stop_is =
+    let rest : List ℕ = slice_range text h.start (length text) in
+    let all : h.start + (length text - h.start) ≡ length text = omega arith in
+    let rest_stands : StandsAt text rest h.start = subst (λ (k : ℕ). StandsAt text (slice_range text h.start k) h.start) all (stands_ahead text h.start (length text - h.start) (omega arith)) in
+    let rest_size : length rest ≡ length text - h.start = subst (λ (k : ℕ). length (slice_range text h.start k) ≡ length text - h.start) all (length-ahead text h.start (length text - h.start) (omega arith)) in
+    let bytes : List ℕ = slice_range text h.start (h.start + count) in
+    let stands : StandsAt text bytes h.start = stands_ahead text h.start count (omega arith) in
+    let size : length bytes ≡ count = length-ahead text h.start count (omega arith) in
+    let place : h.start + length bytes ≡ h.start + count = omega arith in
+    let m : IsMarked f t text h bytes value = record { head = head; fit = fits_head f t text h valid head; stands = stands; grouped = grouped; rule = rule; worth = worth } in
+    front_marked f t text h bytes value m
+    (λ l. none_from (digit_at h.radix text (h.start + length bytes)) (ap is_some (digit_there h.radix text rest h.start count (h.start + length bytes) rest_stands (omega arith) (omega arith)) ∙ no_digit (omega arith)))
+    (λ l. separator_there f text rest h.start count (h.start + length bytes) rest_stands (omega arith) (omega arith) ∙ no_separator (omega arith))
+    ∙ ap (λ (k : ℕ). Ok (value, k)) (ap (stop_after f text) place ∙ sym stop_is)

@@ -2,14 +2,15 @@
 //
 // As under formats without marks, only what is sure is answered: a numeral whose runs of separators all stand between
 // digits, where its type has the value. `None` says nothing: what is left goes over a cursor.
-ghost use Rattle.std.specs.Prelude.{◌≡◌, ◌+◌, ◌<◌, ◌≤◌, ◌||◌, IfSome, IsNone, IsTrue, Ok, Some, length};
+ghost use Rattle.std.specs.Prelude.{◌≡◌, ◌+◌, ◌<◌, ◌≤◌, ◌||◌, IfSome, IsNone, IsTrue, Ok, Some, false, get_or, length};
 ghost use Rattle.lexical_util.specs.Digit.{IsRadix};
 ghost use Rattle.lexical_util.specs.Validity.{fault};
 ghost use Rattle.lexical_parse_integer.specs.Answer.{with_place};
 ghost use Rattle.lexical_parse_integer.specs.Grammar.{complete, partial};
 ghost use Rattle.lexical_parse_integer.specs.Head.{head_of, sign};
-ghost use Rattle.lexical_parse_integer.specs.Marked.{AreDigitsOnly, AreGrouped, AreWorth, stop_after};
+ghost use Rattle.lexical_parse_integer.specs.Marked.{AreDigitsOnly, AreGrouped, AreWorth, is_digit_in, stop_after};
 ghost use Rattle.lexical_parse_integer.specs.Plain.{keeps_zero_rule};
+ghost use Rattle.lexical_parse_integer.specs.Runs.{are_same};
 
 mod separated;
 
@@ -18,6 +19,7 @@ use crate::algorithm::marked::separated::value_of_groups;
 use crate::algorithm::plain::fronts::value_of_digits;
 use crate::algorithm::plain::keeps_zero_rule;
 use crate::algorithm::plain::table::value_by_table;
+use lexical_util::digit::char_to_digit;
 use lexical_util::format::NumberFormat;
 use lexical_util::num::Integer;
 
@@ -209,4 +211,83 @@ pub(crate) fn settled_marked<T: Integer>(bytes: &[u8], format: &NumberFormat) ->
         return None;
     }
     value_of_region::<T>(digits, format, front.radix, front.is_minus)
+}
+
+// ---- the front of a text
+
+// Whether a byte is the format's separator.
+#[inline(always)]
+#[tactic(auto, unfolding(crate::specs::Runs::are_same))]
+fn is_separator(format: &NumberFormat, byte: u8) -> bool
+    ensures { result ≡ are_same format.now.digit_separator (Some byte) }
+{
+    match format.digit_separator() {
+        Some(separator) => byte == separator,
+        None => false,
+    }
+}
+
+// How many digits and separators a text begins with.
+#[inline(always)]
+fn count_of_marked(text: &[u8], format: &NumberFormat, radix: u32) -> usize
+    requires radix { IsRadix radix }
+    ensures within { result ≤ length text.now }
+    ensures no_digit { result < length text.now → is_digit_in radix text.now result ≡ false }
+    ensures no_separator { result < length text.now
+        → are_same format.now.digit_separator (Some (get_or text.now result 0)) ≡ false }
+{
+    for (place, byte) in text.iter().enumerate() {
+        if char_to_digit(*byte, radix).is_none() && !is_separator(format, *byte) {
+            return place;
+        }
+    }
+    text.len()
+}
+
+// Where reading stops, where a numeral with a digit ends at a place.
+#[inline(always)]
+fn stop_after(bytes: &[u8], format: &NumberFormat, end: usize) -> usize
+    requires { end ≤ length bytes.now }
+    ensures { result ≡ stop_after format.now bytes.now end }
+{
+    if end == bytes.len() {
+        return end;
+    }
+    if suffix_at(bytes, format, end) {
+        end + 1
+    } else {
+        end
+    }
+}
+
+// The value of the numeral at the text's front and the place at which reading stops, where these are sure.
+#[inline(always)]
+pub(crate) fn settled_marked_front<T: Integer>(
+    bytes: &[u8],
+    format: &NumberFormat,
+) -> Option<(T, usize)>
+    requires valid { IsNone (fault format.now) }
+    ensures { IfSome result
+        (λ found. partial format.now T.TYPE bytes.now ≡ Ok (with_place T.number found)) }
+{
+    if bytes.is_empty() {
+        return None;
+    }
+    let front = front_of::<T>(bytes, format)?;
+    if bytes.len() < front.start {
+        return None;
+    }
+    let count = count_of_marked(&bytes[front.start..], format, front.radix);
+    if count == 0 {
+        return None;
+    }
+    let end = front.start + count;
+    let digits = &bytes[front.start..end];
+    if !keeps_rule(format, front.is_marked, digits) {
+        return None;
+    }
+    match value_of_region::<T>(digits, format, front.radix, front.is_minus) {
+        Some(value) => Some((value, stop_after(bytes, format, end))),
+        None => None,
+    }
 }
