@@ -156,13 +156,14 @@ pub fn algorithm_complete<T: Integer>(
 {
     match settled::<T>(bytes, format) {
         Some(value) => Ok(value),
-        None => complete_over_cursor::<T>(bytes, format, options),
+        None => complete_out_of_line::<T>(bytes, format, options),
     }
 }
 
-// The way of all texts. It stays out of line, so that the way of most is small enough to be held in place.
+// A numeral under a format with marks is read at once where that is sure. It stays out of line, so that the way of most
+// texts is small enough to be held in place.
 #[inline(never)]
-fn complete_over_cursor<T: Integer>(
+fn complete_out_of_line<T: Integer>(
     bytes: &[u8],
     format: &NumberFormat,
     options: &Options,
@@ -173,7 +174,7 @@ fn complete_over_cursor<T: Integer>(
     complete_with_marks::<T>(bytes, format, options)
 }
 
-// The same in place: a numeral under a format with marks is read at once where that is sure, and else over a cursor.
+// The same in place.
 #[inline(always)]
 pub(crate) fn complete_with_marks<T: Integer>(
     bytes: &[u8],
@@ -183,9 +184,22 @@ pub(crate) fn complete_with_marks<T: Integer>(
     requires valid { IsNone (fault format.now) }
     ensures { view_of T.number result ≡ complete format.now T.TYPE bytes.now }
 {
-    if let Some(value) = settled_marked::<T>(bytes, format) {
-        return Ok(value);
+    match settled_marked::<T>(bytes, format) {
+        Some(value) => Ok(value),
+        None => complete_over_cursor::<T>(bytes, format, options),
     }
+}
+
+// The way of all texts, out of line too.
+#[inline(never)]
+fn complete_over_cursor<T: Integer>(
+    bytes: &[u8],
+    format: &NumberFormat,
+    options: &Options,
+) -> Result<T>
+    requires valid { IsNone (fault format.now) }
+    ensures { view_of T.number result ≡ complete format.now T.TYPE bytes.now }
+{
     algorithm_complete_on::<T>(&mut Cursor::new(bytes, format), options)
 }
 
@@ -216,13 +230,13 @@ pub fn algorithm_partial<T: Integer>(
 {
     match settled_front::<T>(bytes, format) {
         Some(found) => Ok(found),
-        None => partial_over_cursor::<T>(bytes, format, options),
+        None => partial_out_of_line::<T>(bytes, format, options),
     }
 }
 
-// The way of all texts, out of line as that of the complete parser.
+// The same three for the partial parser.
 #[inline(never)]
-fn partial_over_cursor<T: Integer>(
+fn partial_out_of_line<T: Integer>(
     bytes: &[u8],
     format: &NumberFormat,
     options: &Options,
@@ -233,7 +247,6 @@ fn partial_over_cursor<T: Integer>(
     partial_with_marks::<T>(bytes, format, options)
 }
 
-// The same in place, as that of the complete parser.
 #[inline(always)]
 pub(crate) fn partial_with_marks<T: Integer>(
     bytes: &[u8],
@@ -243,9 +256,21 @@ pub(crate) fn partial_with_marks<T: Integer>(
     requires valid { IsNone (fault format.now) }
     ensures { view_of (with_place T.number) result ≡ partial format.now T.TYPE bytes.now }
 {
-    if let Some(found) = settled_marked_front::<T>(bytes, format) {
-        return Ok(found);
+    match settled_marked_front::<T>(bytes, format) {
+        Some(found) => Ok(found),
+        None => partial_over_cursor::<T>(bytes, format, options),
     }
+}
+
+#[inline(never)]
+fn partial_over_cursor<T: Integer>(
+    bytes: &[u8],
+    format: &NumberFormat,
+    options: &Options,
+) -> Result<(T, usize)>
+    requires valid { IsNone (fault format.now) }
+    ensures { view_of (with_place T.number) result ≡ partial format.now T.TYPE bytes.now }
+{
     algorithm_partial_on::<T>(&mut Cursor::new(bytes, format), options)
 }
 
