@@ -3,6 +3,7 @@ pub mod bound
 pub mod ForCallers
 pub mod grammar
 pub mod lanes
+pub mod marked
 pub mod plain
 pub mod reading
 pub mod theorems

@@ -13,6 +13,7 @@ ghost use Rattle.lexical_parse_integer.specs.Turns.{AsksWords, HasFewTurns};
 mod digits;
 mod head;
 mod lanes;
+mod marked;
 mod multi;
 mod numeral;
 pub(crate) mod plain;
@@ -20,6 +21,7 @@ mod words;
 mod zeros;
 
 use crate::algorithm::head::{is_prefix_alone, read_head};
+use crate::algorithm::marked::{settled_marked, settled_marked_front};
 use crate::algorithm::numeral::read_digits;
 use crate::algorithm::plain::{settled, settled_front};
 use crate::algorithm::zeros::read_first;
@@ -154,11 +156,41 @@ pub fn algorithm_complete<T: Integer>(
 {
     match settled::<T>(bytes, format) {
         Some(value) => Ok(value),
+        None => complete_out_of_line::<T>(bytes, format, options),
+    }
+}
+
+// A numeral under a format with marks is read at once where that is sure. It stays out of line, so that the way of most
+// texts is small enough to be held in place.
+#[inline(never)]
+fn complete_out_of_line<T: Integer>(
+    bytes: &[u8],
+    format: &NumberFormat,
+    options: &Options,
+) -> Result<T>
+    requires valid { IsNone (fault format.now) }
+    ensures { view_of T.number result ≡ complete format.now T.TYPE bytes.now }
+{
+    complete_with_marks::<T>(bytes, format, options)
+}
+
+// The same in place.
+#[inline(always)]
+pub(crate) fn complete_with_marks<T: Integer>(
+    bytes: &[u8],
+    format: &NumberFormat,
+    options: &Options,
+) -> Result<T>
+    requires valid { IsNone (fault format.now) }
+    ensures { view_of T.number result ≡ complete format.now T.TYPE bytes.now }
+{
+    match settled_marked::<T>(bytes, format) {
+        Some(value) => Ok(value),
         None => complete_over_cursor::<T>(bytes, format, options),
     }
 }
 
-// The way of all texts. It stays out of line, so that the way of most is small enough to be held in place.
+// The way of all texts, out of line too.
 #[inline(never)]
 fn complete_over_cursor<T: Integer>(
     bytes: &[u8],
@@ -198,11 +230,38 @@ pub fn algorithm_partial<T: Integer>(
 {
     match settled_front::<T>(bytes, format) {
         Some(found) => Ok(found),
+        None => partial_out_of_line::<T>(bytes, format, options),
+    }
+}
+
+// The same three for the partial parser.
+#[inline(never)]
+fn partial_out_of_line<T: Integer>(
+    bytes: &[u8],
+    format: &NumberFormat,
+    options: &Options,
+) -> Result<(T, usize)>
+    requires valid { IsNone (fault format.now) }
+    ensures { view_of (with_place T.number) result ≡ partial format.now T.TYPE bytes.now }
+{
+    partial_with_marks::<T>(bytes, format, options)
+}
+
+#[inline(always)]
+pub(crate) fn partial_with_marks<T: Integer>(
+    bytes: &[u8],
+    format: &NumberFormat,
+    options: &Options,
+) -> Result<(T, usize)>
+    requires valid { IsNone (fault format.now) }
+    ensures { view_of (with_place T.number) result ≡ partial format.now T.TYPE bytes.now }
+{
+    match settled_marked_front::<T>(bytes, format) {
+        Some(found) => Ok(found),
         None => partial_over_cursor::<T>(bytes, format, options),
     }
 }
 
-// The way of all texts, out of line as that of the complete parser.
 #[inline(never)]
 fn partial_over_cursor<T: Integer>(
     bytes: &[u8],

@@ -75,7 +75,7 @@ minus_false f n = by_test f.required_mantissa_sign
         pair_apart a c e = false≢true (ap (λ (w : Bool × ℕ). w.0) e)
 
 -- a minus is read for signed types alone
-sign_minus : (f : Format) (t : IntegerType) (text : List ℕ) (n : ℕ) → sign f t text ≡ Ok (true, n) → t.is_signed ≡ true
+pub sign_minus : (f : Format) (t : IntegerType) (text : List ℕ) (n : ℕ) → sign f t text ≡ Ok (true, n) → t.is_signed ≡ true
 unfolding sign
 sign_minus f t [] n e = absurd (minus_false f n e)
 sign_minus f t (c ∷ cs) n e = by_tests (c == 43) f.no_positive_mantissa_sign (c == 45) t.is_signed refl e

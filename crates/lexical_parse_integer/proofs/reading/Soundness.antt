@@ -39,7 +39,7 @@ by_option r (Some s) None fit t = refl
 by_option r None c fit t = absurd (false≢true t)
 
 -- a separator that is no digit stands nowhere as one
-separator_no_digit : (f : Format) (r : ℕ) (b : List ℕ) → ((s : ℕ) → f.digit_separator ≡ Some s → digit s r ≡ None) → IsSeparatorNoDigit f r b
+pub separator_no_digit : (f : Format) (r : ℕ) (b : List ℕ) → ((s : ℕ) → f.digit_separator ≡ Some s → digit s r ≡ None) → IsSeparatorNoDigit f r b
 unfolding separator_at are_same digit_at
 separator_no_digit f r b fit k t = by_option r f.digit_separator (slice_get b k) fit t
 
@@ -49,11 +49,11 @@ by_mark sensitive (Some m) (Some x) P fit t = fit m x refl t
 by_mark sensitive (Some m) None P fit t = absurd (false≢true t)
 by_mark sensitive None c P fit t = absurd (false≢true t)
 
-suffix_no_digit : (f : Format) (r : ℕ) (b : List ℕ) → ((m x : ℕ) → f.base_suffix ≡ Some m → matches f.case_sensitive_base_suffix m x ≡ true → digit x r ≡ None) → IsSuffixNoDigit f r b
+pub suffix_no_digit : (f : Format) (r : ℕ) (b : List ℕ) → ((m x : ℕ) → f.base_suffix ≡ Some m → matches f.case_sensitive_base_suffix m x ≡ true → digit x r ≡ None) → IsSuffixNoDigit f r b
 unfolding suffix_at digit_at
 suffix_no_digit f r b fit k t = by_mark f.case_sensitive_base_suffix f.base_suffix (slice_get b k) (λ o. option_and_then (λ c. digit c r) o ≡ None) fit t
 
-suffix_no_separator : (f : Format) (b : List ℕ) → ((m x : ℕ) → f.base_suffix ≡ Some m → matches f.case_sensitive_base_suffix m x ≡ true → are_same f.digit_separator (Some x) ≡ false) → IsSuffixNoSeparator f b
+pub suffix_no_separator : (f : Format) (b : List ℕ) → ((m x : ℕ) → f.base_suffix ≡ Some m → matches f.case_sensitive_base_suffix m x ≡ true → are_same f.digit_separator (Some x) ≡ false) → IsSuffixNoSeparator f b
 unfolding suffix_at separator_at
 suffix_no_separator f b fit k t = by_mark f.case_sensitive_base_suffix f.base_suffix (slice_get b k) (λ c. are_same f.digit_separator c ≡ false) fit t
 

@@ -4,9 +4,8 @@ ghost use Rattle.lexical_parse_integer.specs.Answer.{with_place, view_of};
 ghost use Rattle.lexical_parse_integer.specs.Grammar.{complete_if_valid, partial_if_valid};
 
 use crate::algorithm::plain::{settled, settled_front};
-use crate::algorithm::{algorithm_complete_on, algorithm_partial_on};
+use crate::algorithm::{complete_with_marks, partial_with_marks};
 use crate::api::{FromLexical, FromLexicalWithOptions};
-use crate::cursor::Cursor;
 use crate::options::Options;
 use lexical_util::format::NumberFormat;
 use lexical_util::num::Integer;
@@ -34,7 +33,7 @@ fn complete_if_valid<T: Integer>(
 {
     match format.error() {
         Some(invalid) => Err(invalid),
-        None => algorithm_complete_on::<T>(&mut Cursor::new(bytes, format), options),
+        None => complete_with_marks::<T>(bytes, format, options),
     }
 }
 
@@ -60,7 +59,7 @@ fn partial_if_valid<T: Integer>(
 {
     match format.error() {
         Some(broken) => Err(broken),
-        None => algorithm_partial_on::<T>(&mut Cursor::new(bytes, format), options),
+        None => partial_with_marks::<T>(bytes, format, options),
     }
 }
 

@@ -64,7 +64,7 @@ pub(super) fn count_of_digits(text: &[u8]) -> usize
 
 // The value of one digit and more, behind a minus where that is negative.
 #[inline(always)]
-pub(super) fn value_of_digits<T: Integer>(digits: &[u8], negative: bool) -> Option<T>
+pub(in crate::algorithm) fn value_of_digits<T: Integer>(digits: &[u8], negative: bool) -> Option<T>
     requires some { 1 ≤ length digits.now }
     requires minus { IsTrue negative → IsTrue T.TYPE.is_signed }
     ensures { IfSome result (λ value. WritesValue T.TYPE 0 negative digits.now (T.number value)) }

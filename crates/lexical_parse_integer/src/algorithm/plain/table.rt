@@ -31,7 +31,11 @@ fn number_by_table<T: Integer>(digits: &[u8], radix: u32, most: usize) -> Option
 
 // The value of digits of the radix, behind a minus where that is negative.
 #[inline(always)]
-pub(super) fn value_by_table<T: Integer>(digits: &[u8], radix: u32, negative: bool) -> Option<T>
+pub(in crate::algorithm) fn value_by_table<T: Integer>(
+    digits: &[u8],
+    radix: u32,
+    negative: bool,
+) -> Option<T>
     requires radix { IsRadix radix }
     requires minus { IsTrue negative → IsTrue T.TYPE.is_signed }
     ensures { IfSome result (λ value. StandsFor T.TYPE radix negative digits.now (T.number value)) }

@@ -1,0 +1,100 @@
+-- The digits among bytes that stand in a text, and what values are known of them.
+use Rattle.std.proofs.Common.{◌≡◌, ℕ, zero, suc, ◌+◌, ◌-◌, ◌<◌, Bool, true, false, List, [], ◌∷◌, length, get_or, map, filter, refl, sym, ap, ◌∙◌, subst, arith, Option, Some, None, is_some, option_and_then}
+use Rattle.std.specs.Prelude.{ℤ, neg_ℤ, pos, if◌then◌else◌}
+use Rattle.std.specs.List.{range_with_len}
+use Rattle.std.specs.Option.{unwrap_or}
+use Rattle.std.proofs.Math.Seq.{take-length}
+use Rattle.lexical_util.specs.Digit.{digit}
+use Rattle.lexical_util.specs.Number.{IntegerType, IsNumber}
+use Rattle.lexical_parse_integer.specs.Marked.{AreDigitsOnly, AreWorth, digits_among}
+use Rattle.lexical_parse_integer.specs.Plain.{StandsFor, WritesValue}
+use Rattle.lexical_parse_integer.specs.Runs.{digit_at, separator_at, are_same}
+use Rattle.lexical_parse_integer.specs.Value.{positional_value, with_sign}
+use Rattle.lexical_parse_integer.specs.Words.{AreDigits, word_value}
+use Rattle.lexical_util.specs.Format.{Format}
+use Rattle.lexical_parse_integer.proofs.words.AsciiDigits.{ascii_from_digits}
+use Rattle.lexical_parse_integer.proofs.words.WordsInTexts.{StandsAt}
+use Rattle.lexical_parse_integer.proofs.plain.DigitsAlone.{have_digits}
+use Rattle.lexical_parse_integer.proofs.plain.WordsOfDigits.{raised_none}
+use Rattle.lexical_parse_integer.proofs.theorems.ReadBack.{HaveDigits}
+
+-- ---- places of a text
+
+stands_rest : (text : List ℕ) (c : ℕ) (cs : List ℕ) (p : ℕ) → StandsAt text (c ∷ cs) p → StandsAt text cs (p + 1)
+stands_rest text c cs p s = let w = s.within in record { within = omega arith; byte = λ i k at l. s.byte (suc i) k (omega arith) (omega arith) }
+
+pub digit_there : (r : ℕ) (text bytes : List ℕ) (start i k : ℕ) → StandsAt text bytes start → start + i ≡ k → i < length bytes → digit_at r text k ≡ digit (get_or bytes i 0) r
+unfolding digit_at
+digit_there r text bytes start i k s at l = ap (option_and_then (λ byte. digit byte r)) (s.byte i k at l)
+
+pub separator_there : (f : Format) (text bytes : List ℕ) (start i k : ℕ) → StandsAt text bytes start → start + i ≡ k → i < length bytes → separator_at f text k ≡ are_same f.digit_separator (Some (get_or bytes i 0))
+unfolding separator_at
+separator_there f text bytes start i k s at l = ap (are_same f.digit_separator) (s.byte i k at l)
+
+-- the values of the digits between two places
+pub values_between : (r : ℕ) (text bytes : List ℕ) (start : ℕ) → StandsAt text bytes start →
+    map (λ place. unwrap_or (digit_at r text place) 0) (filter (λ place. is_some (digit_at r text place)) (range_with_len start (length bytes))) ≡ digits_among r bytes
+values_between r text [] start s = refl
+values_between r text (c ∷ cs) start s =
+    let here : digit_at r text start ≡ digit c r = digit_there r text (c ∷ cs) start 0 start s (omega arith) (omega arith) in
+    by_digit (digit c r) refl here (values_between r text cs (start + 1) (stands_rest text c cs start s))
+  where
+    by_digit : (o : Option ℕ) → digit c r ≡ o → digit_at r text start ≡ digit c r →
+        map (λ place. unwrap_or (digit_at r text place) 0) (filter (λ place. is_some (digit_at r text place)) (range_with_len (start + 1) (length cs))) ≡ digits_among r cs →
+        map (λ place. unwrap_or (digit_at r text place) 0) (filter (λ place. is_some (digit_at r text place)) (range_with_len start (length (c ∷ cs)))) ≡ digits_among r (c ∷ cs)
+    by_digit (Some d) is here rest =
+        let at : digit_at r text start ≡ Some d = here ∙ is in
+        let there : is_some (digit_at r text start) ≡ true = ap is_some at in
+        rw (there, is) (ap (λ (ds : List ℕ). unwrap_or (digit_at r text start) 0 ∷ ds) rest ∙ ap (λ (o : Option ℕ). unwrap_or o 0 ∷ digits_among r cs) at)
+    by_digit None is here rest =
+        let none : is_some (digit_at r text start) ≡ false = ap is_some (here ∙ is) in
+        rw (none, is) rest
+
+-- ---- digits alone
+
+pub among_all : (r : ℕ) (bytes ds : List ℕ) → HaveDigits r bytes ds → digits_among r bytes ≡ ds
+among_all r [] [] all = refl
+among_all r [] (d ∷ ds) all = cc
+among_all r (c ∷ cs) [] all = cc
+among_all r (c ∷ cs) (d ∷ ds) all =
+    let here : digit c r ≡ Some d = cc in
+    let more : HaveDigits r cs ds = cc in
+    let rest = among_all r cs ds more in
+    rw (here, rest) refl
+
+pub digits_only : (r : ℕ) (bytes ds : List ℕ) → HaveDigits r bytes ds → AreDigitsOnly r bytes
+digits_only r [] ds all place l = absurd (omega arith)
+digits_only r (c ∷ cs) [] all place l = cc
+digits_only r (c ∷ cs) (d ∷ ds) all zero l = let here : digit c r ≡ Some d = cc in ap is_some here
+digits_only r (c ∷ cs) (d ∷ ds) all (suc place) l = let more : HaveDigits r cs ds = cc in digits_only r cs ds more place (omega arith)
+
+-- digits by words
+words_have : (t : IntegerType) (negative : Bool) (bytes : List ℕ) (value : ℤ) → WritesValue t 0 negative bytes value → HaveDigits 10 bytes (map (λ byte. byte - 48) bytes)
+words_have t negative bytes value w =
+    let same = raised_none bytes in
+    let digits_are : AreDigits 10 bytes = rw same at w.writes.digits in
+    have_digits 10 bytes (omega arith) (ascii_from_digits 10 bytes (omega arith) digits_are)
+
+pub words_only : (t : IntegerType) (r : ℕ) (negative : Bool) (bytes : List ℕ) (value : ℤ) → r ≡ 10 → WritesValue t 0 negative bytes value → AreDigitsOnly r bytes
+words_only t r negative bytes value ten w = subst (λ (n : ℕ). AreDigitsOnly n bytes) (sym ten) (digits_only 10 bytes _ (words_have t negative bytes value w))
+
+pub words_worth : (t : IntegerType) (r : ℕ) (negative : Bool) (bytes : List ℕ) (value : ℤ) → r ≡ 10 → WritesValue t 0 negative bytes value → AreWorth t r negative bytes value
+words_worth t r negative bytes value ten w =
+    let same = raised_none bytes in
+    let number_is : w.number ≡ word_value 10 bytes = rw same at w.writes.worth in
+    let among : digits_among 10 bytes ≡ map (λ byte. byte - 48) bytes = among_all 10 bytes _ (words_have t negative bytes value w) in
+    let worth : value ≡ with_sign negative (positional_value 10 (digits_among 10 bytes)) = w.worth ∙ ap (with_sign negative) (number_is ∙ ap (positional_value 10) (sym among)) in
+    subst (λ (n : ℕ). AreWorth t n negative bytes value) (sym ten) (record { worth = worth; fits = subst (λ (z : ℤ). IsNumber t z) (sym w.worth) w.fits })
+
+-- digits by the table
+table_have : (t : IntegerType) (r : ℕ) (negative : Bool) (bytes : List ℕ) (value : ℤ) (s : StandsFor t r negative bytes value) → HaveDigits r bytes s.writes.values
+table_have t r negative bytes value s = ap (map (λ byte. digit byte r)) (sym (take-length bytes)) ∙ s.writes.digits
+
+pub table_only : (t : IntegerType) (r n : ℕ) (negative : Bool) (bytes : List ℕ) (value : ℤ) → r ≡ n → StandsFor t n negative bytes value → AreDigitsOnly r bytes
+table_only t r n negative bytes value same s = subst (λ (m : ℕ). AreDigitsOnly m bytes) (sym same) (digits_only n bytes s.writes.values (table_have t n negative bytes value s))
+
+pub table_worth : (t : IntegerType) (r n : ℕ) (negative : Bool) (bytes : List ℕ) (value : ℤ) → r ≡ n → StandsFor t n negative bytes value → AreWorth t r negative bytes value
+table_worth t r n negative bytes value same s =
+    let among : digits_among n bytes ≡ s.writes.values = among_all n bytes s.writes.values (table_have t n negative bytes value s) in
+    let worth : value ≡ with_sign negative (positional_value n (digits_among n bytes)) = s.worth ∙ ap (λ (z : ℤ). if negative then neg_ℤ z else z) (s.writes.worth ∙ ap (λ (ds : List ℕ). pos (positional_value n ds)) (sym among)) in
+    subst (λ (m : ℕ). AreWorth t m negative bytes value) (sym same) (record { worth = worth; fits = s.fits })
