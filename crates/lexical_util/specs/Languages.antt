@@ -21,6 +21,18 @@ separated separator =
       integer_internal_digit_separator = true;
     }
 
+-- `_` among and behind the digits, as many as one likes
+abbrev pub loose : Format
+loose =
+    record (separated underscore) {
+      integer_trailing_digit_separator = true;
+      integer_consecutive_digit_separator = true;
+    }
+
+-- a sign is a part of the text, which chooses its radix by `0x`, `0o` or `0b`
+abbrev pub signed : Format
+signed = record standard { literal_prefixes = true }
+
 -- digits, with `_` between them, one at a time
 abbrev pub underscored_digits : Format
 underscored_digits =
@@ -87,10 +99,8 @@ kotlin =
 -- Rust: `1__000_`, `0x_1FF_`, `0o777`, `0b1_01`
 abbrev pub rust : Format
 rust =
-    record (separated underscore) {
+    record loose {
       case_sensitive_base_prefix = true;
-      integer_trailing_digit_separator = true;
-      integer_consecutive_digit_separator = true;
       integer_prefix_digit_separator = true;
     }
 
@@ -104,12 +114,7 @@ go =
 
 -- Swift: `1__000_`, `0x1FF_`, `0o777`, `0b1_01`
 abbrev pub swift : Format
-swift =
-    record (separated underscore) {
-      case_sensitive_base_prefix = true;
-      integer_trailing_digit_separator = true;
-      integer_consecutive_digit_separator = true;
-    }
+swift = record loose { case_sensitive_base_prefix = true }
 
 -- the decimal literals of Ada, without exponent: `1_000`
 abbrev pub ada : Format
@@ -117,7 +122,7 @@ ada = underscored_digits
 
 -- the decimal literals of VHDL, without exponent: `1_000`
 abbrev pub vhdl : Format
-vhdl = underscored_digits
+vhdl = ada
 
 -- the hexadecimal numbers of assemblers: `0FFh`
 abbrev pub assembler_hexadecimal : Format
@@ -166,17 +171,13 @@ haskell =
 
 -- OCaml: `1__000_`, `0x1FF_`, `0o777`, `0b1_01`
 abbrev pub ocaml : Format
-ocaml =
-    record (separated underscore) {
-      integer_trailing_digit_separator = true;
-      integer_consecutive_digit_separator = true;
-    }
+ocaml = loose
 
 -- ---- data
 
 -- JSON5: `+511`, `0x1FF`, and no zero in front of another digit
 abbrev pub json5 : Format
-json5 = record standard { literal_prefixes = true; no_integer_leading_zeros = true }
+json5 = record signed { no_integer_leading_zeros = true }
 
 -- TOML: `+1_000`, `0x1_FF`, `0o777`, `0b1_01`, and no zero in front of another digit
 abbrev pub toml : Format
@@ -189,7 +190,7 @@ toml =
 
 -- the core schema of YAML 1.2: `+0511`, `0x1FF`, `0o777`
 abbrev pub yaml : Format
-yaml = record standard { literal_prefixes = true; case_sensitive_base_prefix = true }
+yaml = record signed { case_sensitive_base_prefix = true }
 
 -- SQL up to SQL:2016: `+0511`
 abbrev pub sql : Format

@@ -8,7 +8,7 @@
 //! the type is unsigned; a signed type reads it.
 
 ghost use Rattle.std.specs.Prelude.{◌≡◌};
-ghost use Rattle.lexical_util.specs.Languages.{prefixed, separated, underscored_digits, without_plus};
+ghost use Rattle.lexical_util.specs.Languages.{loose, prefixed, separated, signed, underscored_digits, without_plus};
 
 mod c_like;
 mod compiled;
@@ -44,6 +44,22 @@ fn separated(separator: u8) -> NumberFormatBuilder
     prefixed()
         .digit_separator(Some(separator))
         .integer_internal_digit_separator(true)
+}
+
+// The same with `_` among and behind the digits, as many as one likes.
+fn loose() -> NumberFormatBuilder
+    ensures { result ≡ loose }
+{
+    separated(b'_')
+        .integer_trailing_digit_separator(true)
+        .integer_consecutive_digit_separator(true)
+}
+
+// Texts of which a sign is a part, in radix 10, or 16, 8 or 2 where `0x`, `0o` or `0b` stands in front.
+fn signed() -> NumberFormatBuilder
+    ensures { result ≡ signed }
+{
+    NumberFormatBuilder::new().literal_prefixes(true)
 }
 
 // Digits alone, with `_` between them, one at a time.

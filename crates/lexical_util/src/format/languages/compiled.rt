@@ -4,7 +4,7 @@ ghost use Rattle.std.specs.Prelude.{◌≡◌, None};
 ghost use Rattle.lexical_util.specs.Languages.{ada, assembler_hexadecimal, go, rust, swift, vhdl};
 ghost use Rattle.lexical_util.specs.Validity.{fault};
 
-use super::{separated, underscored_digits, without_plus};
+use super::{loose, separated, underscored_digits, without_plus};
 use crate::format::NumberFormat;
 
 /// Integer literals of Rust: `1__000_`, `0x_1FF_`, `0o777` and `0b1_01`. `0777` is 777.
@@ -14,10 +14,8 @@ pub fn rust() -> NumberFormat
     ensures fields { result ≡ rust }
     ensures valid { fault result ≡ None }
 {
-    separated(b'_')
+    loose()
         .case_sensitive_base_prefix(true)
-        .integer_trailing_digit_separator(true)
-        .integer_consecutive_digit_separator(true)
         .integer_prefix_digit_separator(true)
         .build_strict()
 }
@@ -38,11 +36,7 @@ pub fn swift() -> NumberFormat
     ensures fields { result ≡ swift }
     ensures valid { fault result ≡ None }
 {
-    separated(b'_')
-        .case_sensitive_base_prefix(true)
-        .integer_trailing_digit_separator(true)
-        .integer_consecutive_digit_separator(true)
-        .build_strict()
+    loose().case_sensitive_base_prefix(true).build_strict()
 }
 
 /// Decimal literals of Ada: `1_000`.
@@ -62,7 +56,7 @@ pub fn vhdl() -> NumberFormat
     ensures fields { result ≡ vhdl }
     ensures valid { fault result ≡ None }
 {
-    underscored_digits().build_strict()
+    ada()
 }
 
 /// Hexadecimal numbers of assemblers: `0FFh`.

@@ -5,7 +5,7 @@ ghost use Rattle.lexical_util.specs.Format.{json};
 ghost use Rattle.lexical_util.specs.Languages.{json5, money, sql, sql_2023, toml, yaml};
 ghost use Rattle.lexical_util.specs.Validity.{fault};
 
-use super::separated;
+use super::{separated, signed};
 use crate::format::{JSON, NumberFormat, NumberFormatBuilder, STANDARD};
 
 /// Integers of JSON: [`JSON`].
@@ -23,10 +23,7 @@ pub fn json5() -> NumberFormat
     ensures fields { result ≡ json5 }
     ensures valid { fault result ≡ None }
 {
-    NumberFormatBuilder::new()
-        .literal_prefixes(true)
-        .no_integer_leading_zeros(true)
-        .build_strict()
+    signed().no_integer_leading_zeros(true).build_strict()
 }
 
 /// Integers of TOML: `+1_000`, `0x1_FF`, `0o777` and `0b1_01`. A zero in front of another digit is refused.
@@ -50,10 +47,7 @@ pub fn yaml() -> NumberFormat
     ensures fields { result ≡ yaml }
     ensures valid { fault result ≡ None }
 {
-    NumberFormatBuilder::new()
-        .literal_prefixes(true)
-        .case_sensitive_base_prefix(true)
-        .build_strict()
+    signed().case_sensitive_base_prefix(true).build_strict()
 }
 
 /// Integers of SQL up to SQL:2016, with their sign: `+0511`.

@@ -4,7 +4,7 @@ ghost use Rattle.std.specs.Prelude.{◌≡◌, None};
 ghost use Rattle.lexical_util.specs.Languages.{haskell, ocaml};
 ghost use Rattle.lexical_util.specs.Validity.{fault};
 
-use super::separated;
+use super::{loose, separated};
 use crate::format::NumberFormat;
 
 /// Integer literals of Haskell with NumericUnderscores and BinaryLiterals: `1__000`, `0x_1FF`, `0o777` and `0b_1_01`.
@@ -26,8 +26,5 @@ pub fn ocaml() -> NumberFormat
     ensures fields { result ≡ ocaml }
     ensures valid { fault result ≡ None }
 {
-    separated(b'_')
-        .integer_trailing_digit_separator(true)
-        .integer_consecutive_digit_separator(true)
-        .build_strict()
+    loose().build_strict()
 }
