@@ -8,14 +8,16 @@
 # make lexint  the program alone, as crates/lexint/out/lexint
 # make install puts it into $(PREFIX)/bin, and the library for C, C++ and Rust where users look; make uninstall takes all away
 # make lib     proves and builds that library; tools/lib.mk has this and its tests, make test-c and make check-c
-# make rows    writes the theorems and tests of the worked rows anew from tools/rows.txt
-# make docs    writes the documents that are made from the source: docs/MAP.md, docs/CONTRACTS.md, code blocks
+# make rows    writes the theorems and tests of the worked rows anew from tools/rows.txt and tools/languages.txt
+# make docs    writes the documents that are made from the source: docs/MAP.md, docs/CONTRACTS.md, docs/FORMATS.md,
+#              code blocks
 # make check-docs  fails where one of them isn't as the source has it, which make test does too
 # make bench   measures the parsers beside others, and writes bench/results.tsv and docs/SPEED.md
 # make judge   tries the must-fail edits alone, many in one check, and holds each to the function that it changes
 # make test-judge  tests the judge and the gate, which make test does too
 # make must-not-compile  checks what the compiler or the prover has to refuse of programs that use the libraries, which
 #              make test does too
+# make check-languages  compares the formats of languages with the compilers and interpreters that are there
 # make fuzz    runs the program beside a slow reading of the grammar: make fuzz SEED=1 LINES=1000000
 
 RT ?= rt
@@ -24,6 +26,7 @@ PROGRAM := crates/lexint/out/lexint
 SOURCES := $(shell find crates -name out -prune -o -type f \( -name '*.rt' -o -name '*.antt' \) -print) crates.txt
 
 .PHONY: run test test-one-by-one devices lexint install uninstall install-lexint uninstall-lexint rows docs check-docs
+.PHONY: check-languages
 .PHONY: bench judge test-judge must-not-compile fuzz
 
 run: $(PROGRAM)
@@ -88,6 +91,9 @@ test-judge:
 
 must-not-compile:
 	@RT=$(RT) tools/must_not_compile.py
+
+check-languages: $(PROGRAM)
+	@python3 tools/check_languages.py $(LANGUAGES)
 
 # What the fuzz run asks for: the seed that a run before has printed, and how many lines.
 SEED ?=
