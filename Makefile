@@ -75,6 +75,9 @@ test-judge: | toolchain ## tests the judge and the gate; a part of the gate
 must-not-compile: | toolchain ## checks that wrong programs over the libraries are refused; a part of the gate
 	@RT=$(RT) tools/must_not_compile.py
 
+check-languages: $(PROGRAM)
+	@python3 tools/check_languages.py $(LANGUAGES)
+
 # What the fuzz run asks for: the seed that a run before has printed, and how many lines.
 SEED ?=
 LINES ?= 200000

@@ -25,6 +25,7 @@ import sys
 import check_pages
 import contracts_page
 import edit_files
+import formats_page
 import map_page
 
 TOP = os.path.dirname(os.path.dirname(os.path.abspath(__file__)))
@@ -113,9 +114,12 @@ def with_blocks(top: str, path: str, faults: list[str]) -> str:
 def documents(top: str, faults: list[str]) -> dict[str, str]:
     """The text of each document that is made from the source, wholly or in part."""
     files, crates = files_of(top), crates_of(top)
-    pages = {"docs/MAP.md", "docs/CONTRACTS.md"}
+    formats = formats_page.page(top)
+    pages = {"docs/MAP.md", "docs/CONTRACTS.md", *(["docs/FORMATS.md"] if formats else [])}
     found = {path: with_blocks(top, path, faults) for path in files if path.endswith(".md") and path not in pages}
     found["docs/CONTRACTS.md"] = contracts_page.page(top, crates)
+    if formats:
+        found["docs/FORMATS.md"] = formats
     faults += contracts_page.unnamed(top, crates, found["docs/CONTRACTS.md"])
     found["docs/MAP.md"] = map_page.page(top, sorted({*files, *pages}), crates, faults)
     return found

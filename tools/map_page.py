@@ -7,6 +7,7 @@ import re
 # What holds no comment, or is written with this page, by its name.
 WITHOUT_COMMENT = {
     "CONTRACTS.md": "every public call with its clauses, and the wrong edits of its body",
+    "FORMATS.md": "the integers of each language: the format, texts that are read and refused, and what no field says",
     "MAP.md": "this page",
     ".gitignore": "what git leaves alone",
     "HANDLES": "that no crate may abort, wait, start threads or open sockets",

@@ -1,13 +1,17 @@
 #!/usr/bin/env python3
-"""Writes the worked rows of tools/rows.txt as theorems and as tests.
+"""Writes the worked rows of tools/rows.txt and tools/languages.txt as theorems and as tests.
 
     python3 tools/rows.py            writes the files
     python3 tools/rows.py --check    writes nothing, and fails where a file is not what it would write
 
 Either way each example of docs/GRAMMAR.md has to be one of the rows.
 
+The second file has the integers of languages. Its rows name a language's format by the function of
+`lexical_util::format::languages` that makes it, and a row of fields says what that format is. What a user has to know of
+the language stands between the rows; tools/formats_page.py makes docs/FORMATS.md of it.
+
 Each row becomes a theorem, `complete FORMAT TYPE TEXT ≡ ANSWER`, or the same of `partial` or `fault`, with the proof
-`refl`. The check computes the definitions on that text, so it refuses a row and a definition that disagree. Each
+`refl`; a row of fields becomes `LANGUAGE ≡ FORMAT`. The check computes the definitions on that text, so it refuses a row and a definition that disagree. Each
 group of rows becomes a test, which runs the calls. The files are, below crates/rows,
 
     proofs/rows/FILE.antt     the theorems, and proofs/rows.antt, which declares these files
@@ -22,9 +26,10 @@ import sys
 
 TOP = os.path.dirname(os.path.dirname(os.path.abspath(__file__)))
 DATA = os.path.join(TOP, "tools", "rows.txt")
+LANGUAGES = os.path.join(TOP, "tools", "languages.txt")
 GRAMMAR = os.path.join(TOP, "docs", "GRAMMAR.md")
 CRATE = os.path.join(TOP, "crates", "rows")
-WRITTEN = "Written by tools/rows.py from tools/rows.txt: make rows writes it anew."
+WRITTEN = "Written by tools/rows.py from tools/{}: make rows writes it anew."
 LONGEST = 800  # lines of a file
 
 # ---- the words of the data
@@ -46,6 +51,8 @@ FLAGS = {
 }
 BYTES = {"separator": "digit_separator", "prefix": "base_prefix", "suffix": "base_suffix"}
 STANDARD, JSON = (), ("json",)
+# what a line of tools/languages.txt may tell a user, before the rows of its language
+TOLD = re.compile(r"(reference|rule|more|less|otherwise) \| (.+)")
 TYPES = {sign + str(bits): (bits, sign == "i") for sign in "ui" for bits in (8, 16, 32, 64, 128)}
 TYPES.update(usize=(64, False), isize=(64, True))
 OF_TEXTS = [
@@ -62,10 +69,10 @@ class Bad(Exception):
 
 
 class Row:
-    """A parse by 'complete' or 'partial', or a 'format', which has no type and no text.
+    """A parse by 'complete' or 'partial', or a 'format', which has no type and no text, or the 'fields' of a language.
 
-    The fields are pairs of a setter's name and its value, or JSON. The answer is 'Ok', 'valid' or a fault's name,
-    and its numbers.
+    The fields are pairs of a setter's name and its value, or JSON, or the name of a language's format alone. The answer
+    is 'Ok', 'valid' or a fault's name, and its numbers; of 'fields' it is the pairs.
     """
 
     def __init__(self, parser, fields, type_name, text, answer, remark, is_long):
@@ -78,17 +85,17 @@ class Row:
 
 
 class Group:
-    """Rows that show one thing."""
+    """Rows that show one thing, and of a language what a user is told, as pairs of a word and a text."""
 
     def __init__(self, name, shows):
-        self.name, self.shows, self.rows = name, shows, []
+        self.name, self.shows, self.rows, self.told = name, shows, [], []
 
 
 class File:
-    """Groups on one subject."""
+    """Groups on one subject, and the name of the file of data that has them."""
 
-    def __init__(self, name, shows):
-        self.name, self.shows, self.groups = name, shows, []
+    def __init__(self, name, shows, data):
+        self.name, self.shows, self.data, self.groups = name, shows, data, []
 
 
 # ---- reading the data
@@ -109,11 +116,13 @@ def read_field(word):
     raise Bad(f"no such field: {word}")
 
 
-def read_fields(column):
-    """The fields over the standard format."""
+def read_fields(column, language=None):
+    """The fields over the standard format, or the name of a ready format."""
     if column == "standard":
         return STANDARD
-    return JSON if column == "json" else tuple(read_field(word) for word in column.split())
+    if column in ("json", language):
+        return (column,)
+    return tuple(read_field(word) for word in column.split())
 
 
 def read_text(column):
@@ -153,14 +162,17 @@ def read_answer(column, parser):
     return (name,) + numbers
 
 
-def read_row(line):
-    """One row."""
+def read_row(line, language=None):
+    """One row, in the group of a language or in another."""
     line, _, remark = line.partition(" # ")
     columns = [column.strip() for column in line.split(" | ")]
     is_long = columns[-1] == "long"
     if is_long:
         columns.pop()
-    parser, fields, answer = columns[0], read_fields(columns[1]), read_answer(columns[-1], columns[0])
+    parser, fields = columns[0], read_fields(columns[1], language)
+    if parser == "fields" and len(columns) == 3 and columns[1] == language:
+        return Row(parser, fields, None, None, read_fields(columns[2]), remark.strip(), is_long)
+    answer = read_answer(columns[-1], parser)
     if parser == "format" and len(columns) == 3:
         return Row(parser, fields, None, None, answer, remark.strip(), is_long)
     if parser in ("complete", "partial") and len(columns) == 5 and columns[2] in TYPES:
@@ -168,18 +180,22 @@ def read_row(line):
     raise Bad("no row")
 
 
-def read_line(line, files, names, answers):
-    """One line, into the last file and group. NAMES are those of the groups above, ANSWERS what was answered there."""
+def read_line(line, files, names, answers, data):
+    """One line of a file of data, into the last file and group. NAMES are those of the groups above, ANSWERS what was
+    answered there. A group of tools/languages.txt has the name of its language's format."""
     heading = re.fullmatch(r"(={2,3}) (\w+): (.+)", line)
+    is_of_languages = data == os.path.basename(LANGUAGES)
     if heading and heading.group(1) == "===":
-        files.append(File(heading.group(2), heading.group(3)))
+        files.append(File(heading.group(2), heading.group(3), data))
     elif heading:
         if heading.group(2) in names:
             raise Bad("a second group of that name")
         names.add(heading.group(2))
         files[-1].groups.append(Group(heading.group(2), heading.group(3)))
+    elif is_of_languages and TOLD.fullmatch(line):
+        files[-1].groups[-1].told.append(TOLD.fullmatch(line).groups())
     elif line.strip() and not line.startswith("#"):
-        row = read_row(line)
+        row = read_row(line, files[-1].groups[-1].name if is_of_languages else None)
         if answers.setdefault(row.question(), row.answer) != row.answer:
             raise Bad("the same question has another answer above")
         files[-1].groups[-1].rows.append(row)
@@ -191,9 +207,9 @@ def read_data(path):
     with open(path, encoding="utf-8") as data:
         for number, line in enumerate(data, 1):
             try:
-                read_line(line.rstrip("\n"), files, names, answers)
+                read_line(line.rstrip("\n"), files, names, answers, os.path.basename(path))
             except Bad as bad:
-                sys.exit(f"tools/rows.txt:{number}: {bad}: {line.rstrip()}")
+                sys.exit(f"tools/{os.path.basename(path)}:{number}: {bad}: {line.rstrip()}")
     return files
 
 
@@ -236,6 +252,11 @@ OPENED = ("complete partial numeral_in head_of sign range_fault begin_of digit_a
           "prefix_radix suffix_at numeral_stop")
 
 
+def is_ready(fields):
+    """Whether a format is named as a whole."""
+    return not fields or isinstance(fields[0], str)
+
+
 def antt_value(name, value):
     """The value of a field."""
     if isinstance(value, bool):
@@ -244,9 +265,9 @@ def antt_value(name, value):
 
 
 def antt_format(fields):
-    """A format as a record over the standard one."""
-    if fields in (STANDARD, JSON):
-        return "json" if fields else "standard"
+    """A format as a record over the standard one, or by its name."""
+    if is_ready(fields):
+        return fields[0] if fields else "standard"
     return "(record standard { " + "; ".join(f"{name} = {antt_value(name, value)}" for name, value in fields) + " })"
 
 
@@ -278,6 +299,8 @@ def antt_theorem(name, row):
     head = f"-- {row.remark}\n" if row.remark else ""
     if row.parser == "format":
         return f"{head}{name} : fault {antt_format(row.fields)} ≡ {antt_answer(row)}\n{name} = refl\n"
+    if row.parser == "fields":
+        return f"{head}{name} : {antt_format(row.fields)} ≡ {antt_format(row.answer)}\n{name} = refl\n"
     call = row.parser + ("_if_valid" if row.answer[0] in OF_FORMATS else "")
     question = f"{call} {antt_format(row.fields)} {row.type} {antt_text(row.text)}"
     return f"{head}{name} : {question} ≡ {antt_answer(row)}\nunfolding {OPENED}\n{name} = refl\n"
@@ -294,12 +317,12 @@ def antt_types(body):
     return front
 
 
-def antt_imports(body):
-    """The imports of those words that a file has."""
+def antt_imports(body, languages):
+    """The imports of those words that a file has, the names of languages among them."""
     code = re.sub(r'"(?:[^"\\]|\\.)*"|--[^\n]*', "", body)
     there = set(re.findall(r"\w+|≡|∷|\[\]", code))
     imports = ""
-    for module, names in WORDS:
+    for module, names in [*WORDS, ("Rattle.lexical_util.specs.Languages", languages)]:
         used = [name for name in names if name.strip("◌") in there]
         imports += f"use {module}." + "{" + ", ".join(used) + "}\n" if used else ""
     return imports
@@ -313,7 +336,8 @@ def theorems(file):
         named = [antt_theorem(f"{group.name}_{number}", row) for number, row in enumerate(rows, 1)]
         body += f"-- ---- {group.shows}\n\n" + "\n".join(named) + "\n" if named else ""
     body = antt_types(body) + body.rstrip("\n") + "\n"
-    return f"-- Worked rows: {file.shows}.\n-- {WRITTEN}\n{antt_imports(body)}\n{body}"
+    languages = sorted({row.fields[0] for group in file.groups for row in group.rows if row.parser == "fields"} - {"json"})
+    return f"-- Worked rows: {file.shows}.\n-- {WRITTEN.format(file.data)}\n{antt_imports(body, languages)}\n{body}"
 
 
 # ---- tests
@@ -338,7 +362,9 @@ def rust_builder(fields):
 
 
 def rust_format(fields):
-    """A format with these fields."""
+    """A format with these fields, or of this name."""
+    if is_ready(fields):
+        return f"languages::{fields[0]}()"
     if is_radix_alone(fields):
         return f"NumberFormatBuilder::from_radix({fields[0][1]})"
     return rust_builder(fields) + ".build_unchecked()"
@@ -346,7 +372,7 @@ def rust_format(fields):
 
 def is_radix_alone(fields):
     """Whether the radix is the only field."""
-    return len(fields) == 1 and fields != JSON and fields[0][0] == "mantissa_radix"
+    return len(fields) == 1 and not is_ready(fields) and fields[0][0] == "mantissa_radix"
 
 
 def rust_answer(row):
@@ -410,11 +436,18 @@ def rust_formats(rows):
     return code
 
 
+def rust_fields(row):
+    """The statement that tests the fields of a language's format."""
+    builder = rust_builder(row.answer)
+    return f"assert_eq!(rt; languages::{row.fields[0]}(), {builder}.build_unchecked());\n"
+
+
 def rust_test(group):
     """A group's test, none where another runs its rows."""
     formats = [row for row in group.rows if row.parser == "format"]
-    parses = [row for row in group.rows if row.parser != "format" and not row.is_long]
-    code = (rust_formats(formats) if formats else "") + (rust_parses(parses) if parses else "")
+    parses = [row for row in group.rows if row.parser in ("complete", "partial") and not row.is_long]
+    code = "".join(rust_fields(row) for row in group.rows if row.parser == "fields")
+    code += (rust_formats(formats) if formats else "") + (rust_parses(parses) if parses else "")
     head = f"// {group.shows[0].upper()}{group.shows[1:]}.\n#[test]\nfn {group.name}(rt: HostRuntime) "
     return head + "{\n" + code + "}\n" if code else ""
 
@@ -432,9 +465,9 @@ def tests(file):
     body = "\n".join(test for test in map(rust_test, file.groups) if test)
     code = re.sub(r'"(?:[^"\\]|\\.)*"|//[^\n]*|fn \w+', "", body)
     own = [rust_use("lexical_parse_integer", ["Error", "NumberFormatBuilder"], code),
-           rust_use("lexical_parse_integer::format", ["JSON"], code)]
+           rust_use("lexical_parse_integer::format", ["JSON", "languages"], code)]
     uses = rust_use("super", HELPERS, code) + "".join(sorted(own))
-    return f"// Worked rows: {file.shows}.\n// {WRITTEN}\n{uses}\n{body}"
+    return f"// Worked rows: {file.shows}.\n// {WRITTEN.format(file.data)}\n{uses}\n{body}"
 
 
 # ---- both
@@ -449,13 +482,14 @@ def all_files(files):
     """Each path, below the crate, and what stands there."""
     modules = sorted(file.name.capitalize() for file in files)
     declared = "".join(f"pub mod {module}\n" for module in modules)
-    out = {"proofs/rows.antt": f"-- Worked rows, a file for each subject.\n-- {WRITTEN}\n{declared}"}
+    written = WRITTEN.format("rows.txt and tools/languages.txt")
+    out = {"proofs/rows.antt": f"-- Worked rows, a file for each subject.\n-- {written}\n{declared}"}
     for file in files:
         out[f"proofs/rows/{file.name.capitalize()}.antt"] = theorems(file)
         out[f"src/tests/{file.name}.rt"] = tests(file)
     for path, text in out.items():
         if text.count("\n") > LONGEST:
-            sys.exit(f"{path} would have more than {LONGEST} lines: split its part of tools/rows.txt")
+            sys.exit(f"{path} would have more than {LONGEST} lines: split its part of the data")
     return out
 
 
@@ -476,7 +510,7 @@ def is_as_written(path, text):
 
 
 def main():
-    files = read_data(DATA)
+    files = read_data(DATA) + read_data(LANGUAGES)
     rows = [row for file in files for group in file.groups for row in group.rows]
     check_examples(GRAMMAR, rows)
     out = {os.path.join(CRATE, path): text for path, text in all_files(files).items()}

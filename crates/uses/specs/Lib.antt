@@ -6,3 +6,4 @@ pub mod FixedWidth
 pub mod Json
 pub mod Ledger
 pub mod Source
+pub mod Toml

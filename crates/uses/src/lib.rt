@@ -10,3 +10,4 @@ mod narrow;
 pub mod source;
 #[cfg(test)]
 mod tests;
+pub mod toml;

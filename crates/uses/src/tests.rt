@@ -6,3 +6,4 @@ mod fixed_width;
 mod json;
 mod ledger;
 mod source;
+mod toml;

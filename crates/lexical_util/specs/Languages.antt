@@ -1,0 +1,213 @@
+-- The integers of programming languages, of data formats and of other notations: a format for each.
+use Rattle.std.specs.Prelude.{ℕ, true, false, Some}
+use Rattle.lexical_util.specs.Ascii.{apostrophe, capital_l, comma, letter_h, letter_l, letter_n, letter_x, underscore}
+use Rattle.lexical_util.specs.Format.{Format, standard}
+
+-- ---- what many of them have in common
+
+-- no plus is read: it is an operator of the language, and no part of the literal
+abbrev pub without_plus : Format
+without_plus = record standard { no_positive_mantissa_sign = true }
+
+-- the text chooses its radix by `0x`, `0o` or `0b`
+abbrev pub prefixed : Format
+prefixed = record without_plus { literal_prefixes = true }
+
+-- the same with a separator between digits, one at a time
+abbrev pub separated : ℕ → Format
+separated separator =
+    record prefixed {
+      digit_separator = Some separator;
+      integer_internal_digit_separator = true;
+    }
+
+-- `_` among and behind the digits, as many as one likes
+abbrev pub loose : Format
+loose =
+    record (separated underscore) {
+      integer_trailing_digit_separator = true;
+      integer_consecutive_digit_separator = true;
+    }
+
+-- a sign is a part of the text, which chooses its radix by `0x`, `0o` or `0b`
+abbrev pub signed : Format
+signed = record standard { literal_prefixes = true }
+
+-- digits, with `_` between them, one at a time
+abbrev pub underscored_digits : Format
+underscored_digits =
+    record without_plus {
+      digit_separator = Some underscore;
+      integer_internal_digit_separator = true;
+    }
+
+-- ---- C, and languages that write as C does
+
+-- C up to C17: `511`, `0777`, `0x1FF`
+abbrev pub c : Format
+c = record prefixed { literal_octal_zero = true }
+
+-- the decimal constants of C: `511`
+abbrev pub c_decimal : Format
+c_decimal = record without_plus { no_integer_leading_zeros = true }
+
+-- the octal constants of C: `0777`
+abbrev pub c_octal : Format
+c_octal = record without_plus { mantissa_radix = 8 }
+
+-- the hexadecimal constants of C: `0x1FF`
+abbrev pub c_hexadecimal : Format
+c_hexadecimal = record without_plus { mantissa_radix = 16; base_prefix = Some letter_x }
+
+-- C23: `1'000`, `0'777`, `0x1'FF`, `0b1'01`
+abbrev pub c23 : Format
+c23 = record (separated apostrophe) { literal_octal_zero = true }
+
+-- C++14 and later: the same texts as C23
+abbrev pub cpp14 : Format
+cpp14 = c23
+
+-- C#: `1__000`, `0x_1FF`, `0b1_01`, and a zero in front means nothing
+abbrev pub csharp : Format
+csharp =
+    record (separated underscore) {
+      integer_consecutive_digit_separator = true;
+      integer_prefix_digit_separator = true;
+    }
+
+-- Java: `1__000L`, `0_777`, `0x1_FF`, `0b1_01`
+abbrev pub java : Format
+java =
+    record (separated underscore) {
+      base_suffix = Some letter_l;
+      integer_consecutive_digit_separator = true;
+      literal_octal_zero = true;
+    }
+
+-- Kotlin: `1__000L`, `0x1_FF`, `0b1_01`, and no zero in front of another digit
+abbrev pub kotlin : Format
+kotlin =
+    record (separated underscore) {
+      base_suffix = Some capital_l;
+      case_sensitive_base_suffix = true;
+      integer_consecutive_digit_separator = true;
+      no_integer_leading_zeros = true;
+    }
+
+-- ---- compiled languages
+
+-- Rust: `1__000_`, `0x_1FF_`, `0o777`, `0b1_01`
+abbrev pub rust : Format
+rust =
+    record loose {
+      case_sensitive_base_prefix = true;
+      integer_prefix_digit_separator = true;
+    }
+
+-- Go: `1_000`, `0_777`, `0x_1FF`, `0o_777`, `0b_1_01`
+abbrev pub go : Format
+go =
+    record (separated underscore) {
+      integer_prefix_digit_separator = true;
+      literal_octal_zero = true;
+    }
+
+-- Swift: `1__000_`, `0x1FF_`, `0o777`, `0b1_01`
+abbrev pub swift : Format
+swift = record loose { case_sensitive_base_prefix = true }
+
+-- the decimal literals of Ada, without exponent: `1_000`
+abbrev pub ada : Format
+ada = underscored_digits
+
+-- the decimal literals of VHDL, without exponent: `1_000`
+abbrev pub vhdl : Format
+vhdl = ada
+
+-- the hexadecimal numbers of assemblers: `0FFh`
+abbrev pub assembler_hexadecimal : Format
+assembler_hexadecimal = record without_plus { mantissa_radix = 16; base_suffix = Some letter_h }
+
+-- ---- scripting languages
+
+-- Python 3: `1_000`, `0x_1FF`, `0o777`, `0b_1_01`, and no zero in front of another digit
+abbrev pub python : Format
+python =
+    record (separated underscore) {
+      integer_prefix_digit_separator = true;
+      no_integer_leading_zeros = true;
+    }
+
+-- Ruby: `+1_000`, `0_777`, `0x1_FF`, `0o777`, `0b1_01`
+abbrev pub ruby : Format
+ruby =
+    record (separated underscore) {
+      no_positive_mantissa_sign = false;
+      literal_octal_zero = true;
+    }
+
+-- JavaScript in strict mode: `1_000`, `1_000n`, `0x1_FF`, and no zero in front of another digit
+abbrev pub javascript : Format
+javascript =
+    record (separated underscore) {
+      base_suffix = Some letter_n;
+      case_sensitive_base_suffix = true;
+      no_integer_leading_zeros = true;
+    }
+
+-- Julia: `1_000`, `0x1_FF`, `0o777`, `0b1_01`
+abbrev pub julia : Format
+julia = record (separated underscore) { case_sensitive_base_prefix = true }
+
+-- ---- functional languages
+
+-- Haskell with NumericUnderscores and BinaryLiterals: `1__000`, `0x_1FF`, `0o777`, `0b_1_01`
+abbrev pub haskell : Format
+haskell =
+    record (separated underscore) {
+      integer_consecutive_digit_separator = true;
+      integer_prefix_digit_separator = true;
+    }
+
+-- OCaml: `1__000_`, `0x1FF_`, `0o777`, `0b1_01`
+abbrev pub ocaml : Format
+ocaml = loose
+
+-- ---- data
+
+-- JSON5: `+511`, `0x1FF`, and no zero in front of another digit
+abbrev pub json5 : Format
+json5 = record signed { no_integer_leading_zeros = true }
+
+-- TOML: `+1_000`, `0x1_FF`, `0o777`, `0b1_01`, and no zero in front of another digit
+abbrev pub toml : Format
+toml =
+    record (separated underscore) {
+      no_positive_mantissa_sign = false;
+      case_sensitive_base_prefix = true;
+      no_integer_leading_zeros = true;
+    }
+
+-- the core schema of YAML 1.2: `+0511`, `0x1FF`, `0o777`
+abbrev pub yaml : Format
+yaml = record signed { case_sensitive_base_prefix = true }
+
+-- SQL up to SQL:2016: `+0511`
+abbrev pub sql : Format
+sql = standard
+
+-- SQL:2023: `+1_000`, `0x_1FF`, `0o777`, `0b_1_01`
+abbrev pub sql_2023 : Format
+sql_2023 =
+    record (separated underscore) {
+      no_positive_mantissa_sign = false;
+      integer_prefix_digit_separator = true;
+    }
+
+-- columns of amounts of money: `-1,000`
+abbrev pub money : Format
+money =
+    record standard {
+      digit_separator = Some comma;
+      integer_internal_digit_separator = true;
+    }

@@ -1,0 +1,72 @@
+//! Ready formats: the integers of programming languages, of data formats and of other notations.
+//!
+//! Each is made by setters of a [`NumberFormatBuilder`](super::NumberFormatBuilder), so a caller may copy the lines and
+//! change one. A format says what it can of a language: its radixes, its separators, its zeros. What it can't say is
+//! told with each function, and with worked texts in docs/FORMATS.md.
+//!
+//! In most languages a sign is an operator and no part of a literal. There a plus is refused, and a minus is too where
+//! the type is unsigned; a signed type reads it.
+
+ghost use Rattle.std.specs.Prelude.{◌≡◌};
+ghost use Rattle.lexical_util.specs.Languages.{loose, prefixed, separated, signed, underscored_digits, without_plus};
+
+mod c_like;
+mod compiled;
+mod data;
+mod functional;
+mod scripting;
+
+use super::NumberFormatBuilder;
+pub use c_like::{c, c_decimal, c_hexadecimal, c_octal, c23, cpp14, csharp, java, kotlin};
+pub use compiled::{ada, assembler_hexadecimal, go, rust, swift, vhdl};
+pub use data::{json, json5, money, sql, sql_2023, toml, yaml};
+pub use functional::{haskell, ocaml};
+pub use scripting::{javascript, julia, python, ruby};
+
+// Literals without a plus.
+fn without_plus() -> NumberFormatBuilder
+    ensures { result ≡ without_plus }
+{
+    NumberFormatBuilder::new().no_positive_mantissa_sign(true)
+}
+
+// The same in radix 10, or 16, 8 or 2 where `0x`, `0o` or `0b` stands in front.
+fn prefixed() -> NumberFormatBuilder
+    ensures { result ≡ prefixed }
+{
+    without_plus().literal_prefixes(true)
+}
+
+// The same with this separator between digits, one at a time.
+fn separated(separator: u8) -> NumberFormatBuilder
+    ensures { result ≡ separated separator }
+{
+    prefixed()
+        .digit_separator(Some(separator))
+        .integer_internal_digit_separator(true)
+}
+
+// The same with `_` among and behind the digits, as many as one likes.
+fn loose() -> NumberFormatBuilder
+    ensures { result ≡ loose }
+{
+    separated(b'_')
+        .integer_trailing_digit_separator(true)
+        .integer_consecutive_digit_separator(true)
+}
+
+// Texts of which a sign is a part, in radix 10, or 16, 8 or 2 where `0x`, `0o` or `0b` stands in front.
+fn signed() -> NumberFormatBuilder
+    ensures { result ≡ signed }
+{
+    NumberFormatBuilder::new().literal_prefixes(true)
+}
+
+// Digits alone, with `_` between them, one at a time.
+fn underscored_digits() -> NumberFormatBuilder
+    ensures { result ≡ underscored_digits }
+{
+    without_plus()
+        .digit_separator(Some(b'_'))
+        .integer_internal_digit_separator(true)
+}

@@ -1,0 +1,38 @@
+//! Integers of TOML: `+1_000` and `-17`, or `0xdead_beef`, `0o755` and `0b1101` without a sign.
+//!
+//! `languages::toml` says all of TOML's rules but one: that no sign stands in front of a prefix. So the reader asks that
+//! first.
+
+ghost use Rattle.std.specs.Prelude.{◌≡◌};
+ghost use Rattle.uses.specs.Toml.{has_minus_and_prefix, has_plus_and_prefix, integer_in};
+
+use lexical_parse_integer::format::languages;
+use lexical_parse_integer::{Error, FromLexicalWithOptions, Result, options};
+
+// Whether a text begins with `+0x`, `+0o` or `+0b`.
+fn has_plus_and_prefix(text: &[u8]) -> bool
+    ensures { result ≡ has_plus_and_prefix text.now }
+{
+    text.starts_with(b"+0x") || text.starts_with(b"+0o") || text.starts_with(b"+0b")
+}
+
+// Whether a text begins with `-0x`, `-0o` or `-0b`.
+fn has_minus_and_prefix(text: &[u8]) -> bool
+    ensures { result ≡ has_minus_and_prefix text.now }
+{
+    text.starts_with(b"-0x") || text.starts_with(b"-0o") || text.starts_with(b"-0b")
+}
+
+/// The `i64` that an integer of TOML stands for: decimal, with a sign or without one, or hexadecimal, octal or binary
+/// behind `0x`, `0o` or `0b`, with `_` between two digits. A zero in front of another decimal digit is refused.
+///
+/// `0xdead_beef` is 3735928559, and `-17` is -17. `017` gives `InvalidLeadingZeros(0)`, `0x_1` `InvalidDigit(2)`, and
+/// `+0x1` `InvalidDigit(2)`.
+pub fn integer(text: &[u8]) -> Result<i64>
+    ensures { result ≡ integer_in text.now }
+{
+    if has_plus_and_prefix(text) || has_minus_and_prefix(text) {
+        return Err(Error::InvalidDigit(2));
+    }
+    i64::from_lexical_with_options(text, &languages::toml(), &options::STANDARD)
+}
