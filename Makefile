@@ -7,7 +7,7 @@ PROGRAM_CRATES := lexint $(shell sed -n 's/^lexint: *//p' crates.txt)
 SOURCES := $(shell find $(addprefix crates/,$(PROGRAM_CRATES)) -name out -prune -o -type f \( -name '*.rt' -o -name '*.antt' \) -print) crates.txt
 
 .PHONY: help toolchain run test test-one-by-one devices lexint install uninstall install-lexint uninstall-lexint rows docs
-.PHONY: check-docs bench judge test-judge must-not-compile fuzz
+.PHONY: check-docs check-languages bench judge test-judge must-not-compile fuzz
 
 # A target is listed by the words after its two number signs.
 help:
@@ -51,11 +51,11 @@ uninstall-lexint:
 
 include tools/lib.mk
 
-rows: | toolchain ## writes the theorems and tests of the worked rows from tools/rows.txt
+rows: | toolchain ## writes the theorems and tests of the worked rows from tools/rows.txt and tools/languages.txt
 	@python3 tools/rows.py
 	@cd crates/rows && $(RT) fmt
 
-docs: ## writes what documents have from the source: docs/MAP.md, docs/CONTRACTS.md, code blocks
+docs: ## writes what documents have from the source: docs/MAP.md, docs/CONTRACTS.md, docs/FORMATS.md, code blocks
 	@python3 tools/documents.py
 
 check-docs: ## checks these, and every link, file name and word count; a part of the gate
@@ -75,7 +75,7 @@ test-judge: | toolchain ## tests the judge and the gate; a part of the gate
 must-not-compile: | toolchain ## checks that wrong programs over the libraries are refused; a part of the gate
 	@RT=$(RT) tools/must_not_compile.py
 
-check-languages: $(PROGRAM)
+check-languages: $(PROGRAM) ## compares the formats of languages with the compilers and interpreters that are there
 	@python3 tools/check_languages.py $(LANGUAGES)
 
 # What the fuzz run asks for: the seed that a run before has printed, and how many lines.

@@ -1,7 +1,8 @@
 #!/usr/bin/env python3
 """Writes the documents that are made from the source, or says where they aren't as written.
 
-    tools/documents.py           writes docs/MAP.md, docs/CONTRACTS.md, and the marked code blocks of other documents
+    tools/documents.py           writes docs/MAP.md, docs/CONTRACTS.md, docs/FORMATS.md, and the marked code blocks of
+                                 other documents
     tools/documents.py --check   writes nothing, and ends with status 1 where one of them isn't as it would write it, or
                                  where check_pages.py finds something wrong
     tools/documents.py --words   prints how many words of each page were written by hand
