@@ -27,6 +27,7 @@ BUILT = [os.path.join(CRATE, "out", name) for name in ("lexint", "lexint.by-ratt
 READ = b"lexint: read failed\n"
 WRITE = b"lexint: write failed\n"
 MEMORY = b"lexint: out of memory\n"
+WAITING = b"lexint: waiting for lines; Ctrl-D on an empty line ends them\n"
 
 PAGE = 4096
 MEBIBYTE = 1 << 20
@@ -98,6 +99,24 @@ def refused_reads(program):
         expect(f"a read that is refused after {given} bytes", run(program, stdin=end), (2, b"", READ))
         os.close(end)
         os.close(feeder)
+
+
+def terminal(program):
+    """At a terminal standard error first says what the program waits for, and nothing else changes."""
+    for given, wanted in (b"", b""), (b"c u8 7\nt a1 22\n", b"ok 7\nword 0 2\nnumber 22 3 5\nend\n"):
+        ours, end = os.openpty()
+        started = subprocess.Popen([program], stdin=end, stdout=subprocess.PIPE, stderr=subprocess.PIPE)
+        os.close(end)
+        # What is typed comes after the hint, which waits for nothing, and ends with Ctrl-D.
+        hint = started.stderr.readline()
+        os.write(ours, given + b"\x04")
+        out, err = started.communicate(timeout=SECONDS)
+        os.close(ours)
+        expect("a terminal", (started.returncode, out, hint + err), (0, wanted, WAITING))
+    ours, end = os.openpty()
+    expect("a terminal as output alone", run(program, input=b"c u8 7\n", stdout=end)[::2], (0, b""))
+    os.close(end)
+    os.close(ours)
 
 
 def one_byte_a_read(program):
@@ -216,7 +235,7 @@ def main(programs):
     if not programs:
         sys.exit("tools/devices.py: no program is built: make lexint builds it")
     for program in map(os.path.abspath, programs):
-        for check in (good_runs, refused_reads, one_byte_a_read, refused_writes, short_writes, refused_memory):
+        for check in (good_runs, refused_reads, terminal, one_byte_a_read, refused_writes, short_writes, refused_memory):
             before = len(failures)
             check(program)
             failures[before:] = [f"{os.path.basename(program)}: {it}" for it in failures[before:]]

@@ -13,6 +13,7 @@ mod number;
 mod numeral;
 mod parse;
 mod program;
+mod search;
 mod settings;
 #[cfg(test)]
 mod tests;
@@ -24,13 +25,21 @@ pub mod literals {
 
 pub use fault::RunError;
 pub use program::{run, run_from};
+use std::io::IsTerminal;
 use std::process::ExitCode;
 
+/// What a user at a terminal is told before anything is read: nothing is answered before the input ends.
+const WAITING: &str = "lexint: waiting for lines; Ctrl-D on an empty line ends them";
+
 /// Runs over standard input and output, and ends with status 0. At a fault its message goes to
-/// standard error, and the status is 2.
+/// standard error, and the status is 2. Where standard input is a terminal, standard error first says
+/// what the program waits for.
 fn main(rt: HostRuntime) -> ExitCode {
     let mut input = rt.stdin();
     let mut out = rt.stdout();
+    if input.is_terminal() {
+        let _shown = eprintln!(rt; "{WAITING}");
+    }
     match run_from(rt.alloc(), &mut input, &mut out) {
         Ok(()) => ExitCode::SUCCESS,
         Err(fault) => {

@@ -1,7 +1,10 @@
-use Rattle.std.proofs.Common.{◌≡◌, ℕ, ◌<◌, slice_index}
-use Rattle.lexical_util.specs.Ascii.{line_feed}
+use Rattle.std.proofs.Common.{length, ◌-◌}
+use Rattle.lexint.proofs.LineEnds.{NoneBefore}
 use Rattle.lexint.proofs.lines.line_end.Given as goal
 
 -- no line feed so far
-abbrev pub invariant-loop-i : goal.invariant-loop-i
-invariant-loop-i l = (k : ℕ) → k < l.i → slice_index l.bytes k ≡ line_feed → ⊥
+abbrev pub invariant-loop-start : goal.invariant-loop-start
+invariant-loop-start l = NoneBefore l.bytes l.start
+
+abbrev pub decreases-loop-start : goal.decreases-loop-start
+decreases-loop-start l = length l.bytes - l.start
