@@ -245,7 +245,8 @@ for (const text of require("fs").readFileSync(0, "utf8").split("\\n").slice(0, -
   try { value = new Function('"use strict"; return (' + text + ')')(); } catch (fault) { }
   console.log(typeof value == "bigint" || Number.isInteger(value) ? String(value) : "");
 }"""])
-RUBY = Interpreter(["ruby", "-W0", "-e", """
+RUBY = Interpreter(["ruby", "-e", """
+$VERBOSE = nil
 STDIN.each_line(chomp: true) do |text|
   value = begin; eval(text); rescue ScriptError, StandardError; nil; end
   puts(value.is_a?(Integer) ? value : "")
