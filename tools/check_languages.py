@@ -261,9 +261,12 @@ class Language:
         self.separators, self.ends, self.signs = separators, ends.split(), signs
 
 
+GCC = c_compiler(["gcc", "-std=c17", "-fmax-errors=0"])
 LANGUAGES = [
-    Language("c", {"gcc -std=c17": c_compiler(["gcc", "-std=c17", "-fmax-errors=0"]),
-                   "clang -std=c17": c_compiler(["clang", "-std=c17", "-ferror-limit=0"])}, "_", "u L ul"),
+    Language("c", {"gcc -std=c17": GCC, "clang -std=c17": c_compiler(["clang", "-std=c17", "-ferror-limit=0"])}, "_", "u L ul"),
+    Language("c_decimal", {"gcc -std=c17": GCC}, "_", "u L ul"),
+    Language("c_octal", {"gcc -std=c17": GCC}, "_", "u L ul"),
+    Language("c_hexadecimal", {"gcc -std=c17": GCC}, "_", "u L ul"),
     Language("c23", {"gcc -std=c2x": c_compiler(["gcc", "-std=c2x", "-fmax-errors=0"]),
                      "clang -std=c2x": c_compiler(["clang", "-std=c2x", "-ferror-limit=0"])}, "'''_", "u L ul"),
     Language("cpp14", {"g++ -std=c++14": c_compiler(["g++", "-std=c++14", "-fmax-errors=0"], "x.cpp"),
@@ -326,6 +329,9 @@ def main() -> int:
     parser.add_argument("languages", nargs="*")
     told = parser.parse_args()
     groups = {group.name: group for file in rows.read_data(rows.LANGUAGES) for group in file.groups}
+    unknown = set(told.languages) - {language.name for language in LANGUAGES}
+    if unknown:
+        sys.exit("nothing is asked for: " + ", ".join(sorted(unknown)))
     untold = 0
     for language in LANGUAGES:
         if told.languages and language.name not in told.languages:
