@@ -7,7 +7,7 @@ For each language it makes random and hostile literals, 2,000 of them unless tol
 compiler or interpreter which of them are integers, and of which value. The built program is asked the same, under the
 fields that tools/languages.txt says. Where they differ, a pattern of that file has to fit, so that docs/FORMATS.md tells
 of it; a difference that it doesn't tell is printed, and then the status is 1. What isn't on the machine is passed over
-with a sentence. A sign is put in front only where it belongs to the literal.
+with a sentence. A sign comes first only where it belongs to the literal.
 
 It writes into a folder of its own below the system's temporary one. Needs Python 3.11 and nothing else.
 """

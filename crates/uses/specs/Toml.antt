@@ -20,7 +20,7 @@ has_minus_and_prefix text =
     starts_with nat_eq text (codes "-0x")
     || (starts_with nat_eq text (codes "-0o") || starts_with nat_eq text (codes "-0b"))
 
--- the `i64` of an integer of TOML: where a sign and a prefix stand in front, the prefix's letter is none of its digits
+-- the `i64` of an integer of TOML: where a sign and a prefix come first, the prefix's letter is none of its digits
 abbrev pub integer_in : List ℕ → Result ℤ Error
 integer_in text =
     if has_plus_and_prefix text || has_minus_and_prefix text then Err (InvalidDigit 2)

@@ -1,6 +1,6 @@
 //! Integers of TOML, and a line that sets one: `+1_000` and `-17`, or `0xdead_beef`, `0o755` and `0b1101` without a sign.
 //!
-//! `languages::toml` says all of TOML's rules but one: that no sign stands in front of a prefix. So the reader asks that
+//! `languages::toml` says all of TOML's rules but one: that no sign stands before a prefix. So the reader asks that
 //! first.
 
 ghost use Rattle.std.specs.Prelude.{◌≡◌};
@@ -25,7 +25,7 @@ fn has_minus_and_prefix(text: &[u8]) -> bool
 }
 
 /// The `i64` that an integer of TOML stands for: decimal, with a sign or without one, or hexadecimal, octal or binary
-/// behind `0x`, `0o` or `0b`, with `_` between two digits. A zero in front of another decimal digit is refused.
+/// after `0x`, `0o` or `0b`, with `_` between two digits. A zero before another decimal digit is refused.
 ///
 /// `0xdead_beef` is 3735928559, and `-17` is -17. `017` gives `InvalidLeadingZeros(0)`, `0x_1` `InvalidDigit(2)`, and
 /// `+0x1` `InvalidDigit(2)`.
