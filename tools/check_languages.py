@@ -7,7 +7,7 @@ For each language it makes random and hostile literals, 2,000 of them unless tol
 compiler or interpreter which of them are integers, and of which value. The built program is asked the same, under the
 fields that tools/languages.txt says. Where they differ, a pattern of that file has to fit, so that docs/FORMATS.md tells
 of it; a difference that it doesn't tell is printed, and then the status is 1. What isn't on the machine is passed over
-with a sentence. A sign is put in front only where it belongs to the literal.
+with a sentence. A sign comes first only where it belongs to the literal.
 
 It writes into a folder of its own below the system's temporary one. Needs Python 3.11 and nothing else.
 """
@@ -245,7 +245,8 @@ for (const text of require("fs").readFileSync(0, "utf8").split("\\n").slice(0, -
   try { value = new Function('"use strict"; return (' + text + ')')(); } catch (fault) { }
   console.log(typeof value == "bigint" || Number.isInteger(value) ? String(value) : "");
 }"""])
-RUBY = Interpreter(["ruby", "-W0", "-e", """
+RUBY = Interpreter(["ruby", "-e", """
+$VERBOSE = nil
 STDIN.each_line(chomp: true) do |text|
   value = begin; eval(text); rescue ScriptError, StandardError; nil; end
   puts(value.is_a?(Integer) ? value : "")
@@ -260,9 +261,12 @@ class Language:
         self.separators, self.ends, self.signs = separators, ends.split(), signs
 
 
+GCC = c_compiler(["gcc", "-std=c17", "-fmax-errors=0"])
 LANGUAGES = [
-    Language("c", {"gcc -std=c17": c_compiler(["gcc", "-std=c17", "-fmax-errors=0"]),
-                   "clang -std=c17": c_compiler(["clang", "-std=c17", "-ferror-limit=0"])}, "_", "u L ul"),
+    Language("c", {"gcc -std=c17": GCC, "clang -std=c17": c_compiler(["clang", "-std=c17", "-ferror-limit=0"])}, "_", "u L ul"),
+    Language("c_decimal", {"gcc -std=c17": GCC}, "_", "u L ul"),
+    Language("c_octal", {"gcc -std=c17": GCC}, "_", "u L ul"),
+    Language("c_hexadecimal", {"gcc -std=c17": GCC}, "_", "u L ul"),
     Language("c23", {"gcc -std=c2x": c_compiler(["gcc", "-std=c2x", "-fmax-errors=0"]),
                      "clang -std=c2x": c_compiler(["clang", "-std=c2x", "-ferror-limit=0"])}, "'''_", "u L ul"),
     Language("cpp14", {"g++ -std=c++14": c_compiler(["g++", "-std=c++14", "-fmax-errors=0"], "x.cpp"),
@@ -325,6 +329,9 @@ def main() -> int:
     parser.add_argument("languages", nargs="*")
     told = parser.parse_args()
     groups = {group.name: group for file in rows.read_data(rows.LANGUAGES) for group in file.groups}
+    unknown = set(told.languages) - {language.name for language in LANGUAGES}
+    if unknown:
+        sys.exit("nothing is asked for: " + ", ".join(sorted(unknown)))
     untold = 0
     for language in LANGUAGES:
         if told.languages and language.name not in told.languages:

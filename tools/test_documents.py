@@ -73,6 +73,16 @@ FILES = {
                      "<!-- block: crates/small/src/lib.rt: imports and body of shown as small -->\n```rust\n```\n\n"
                      "<!-- block: crates/small/ten.c: whole -->\n```c\nold\n```\n",
 }
+LANGUAGES = """# Literals.
+=== small: small languages
+== tally: Tally
+reference | The Book of Tally, 1
+rule | Digits alone.
+less | .*[tT] | An end such as `t`.
+fields | tally | no-plus separator=' internal
+complete | tally | u8 | "1'2" | Ok(12)
+complete | tally | u8 | "1t"  | InvalidDigit(1) # unlike: 1
+"""
 HALF = """/// Half of a number, rounded down.
 ///
 /// `3` gives 1.
@@ -82,6 +92,7 @@ pub fn half(x: u32) -> u32
     x / 2
 }"""
 
+FORMATS = "docs/FORMATS.md"
 passed, failed = 0, 0
 
 
@@ -129,6 +140,18 @@ def test_pages(top):
     write(top, found)
     faults = []
     holds("written ones are not", documents.old_ones(top, documents.documents(top, faults)) == [] and faults == [])
+
+
+def test_formats(top):
+    holds("no data, no page of formats", FORMATS not in documents.documents(top, []))
+    write(top, {"tools/languages.txt": LANGUAGES})
+    page = documents.documents(top, [])[FORMATS]
+    holds("a language is told", "## Tally\n\n`languages::tally()`\n\nDigits alone.\n\nReference: The Book of Tally, 1.\n" in page)
+    holds("with its builder", ".no_positive_mantissa_sign(true)\n    .digit_separator(Some(b'\\''))\n" in page)
+    holds("with its rows", "| `\"1'2\"` | u8 | `Ok(12)` |  |\n| `\"1t\"` | u8 | `InvalidDigit(1)` | 1 |\n" in page)
+    holds("with what it can't say, and not the pattern", "- Reads less: An end such as `t`.\n" in page and "[tT]" not in page)
+    write(top, {FORMATS: page.replace("12", "13")})
+    holds("an old page is seen", FORMATS in documents.old_ones(top, documents.documents(top, [])))
 
 
 def test_breaks(top):
@@ -207,6 +230,7 @@ def main():
         write(top, FILES)
         test_pages(top)
         test_breaks(top)
+        test_formats(top)
     print(f"{passed} passed, {failed} failed")
     return 1 if failed else 0
 

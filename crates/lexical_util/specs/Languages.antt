@@ -21,7 +21,7 @@ separated separator =
       integer_internal_digit_separator = true;
     }
 
--- `_` among and behind the digits, as many as one likes
+-- `_` among and after the digits, as many as one likes
 abbrev pub loose : Format
 loose =
     record (separated underscore) {
@@ -67,7 +67,7 @@ c23 = record (separated apostrophe) { literal_octal_zero = true }
 abbrev pub cpp14 : Format
 cpp14 = c23
 
--- C#: `1__000`, `0x_1FF`, `0b1_01`, and a zero in front means nothing
+-- C#: `1__000`, `0x_1FF`, `0b1_01`, and a leading zero means nothing
 abbrev pub csharp : Format
 csharp =
     record (separated underscore) {
@@ -84,7 +84,7 @@ java =
       literal_octal_zero = true;
     }
 
--- Kotlin: `1__000L`, `0x1_FF`, `0b1_01`, and no zero in front of another digit
+-- Kotlin: `1__000L`, `0x1_FF`, `0b1_01`, and no zero before another digit
 abbrev pub kotlin : Format
 kotlin =
     record (separated underscore) {
@@ -130,7 +130,7 @@ assembler_hexadecimal = record without_plus { mantissa_radix = 16; base_suffix =
 
 -- ---- scripting languages
 
--- Python 3: `1_000`, `0x_1FF`, `0o777`, `0b_1_01`, and no zero in front of another digit
+-- Python 3: `1_000`, `0x_1FF`, `0o777`, `0b_1_01`, and no zero before another digit
 abbrev pub python : Format
 python =
     record (separated underscore) {
@@ -146,7 +146,7 @@ ruby =
       literal_octal_zero = true;
     }
 
--- JavaScript in strict mode: `1_000`, `1_000n`, `0x1_FF`, and no zero in front of another digit
+-- JavaScript in strict mode: `1_000`, `1_000n`, `0x1_FF`, and no zero before another digit
 abbrev pub javascript : Format
 javascript =
     record (separated underscore) {
@@ -175,11 +175,11 @@ ocaml = loose
 
 -- ---- data
 
--- JSON5: `+511`, `0x1FF`, and no zero in front of another digit
+-- JSON5: `+511`, `0x1FF`, and no zero before another digit
 abbrev pub json5 : Format
 json5 = record signed { no_integer_leading_zeros = true }
 
--- TOML: `+1_000`, `0x1_FF`, `0o777`, `0b1_01`, and no zero in front of another digit
+-- TOML: `+1_000`, `0x1_FF`, `0o777`, `0b1_01`, and no zero before another digit
 abbrev pub toml : Format
 toml =
     record (separated underscore) {

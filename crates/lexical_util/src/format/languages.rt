@@ -30,7 +30,7 @@ fn without_plus() -> NumberFormatBuilder
     NumberFormatBuilder::new().no_positive_mantissa_sign(true)
 }
 
-// The same in radix 10, or 16, 8 or 2 where `0x`, `0o` or `0b` stands in front.
+// The same in radix 10, or 16, 8 or 2 where `0x`, `0o` or `0b` comes first.
 fn prefixed() -> NumberFormatBuilder
     ensures { result ≡ prefixed }
 {
@@ -46,7 +46,7 @@ fn separated(separator: u8) -> NumberFormatBuilder
         .integer_internal_digit_separator(true)
 }
 
-// The same with `_` among and behind the digits, as many as one likes.
+// The same with `_` among and after the digits, as many as one likes.
 fn loose() -> NumberFormatBuilder
     ensures { result ≡ loose }
 {
@@ -55,7 +55,7 @@ fn loose() -> NumberFormatBuilder
         .integer_consecutive_digit_separator(true)
 }
 
-// Texts of which a sign is a part, in radix 10, or 16, 8 or 2 where `0x`, `0o` or `0b` stands in front.
+// Texts of which a sign is a part, in radix 10, or 16, 8 or 2 where `0x`, `0o` or `0b` comes first.
 fn signed() -> NumberFormatBuilder
     ensures { result ≡ signed }
 {

@@ -1,5 +1,5 @@
 // Tests of the reader of TOML.
-use crate::toml::integer;
+use crate::toml::{integer, setting};
 use lexical_parse_integer::Error;
 
 // TOML v1.0.0, "Integer": the integers of its text, and texts that it refuses.
@@ -47,5 +47,23 @@ fn other_texts_are_none_of_toml(rt: HostRuntime) {
         (b"-9223372036854775809", Error::Underflow(19)),
     ] {
         assert_eq!(rt; integer(text), Err(want), "{text:?}");
+    }
+}
+
+// Lines of a configuration: the value of a name, the place of its fault, and lines of other names.
+#[test]
+fn settings_are_read_by_their_names(rt: HostRuntime) {
+    for (line, want) in [
+        (b"retries = 1_000".as_slice(), Some(Ok(1000))),
+        (b"retries = -0x1", Some(Err(Error::InvalidDigit(2)))),
+        (b"retries = 007", Some(Err(Error::InvalidLeadingZeros(0)))),
+        (b"retries = ", Some(Err(Error::Empty(0)))),
+        (b"retries =  1", Some(Err(Error::InvalidDigit(0)))),
+        (b"retries=1", None),
+        (b"retry = 1", None),
+        (b"retries_left = 1", None),
+        (b"", None),
+    ] {
+        assert_eq!(rt; setting(b"retries", line), want, "{line:?}");
     }
 }

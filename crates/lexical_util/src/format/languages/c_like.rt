@@ -17,7 +17,7 @@ pub fn c() -> NumberFormat
     prefixed().literal_octal_zero(true).build_strict()
 }
 
-/// The decimal constants of C: `511`. A zero in front of another digit is refused, since it makes a constant octal.
+/// The decimal constants of C: `511`. A zero before another digit is refused, since it makes a constant octal.
 pub fn c_decimal() -> NumberFormat
     ensures fields { result ≡ c_decimal }
     ensures valid { fault result ≡ None }
@@ -25,7 +25,7 @@ pub fn c_decimal() -> NumberFormat
     without_plus().no_integer_leading_zeros(true).build_strict()
 }
 
-/// The octal constants of C: `0777`. The zero in front isn't asked for: `777` is 511 too.
+/// The octal constants of C: `0777`. The leading zero isn't asked for: `777` is 511 too.
 pub fn c_octal() -> NumberFormat
     ensures fields { result ≡ c_octal }
     ensures valid { fault result ≡ None }
@@ -89,7 +89,7 @@ pub fn java() -> NumberFormat
         .build_strict()
 }
 
-/// Integer literals of Kotlin: `1__000`, `0x1_FF` and `0b1_01`, and with an `L` at the end. A zero in front of another
+/// Integer literals of Kotlin: `1__000`, `0x1_FF` and `0b1_01`, and with an `L` at the end. A zero before another
 /// digit is refused.
 ///
 /// `0o777` is read besides, and is none of Kotlin's. The end `u` isn't read.

@@ -61,7 +61,7 @@ pub fn vhdl() -> NumberFormat
 
 /// Hexadecimal numbers of assemblers: `0FFh`.
 ///
-/// Neither the `h` nor the digit in front is asked for: `0FF` and `FFh` are 255 too.
+/// Neither the `h` nor a leading digit from 0 to 9 is asked for: `0FF` and `FFh` are 255 too.
 pub fn assembler_hexadecimal() -> NumberFormat
     ensures fields { result ≡ assembler_hexadecimal }
     ensures valid { fault result ≡ None }

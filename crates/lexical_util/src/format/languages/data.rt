@@ -16,7 +16,7 @@ pub fn json() -> NumberFormat
     JSON
 }
 
-/// Integers of JSON5: `+511`, `-511` and `0x1FF`. A zero in front of another digit is refused.
+/// Integers of JSON5: `+511`, `-511` and `0x1FF`. A zero before another digit is refused.
 ///
 /// `0o777` and `0b1` are read besides, and are none of JSON5's.
 pub fn json5() -> NumberFormat
@@ -26,9 +26,9 @@ pub fn json5() -> NumberFormat
     signed().no_integer_leading_zeros(true).build_strict()
 }
 
-/// Integers of TOML: `+1_000`, `0x1_FF`, `0o777` and `0b1_01`. A zero in front of another digit is refused.
+/// Integers of TOML: `+1_000`, `0x1_FF`, `0o777` and `0b1_01`. A zero before another digit is refused.
 ///
-/// `+0x1` is read besides: TOML has no sign in front of a prefix.
+/// `+0x1` is read besides: TOML has no sign before a prefix.
 pub fn toml() -> NumberFormat
     ensures fields { result ≡ toml }
     ensures valid { fault result ≡ None }

@@ -7,7 +7,7 @@ ghost use Rattle.lexical_util.specs.Validity.{fault};
 use super::separated;
 use crate::format::NumberFormat;
 
-/// Integer literals of Python 3: `1_000`, `0x_1FF`, `0o777` and `0b_1_01`. A zero in front of another digit is refused.
+/// Integer literals of Python 3: `1_000`, `0x_1FF`, `0o777` and `0b_1_01`. A zero before another digit is refused.
 ///
 /// Python reads zeros alone, as `00`; they are refused here.
 pub fn python() -> NumberFormat
@@ -34,7 +34,7 @@ pub fn ruby() -> NumberFormat
 }
 
 /// Integer literals of JavaScript in strict mode: `1_000`, `0x1_FF`, `0o777` and `0b1_01`, and with an `n` at the end.
-/// A zero in front of another digit is refused.
+/// A zero before another digit is refused.
 ///
 /// `0_1` is refused too. An exponent, as in `1e3`, isn't read.
 pub fn javascript() -> NumberFormat
