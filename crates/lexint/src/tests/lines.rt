@@ -141,6 +141,18 @@ fn lines_end_at_line_feeds_alone(rt: HostRuntime) -> Result<(), Fail> {
 }
 
 #[test]
+fn a_line_ends_at_its_line_feed_wherever_that_stands(rt: HostRuntime) -> Result<(), Fail> {
+    for length in 0..50usize {
+        let mut input = Vec::new(rt.alloc());
+        input.resize(length, b'\r')?;
+        input.extend_from_slice(b"\nr")?;
+        let out = output_of(rt.alloc(), &input)?;
+        assert_eq!(rt; out.as_slice(), b"bad line\nok\n".as_slice());
+    }
+    Ok(())
+}
+
+#[test]
 fn places_are_counted_far_into_a_line(rt: HostRuntime) -> Result<(), Fail> {
     let mut line = b"c u8 ".as_slice().to_vec(rt.alloc())?;
     line.extend_from_slice(&[b'0'; 1000])?;
