@@ -12,6 +12,7 @@ ghost use Rattle.lexical_parse_integer.specs.Marked.{AreDigitsOnly, AreGrouped, 
 ghost use Rattle.lexical_parse_integer.specs.Plain.{keeps_zero_rule};
 ghost use Rattle.lexical_parse_integer.specs.Runs.{are_same};
 
+pub(crate) mod lone_mark;
 mod separated;
 
 use crate::affixes::{octal_zero_at, prefix_radix, suffix_at};
