@@ -9,14 +9,14 @@ ghost use Rattle.lexical_parse_integer.specs.Answer.{with_place};
 ghost use Rattle.lexical_parse_integer.specs.Grammar.{complete, partial};
 ghost use Rattle.lexical_parse_integer.specs.Head.{head_of, sign};
 ghost use Rattle.lexical_parse_integer.specs.Marked.{AreDigitsOnly, AreGrouped, AreWorth, is_digit_in, stop_after};
-ghost use Rattle.lexical_parse_integer.specs.Plain.{keeps_zero_rule};
+ghost use Rattle.lexical_parse_integer.specs.Plain.{StandsFor, keeps_zero_rule};
 ghost use Rattle.lexical_parse_integer.specs.Runs.{are_same};
 
 pub(crate) mod lone_mark;
 mod separated;
 
 use crate::affixes::{octal_zero_at, prefix_radix, suffix_at};
-use crate::algorithm::marked::separated::value_of_groups;
+use crate::algorithm::marked::separated::{value_of_decimal_groups, value_of_groups};
 use crate::algorithm::plain::fronts::value_of_digits;
 use crate::algorithm::plain::keeps_zero_rule;
 use crate::algorithm::plain::table::value_by_table;
@@ -105,7 +105,17 @@ fn end_before_suffix(bytes: &[u8], format: &NumberFormat) -> usize
     }
 }
 
-// The value of digits of the radix alone, behind a minus where that is negative.
+// The value of hexadecimal digits alone, behind a minus where that is negative. Out of line its loop keeps all that it
+// needs in registers.
+#[inline(never)]
+fn value_of_hexadecimal<T: Integer>(digits: &[u8], negative: bool) -> Option<T>
+    requires minus { IsTrue negative → IsTrue T.TYPE.is_signed }
+    ensures { IfSome result (λ value. StandsFor T.TYPE 16 negative digits.now (T.number value)) }
+{
+    value_by_table::<T>(digits, 16, negative)
+}
+
+// The value of digits of the radix alone.
 #[inline(always)]
 fn value_of_row<T: Integer>(digits: &[u8], radix: u32, negative: bool) -> Option<T>
     requires some { 1 ≤ length digits.now }
@@ -119,7 +129,7 @@ fn value_of_row<T: Integer>(digits: &[u8], radix: u32, negative: bool) -> Option
         return value_of_digits::<T>(digits, negative);
     }
     if radix == 16 {
-        return value_by_table::<T>(digits, 16, negative);
+        return value_of_hexadecimal::<T>(digits, negative);
     }
     value_by_table::<T>(digits, radix, negative)
 }
@@ -153,7 +163,7 @@ fn value_of_parts<T: Integer>(
         return None;
     }
     if radix == 10 {
-        return value_of_groups::<T>(digits, format, separator, 10, negative);
+        return value_of_decimal_groups::<T>(digits, format, separator, negative);
     }
     value_of_groups::<T>(digits, format, separator, radix, negative)
 }
