@@ -238,16 +238,24 @@ fn is_separator(format: &NumberFormat, byte: u8) -> bool
     }
 }
 
-// How many digits and separators a text begins with.
+// How far is looked ahead for the end of a numeral. Longer ones go over the cursor: else a caller that goes on from where
+// reading stops, at a run that doesn't pass, would have the same bytes looked at again each time.
+const MOST: usize = 64;
+
+// How many digits and separators a text begins with, where they are fewer than that, and else 0.
 #[inline(always)]
 fn count_of_marked(text: &[u8], format: &NumberFormat, radix: u32) -> usize
     requires radix { IsRadix radix }
     ensures within { result ≤ length text.now }
-    ensures no_digit { result < length text.now → is_digit_in radix text.now result ≡ false }
-    ensures no_separator { result < length text.now
+    ensures no_digit { 0 < result → result < length text.now
+        → is_digit_in radix text.now result ≡ false }
+    ensures no_separator { 0 < result → result < length text.now
         → are_same format.now.digit_separator (Some (get_or text.now result 0)) ≡ false }
 {
     for (place, byte) in text.iter().enumerate() {
+        if place >= MOST {
+            return 0;
+        }
         if char_to_digit(*byte, radix).is_none() && !is_separator(format, *byte) {
             return place;
         }
