@@ -1,9 +1,11 @@
-// Digits with separators between them: runs at each place of each length up to 24, under each setting of the flags, at
-// the front of a text, behind a minus and behind prefixes. The slow reading tells what they stand for.
+// Digits with separators between them: runs at each place of texts of several lengths, under each setting of the flags,
+// at the front of a text and behind a prefix. The slow reading tells what they stand for.
 use super::whole::{Whole, agrees};
 use super::{complete_with, partial_with};
 use lexical_parse_integer::{NumberFormat, NumberFormatBuilder};
 use std::process::Abort;
+
+const LENGTHS: [usize; 7] = [2, 3, 5, 9, 16, 20, 24];
 
 const LONGEST: usize = 24;
 
@@ -37,51 +39,50 @@ fn of_length<T: Whole>(rt: &impl Abort, format: &NumberFormat, head: &[u8], leng
 }
 
 fn of_each_length<T: Whole>(rt: &impl Abort, format: &NumberFormat, head: &[u8]) {
-    for length in 1..=LONGEST {
+    for length in LENGTHS {
         of_length::<T>(rt, format, head, length);
     }
 }
 
-// Each setting of the flags.
-fn flagged<T: Whole>(rt: &impl Abort, builder: NumberFormatBuilder, head: &[u8]) {
-    for bits in 0..16_u8 {
+// Each setting of three flags, beside one of the fourth.
+fn flagged<T: Whole>(rt: &impl Abort, builder: NumberFormatBuilder, head: &[u8], many: bool) {
+    for bits in 0..8_u8 {
         let format = builder
             .digit_separator(Some(b'_'))
             .integer_internal_digit_separator(bits & 1 != 0)
             .integer_leading_digit_separator(bits & 2 != 0)
             .integer_trailing_digit_separator(bits & 4 != 0)
-            .integer_consecutive_digit_separator(bits & 8 != 0)
+            .integer_consecutive_digit_separator(many)
             .build_unchecked();
         of_each_length::<T>(rt, &format, head);
     }
 }
 
+fn prefixed() -> NumberFormatBuilder {
+    NumberFormatBuilder::new()
+        .mantissa_radix(16)
+        .base_prefix(Some(b'x'))
+        .base_suffix(Some(b'h'))
+}
+
+#[test]
+fn single_separators_at_each_place(rt: HostRuntime) {
+    flagged::<u64>(&rt, NumberFormatBuilder::new(), b"", false);
+}
+
 #[test]
 fn runs_at_each_place(rt: HostRuntime) {
-    let plain = NumberFormatBuilder::new();
-    flagged::<u64>(&rt, plain, b"");
-    flagged::<i64>(&rt, plain, b"-");
-    flagged::<u32>(&rt, plain.no_integer_leading_zeros(true), b"0");
+    flagged::<i64>(&rt, NumberFormatBuilder::new(), b"-", true);
+}
+
+#[test]
+fn single_separators_at_each_place_behind_a_prefix(rt: HostRuntime) {
+    flagged::<u64>(&rt, prefixed(), b"0x", false);
 }
 
 #[test]
 fn runs_at_each_place_behind_a_prefix(rt: HostRuntime) {
-    let prefixed = NumberFormatBuilder::new()
-        .mantissa_radix(16)
-        .base_prefix(Some(b'x'))
-        .base_suffix(Some(b'h'));
-    flagged::<u64>(&rt, prefixed, b"0x");
-    flagged::<i64>(&rt, prefixed, b"-0X");
-}
-
-#[test]
-fn runs_at_each_place_behind_a_literal_prefix(rt: HostRuntime) {
-    let literals = NumberFormatBuilder::new()
-        .literal_prefixes(true)
-        .integer_prefix_digit_separator(true);
-    flagged::<u64>(&rt, literals, b"0o");
-    flagged::<i32>(&rt, literals, b"-0b");
-    flagged::<u16>(&rt, literals.literal_octal_zero(true), b"0");
+    flagged::<i64>(&rt, prefixed(), b"-0X", true);
 }
 
 // Zeros and separators in turn, a thousand bytes of them, and then a digit.
