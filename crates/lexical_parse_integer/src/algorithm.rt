@@ -13,7 +13,7 @@ ghost use Rattle.lexical_parse_integer.specs.Turns.{AsksWords, HasFewTurns};
 mod digits;
 mod head;
 mod lanes;
-mod marked;
+pub(crate) mod marked;
 mod multi;
 mod numeral;
 pub(crate) mod plain;

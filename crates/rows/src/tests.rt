@@ -17,6 +17,7 @@ mod lengths;
 mod literals;
 mod long;
 mod octal;
+mod parted;
 mod radixes;
 mod runs;
 mod scripting;

@@ -9,13 +9,14 @@ ghost use Rattle.lexical_parse_integer.specs.Answer.{with_place};
 ghost use Rattle.lexical_parse_integer.specs.Grammar.{complete, partial};
 ghost use Rattle.lexical_parse_integer.specs.Head.{head_of, sign};
 ghost use Rattle.lexical_parse_integer.specs.Marked.{AreDigitsOnly, AreGrouped, AreWorth, is_digit_in, stop_after};
-ghost use Rattle.lexical_parse_integer.specs.Plain.{keeps_zero_rule};
+ghost use Rattle.lexical_parse_integer.specs.Plain.{StandsFor, keeps_zero_rule};
 ghost use Rattle.lexical_parse_integer.specs.Runs.{are_same};
 
+pub(crate) mod lone_mark;
 mod separated;
 
 use crate::affixes::{octal_zero_at, prefix_radix, suffix_at};
-use crate::algorithm::marked::separated::value_of_groups;
+use crate::algorithm::marked::separated::{value_of_decimal_groups, value_of_groups};
 use crate::algorithm::plain::fronts::value_of_digits;
 use crate::algorithm::plain::keeps_zero_rule;
 use crate::algorithm::plain::table::value_by_table;
@@ -104,7 +105,17 @@ fn end_before_suffix(bytes: &[u8], format: &NumberFormat) -> usize
     }
 }
 
-// The value of digits of the radix alone, behind a minus where that is negative.
+// The value of hexadecimal digits alone, behind a minus where that is negative. Out of line its loop keeps all that it
+// needs in registers.
+#[inline(never)]
+fn value_of_hexadecimal<T: Integer>(digits: &[u8], negative: bool) -> Option<T>
+    requires minus { IsTrue negative → IsTrue T.TYPE.is_signed }
+    ensures { IfSome result (λ value. StandsFor T.TYPE 16 negative digits.now (T.number value)) }
+{
+    value_by_table::<T>(digits, 16, negative)
+}
+
+// The value of digits of the radix alone.
 #[inline(always)]
 fn value_of_row<T: Integer>(digits: &[u8], radix: u32, negative: bool) -> Option<T>
     requires some { 1 ≤ length digits.now }
@@ -118,7 +129,7 @@ fn value_of_row<T: Integer>(digits: &[u8], radix: u32, negative: bool) -> Option
         return value_of_digits::<T>(digits, negative);
     }
     if radix == 16 {
-        return value_by_table::<T>(digits, 16, negative);
+        return value_of_hexadecimal::<T>(digits, negative);
     }
     value_by_table::<T>(digits, radix, negative)
 }
@@ -152,7 +163,7 @@ fn value_of_parts<T: Integer>(
         return None;
     }
     if radix == 10 {
-        return value_of_groups::<T>(digits, format, separator, 10, negative);
+        return value_of_decimal_groups::<T>(digits, format, separator, negative);
     }
     value_of_groups::<T>(digits, format, separator, radix, negative)
 }
@@ -227,16 +238,24 @@ fn is_separator(format: &NumberFormat, byte: u8) -> bool
     }
 }
 
-// How many digits and separators a text begins with.
+// How far is looked ahead for the end of a numeral. Longer ones go over the cursor: else a caller that goes on from where
+// reading stops, at a run that doesn't pass, would have the same bytes looked at again each time.
+const MOST: usize = 64;
+
+// How many digits and separators a text begins with, where they are fewer than that, and else 0.
 #[inline(always)]
 fn count_of_marked(text: &[u8], format: &NumberFormat, radix: u32) -> usize
     requires radix { IsRadix radix }
     ensures within { result ≤ length text.now }
-    ensures no_digit { result < length text.now → is_digit_in radix text.now result ≡ false }
-    ensures no_separator { result < length text.now
+    ensures no_digit { 0 < result → result < length text.now
+        → is_digit_in radix text.now result ≡ false }
+    ensures no_separator { 0 < result → result < length text.now
         → are_same format.now.digit_separator (Some (get_or text.now result 0)) ≡ false }
 {
     for (place, byte) in text.iter().enumerate() {
+        if place >= MOST {
+            return 0;
+        }
         if char_to_digit(*byte, radix).is_none() && !is_separator(format, *byte) {
             return place;
         }

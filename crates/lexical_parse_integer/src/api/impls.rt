@@ -3,6 +3,7 @@ ghost use Rattle.std.specs.Prelude.{◌≡◌};
 ghost use Rattle.lexical_parse_integer.specs.Answer.{with_place, view_of};
 ghost use Rattle.lexical_parse_integer.specs.Grammar.{complete_if_valid, partial_if_valid};
 
+use crate::algorithm::marked::lone_mark::fault_of;
 use crate::algorithm::plain::{settled, settled_front};
 use crate::algorithm::{complete_with_marks, partial_with_marks};
 use crate::api::{FromLexical, FromLexicalWithOptions};
@@ -31,7 +32,7 @@ fn complete_if_valid<T: Integer>(
 ) -> Result<T>
     ensures { view_of T.number result ≡ complete_if_valid format.now T.TYPE bytes.now }
 {
-    match format.error() {
+    match fault_of(format) {
         Some(invalid) => Err(invalid),
         None => complete_with_marks::<T>(bytes, format, options),
     }
@@ -57,7 +58,7 @@ fn partial_if_valid<T: Integer>(
 ) -> Result<(T, usize)>
     ensures { view_of (with_place T.number) result ≡ partial_if_valid format.now T.TYPE bytes.now }
 {
-    match format.error() {
+    match fault_of(format) {
         Some(broken) => Err(broken),
         None => partial_with_marks::<T>(bytes, format, options),
     }

@@ -67,3 +67,22 @@ pub(super) fn value_of_groups<T: Integer>(
     }
     Some(value)
 }
+
+// The same in radix 10, which the compiler then folds into the code. Out of line the loop keeps all that it needs in
+// registers.
+#[inline(never)]
+pub(super) fn value_of_decimal_groups<T: Integer>(
+    bytes: &[u8],
+    format: &NumberFormat,
+    separator: u8,
+    negative: bool,
+) -> Option<T>
+    requires some { 1 ≤ length bytes.now }
+    requires separator { format.now.digit_separator ≡ Some separator }
+    requires internal { format.now.integer_internal_digit_separator ≡ true }
+    ensures grouped { IfSome result (λ value. AreGrouped format.now 10 bytes.now) }
+    ensures worth { IfSome result
+        (λ value. AreWorth T.TYPE 10 negative bytes.now (T.number value)) }
+{
+    value_of_groups::<T>(bytes, format, separator, 10, negative)
+}

@@ -1,0 +1,61 @@
+// Formats with one mark at most, which little makes valid: so it is looked at first, and most of the rules needn't be.
+ghost use Rattle.std.specs.Prelude.{◌≡◌, IsTrue, None, false};
+ghost use Rattle.lexical_util.specs.Digit.{IsRadix};
+ghost use Rattle.lexical_util.specs.Validity.{fault, is_unfit_byte};
+
+use lexical_util::digit::char_to_digit;
+use lexical_util::error::Error;
+use lexical_util::format::NumberFormat;
+
+// Whether a byte may be a mark.
+#[inline(always)]
+fn is_fit(byte: u8, radix: u32) -> bool
+    requires radix { IsRadix radix }
+    ensures { IsTrue result → is_unfit_byte radix byte ≡ false }
+{
+    if byte >= 128 || byte == b'+' || byte == b'-' {
+        return false;
+    }
+    char_to_digit(byte, radix).is_none()
+}
+
+// Whether a mark that stands alone is fit, in a radix and beside no literal prefixes.
+#[inline(always)]
+fn is_fit_alone(format: &NumberFormat, mark: u8) -> bool
+    ensures radix { IsTrue result → IsRadix format.now.mantissa_radix }
+    ensures plain { IsTrue result → format.now.literal_prefixes ≡ false }
+    ensures fit { IsTrue result → is_unfit_byte format.now.mantissa_radix mark ≡ false }
+{
+    let radix = format.mantissa_radix();
+    if format.literal_prefixes() || radix < 2 || radix > 36 {
+        return false;
+    }
+    is_fit(mark, radix)
+}
+
+// Whether a format is valid that has a prefix alone, a separator alone, literal prefixes alone, or no mark.
+#[inline(always)]
+fn is_valid_with_lone_mark(format: &NumberFormat) -> bool
+    ensures { IsTrue result → fault format.now ≡ None }
+{
+    if format.base_suffix().is_some() | format.literal_octal_zero() {
+        return false;
+    }
+    match (format.digit_separator(), format.base_prefix()) {
+        (None, None) => format.mantissa_radix() == 10,
+        (Some(mark), None) => is_fit_alone(format, mark),
+        (None, Some(mark)) => is_fit_alone(format, mark),
+        (Some(_), Some(_)) => false,
+    }
+}
+
+// The fault of a format, or none.
+#[inline(always)]
+pub(crate) fn fault_of(format: &NumberFormat) -> Option<Error>
+    ensures { result ≡ fault format.now }
+{
+    if is_valid_with_lone_mark(format) {
+        return None;
+    }
+    format.error()
+}
