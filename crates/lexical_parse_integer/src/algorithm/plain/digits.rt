@@ -185,3 +185,28 @@ pub(super) fn numbers_to_24(text: &[u8]) -> Option<(u32, u32, u32)>
         _ => None,
     }
 }
+
+// The numbers of twenty-five to forty digits: of the last sixteen, eight by eight, and of those before.
+#[inline(always)]
+pub(super) fn numbers_to_40(text: &[u8]) -> Option<((u32, u32, u32), (u32, u32))>
+    requires some { 24 < length text.now }
+    requires few { length text.now ≤ 40 }
+    ensures writes { IfSome result
+        (λ parts. WritesDecimal 0 text.now
+        ((parts.0.0 * 10000000000000000 + (parts.0.1 * 100000000 + parts.0.2))
+        * 10000000000000000 + (parts.1.0 * 100000000 + parts.1.1))) }
+    ensures first { IfSome result (λ parts. parts.0.0 < 100000000) }
+    ensures second { IfSome result (λ parts. parts.0.1 < 100000000) }
+    ensures third { IfSome result (λ parts. parts.0.2 < 100000000) }
+    ensures fourth { IfSome result (λ parts. parts.1.0 < 100000000) }
+    ensures fifth { IfSome result (λ parts. parts.1.1 < 100000000) }
+{
+    let n = text.len();
+    match (
+        numbers_to_24(&text[..n - 16]),
+        numbers_to_16(&text[n - 16..], 0),
+    ) {
+        (Some(front), Some(back)) => Some((front, back)),
+        _ => None,
+    }
+}
