@@ -21,7 +21,7 @@ mod zeros;
 
 use crate::algorithm::head::{is_prefix_alone, read_head};
 use crate::algorithm::numeral::read_digits;
-use crate::algorithm::plain::{answer_in_radix, front_in_radix, settled, settled_front};
+use crate::algorithm::plain::{answer_in_radix, settled, settled_front};
 use crate::algorithm::zeros::read_first;
 use crate::cursor::Cursor;
 use crate::options::{self, Options};
@@ -225,11 +225,6 @@ fn partial_over_cursor<T: Integer>(
 pub(crate) fn standard_partial_over_cursor<T: Integer>(bytes: &[u8]) -> Result<(T, usize)>
     ensures { view_of (with_place T.number) result ≡ partial standard T.TYPE bytes.now }
 {
-    match front_in_radix::<T>(bytes, &format::STANDARD, 10) {
-        Some(found) => Ok(found),
-        None => {
-            let mut front = Cursor::new(bytes, &format::STANDARD);
-            algorithm_partial_on::<T>(&mut front, &options::STANDARD)
-        }
-    }
+    let mut front = Cursor::new(bytes, &format::STANDARD);
+    algorithm_partial_on::<T>(&mut front, &options::STANDARD)
 }

@@ -1,6 +1,6 @@
 -- Digits of any radix at the front of a text, behind an optional sign, read one byte after another.
-use Rattle.std.proofs.Common.{slice_get, ◌≡◌, ℕ, zero, suc, ◌+◌, ◌^◌, ◌<◌, ◌≤◌, Bool, true, false, ◌&&◌, not, List, [], ◌∷◌, length, get_or, map, take, refl, sym, ap, ◌∙◌, subst, arith, Option, Some, None, Ok, Err, Result}
-use Rattle.std.specs.Prelude.{◌==◌, ◌||◌, is_some, slice_range, ℤ, neg_ℤ, if◌then◌else◌, IsNone}
+use Rattle.std.proofs.Common.{slice_get, ◌≡◌, ℕ, zero, suc, ◌+◌, ◌-◌, ◌^◌, ◌<◌, ◌≤◌, Bool, true, false, ◌&&◌, not, List, [], ◌∷◌, length, get_or, map, take, refl, sym, ap, ◌∙◌, subst, arith, Option, Some, None, Ok, Err, Result}
+use Rattle.std.specs.Prelude.{◌==◌, ◌||◌, is_some, slice_range, ℤ, pos, neg_ℤ, if◌then◌else◌, IsNone}
 use Rattle.std.proofs.Math.Seq.{take-length}
 use Rattle.std.proofs.lemmas.Bool.{and_parts, eqb-true, le-ltb, lt-ltb}
 use Rattle.std.proofs.lemmas.List.{length-take-le}
@@ -14,9 +14,12 @@ use Rattle.lexical_util.specs.Validity.{fault}
 use Rattle.lexical_parse_integer.specs.Grammar.{complete, complete_if_valid, if_valid, partial}
 use Rattle.lexical_parse_integer.specs.Head.{sign}
 use Rattle.lexical_parse_integer.specs.Laws.{completion_of}
-use Rattle.lexical_parse_integer.specs.Plain.{BeginsInRadix, IsPlain, WritesFront, keeps_zero_rule}
+use Rattle.lexical_parse_integer.specs.Plain.{BeginsInRadix, BeginsWith, IsPlain, WritesFront, keeps_zero_rule}
 use Rattle.lexical_parse_integer.specs.Value.{positional_value, with_sign}
-use Rattle.lexical_parse_integer.proofs.plain.DigitsAlone.{behind_first, from_front, sign_of_digit_under, sign_of_minus_under}
+use Rattle.lexical_parse_integer.specs.Words.{AreDigits, word_value}
+use Rattle.lexical_parse_integer.proofs.words.AsciiDigits.{ascii_from_digits}
+use Rattle.lexical_parse_integer.proofs.plain.WordsOfDigits.{digits_below, raised_none}
+use Rattle.lexical_parse_integer.proofs.plain.DigitsAlone.{behind_first, from_front, have_digits, sign_of_digit_under, sign_of_minus_under}
 use Rattle.lexical_parse_integer.proofs.plain.DigitsByTable.{rule_in}
 use Rattle.lexical_parse_integer.proofs.plain.DigitsInFront.{StandsFrom, values_in_front}
 use Rattle.lexical_parse_integer.proofs.theorems.CompleteByPartial.{complete_is_completion}
@@ -44,6 +47,33 @@ begins_in_radix f t r negative digits value size count some within stops rule wr
   rule = rule;
   stands = record { size = size; writes = front_alone r count digits size within writes; worth = worth; fits = fits };
 }
+
+-- decimal digits are digits of radix 10
+pub begins_decimal : (f : Format) (t : IntegerType) (negative : Bool) (digits : List ℕ) (value : ℤ) (count : ℕ) → BeginsWith f t negative digits value count → BeginsInRadix f t 10 negative digits value count
+begins_decimal f t negative digits value count b =
+    let bytes : List ℕ = take count digits in
+    let w = b.stands in
+    let same = raised_none bytes in
+    let digits_are : AreDigits 10 bytes = rw same at w.writes.digits in
+    let worth : w.number ≡ word_value 10 bytes = rw same at w.writes.worth in
+    let ascii = ascii_from_digits 10 bytes (omega arith) digits_are in
+    record {
+      some = b.some;
+      within = b.within;
+      stops = b.stops;
+      rule = b.rule;
+      stands = record {
+        size = pos w.number;
+        writes = record {
+          values = map (λ byte. byte - 48) bytes;
+          digits = ap (map (λ byte. digit byte 10)) (take-length bytes) ∙ have_digits 10 bytes (omega arith) ascii;
+          worth = ap pos worth;
+          below = digits_below bytes (word_value 10 bytes) digits_are refl;
+        };
+        worth = w.worth;
+        fits = ap (is_number t) w.worth ∙ w.fits;
+      };
+    }
 
 -- ---- the front of a text
 

@@ -1,6 +1,6 @@
 // The numbers that decimal digits write, by words of eight bytes: digits 0 fill up a word that the text doesn't, and no
 // branch hangs on a digit. A minus in front is raised to the digit 0, so that no branch waits for the sign either.
-ghost use Rattle.std.specs.Prelude.{◌≡◌, ◌+◌, ◌*◌, ◌<◌, ◌≤◌, ◌^◌, ◌%◌, IfSome, get_or, length, slice_range};
+ghost use Rattle.std.specs.Prelude.{◌≡◌, ◌+◌, ◌*◌, ◌<◌, ◌≤◌, ◌^◌, ◌%◌, IfSome, get_or, length, slice_range, take};
 ghost use Rattle.lexical_parse_integer.specs.Plain.{WritesDecimal, bytes_number, minus_more};
 ghost use Rattle.lexical_parse_integer.specs.Words.{AreDigits, word_bytes, word_value};
 
@@ -25,6 +25,26 @@ pub(super) fn word_at(text: &[u8], at: usize) -> u64
 {
     let t = &text[at..at + 8];
     u64::from_le_bytes([t[0], t[1], t[2], t[3], t[4], t[5], t[6], t[7]])
+}
+
+// At most eight bytes, however many there are.
+#[inline(always)]
+fn at_most_8(count: usize) -> usize
+    ensures few { count < 8 → result ≡ count }
+    ensures many { 8 ≤ count → result ≡ 8 }
+{
+    if count < 8 { count } else { 8 }
+}
+
+// The first eight bytes of a text. Where it has four to seven, bytes 0 stand after them.
+#[inline(always)]
+pub(super) fn first_word(text: &[u8]) -> u64
+    requires { 4 ≤ length text.now }
+    ensures { result ≡ bytes_number (take 8 text.now) }
+{
+    let n = at_most_8(text.len());
+    let shift = 64 - 8 * n as u32;
+    half_at(text, 0) + ((half_at(text, n - 4) >> shift) << 32)
 }
 
 // Four bytes of a text.
