@@ -178,6 +178,21 @@ pub(super) fn number_of_front(text: &[u8]) -> Option<u32>
     number_to_8(text, 0)
 }
 
+// The number of the first one to eight bytes of a longer text, which are digits: what stands after them in the first
+// eight bytes is shifted out.
+#[inline(always)]
+fn number_of_first(text: &[u8], count: usize) -> Option<u32>
+    requires some { 1 ≤ count }
+    requires few { count ≤ 8 }
+    requires many { 8 ≤ length text.now }
+    ensures writes { IfSome result (λ number. WritesDecimal 0 (take count text.now) number) }
+    ensures small { IfSome result (λ number. number < 100000000) }
+{
+    let shift = 64 - 8 * count as u32;
+    let first = word_at(text, 0) << shift;
+    number_of_word(first + zeros_below(shift))
+}
+
 // The numbers of nine to twenty-four digits: of the last sixteen, eight by eight, and of those before.
 #[inline(always)]
 pub(super) fn numbers_to_24(text: &[u8]) -> Option<(u32, u32, u32)>
@@ -198,7 +213,7 @@ pub(super) fn numbers_to_24(text: &[u8]) -> Option<(u32, u32, u32)>
         };
     }
     match (
-        number_of_front(&text[..n - 16]),
+        number_of_first(text, n - 16),
         numbers_to_16(&text[n - 16..], 0),
     ) {
         (Some(first), Some((high, low))) => Some((first, high, low)),
