@@ -48,33 +48,6 @@ begins_in_radix f t r negative digits value size count some within stops rule wr
   stands = record { size = size; writes = front_alone r count digits size within writes; worth = worth; fits = fits };
 }
 
--- decimal digits are digits of radix 10
-pub begins_decimal : (f : Format) (t : IntegerType) (negative : Bool) (digits : List ℕ) (value : ℤ) (count : ℕ) → BeginsWith f t negative digits value count → BeginsInRadix f t 10 negative digits value count
-begins_decimal f t negative digits value count b =
-    let bytes : List ℕ = take count digits in
-    let w = b.stands in
-    let same = raised_none bytes in
-    let digits_are : AreDigits 10 bytes = rw same at w.writes.digits in
-    let worth : w.number ≡ word_value 10 bytes = rw same at w.writes.worth in
-    let ascii = ascii_from_digits 10 bytes (omega arith) digits_are in
-    record {
-      some = b.some;
-      within = b.within;
-      stops = b.stops;
-      rule = b.rule;
-      stands = record {
-        size = pos w.number;
-        writes = record {
-          values = map (λ byte. byte - 48) bytes;
-          digits = ap (map (λ byte. digit byte 10)) (take-length bytes) ∙ have_digits 10 bytes (omega arith) ascii;
-          worth = ap pos worth;
-          below = digits_below bytes (word_value 10 bytes) digits_are refl;
-        };
-        worth = w.worth;
-        fits = ap (is_number t) w.worth ∙ w.fits;
-      };
-    }
-
 -- ---- the front of a text
 
 pub sign_of_plus_under : (f : Format) (t : IntegerType) (cs : List ℕ) → f.no_positive_mantissa_sign ≡ false → sign f t (43 ∷ cs) ≡ Ok (false, 1)

@@ -27,22 +27,16 @@ pub(super) fn word_at(text: &[u8], at: usize) -> u64
     u64::from_le_bytes([t[0], t[1], t[2], t[3], t[4], t[5], t[6], t[7]])
 }
 
-// At most eight bytes, however many there are.
-#[inline(always)]
-fn at_most_8(count: usize) -> usize
-    ensures few { count < 8 → result ≡ count }
-    ensures many { 8 ≤ count → result ≡ 8 }
-{
-    if count < 8 { count } else { 8 }
-}
-
 // The first eight bytes of a text. Where it has four to seven, bytes 0 stand after them.
 #[inline(always)]
 pub(super) fn first_word(text: &[u8]) -> u64
     requires { 4 ≤ length text.now }
     ensures { result ≡ bytes_number (take 8 text.now) }
 {
-    let n = at_most_8(text.len());
+    let n = text.len();
+    if n >= 8 {
+        return word_at(text, 0);
+    }
     let shift = 64 - 8 * n as u32;
     half_at(text, 0) + ((half_at(text, n - 4) >> shift) << 32)
 }
