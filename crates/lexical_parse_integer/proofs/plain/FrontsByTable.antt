@@ -1,25 +1,20 @@
 -- Digits of any radix at the front of a text, behind an optional sign, read one byte after another.
-use Rattle.std.proofs.Common.{slice_get, ◌≡◌, ℕ, zero, suc, ◌+◌, ◌-◌, ◌^◌, ◌<◌, ◌≤◌, Bool, true, false, ◌&&◌, not, List, [], ◌∷◌, length, get_or, map, take, refl, sym, ap, ◌∙◌, subst, arith, Option, Some, None, Ok, Err, Result}
-use Rattle.std.specs.Prelude.{◌==◌, ◌||◌, is_some, slice_range, ℤ, pos, neg_ℤ, if◌then◌else◌, IsNone}
+use Rattle.std.proofs.Common.{slice_get, ◌≡◌, ℕ, zero, suc, ◌+◌, ◌^◌, ◌<◌, ◌≤◌, Bool, true, false, ◌&&◌, not, List, [], ◌∷◌, length, get_or, map, take, refl, sym, ap, ◌∙◌, subst, arith, Ok, Err}
+use Rattle.std.specs.Prelude.{◌==◌, ◌||◌, is_some, slice_range, ℤ, neg_ℤ, if◌then◌else◌, IsNone}
 use Rattle.std.proofs.Math.Seq.{take-length}
 use Rattle.std.proofs.lemmas.Bool.{and_parts, eqb-true, le-ltb, lt-ltb}
 use Rattle.std.proofs.lemmas.List.{length-take-le}
 use mir.Val.{bool_byte}
-use Rattle.lexical_util.specs.declared.error.Error.{Error}
 use Rattle.lexical_util.specs.declared.error.Error.TheVariants.{InvalidDigit}
 use Rattle.lexical_util.specs.Digit.{IsRadix, digit}
 use Rattle.lexical_util.specs.Format.{Format}
 use Rattle.lexical_util.specs.Number.{IntegerType, IsNumber, is_number}
-use Rattle.lexical_util.specs.Validity.{fault}
-use Rattle.lexical_parse_integer.specs.Grammar.{complete, complete_if_valid, if_valid, partial}
+use Rattle.lexical_parse_integer.specs.Grammar.{complete, partial}
 use Rattle.lexical_parse_integer.specs.Head.{sign}
 use Rattle.lexical_parse_integer.specs.Laws.{completion_of}
-use Rattle.lexical_parse_integer.specs.Plain.{BeginsInRadix, BeginsWith, IsPlain, WritesFront, keeps_zero_rule}
+use Rattle.lexical_parse_integer.specs.Plain.{BeginsInRadix, IsPlain, WritesFront, keeps_zero_rule}
 use Rattle.lexical_parse_integer.specs.Value.{positional_value, with_sign}
-use Rattle.lexical_parse_integer.specs.Words.{AreDigits, word_value}
-use Rattle.lexical_parse_integer.proofs.words.AsciiDigits.{ascii_from_digits}
-use Rattle.lexical_parse_integer.proofs.plain.WordsOfDigits.{digits_below, raised_none}
-use Rattle.lexical_parse_integer.proofs.plain.DigitsAlone.{behind_first, from_front, have_digits, sign_of_digit_under, sign_of_minus_under}
+use Rattle.lexical_parse_integer.proofs.plain.DigitsAlone.{behind_first, from_front, sign_of_digit_under, sign_of_minus_under}
 use Rattle.lexical_parse_integer.proofs.plain.DigitsByTable.{rule_in}
 use Rattle.lexical_parse_integer.proofs.plain.DigitsInFront.{StandsFrom, values_in_front}
 use Rattle.lexical_parse_integer.proofs.theorems.CompleteByPartial.{complete_is_completion}
@@ -119,11 +114,3 @@ pub none_after : (f : Format) (t : IntegerType) (text : List ℕ) (value : ℤ) 
 none_after f t text value place is all =
     let test = le-ltb place (length text) all in
     complete_is_completion f t text ∙ ap (completion_of (length text)) is ∙ (rw test refl)
-
--- the answer where the format is valid
-pub told_if_valid : (f : Format) (t : IntegerType) (text : List ℕ) (answer : Result ℤ Error) → IsNone (fault f) → answer ≡ complete f t text → answer ≡ complete_if_valid f t text
-told_if_valid f t text answer valid is = is ∙ by_fault (fault f) (complete f t text) valid
-  where
-    by_fault : (o : Option Error) (whole : Result ℤ Error) → IsNone o → whole ≡ if_valid o whole
-    by_fault None whole none = refl
-    by_fault (Some e) whole none = cc

@@ -3,7 +3,7 @@ ghost use Rattle.std.specs.Prelude.{◌≡◌};
 ghost use Rattle.lexical_parse_integer.specs.Answer.{with_place, view_of};
 ghost use Rattle.lexical_parse_integer.specs.Grammar.{complete_if_valid, partial_if_valid};
 
-use crate::algorithm::plain::{plain_answer, settled, settled_front};
+use crate::algorithm::plain::{settled, settled_front};
 use crate::algorithm::{algorithm_complete_on, algorithm_partial_on};
 use crate::api::{FromLexical, FromLexicalWithOptions};
 use crate::cursor::Cursor;
@@ -32,9 +32,6 @@ fn complete_if_valid<T: Integer>(
 ) -> Result<T>
     ensures { view_of T.number result ≡ complete_if_valid format.now T.TYPE bytes.now }
 {
-    if let Some(answer) = plain_answer::<T>(bytes, format) {
-        return answer;
-    }
     match format.error() {
         Some(invalid) => Err(invalid),
         None => algorithm_complete_on::<T>(&mut Cursor::new(bytes, format), options),

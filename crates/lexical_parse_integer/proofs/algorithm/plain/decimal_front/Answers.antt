@@ -1,4 +1,3 @@
-use Rattle.std.proofs.Common.{arith, refl}
 use Rattle.lexical_parse_integer.proofs.plain.DigitsByTable.{some_bytes}
 use Rattle.lexical_parse_integer.proofs.plain.DigitsAlone.{behind_is}
 use Rattle.lexical_parse_integer.proofs.plain.DigitsInFront.{begins_placed}

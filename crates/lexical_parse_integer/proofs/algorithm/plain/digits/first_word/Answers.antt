@@ -1,4 +1,4 @@
-use Rattle.std.proofs.Common.{◌≡◌, ◌<◌, ◌≤◌, arith, length, refl}
+use Rattle.std.proofs.Common.{arith, length, refl}
 use Rattle.lexical_parse_integer.proofs.plain.WordsOfDigits.{all_bytes, first_word_is, first_word_small}
 use Rattle.lexical_parse_integer.proofs.algorithm.plain.digits.first_word.Goals as goal
 

@@ -1,5 +1,5 @@
 use Rattle.std.proofs.Common.{arith, take, ◌-◌}
-use Rattle.lexical_parse_integer.proofs.plain.WordsOfDigits.{first_writes, word_writes, writes_padded}
+use Rattle.lexical_parse_integer.proofs.plain.WordsOfDigits.{first_writes, word_writes}
 use Rattle.lexical_parse_integer.proofs.algorithm.plain.digits.number_of_first.Goals as goal
 
 pub overflow_add-first : goal.overflow_add-first

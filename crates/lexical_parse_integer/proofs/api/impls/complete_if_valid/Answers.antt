@@ -1,5 +1,0 @@
-use Rattle.lexical_parse_integer.proofs.plain.FrontsByTable.{told_if_valid}
-use Rattle.lexical_parse_integer.proofs.api.impls.complete_if_valid.Goals as goal
-
-pub returns-in-Some : goal.returns-in-Some
-returns-in-Some g c = told_if_valid _ _ _ _ c.in-Some.ensures.valid c.in-Some.ensures.answer
