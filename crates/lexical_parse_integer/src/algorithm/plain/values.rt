@@ -1,5 +1,6 @@
 // The values of decimal digits, where the type has them.
 ghost use Rattle.std.specs.Prelude.{◌≤ℤ◌, ◌∷◌, [], neg_ℤ, if◌then◌else◌, false, ◌≡◌, ◌+◌, ◌*◌, ◌<◌, ◌≤◌, IfSome, IsTrue, get_or, length, pos};
+ghost use Rattle.lexical_util.specs.Ascii.{minus};
 ghost use Rattle.lexical_util.specs.Number.{IsNumber, number_limit};
 ghost use Rattle.lexical_parse_integer.specs.Plain.{WritesValue, minus_more};
 ghost use Rattle.lexical_parse_integer.specs.Value.{with_sign};
@@ -148,7 +149,7 @@ pub(super) fn value_of<T: Integer>(text: &[u8], negative: bool) -> Option<T>
     requires some { 2 ≤ length text.now }
     requires few { length text.now ≤ 16 }
     requires minus { IsTrue negative → IsTrue T.TYPE.is_signed }
-    requires first { IsTrue negative → get_or text.now 0 0 ≡ 45 }
+    requires first { IsTrue negative → get_or text.now 0 0 ≡ minus }
     ensures { IfSome result
         (λ value. WritesValue T.TYPE (minus_more negative) negative text.now (T.number value)) }
 {
