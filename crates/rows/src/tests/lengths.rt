@@ -8,11 +8,7 @@ use std::process::Abort;
 // One digit; two and three; a word of four, and up to eight; a word of eight, and up to sixteen; and longer texts.
 const LENGTHS: [usize; 17] = [1, 2, 3, 4, 5, 7, 8, 9, 10, 15, 16, 17, 18, 19, 20, 24, 25];
 
-// Numbers of 128 bits alone have so many digits: up to thirty-two by four words, up to thirty-eight without a test of the
-// range, thirty-nine with one; the last is a digit more than is read by words.
-const LONG_LENGTHS: [usize; 10] = [26, 31, 32, 33, 34, 37, 38, 39, 40, 41];
-
-const LONGEST: usize = 41;
+const LONGEST: usize = 25;
 
 // Signs, the bytes next to the digits, the least and the greatest digit, letters, a digit with its highest bit set, and
 // bytes that carry or borrow where words are added or taken away.
@@ -42,12 +38,7 @@ fn of_length<T: Whole>(rt: &impl Abort, format: &NumberFormat, length: usize, fi
 
 // Texts of each length, of a small digit and of the greatest.
 fn of_each_length<T: Whole>(rt: &impl Abort, format: &NumberFormat) {
-    of_these_lengths::<T>(rt, format, &LENGTHS);
-}
-
-fn of_these_lengths<T: Whole>(rt: &impl Abort, format: &NumberFormat, lengths: &[usize]) {
-    for length in lengths {
-        let length = *length;
+    for length in LENGTHS {
         of_length::<T>(rt, format, length, b'1', b'1');
         of_length::<T>(rt, format, length, b'9', b'-');
         of_length::<T>(rt, format, length, b'7', b'0');
@@ -70,12 +61,6 @@ fn each_length_of_large_types(rt: HostRuntime) {
     of_each_length::<i64>(&rt, &STANDARD);
     of_each_length::<u128>(&rt, &STANDARD);
     of_each_length::<i128>(&rt, &STANDARD);
-}
-
-#[test]
-fn each_long_length(rt: HostRuntime) {
-    of_these_lengths::<u128>(&rt, &STANDARD, &LONG_LENGTHS);
-    of_these_lengths::<i128>(&rt, &STANDARD, &LONG_LENGTHS);
 }
 
 // Zeros in front that the format forbids, and a plus that it forbids.
