@@ -35,6 +35,8 @@ TO_MUTATE = (b"r", b"c u8 12", b"p i128 0x1F", b"c usize ", b"f base_prefix x", 
 LITERALS = {2: ord("b"), 8: ord("o"), 16: ord("x")}
 MANY_SIGNS = (b"+-", b"--", b"-+", b"_-", b"+ ")
 TAILS = (b" ", b"}", b".5", b"_", b"x", b"g", b"h", b"\r", b"\xff", b"\0", b"0", b"12345678", b"123456789")
+# the ends of the ranges of lengths that are read in ways of their own
+EDGE_LENGTHS = (1, 2, 3, 4, 4, 5, 7, 8, 8, 8, 9, 12, 15, 16, 16, 16, 17, 19, 20, 23, 24, 25, 32, 33, 38, 39, 40, 41)
 TOKEN_PIECES = (b"0x", b"0o", b"0b", b"0", b"_", b"__", b" ", b"\t", b"\r", b"+", b"-", b"x", b"abc", b"1_000", b"0xFF",
                 b"0b1_", b"\xc3\xa9", b"9" * 39, b"%d" % (2 ** 128 - 1), b"0x" + b"f" * 33, b";", b"a_1")
 
@@ -332,8 +334,8 @@ class Lines:
         return self.digits(self.chance.randint(0, 3), radix)
 
     def words(self, _: IntegerType, radix: int) -> bytes:
-        """Whole words of four or eight digits, and at times one bad byte."""
-        text = bytearray(self.digits(self.chance.choice((4, 8, 8, 9, 12, 15, 16, 16, 17, 24, 32)), radix))
+        """As many digits as are read by words, or one more or less, and at times one bad byte."""
+        text = bytearray(self.digits(self.chance.choice(EDGE_LENGTHS), radix))
         if self.often(60):
             place = self.chance.randrange(len(text))
             others = (ord("/"), ord("0") + radix, ord(":"), text[place] ^ 0x80, text[place] ^ 0x10)

@@ -2,4 +2,6 @@
 pub mod DigitsAlone
 pub mod DigitsByTable
 pub mod DigitsInFront
+pub mod FrontsByTable
+pub mod LongNumbers
 pub mod WordsOfDigits

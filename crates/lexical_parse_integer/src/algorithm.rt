@@ -23,7 +23,7 @@ mod zeros;
 use crate::algorithm::head::{is_prefix_alone, read_head};
 use crate::algorithm::marked::{settled_marked, settled_marked_front};
 use crate::algorithm::numeral::read_digits;
-use crate::algorithm::plain::{settled, settled_front};
+use crate::algorithm::plain::{answer_in_radix, settled, settled_front};
 use crate::algorithm::zeros::read_first;
 use crate::cursor::Cursor;
 use crate::options::{self, Options};
@@ -208,8 +208,13 @@ fn complete_over_cursor<T: Integer>(
 pub(crate) fn standard_over_cursor<T: Integer>(bytes: &[u8]) -> Result<T>
     ensures { view_of T.number result ≡ complete standard T.TYPE bytes.now }
 {
-    let mut c = Cursor::new(bytes, &format::STANDARD);
-    algorithm_complete_on::<T>(&mut c, &options::STANDARD)
+    match answer_in_radix::<T>(bytes, &format::STANDARD, 10) {
+        Some(answer) => answer,
+        None => {
+            let mut c = Cursor::new(bytes, &format::STANDARD);
+            algorithm_complete_on::<T>(&mut c, &options::STANDARD)
+        }
+    }
 }
 
 /// The integer that the front of the text stands for under a valid format, and the place at which reading stops.

@@ -53,7 +53,7 @@ front_fits t r o k text value room positive few w = ap (is_number t) w.worth ∙
 zero_byte : (c r : ℕ) → digit c r ≡ Some 0 → c ≡ 48
 zero_byte c r is = grind (arith, nat_tests)
 
-rule_in : (f : Format) (r : ℕ) (bytes ds : List ℕ) → HaveDigits r bytes ds → keeps_zero_rule f bytes ≡ true → ((f.no_integer_leading_zeros && nat_le 2 (length ds)) && (slice_index ds 0 == 0)) ≡ false
+pub rule_in : (f : Format) (r : ℕ) (bytes ds : List ℕ) → HaveDigits r bytes ds → keeps_zero_rule f bytes ≡ true → ((f.no_integer_leading_zeros && nat_le 2 (length ds)) && (slice_index ds 0 == 0)) ≡ false
 rule_in f r [] [] all rule = rw (and-false) refl
 rule_in f r [] (d ∷ ds) all rule = cc
 rule_in f r (c ∷ cs) [] all rule = cc

@@ -1,6 +1,6 @@
 -- Digits alone at the front of a text, behind an optional minus, under formats without marks.
-use Rattle.std.proofs.Common.{slice_get, ◌≡◌, ℕ, zero, suc, ◌+◌, ◌-◌, ◌%◌, ◌<◌, ◌≤◌, Bool, true, false, ◌&&◌, not, List, [], ◌∷◌, ◌++◌, length, get_or, map, take, refl, sym, ap, ◌∙◌, subst, arith, Option, Some, None, Ok, Result}
-use Rattle.std.specs.Prelude.{◌==◌, nat_le, is_some, slice_index, ℤ, pos, IsNone}
+use Rattle.std.proofs.Common.{slice_get, ◌≡◌, ℕ, zero, suc, ◌+◌, ◌-◌, ◌%◌, ◌<◌, ◌≤◌, Bool, true, false, ◌&&◌, not, List, [], ◌∷◌, length, get_or, map, take, refl, sym, ap, ◌∙◌, subst, arith, Option, Some, None, Ok, Result}
+use Rattle.std.specs.Prelude.{◌==◌, nat_le, is_some, slice_index, ℤ, IsNone}
 use Rattle.std.specs.Option.{option_and_then, unwrap_or}
 use Rattle.std.proofs.Math.Bool.{and-false, and-true}
 use Rattle.std.proofs.lemmas.Bool.{ne_eqb}
@@ -16,7 +16,7 @@ use Rattle.lexical_util.specs.Validity.{fault}
 use Rattle.lexical_parse_integer.specs.Grammar.{fault_if, if_valid, partial, partial_if_valid, range_fault, zero_fault}
 use Rattle.lexical_parse_integer.specs.Head.{Head, sign}
 use Rattle.lexical_parse_integer.specs.Numeral.{Numeral, digit_count, numeral_value}
-use Rattle.lexical_parse_integer.specs.Plain.{BeginsWith, IsBehind, IsPlain, WritesDecimal, WritesValue, keeps_zero_rule, raised}
+use Rattle.lexical_parse_integer.specs.Plain.{BeginsWith, IsBehind, IsPlain, WritesDecimal, WritesValue, keeps_zero_rule}
 use Rattle.lexical_parse_integer.specs.Runs.{digit_at}
 use Rattle.lexical_parse_integer.specs.Value.{positional_value, with_sign}
 use Rattle.lexical_parse_integer.specs.Words.{AreDigits, word_value}
@@ -67,7 +67,7 @@ slice_get_there (b ∷ bs) zero low = refl
 slice_get_there (b ∷ bs) (suc k) low = slice_get_there bs k (omega arith)
 
 -- the digits stand from a place on
-abbrev StandsFrom : ℕ → List ℕ → List ℕ → Type 0
+abbrev pub StandsFrom : ℕ → List ℕ → List ℕ → Type 0
 StandsFrom start text digits = (k : ℕ) → slice_get text (start + k) ≡ slice_get digits k
 
 at_front : (r : ℕ) (text digits ds : List ℕ) (start n k : ℕ) → StandsFrom start text digits → HaveDigits r (take n digits) ds → k < length ds → k < n → digit_at r text (start + k) ≡ Some (get_or ds k 0)
@@ -84,7 +84,7 @@ front_between r text digits ds start n on all size j low high =
     subst (λ (p : ℕ). has_digit r text p ≡ true) place (ap is_some (at_front r text digits ds start n (j - start) on all (omega arith) (omega arith)))
 
 -- digits behind a sign at the front, by their values
-values_in_front : (f : Format) (t : IntegerType) (text digits ds : List ℕ) (s : Bool × ℕ) (n : ℕ) → IsPlain f → 1 ≤ f.mantissa_radix → sign f t text ≡ Ok s → StandsFrom s.1 text digits → length text ≡ s.1 + length digits →
+pub values_in_front : (f : Format) (t : IntegerType) (text digits ds : List ℕ) (s : Bool × ℕ) (n : ℕ) → IsPlain f → 1 ≤ f.mantissa_radix → sign f t text ≡ Ok s → StandsFrom s.1 text digits → length text ≡ s.1 + length digits →
     HaveDigits f.mantissa_radix (take n digits) ds → 0 < n → n ≤ length digits → (n < length digits → is_some (digit (get_or digits n 0) f.mantissa_radix) ≡ false) →
     ((f.no_integer_leading_zeros && nat_le 2 (length ds)) && (slice_index ds 0 == 0)) ≡ false →
     is_number t (with_sign s.0 (positional_value f.mantissa_radix ds)) ≡ true → partial f t text ≡ Ok (with_sign s.0 (positional_value f.mantissa_radix ds), s.1 + n)

@@ -1,6 +1,6 @@
 // The numbers that decimal digits write, by words of eight bytes: digits 0 fill up a word that the text doesn't, and no
 // branch hangs on a digit. A minus in front is raised to the digit 0, so that no branch waits for the sign either.
-ghost use Rattle.std.specs.Prelude.{◌≡◌, ◌+◌, ◌*◌, ◌<◌, ◌≤◌, ◌^◌, ◌%◌, IfSome, get_or, length, slice_range};
+ghost use Rattle.std.specs.Prelude.{◌≡◌, ◌+◌, ◌*◌, ◌<◌, ◌≤◌, ◌^◌, ◌%◌, IfSome, get_or, length, slice_range, take};
 ghost use Rattle.lexical_parse_integer.specs.Plain.{WritesDecimal, bytes_number, minus_more};
 ghost use Rattle.lexical_parse_integer.specs.Words.{AreDigits, word_bytes, word_value};
 
@@ -25,6 +25,20 @@ pub(super) fn word_at(text: &[u8], at: usize) -> u64
 {
     let t = &text[at..at + 8];
     u64::from_le_bytes([t[0], t[1], t[2], t[3], t[4], t[5], t[6], t[7]])
+}
+
+// The first eight bytes of a text. Where it has four to seven, bytes 0 stand after them.
+#[inline(always)]
+pub(super) fn first_word(text: &[u8]) -> u64
+    requires { 4 ≤ length text.now }
+    ensures { result ≡ bytes_number (take 8 text.now) }
+{
+    let n = text.len();
+    if n >= 8 {
+        return word_at(text, 0);
+    }
+    let shift = 64 - 8 * n as u32;
+    half_at(text, 0) + ((half_at(text, n - 4) >> shift) << 32)
 }
 
 // Four bytes of a text.
@@ -158,6 +172,21 @@ pub(super) fn number_of_front(text: &[u8]) -> Option<u32>
     number_to_8(text, 0)
 }
 
+// The number of the first one to eight bytes of a longer text, which are digits: what stands after them in the first
+// eight bytes is shifted out.
+#[inline(always)]
+fn number_of_first(text: &[u8], count: usize) -> Option<u32>
+    requires some { 1 ≤ count }
+    requires few { count ≤ 8 }
+    requires many { 8 ≤ length text.now }
+    ensures writes { IfSome result (λ number. WritesDecimal 0 (take count text.now) number) }
+    ensures small { IfSome result (λ number. number < 100000000) }
+{
+    let shift = 64 - 8 * count as u32;
+    let first = word_at(text, 0) << shift;
+    number_of_word(first + zeros_below(shift))
+}
+
 // The numbers of nine to twenty-four digits: of the last sixteen, eight by eight, and of those before.
 #[inline(always)]
 pub(super) fn numbers_to_24(text: &[u8]) -> Option<(u32, u32, u32)>
@@ -178,10 +207,35 @@ pub(super) fn numbers_to_24(text: &[u8]) -> Option<(u32, u32, u32)>
         };
     }
     match (
-        number_of_front(&text[..n - 16]),
+        number_of_first(text, n - 16),
         numbers_to_16(&text[n - 16..], 0),
     ) {
         (Some(first), Some((high, low))) => Some((first, high, low)),
+        _ => None,
+    }
+}
+
+// The numbers of twenty-five to forty digits: of the last sixteen, eight by eight, and of those before.
+#[inline(always)]
+pub(super) fn numbers_to_40(text: &[u8]) -> Option<((u32, u32, u32), (u32, u32))>
+    requires some { 24 < length text.now }
+    requires few { length text.now ≤ 40 }
+    ensures writes { IfSome result
+        (λ parts. WritesDecimal 0 text.now
+        ((parts.0.0 * 10000000000000000 + (parts.0.1 * 100000000 + parts.0.2))
+        * 10000000000000000 + (parts.1.0 * 100000000 + parts.1.1))) }
+    ensures first { IfSome result (λ parts. parts.0.0 < 100000000) }
+    ensures second { IfSome result (λ parts. parts.0.1 < 100000000) }
+    ensures third { IfSome result (λ parts. parts.0.2 < 100000000) }
+    ensures fourth { IfSome result (λ parts. parts.1.0 < 100000000) }
+    ensures fifth { IfSome result (λ parts. parts.1.1 < 100000000) }
+{
+    let n = text.len();
+    match (
+        numbers_to_24(&text[..n - 16]),
+        numbers_to_16(&text[n - 16..], 0),
+    ) {
+        (Some(front), Some(back)) => Some((front, back)),
         _ => None,
     }
 }

@@ -6,7 +6,7 @@ ghost use Rattle.std.specs.Prelude.{◌≡◌, ◌+◌, ◌%◌, ◌<◌, ◌≤
 ghost use Rattle.lexical_parse_integer.specs.Plain.{WritesDecimal, WritesValue};
 
 use crate::algorithm::plain::digits::{
-    ZEROS, number_of_front, number_of_word, numbers_to_16, word_at, zeros_below,
+    ZEROS, first_word, number_of_front, number_of_word, numbers_to_16, zeros_below,
 };
 use crate::algorithm::plain::values::{value_of_long, value_to_8, value_to_16};
 use lexical_util::num::Integer;
@@ -23,20 +23,22 @@ fn digits_ahead(word: u64) -> u32
 // The number of one to seven digits at the front of a text, behind which no digit stands, and how many they are.
 #[inline(always)]
 pub(super) fn number_in_front(text: &[u8]) -> Option<(u32, usize)>
-    requires { 8 ≤ length text.now }
+    requires { 4 ≤ length text.now }
     ensures some { IfSome result (λ found. 1 ≤ found.1) }
     ensures few { IfSome result (λ found. found.1 < 8) }
+    ensures within { IfSome result (λ found. found.1 ≤ length text.now) }
     ensures writes { IfSome result (λ found. WritesDecimal 0 (take found.1 text.now) found.0) }
     ensures small { IfSome result (λ found. found.0 < 100000000) }
-    ensures stops { IfSome result (λ found. 10 ≤ (get_or text.now found.1 0 + 208) % 256) }
+    ensures stops { IfSome result (λ found. found.1 < length text.now
+        → 10 ≤ (get_or text.now found.1 0 + 208) % 256) }
 {
-    let word = word_at(text, 0);
+    let word = first_word(text);
     let count = digits_ahead(word);
-    if count == 0 || count > 7 {
+    let at = count as usize;
+    if count == 0 || count > 7 || at > text.len() {
         return None;
     }
-    let at = count as usize;
-    if text[at].wrapping_sub(b'0') < 10 {
+    if at < text.len() && text[at].wrapping_sub(b'0') < 10 {
         return None;
     }
     let shift = 64 - 8 * count;
@@ -47,9 +49,36 @@ pub(super) fn number_in_front(text: &[u8]) -> Option<(u32, usize)>
     }
 }
 
-// How many digits a text begins with.
+// How many of the first twenty-four bytes of a text seem to be digits, where eight do at least: a guess by its words.
+#[inline(always)]
+fn words_ahead(text: &[u8]) -> usize {
+    if text.len() < 12 {
+        return 0;
+    }
+    let second = digits_ahead(first_word(&text[8..])) as usize;
+    if second < 8 || text.len() < 20 {
+        return 8 + second;
+    }
+    16 + digits_ahead(first_word(&text[16..])) as usize
+}
+
+// How many digits a text begins with. Bytes that the guess takes for digits are not looked at.
 #[inline(always)]
 pub(super) fn count_of_digits(text: &[u8]) -> usize
+    ensures within { result ≤ length text.now }
+    ensures stops { result < length text.now
+        → 10 ≤ (get_or text.now result 0 + 208) % 256 }
+{
+    let guess = words_ahead(text);
+    if guess > text.len() {
+        return text.len();
+    }
+    guess + digits_at_front(&text[guess..])
+}
+
+// How many digits a text begins with, byte by byte.
+#[inline(always)]
+fn digits_at_front(text: &[u8]) -> usize
     ensures within { result ≤ length text.now }
     ensures stops { result < length text.now
         → 10 ≤ (get_or text.now result 0 + 208) % 256 }

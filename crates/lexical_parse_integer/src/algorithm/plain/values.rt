@@ -1,11 +1,12 @@
 // The values of decimal digits, where the type has them.
 ghost use Rattle.std.specs.Prelude.{◌≤ℤ◌, ◌∷◌, [], neg_ℤ, if◌then◌else◌, false, ◌≡◌, ◌+◌, ◌*◌, ◌<◌, ◌≤◌, IfSome, IsTrue, get_or, length, pos};
+ghost use Rattle.lexical_util.specs.Ascii.{minus};
 ghost use Rattle.lexical_util.specs.Number.{IsNumber, number_limit};
 ghost use Rattle.lexical_parse_integer.specs.Plain.{WritesValue, minus_more};
 ghost use Rattle.lexical_parse_integer.specs.Value.{with_sign};
 
 use crate::algorithm::plain::digits::{
-    minus_more, number_to_3, number_to_8, numbers_to_16, numbers_to_24,
+    minus_more, number_to_3, number_to_8, numbers_to_16, numbers_to_24, numbers_to_40,
 };
 use lexical_util::num::Integer;
 
@@ -97,6 +98,38 @@ fn value_to_24<T: Integer>(first: u32, high: u32, low: u32, negative: bool) -> O
     }
 }
 
+// The value of a number of twenty-five to forty digits, where the type has it. Those of up to thirty-eight are numbers of
+// every type of 128 bits, so that the step to them isn't tested.
+#[inline(always)]
+fn value_to_40<T: Integer>(front: (u32, u32, u32), back: (u32, u32), negative: bool) -> Option<T>
+    requires bits { 64 < T.TYPE.bits }
+    requires minus { IsTrue negative → IsTrue T.TYPE.is_signed }
+    requires first { front.0 < 100000000 }
+    requires second { front.1 < 100000000 }
+    requires third { front.2 < 100000000 }
+    requires fourth { back.0 < 100000000 }
+    requires fifth { back.1 < 100000000 }
+    ensures value { IfSome result
+        (λ value. T.number value
+        ≡ with_sign negative ((front.0 * 10000000000000000 + (front.1 * 100000000 + front.2))
+        * 10000000000000000 + (back.0 * 100000000 + back.1))) }
+    ensures fits { IfSome result (λ value. IsNumber T.TYPE (T.number value)) }
+{
+    let scale = T::from_u32(100_000_000);
+    let whole = scale.mul_add(scale, T::ZERO, false);
+    let high = T::from_u32(front.1).mul_add(scale, T::from_u32(front.2), false);
+    let before = T::from_u32(front.0).mul_add(whole, high, false);
+    let last = T::from_u32(back.0).mul_add(scale, T::from_u32(back.1), false);
+    if front.0 < 1_000_000 {
+        let value = before.mul_add(whole, last, false);
+        return Some(signed_value::<T>(value, negative));
+    }
+    match before.checked_mul_add(whole, last, false) {
+        Some(value) => Some(signed_value::<T>(value, negative)),
+        None => None,
+    }
+}
+
 // The value of one digit.
 #[inline(always)]
 pub(super) fn value_of_one<T: Integer>(byte: u8) -> Option<T>
@@ -116,7 +149,7 @@ pub(super) fn value_of<T: Integer>(text: &[u8], negative: bool) -> Option<T>
     requires some { 2 ≤ length text.now }
     requires few { length text.now ≤ 16 }
     requires minus { IsTrue negative → IsTrue T.TYPE.is_signed }
-    requires first { IsTrue negative → get_or text.now 0 0 ≡ 45 }
+    requires first { IsTrue negative → get_or text.now 0 0 ≡ minus }
     ensures { IfSome result
         (λ value. WritesValue T.TYPE (minus_more negative) negative text.now (T.number value)) }
 {
@@ -135,6 +168,20 @@ pub(super) fn value_of<T: Integer>(text: &[u8], negative: bool) -> Option<T>
     value_to_16::<T>(high, low, negative)
 }
 
+// The value of twenty-five digits and more, where the type has 128 bits.
+#[inline(always)]
+fn value_of_longest<T: Integer>(digits: &[u8], negative: bool) -> Option<T>
+    requires some { 24 < length digits.now }
+    requires minus { IsTrue negative → IsTrue T.TYPE.is_signed }
+    ensures { IfSome result (λ value. WritesValue T.TYPE 0 negative digits.now (T.number value)) }
+{
+    if T::BITS <= 64 || digits.len() > 40 {
+        return None;
+    }
+    let (front, back) = numbers_to_40(digits)?;
+    value_to_40::<T>(front, back, negative)
+}
+
 // The value of sixteen digits and more. It stays out of line, so that the parser of shorter texts is small enough to be
 // held in place.
 #[inline(never)]
@@ -145,7 +192,7 @@ pub(super) fn value_of_long<T: Integer>(digits: &[u8], negative: bool) -> Option
     ensures { IfSome result (λ value. WritesValue T.TYPE 0 negative digits.now (T.number value)) }
 {
     if digits.len() > 24 {
-        return None;
+        return value_of_longest::<T>(digits, negative);
     }
     let (first, high, low) = numbers_to_24(digits)?;
     value_to_24::<T>(first, high, low, negative)

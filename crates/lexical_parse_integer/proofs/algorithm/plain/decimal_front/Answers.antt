@@ -1,5 +1,5 @@
-use Rattle.lexical_parse_integer.proofs.plain.DigitsAlone.{behind_is}
 use Rattle.lexical_parse_integer.proofs.plain.DigitsByTable.{some_bytes}
+use Rattle.lexical_parse_integer.proofs.plain.DigitsAlone.{behind_is}
 use Rattle.lexical_parse_integer.proofs.plain.DigitsInFront.{begins_placed}
 use Rattle.lexical_parse_integer.proofs.algorithm.plain.decimal_front.Goals as goal
 

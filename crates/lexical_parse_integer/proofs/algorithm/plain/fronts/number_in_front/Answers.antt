@@ -4,10 +4,10 @@ use Rattle.lexical_parse_integer.proofs.algorithm.plain.fronts.number_in_front.G
 
 pub overflow_add-first : goal.overflow_add-first
 overflow_add-first c =
-    let holds = first_writes c.digits_ahead-count.result c.args.text.now c.word_at-word.result c.zeros_below.result (omega arith) (omega arith) c.requires (λ k. let f = c.type_inv.text k in omega arith) c.word_at-word.ensures c.zeros_below.ensures in
+    let holds = first_writes c.digits_ahead-count.result c.args.text.now c.first_word-word.result c.zeros_below.result (omega arith) (omega arith) (omega arith) (λ k. let f = c.type_inv.text k in omega arith) c.first_word-word.ensures c.zeros_below.ensures in
     record { fits = holds.small }
 
 pub returns-in-Some-clause-writes : goal.returns-in-Some-clause-writes
 returns-in-Some-clause-writes c =
-    let holds = first_writes c.digits_ahead-count.result c.args.text.now c.word_at-word.result c.zeros_below.result (omega arith) (omega arith) c.requires (λ k. let f = c.type_inv.text k in omega arith) c.word_at-word.ensures c.zeros_below.ensures in
+    let holds = first_writes c.digits_ahead-count.result c.args.text.now c.first_word-word.result c.zeros_below.result (omega arith) (omega arith) (omega arith) (λ k. let f = c.type_inv.text k in omega arith) c.first_word-word.ensures c.zeros_below.ensures in
     writes_padded (8 - c.digits_ahead-count.result) 0 _ _ (take c.digits_ahead-count.result c.args.text.now) holds.bytes c.in-Some.ensures.digits c.in-Some.ensures.value
