@@ -60,6 +60,16 @@ pub(super) fn zeros_below(shift: u32) -> u64
     ZEROS & ((1 << shift) - 1)
 }
 
+// The number that a word writes, of which it is known that it is eight digits.
+#[inline(always)]
+fn number_of_digits(word: u64) -> u32
+    requires { AreDigits 10 (word_bytes 8 word) }
+    ensures value { result ≡ word_value 10 (word_bytes 8 word) }
+    ensures small { result < 100000000 }
+{
+    parse_8digits(word, 10) as u32
+}
+
 // The number that a word of eight digits writes.
 #[inline(always)]
 pub(super) fn number_of_word(word: u64) -> Option<u32>
@@ -68,7 +78,7 @@ pub(super) fn number_of_word(word: u64) -> Option<u32>
     ensures small { IfSome result (λ number. number < 100000000) }
 {
     if is_8digits(word, 10) {
-        Some(parse_8digits(word, 10) as u32)
+        Some(number_of_digits(word))
     } else {
         None
     }
@@ -85,9 +95,7 @@ fn numbers_of_words(high: u64, low: u64) -> Option<(u32, u32)>
     ensures low_small { IfSome result (λ parts. parts.1 < 100000000) }
 {
     if is_8digits(high, 10) & is_8digits(low, 10) {
-        let high_number = parse_8digits(high, 10) as u32;
-        let low_number = parse_8digits(low, 10) as u32;
-        Some((high_number, low_number))
+        Some((number_of_digits(high), number_of_digits(low)))
     } else {
         None
     }
