@@ -1,4 +1,4 @@
-use Rattle.std.proofs.Common.{ℕ, ap, sym, ◌∙◌}
+use Rattle.std.proofs.Common.{ap, sym, ◌∙◌}
 use Rattle.lexical_parse_integer.specs.Marked.{stop_after}
 use Rattle.lexical_parse_integer.proofs.marked.MarkedAnswers.{no_suffix_past}
 use Rattle.lexical_parse_integer.proofs.algorithm.marked.stop_after.Goals as goal
