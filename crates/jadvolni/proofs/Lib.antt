@@ -1,0 +1,2 @@
+-- The proofs beside the functions, a file for each idea.
+pub mod ColumnArrays
