@@ -75,6 +75,7 @@ BENCH ?=
 
 bench:
 	@RT=$(RT) bench/run.py $(BENCH)
+	@RT=$(RT) bench/columns.py
 
 # JUDGE is what judge_edits.py is asked: make judge JUDGE="--crate lexical_util --jobs 2".
 JUDGE ?=
