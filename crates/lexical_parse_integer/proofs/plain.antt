@@ -2,4 +2,5 @@
 pub mod DigitsAlone
 pub mod DigitsByTable
 pub mod DigitsInFront
+pub mod FieldsInFront
 pub mod WordsOfDigits
