@@ -19,7 +19,7 @@ pub fn is_separated(format: &NumberFormat, separator: u8) -> bool
     char_to_digit(separator, 10).is_none()
 }
 
-/// The number of a text's first field and the field's length, where the field is a few decimal digits behind an
+/// The number of a text's first field and the field's length, where the field is up to seven decimal digits after an
 /// optional minus, a separator stands after it, and the type has the number.
 ///
 /// `None` says nothing of the field. Between commas the first field of `12,345678,x` is 12, of length 2.
