@@ -1,33 +1,8 @@
 /* The calls of jadvolni.h that read columns: each type, each status, each end of the room, and hostile columns. */
 #include "jadvolni.h"
-
-#include <stdio.h>
-#include <stdlib.h>
-#include <string.h>
-
-static int checks, wrong;
-
-static void check(int line, int holds, const char *what)
-{
-    checks++;
-    if (!holds) {
-        wrong++;
-        fprintf(stderr, "columns.c:%d: %s\n", line, what);
-    }
-}
-
-#define CHECK(condition) check(__LINE__, condition, #condition)
+#include "check.h"
 
 static const jadvolni_format STANDARD = JADVOLNI_FORMAT_STANDARD;
-
-/* Memory of just so many bytes: so a sanitizer sees each read and each write outside of it. */
-static void *exactly(const void *bytes, size_t len)
-{
-    void *copy = malloc(len ? len : 1);
-    if (!copy) abort();
-    memcpy(copy, bytes, len);
-    return copy;
-}
 
 /* A column of a type between commas: two numbers of it and one wrong field, with room for four. */
 #define EACH_TYPE(name, type, least, greatest, at)                                                \
@@ -235,6 +210,5 @@ int main(void)
     pieces();
     each_field_wrong();
     large();
-    printf("%d checks, %d wrong\n", checks, wrong);
-    return wrong != 0;
+    return checked();
 }
