@@ -91,3 +91,4 @@ BENCH ?=
 
 bench: | toolchain ## measures the parsers beside others, and writes bench/results.tsv and docs/SPEED.md
 	@RT=$(RT) bench/run.py $(BENCH)
+	@RT=$(RT) bench/columns.py

@@ -22,6 +22,11 @@
  * doesn't belong to the number: "12, 13" gives 12, and the place 2. A front of no digits, in front
  * of other bytes, is 0 at place 0, as under the standard format "x" is: look at the place.
  *
+ * Eight of the types, u8 to u64 and i8 to i64, have a call that reads many numbers at once, described
+ * at its declaration below:
+ *
+ *     jadvolni_u64_column(text, len, separator, &format, values, capacity, &count)
+ *
  * WHAT A CALL ANSWERS
  *
  *     r.status  JADVOLNI_OK, or what is wrong with the text or with the format.
@@ -277,6 +282,58 @@ JADVOLNI_CALLS_(isize, ptrdiff_t);
 
 #undef JADVOLNI_CALLS_
 
+/* ---- columns ---- */
+
+/*
+ * The numbers of a text's fields, read into an array by one call. A field is the bytes up to the
+ * separator, which is one byte. The last field needs none after it, and a last separator starts no
+ * further field: so the lines of a file are its fields between line feeds. The empty text has none.
+ *
+ *     int64_t values[1000];
+ *     size_t count;
+ *     jadvolni_format format = JADVOLNI_FORMAT_STANDARD;
+ *     jadvolni_result r = jadvolni_i64_column(text, len, '\n', &format, values, 1000, &count);
+ *     if (r.status != JADVOLNI_OK)
+ *         fprintf(stderr, "line %zu, byte %zu: %s\n", count + 1, r.place,
+ *                 jadvolni_status_name(r.status));
+ *
+ *     r.status  JADVOLNI_OK, or what is wrong with the first field that is no number, or with the
+ *               format, which is looked at first.
+ *     r.place   At JADVOLNI_OK where reading stopped: `len`, or the start of the first field for
+ *               which the array had no room. A call on the text from there on goes on exactly there,
+ *               and counts its places from there. At a fault of a field the place of the byte that
+ *               it is about, counted from the start of the text; at a fault of the format 0.
+ *     count     How many numbers were read. At a fault of a field that is the field's index, counted
+ *               from 0. It is written by every call.
+ *     values    The numbers, in order. From `values[count]` on the array is as it was, also after a
+ *               fault, and the numbers before the fault stand.
+ *
+ * So "12,7,x" with the separator ',' gives 12 and 7, count 2, and JADVOLNI_INVALID_DIGIT at 5. With
+ * room for one it gives 12, count 1, and JADVOLNI_OK at 3: what has no room isn't looked at.
+ *
+ * Any byte may be the separator, also one that the format gives a meaning: the text is cut first, and
+ * then each field is read whole. "2026-11-23" as u16 between '-' is 2026, 11 and 23.
+ *
+ * Beside what the head of this file says, `values` points to `capacity` numbers that may be written,
+ * and may be NULL where `capacity` is 0; `count` is not NULL. Neither lies in the text, in the format
+ * or in the other.
+ */
+#define JADVOLNI_COLUMN_(name, type)                                                            \
+    jadvolni_result jadvolni_##name##_column(const char *text, size_t len, uint8_t separator,   \
+                                             const jadvolni_format *format, type *values,       \
+                                             size_t capacity, size_t *count)
+
+JADVOLNI_COLUMN_(u8, uint8_t);
+JADVOLNI_COLUMN_(u16, uint16_t);
+JADVOLNI_COLUMN_(u32, uint32_t);
+JADVOLNI_COLUMN_(u64, uint64_t);
+JADVOLNI_COLUMN_(i8, int8_t);
+JADVOLNI_COLUMN_(i16, int16_t);
+JADVOLNI_COLUMN_(i32, int32_t);
+JADVOLNI_COLUMN_(i64, int64_t);
+
+#undef JADVOLNI_COLUMN_
+
 /* ---- helpers, written in C: they are tested, and nothing of them is proved ---- */
 
 /* The name of a status, as "Overflow" for JADVOLNI_OVERFLOW; "Unknown" for a number that is none. */
@@ -300,6 +357,14 @@ static inline const char *jadvolni_status_name(uint32_t status)
     case JADVOLNI_UNKNOWN_FIELD: return "UnknownField";
     default: return "Unknown";
     }
+}
+
+/* Where the field of a column starts that has its fault at `place`. */
+static inline size_t jadvolni_field_start(const char *text, size_t place, uint8_t separator)
+{
+    while (place > 0 && (uint8_t)text[place - 1] != separator)
+        place--;
+    return place;
 }
 
 #ifdef __SIZEOF_INT128__

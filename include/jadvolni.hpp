@@ -7,6 +7,9 @@
 //
 //     auto [ptr, ec] = jadvolni::from_chars(first, last, value); // as std::from_chars
 //
+//     std::vector<int> values(1000);
+//     auto read = jadvolni::column(text, '\n', values); // a number on each line
+//
 // T may be any integer type of C++ but bool and the types of wide characters, and, with gcc and
 // clang, a type of 128 bits. No call throws or allocates, and the header compiles without exceptions
 // too. What the calls of jadvolni.h answer is proved; what this header adds to them is tested.
@@ -18,6 +21,7 @@
 #include <charconv>
 #include <cstddef>
 #include <cstdint>
+#include <iterator>
 #include <optional>
 #include <string_view>
 #include <system_error>
@@ -128,6 +132,25 @@ JADVOLNI_CALLS_OF_(std::int64_t, i64);
 JADVOLNI_CALLS_OF_(jadvolni_int128, i128);
 #undef JADVOLNI_CALLS_OF_
 
+// The call that reads a column into numbers of a Kept.
+template <class Kept>
+struct column_call;
+
+#define JADVOLNI_COLUMN_OF_(kept, name)                            \
+    template <>                                                    \
+    struct column_call<kept> {                                     \
+        static constexpr auto read = &jadvolni_##name##_column;    \
+    }
+JADVOLNI_COLUMN_OF_(std::uint8_t, u8);
+JADVOLNI_COLUMN_OF_(std::uint16_t, u16);
+JADVOLNI_COLUMN_OF_(std::uint32_t, u32);
+JADVOLNI_COLUMN_OF_(std::uint64_t, u64);
+JADVOLNI_COLUMN_OF_(std::int8_t, i8);
+JADVOLNI_COLUMN_OF_(std::int16_t, i16);
+JADVOLNI_COLUMN_OF_(std::int32_t, i32);
+JADVOLNI_COLUMN_OF_(std::int64_t, i64);
+#undef JADVOLNI_COLUMN_OF_
+
 template <class T, class... Others>
 inline constexpr bool is_one_of = (std::is_same_v<T, Others> || ...);
 
@@ -197,6 +220,57 @@ template <class T>
     auto answer =
         detail::calls<decltype(kept)>::partial_under(text.data(), text.size(), &under, &kept);
     return {detail::kept_as<T>::number(kept), answer};
+}
+
+// What was read of a column: a count of numbers, and where reading stopped or what is wrong there.
+class column_result {
+public:
+    column_result(std::size_t count, jadvolni_result answer) noexcept
+        : count_(count), place_(answer.place), status_(static_cast<jadvolni::status>(answer.status))
+    {
+    }
+
+    // Whether each field was a number, as far as there was room.
+    explicit operator bool() const noexcept { return status_ == jadvolni::status::ok; }
+
+    // How many numbers were read. At a fault that is the index of the field that has it, from 0.
+    std::size_t count() const noexcept { return count_; }
+
+    // What is wrong with that field or with the format, and its name.
+    jadvolni::status status() const noexcept { return status_; }
+    const char *name() const noexcept { return jadvolni::name(status_); }
+
+    // Where reading stopped, so that the next call goes on there; or the place of the fault.
+    std::size_t place() const noexcept { return place_; }
+
+private:
+    std::size_t count_;
+    std::size_t place_;
+    jadvolni::status status_;
+};
+
+// The numbers of the text's fields between a separator, which may be any byte, read into an array, as
+// far as it has room. The numbers before a fault stand, and the rest of the array is as it was.
+template <class T>
+[[nodiscard]] column_result column(std::string_view text, char separator, T *values,
+                                   std::size_t capacity, const format &under = standard) noexcept
+{
+    using kept = typename detail::kept_as<T>::type;
+    static_assert(sizeof(T) <= 8, "a column has numbers of up to 64 bits");
+    std::size_t count = 0;
+    auto answer = detail::column_call<kept>::read(
+        text.data(), text.size(), static_cast<unsigned char>(separator), &under,
+        reinterpret_cast<kept *>(values), capacity, &count);
+    return {count, answer};
+}
+
+// The same into what has its numbers in a row: a std::vector, a std::array, a std::span, an array.
+template <class Values>
+[[nodiscard]] auto column(std::string_view text, char separator, Values &&values,
+                          const format &under = standard) noexcept
+    -> decltype(column(text, separator, std::data(values), std::size(values), under))
+{
+    return column(text, separator, std::data(values), std::size(values), under);
 }
 
 // The front of [first, last) as a T, under a format. At std::errc() `ptr` is where reading stopped.

@@ -8,6 +8,7 @@ this machine doesn't have skips it, and the last line counts the steps that pass
 status is 1 where one failed. Nothing outside a temporary folder is written.
 """
 import argparse
+import itertools
 import os
 import re
 import shutil
@@ -22,6 +23,15 @@ WARNINGS = ["-Wall", "-Wextra", "-pedantic", "-Werror", "-O2"]
 SANITIZERS = ["-g", "-O1", "-fsanitize=address,undefined", "-fno-sanitize-recover=all"]
 C_COMPILERS, CXX_COMPILERS = ("gcc", "clang"), ("g++", "clang++")
 TEN_LINES = "err Overflow 19\n"
+# What the examples of columns are given, and say: a program, its arguments, its input, its status and its answer.
+COLUMNS = (
+    ("ledger", [], "rent -80000\nfood 1200\n", 0, "-78800\n"),
+    ("ledger", [], "rent -80000\nfood 12x\nwine x\n", 1, "line 2, column 8, byte 19: InvalidDigit\n"),
+    ("ledger", [], "x 1\n" * 3000 + "x \n", 1, "line 3001, column 3, byte 12002: Empty\n"),
+    ("csv_column", ["2"], "a,12\nb,30", 0, "42\n"),
+    ("csv_column", ["2"], "a,12,x\nb,9223372036854775808,x\n", 1, "line 2, column 21, byte 27: Overflow\n"),
+    ("csv_column", ["2"], "a,12\nb\n", 1, "line 2, column 2, byte 6: the line has no such cell\n"),
+)
 
 
 class Failed(Exception):
@@ -32,14 +42,16 @@ class Skipped(Exception):
     """A step that this machine lacks something for."""
 
 
-def run(command, expected=None, given="", **settings):
-    """Runs a command, which has to end with status 0, and to write what is expected of it, where something is."""
+def run(command, expected=None, given="", status=0, **settings):
+    """Runs a command, which has to end with a status, and to write what is expected of it, where something is: to its
+    standard output, or to standard error where it ends with another status than 0."""
     done = subprocess.run(command, input=given, capture_output=True, text=True, timeout=900, **settings)
-    if done.returncode != 0:
+    if done.returncode != status:
         raise Failed(f"{' '.join(command)}\nended with {done.returncode}\n{done.stdout}{done.stderr}")
-    if expected is not None and done.stdout != expected:
-        raise Failed(f"{' '.join(command)}\nwrote {done.stdout!r}, and not {expected!r}")
-    return done.stdout
+    said = done.stderr if status else done.stdout
+    if expected is not None and said != expected:
+        raise Failed(f"{' '.join(command)}\nwrote {said!r}, and not {expected!r}")
+    return said
 
 
 def needs(*tools):
@@ -115,7 +127,8 @@ class Callers:
         types = ["u8", "u16", "u32", "u64", "u128", "usize", "i8", "i16", "i32", "i64", "i128", "isize"]
         forms = ["", "_partial", "_with_format", "_partial_with_format"]
         wanted = sorted(["jadvolni_version", "jadvolni_format_error"]
-                        + [f"jadvolni_{name}{form}" for name in types for form in forms])
+                        + [f"jadvolni_{name}{form}" for name in types for form in forms]
+                        + [f"jadvolni_{kind}{bits}_column" for kind in "ui" for bits in (8, 16, 32, 64)])
         if names != wanted:
             raise Failed(f"exported and not declared, or the other way round: {sorted(set(names) ^ set(wanted))}")
         return f"{len(names)} names"
@@ -146,7 +159,7 @@ class Callers:
                 "PKG_CONFIG_SYSROOT_DIR": self.installed, "PKG_CONFIG_ALLOW_SYSTEM_CFLAGS": "1",
                 "PKG_CONFIG_ALLOW_SYSTEM_LIBS": "1"}
 
-    def by_pkg_config(self, compiler, source, expected, words=(), given=""):
+    def by_pkg_config(self, compiler, source, expected, words=(), given="", status=0):
         """An example, with the flags that pkg-config tells."""
         needs(compiler, "pkg-config")
         self.needs_shared()
@@ -154,7 +167,7 @@ class Callers:
         flags = run(["pkg-config", "--cflags", "--libs", "jadvolni"], env=where).split()
         program = self.path("example")
         run([compiler, *WARNINGS, os.path.join(TOP, source), "-o", program, *flags])
-        return run([program, *words], expected, given, env=where).strip().split("\n")[0]
+        return run([program, *words], expected, given, status, env=where).strip().split("\n")[0]
 
     def by_cmake(self, target):
         """An example, by find_package."""
@@ -218,16 +231,17 @@ class Callers:
 
     def steps(self):
         """The steps, in their order: a name and what to do."""
-        calls, wrapper = "tests/c/calls.c", "tests/c/wrapper.cpp"
+        wrapper = "tests/c/wrapper.cpp"
         yield "what the static library is", self.static_library
         yield "what the shared library is", self.shared_library
         yield "worked rows, by the shared library", self.rows
-        for compiler in C_COMPILERS:
-            yield f"C99, {compiler}", lambda c=compiler: self.call(c, calls, ["-std=c99", *WARNINGS])
-            yield f"C11 and the shared library, {compiler}", lambda c=compiler: self.call(
-                c, calls, ["-std=c11", *WARNINGS], shared=True)
-            yield f"C99 under sanitizers, {compiler}", lambda c=compiler: self.call(
-                c, calls, ["-std=c99", "-Wall", "-Wextra", "-pedantic", "-Werror", *SANITIZERS])
+        for compiler, calls in itertools.product(C_COMPILERS, ("calls", "columns")):
+            source = f"tests/c/{calls}.c"
+            yield f"C99, {calls}, {compiler}", lambda c=compiler, s=source: self.call(c, s, ["-std=c99", *WARNINGS])
+            yield f"C11 and the shared library, {calls}, {compiler}", lambda c=compiler, s=source: self.call(
+                c, s, ["-std=c11", *WARNINGS], shared=True)
+            yield f"C99 under sanitizers, {calls}, {compiler}", lambda c=compiler, s=source: self.call(
+                c, s, ["-std=c99", "-Wall", "-Wextra", "-pedantic", "-Werror", *SANITIZERS])
         for compiler in CXX_COMPILERS:
             yield f"C++17, {compiler}", lambda c=compiler: self.call(c, wrapper, ["-std=c++17", *WARNINGS])
             yield f"C++17 and the shared library, {compiler}", lambda c=compiler: self.call(
@@ -240,6 +254,9 @@ class Callers:
         yield "ten lines of C by pkg-config", lambda: self.by_pkg_config("cc", "examples/c/ten_lines.c", TEN_LINES)
         yield "a sum in C by pkg-config", lambda: self.by_pkg_config(
             "cc", "examples/c/sum.c", "-2\n", given="9223372036854775807\n-9223372036854775808\n-1\n")
+        for name, words, given, status, said in COLUMNS:
+            yield f"a {name} in C by pkg-config", lambda n=name, w=words, g=given, s=status, e=said: self.by_pkg_config(
+                "cc", f"examples/c/{n}.c", e, w, g, s)
         yield "colours in C++ by pkg-config", lambda: self.by_pkg_config(
             "c++", "examples/cpp/colour.cpp", "30 144 255\nInvalidDigit at byte 1\n", ["1e90FF", "0#"])
         yield "ten lines of C by CMake, shared", lambda: self.by_cmake("jadvolni")

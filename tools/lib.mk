@@ -8,7 +8,7 @@ MANDIR ?= $(PREFIX)/share/man
 VERSION := $(shell sed -n 's/.*JADVOLNI_VERSION_STRING "\(.*\)"/\1/p' include/jadvolni.h)
 SOVERSION := 0
 LIBRARIES := build/libjadvolni.a build/libjadvolni.so
-LIBRARY_SOURCES := $(shell find crates/jadvolni crates/lexical_parse_integer crates/lexical_util -name out -prune -o -type f \( -name '*.rt' -o -name '*.antt' \) -print) crates.txt
+LIBRARY_SOURCES := $(shell find crates/jadvolni crates/lexical_fields crates/lexical_parse_integer crates/lexical_util -name out -prune -o -type f \( -name '*.rt' -o -name '*.antt' \) -print) crates.txt
 
 .PHONY: lib install-lib uninstall-lib test-c check-c
 

@@ -1,32 +1,6 @@
 /* Every call of jadvolni.h, every status, and the ends of what a caller may hand over. */
 #include "jadvolni.h"
-
-#include <inttypes.h>
-#include <stdio.h>
-#include <stdlib.h>
-#include <string.h>
-
-static int checks, wrong;
-
-static void check(int line, int holds, const char *what)
-{
-    checks++;
-    if (!holds) {
-        wrong++;
-        fprintf(stderr, "calls.c:%d: %s\n", line, what);
-    }
-}
-
-#define CHECK(condition) check(__LINE__, condition, #condition)
-
-/* The text on the heap, without a byte more: so a sanitizer sees each read outside of it. */
-static char *exactly(const char *text, size_t len)
-{
-    char *copy = malloc(len ? len : 1);
-    if (!copy) abort();
-    memcpy(copy, text, len);
-    return copy;
-}
+#include "check.h"
 
 /* Checks what a call answers, and what is then behind the pointer, where 77 was. */
 #define EXPECT(call, type, format_argument, text, wanted_status, wanted_place, wanted_number)      \
@@ -229,6 +203,5 @@ int main(void)
     halves();
     null_texts();
     names();
-    printf("%d checks, %d wrong\n", checks, wrong);
-    return wrong != 0;
+    return checked();
 }

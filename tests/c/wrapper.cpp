@@ -1,11 +1,13 @@
 // The header for C++: each status, each kind of call, and from_chars beside that of the standard library.
 #include "jadvolni.hpp"
 
+#include <array>
 #include <climits>
 #include <cstdio>
 #include <cstring>
 #include <random>
 #include <string>
+#include <vector>
 
 static int checks = 0, wrong = 0;
 
@@ -137,12 +139,69 @@ static void beside_from_chars(int texts)
     }
 }
 
+// Columns into what has its numbers in a row, and what is left of that at a fault.
+static void columns()
+{
+    std::vector<int> values(3, 77);
+    auto read = jadvolni::column("1,-2,", ',', values);
+    CHECK(read && read.count() == 2 && read.place() == 5 && values == std::vector<int>{1, -2, 77});
+    read = jadvolni::column("8,9,10,x", ',', values.data(), 2);
+    CHECK(read && read.count() == 2 && read.place() == 4 && values == std::vector<int>{8, 9, 77});
+    read = jadvolni::column("3,x", ',', values);
+    CHECK(!read && read.status() == status::invalid_digit && read.place() == 2 && read.count() == 1);
+    CHECK(std::strcmp(read.name(), "InvalidDigit") == 0 && values == std::vector<int>{3, 9, 77});
+    std::array<unsigned char, 2> bytes{};
+    auto hexadecimal = jadvolni::standard;
+    hexadecimal.mantissa_radix = 16;
+    CHECK(jadvolni::column("fF 100", ' ', bytes, hexadecimal).status() == status::overflow && bytes[0] == 255);
+    hexadecimal.mantissa_radix = 37;
+    CHECK(jadvolni::column("1", ' ', bytes, hexadecimal).status() == status::invalid_mantissa_radix);
+    long long wide[2] = {7, 7};
+    CHECK(jadvolni::column("-9223372036854775808\xff", '\xff', wide).place() == 21 && wide[0] == LLONG_MIN);
+    CHECK(jadvolni::column(std::string_view(), '\n', static_cast<short *>(nullptr), 0));
+}
+
+// The numbers of a column as a T, beside those of a loop of std::from_chars.
+template <class T>
+static void column_beside_std(std::mt19937_64 &random)
+{
+    std::vector<T> ours(1000), theirs;
+    std::string text;
+    for (int i = 0; i < 1000; ++i) text += std::to_string(T(random() >> random() % 64)) + '\n';
+    for (const char *at = text.data(), *last = at + text.size(); at != last; ++at) {
+        T number{};
+        at = std::from_chars(at, last, number).ptr;
+        theirs.push_back(number);
+    }
+    auto read = jadvolni::column(text, '\n', ours);
+    CHECK(read && read.count() == 1000 && read.place() == text.size() && ours == theirs);
+}
+
+static void columns_beside_from_chars()
+{
+    std::mt19937_64 random(1);
+    for (int i = 0; i < 20; ++i) {
+        column_beside_std<signed char>(random);
+        column_beside_std<unsigned char>(random);
+        column_beside_std<short>(random);
+        column_beside_std<unsigned short>(random);
+        column_beside_std<int>(random);
+        column_beside_std<unsigned>(random);
+        column_beside_std<long>(random);
+        column_beside_std<unsigned long>(random);
+        column_beside_std<long long>(random);
+        column_beside_std<unsigned long long>(random);
+    }
+}
+
 int main()
 {
     faults_of_texts();
     faults_of_formats();
     numbers();
     fronts_under_a_format();
+    columns();
+    columns_beside_from_chars();
     beside_from_chars(25000);
     std::printf("%d checks, %d wrong\n", checks, wrong);
     return wrong != 0;

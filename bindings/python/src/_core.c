@@ -33,6 +33,9 @@ typedef union number {
 
 typedef jadvolni_result parse_call(const char *text, size_t len, const jadvolni_format *format,
                                    void *value);
+typedef jadvolni_result column_call(const char *text, size_t len, uint8_t separator,
+                                    const jadvolni_format *format, void *values, size_t capacity,
+                                    size_t *count);
 
 /* What a type is called, the code of its arrays (none for 128 bits), its size and its calls. */
 typedef struct number_type {
@@ -41,6 +44,7 @@ typedef struct number_type {
     size_t size;
     parse_call *whole;
     parse_call *front;
+    column_call *column;
     PyObject *(*number)(const number *value);
 } number_type;
 
@@ -56,30 +60,42 @@ typedef struct number_type {
         return jadvolni_##name##_partial_with_format(text, len, format, (type *)value);          \
     }
 
-#define UNSIGNED_TYPE(name, type)                                                                \
+/* The call for columns of a type is that of the type of C, whose width and sign it has. */
+#define COLUMN_CALL(name, call, type)                                                            \
+    static jadvolni_result column_##name(const char *text, size_t len, uint8_t separator,        \
+                                         const jadvolni_format *format, void *values,            \
+                                         size_t capacity, size_t *count)                         \
+    {                                                                                            \
+        return jadvolni_##call##_column(text, len, separator, format, (type *)values, capacity,  \
+                                        count);                                                  \
+    }
+
+#define UNSIGNED_TYPE(name, call, type, column_type)                                             \
     PARSE_CALLS(name, type)                                                                      \
+    COLUMN_CALL(name, call, column_type)                                                         \
     static PyObject *number_##name(const number *value)                                          \
     {                                                                                            \
         return PyLong_FromUnsignedLongLong(value->name);                                         \
     }
 
-#define SIGNED_TYPE(name, type)                                                                  \
+#define SIGNED_TYPE(name, call, type, column_type)                                               \
     PARSE_CALLS(name, type)                                                                      \
+    COLUMN_CALL(name, call, column_type)                                                         \
     static PyObject *number_##name(const number *value)                                          \
     {                                                                                            \
         return PyLong_FromLongLong(value->name);                                                 \
     }
 
-UNSIGNED_TYPE(u8, uint8_t)
-UNSIGNED_TYPE(u16, uint16_t)
-UNSIGNED_TYPE(u32, uint32_t)
-UNSIGNED_TYPE(u64, uint64_t)
-UNSIGNED_TYPE(usize, size_t)
-SIGNED_TYPE(i8, int8_t)
-SIGNED_TYPE(i16, int16_t)
-SIGNED_TYPE(i32, int32_t)
-SIGNED_TYPE(i64, int64_t)
-SIGNED_TYPE(isize, ptrdiff_t)
+UNSIGNED_TYPE(u8, u8, uint8_t, uint8_t)
+UNSIGNED_TYPE(u16, u16, uint16_t, uint16_t)
+UNSIGNED_TYPE(u32, u32, uint32_t, uint32_t)
+UNSIGNED_TYPE(u64, u64, uint64_t, uint64_t)
+UNSIGNED_TYPE(usize, u64, size_t, uint64_t)
+SIGNED_TYPE(i8, i8, int8_t, int8_t)
+SIGNED_TYPE(i16, i16, int16_t, int16_t)
+SIGNED_TYPE(i32, i32, int32_t, int32_t)
+SIGNED_TYPE(i64, i64, int64_t, int64_t)
+SIGNED_TYPE(isize, i64, ptrdiff_t, int64_t)
 PARSE_CALLS(u128, jadvolni_uint128)
 PARSE_CALLS(i128, jadvolni_int128)
 
@@ -107,7 +123,10 @@ static PyObject *number_i128(const number *value)
     return joined(PyLong_FromLongLong(value->i128.high), value->i128.low);
 }
 
-#define TYPE(name, code, type) {#name, code, sizeof(type), whole_##name, front_##name, number_##name}
+#define TYPE(name, code, type) \
+    {#name, code, sizeof(type), whole_##name, front_##name, column_##name, number_##name}
+#define WIDE_TYPE(name, type) \
+    {#name, NULL, sizeof(type), whole_##name, front_##name, NULL, number_##name}
 
 static const number_type TYPES[] = {
     TYPE(i64, "q", int64_t),
@@ -120,8 +139,8 @@ static const number_type TYPES[] = {
     TYPE(u8, "B", uint8_t),
     TYPE(isize, "q", ptrdiff_t),
     TYPE(usize, "Q", size_t),
-    TYPE(i128, NULL, jadvolni_int128),
-    TYPE(u128, NULL, jadvolni_uint128),
+    WIDE_TYPE(i128, jadvolni_int128),
+    WIDE_TYPE(u128, jadvolni_uint128),
 };
 
 /* The type of a name, and i64 where none is given. NULL with an exception for any other object. */
@@ -186,6 +205,12 @@ static void raise_format(uint32_t status)
     Py_XDECREF(error);
 }
 
+/* Whether a status is that of a format, which has no place. */
+static int is_of_format(uint32_t status)
+{
+    return status >= JADVOLNI_INVALID_MANTISSA_RADIX;
+}
+
 /* A field of a column that has a fault: which one it is, and where it starts. */
 typedef struct field_place {
     size_t index;
@@ -196,7 +221,7 @@ typedef struct field_place {
 static void raise_fault(uint32_t status, size_t place, const char *text, size_t len,
                         const field_place *field)
 {
-    if (status >= JADVOLNI_INVALID_MANTISSA_RADIX) {
+    if (is_of_format(status)) {
         raise_format(status);
         return;
     }
@@ -314,56 +339,70 @@ static void give_back(lent_text *lent)
 
 /* ---- one number ---- */
 
-static PyObject *parse(PyObject *module, PyObject *const *args, Py_ssize_t count, PyObject *keywords)
+/* A text with the type and the format that it is read by. */
+typedef struct question {
+    const number_type *type;
+    jadvolni_format format;
+    lent_text text;
+} question;
+
+/* What a call was asked, by its arguments. The text has to be given back where it is 0. */
+static int question_of(const char *call, PyObject *const *args, Py_ssize_t count, PyObject *keywords,
+                       question *asked)
 {
     static const char *const names[] = {"text", "type", "format"};
     PyObject *found[3];
-    jadvolni_format format;
-    lent_text text;
+    if (arguments(call, args, count, keywords, names, 3, found) < 0)
+        return -1;
+    asked->type = type_of(found[1]);
+    if (!asked->type || format_of(found[2], &asked->format) < 0)
+        return -1;
+    return lend(found[0], &asked->text);
+}
+
+static PyObject *parse(PyObject *module, PyObject *const *args, Py_ssize_t count, PyObject *keywords)
+{
+    question asked;
     number value;
-    (void)module;
-    if (arguments("parse", args, count, keywords, names, 3, found) < 0)
-        return NULL;
-    const number_type *type = type_of(found[1]);
-    if (!type || format_of(found[2], &format) < 0 || lend(found[0], &text) < 0)
-        return NULL;
-    jadvolni_result answer = type->whole(text.bytes, text.len, &format, &value);
     PyObject *result = NULL;
+    (void)module;
+    if (question_of("parse", args, count, keywords, &asked) < 0)
+        return NULL;
+    const char *text = asked.text.bytes;
+    jadvolni_result answer = asked.type->whole(text, asked.text.len, &asked.format, &value);
     if (answer.status == JADVOLNI_OK)
-        result = type->number(&value);
+        result = asked.type->number(&value);
     else
-        raise_fault(answer.status, answer.place, text.bytes, text.len, NULL);
-    give_back(&text);
+        raise_fault(answer.status, answer.place, text, asked.text.len, NULL);
+    give_back(&asked.text);
+    return result;
+}
+
+/* A number and a place. */
+static PyObject *pair(PyObject *read, PyObject *place)
+{
+    PyObject *result = read && place ? PyTuple_Pack(2, read, place) : NULL;
+    Py_XDECREF(read);
+    Py_XDECREF(place);
     return result;
 }
 
 static PyObject *parse_partial(PyObject *module, PyObject *const *args, Py_ssize_t count,
                                PyObject *keywords)
 {
-    static const char *const names[] = {"text", "type", "format"};
-    PyObject *found[3];
-    jadvolni_format format;
-    lent_text text;
+    question asked;
     number value;
-    (void)module;
-    if (arguments("parse_partial", args, count, keywords, names, 3, found) < 0)
-        return NULL;
-    const number_type *type = type_of(found[1]);
-    if (!type || format_of(found[2], &format) < 0 || lend(found[0], &text) < 0)
-        return NULL;
-    jadvolni_result answer = type->front(text.bytes, text.len, &format, &value);
     PyObject *result = NULL;
-    if (answer.status == JADVOLNI_OK) {
-        PyObject *read = type->number(&value);
-        PyObject *place = PyLong_FromSize_t(answer.place);
-        if (read && place)
-            result = PyTuple_Pack(2, read, place);
-        Py_XDECREF(read);
-        Py_XDECREF(place);
-    } else {
-        raise_fault(answer.status, answer.place, text.bytes, text.len, NULL);
-    }
-    give_back(&text);
+    (void)module;
+    if (question_of("parse_partial", args, count, keywords, &asked) < 0)
+        return NULL;
+    const char *text = asked.text.bytes;
+    jadvolni_result answer = asked.type->front(text, asked.text.len, &asked.format, &value);
+    if (answer.status == JADVOLNI_OK)
+        result = pair(asked.type->number(&value), PyLong_FromSize_t(answer.place));
+    else
+        raise_fault(answer.status, answer.place, text, asked.text.len, NULL);
+    give_back(&asked.text);
     return result;
 }
 
@@ -384,44 +423,28 @@ static int separator_of(PyObject *separator)
     return byte;
 }
 
-/* How many fields a text has. A last separator ends no further one. */
-static size_t field_count(const char *text, size_t len, char separator)
+/* For how many numbers room is made: for one of each field. */
+static size_t field_count(const char *text, size_t len, uint8_t separator)
 {
     size_t separators = 0;
     for (size_t k = 0; k < len; k++)
-        separators += text[k] == separator;
-    return separators + (len > 0 && text[len - 1] != separator);
+        separators += (uint8_t)text[k] == separator;
+    return separators + (len > 0 && (uint8_t)text[len - 1] != separator);
 }
 
-/* A fault of a column, if there is one, and the field that has it. */
-typedef struct column_answer {
-    jadvolni_result fault;
-    field_place field;
-    size_t field_len;
-} column_answer;
-
-/* Reads each field into `values`, as far as there is room, up to the first fault. */
-static column_answer read_column(const number_type *type, const char *text, size_t len,
-                                 char separator, const jadvolni_format *format, char *values,
-                                 size_t room)
+/* Raises the fault of a column: of its format, or of the field with this index. */
+static void raise_column(jadvolni_result answer, size_t index, const lent_text *text,
+                         uint8_t separator)
 {
-    column_answer answer = {{JADVOLNI_OK, 0}, {0, 0}, 0};
-    size_t start = 0;
-    for (size_t index = 0; index < room && start < len; index++) {
-        const char *end = memchr(text + start, separator, len - start);
-        size_t size = end ? (size_t)(end - (text + start)) : len - start;
-        jadvolni_result one = type->whole(text + start, size, format, values + index * type->size);
-        if (one.status != JADVOLNI_OK) {
-            answer.fault.status = one.status;
-            answer.fault.place = start + one.place;
-            answer.field.index = index;
-            answer.field.start = start;
-            answer.field_len = size;
-            return answer;
-        }
-        start += size + 1;
+    if (is_of_format(answer.status)) {
+        raise_format(answer.status);
+        return;
     }
-    return answer;
+    field_place field = {index, jadvolni_field_start(text->bytes, answer.place, separator)};
+    const char *start = text->bytes + field.start;
+    const char *end = memchr(start, separator, text->len - field.start);
+    size_t len = end ? (size_t)(end - start) : text->len - field.start;
+    raise_fault(answer.status, answer.place, start, len, &field);
 }
 
 /* An array.array of so many zeros. */
@@ -440,29 +463,31 @@ static PyObject *zeros(const char *code, size_t size, size_t count)
 }
 
 /* Reads a text into a new array. */
-static PyObject *column_of(const number_type *type, const lent_text *text, char separator,
+static PyObject *column_of(const number_type *type, const lent_text *text, uint8_t separator,
                            const jadvolni_format *format)
 {
     Py_buffer room;
-    size_t count;
-    column_answer answer;
+    size_t capacity, count;
+    jadvolni_result answer;
     Py_BEGIN_ALLOW_THREADS
-    count = field_count(text->bytes, text->len, separator);
+    capacity = field_count(text->bytes, text->len, separator);
     Py_END_ALLOW_THREADS
-    PyObject *values = zeros(type->array_code, type->size, count);
+    PyObject *values = zeros(type->array_code, type->size, capacity);
     if (!values || PyObject_GetBuffer(values, &room, PyBUF_WRITABLE) < 0) {
         Py_XDECREF(values);
         return NULL;
     }
     Py_BEGIN_ALLOW_THREADS
-    answer = read_column(type, text->bytes, text->len, separator, format, room.buf, count);
+    answer = type->column(text->bytes, text->len, separator, format, room.buf, capacity, &count);
     Py_END_ALLOW_THREADS
     PyBuffer_Release(&room);
-    if (answer.fault.status == JADVOLNI_OK)
+    if (answer.status == JADVOLNI_OK && answer.place == text->len && count == capacity)
         return values;
     Py_DECREF(values);
-    raise_fault(answer.fault.status, answer.fault.place, text->bytes + answer.field.start,
-                answer.field_len, &answer.field);
+    if (answer.status == JADVOLNI_OK)
+        PyErr_SetString(PyExc_RuntimeError, "the text was changed while it was read");
+    else
+        raise_column(answer, count, text, separator);
     return NULL;
 }
 
@@ -485,16 +510,9 @@ static PyObject *parse_column(PyObject *module, PyObject *const *args, Py_ssize_
         return NULL;
     }
     int separator = separator_of(found[2]);
-    if (separator < 0 || format_of(found[3], &format) < 0)
+    if (separator < 0 || format_of(found[3], &format) < 0 || lend(found[0], &text) < 0)
         return NULL;
-    uint32_t invalid = jadvolni_format_error(&format);
-    if (invalid != JADVOLNI_OK) {
-        raise_format(invalid);
-        return NULL;
-    }
-    if (lend(found[0], &text) < 0)
-        return NULL;
-    PyObject *values = column_of(type, &text, (char)separator, &format);
+    PyObject *values = column_of(type, &text, (uint8_t)separator, &format);
     give_back(&text);
     return values;
 }

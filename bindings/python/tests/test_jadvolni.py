@@ -3,6 +3,7 @@
 import array
 import doctest
 import pickle
+import random
 import sys
 import threading
 import unittest
@@ -179,6 +180,34 @@ class Columns(Case):
 
     def test_the_format_of_each_field(self):
         self.assertEqual(list(parse_column("0xF F", "u8", " ", Format(radix=16, prefix="x"))), [15, 15])
+
+    def test_hostile_columns(self):
+        self.assertEqual(list(parse_column(b"7" * 3, "u16", b",")), [777])
+        self.assertEqual(list(parse_column(b"1", "u8", b"1", Format(required_digits=False))), [0])
+        self.assertEqual(list(parse_column(b",,,", "u8", b",", Format(required_digits=False))), [0, 0, 0])
+        self.assertEqual(list(parse_column(b"0x10x1", "u8", b"x", Format(prefix="x"))), [0, 10, 1])
+        self.fault("Empty", 2, parse_column, b"1--2", "i8", b"-")
+        self.assertEqual(list(parse_column(b"2026-11-23", "u16", b"-")), [2026, 11, 23])
+        error = self.fault("InvalidDigit", 2**24 - 1, parse_column, b"1," * (2**23 - 1) + b"1x", "u8", b",")
+        self.assertEqual((error.field, error.start), (2**23 - 1, 2**24 - 2))
+        self.assertEqual(len(parse_column(b"0" * 2**24, "u8", b",")), 1)
+
+    def test_a_fault_in_each_field(self):
+        for kind, wrong, within in (("Empty", "", 0), ("Overflow", "32768", 4), ("Underflow", "-32769", 5)):
+            for field in range(20):
+                fields = ["12345"] * 20
+                fields[field] = wrong
+                text = ";".join(fields) + ";"
+                error = self.fault(kind, 6 * field + within, parse_column, text, "i16", ";")
+                self.assertEqual((error.field, error.start), (field, 6 * field))
+                self.assertTrue(str(error).endswith(f'in field {field}: "{wrong}"'))
+
+    def test_columns_beside_int(self):
+        for seed in range(200):
+            state = random.Random(seed)
+            numbers = [state.randrange(-(2 ** state.randrange(1, 64)), 2 ** state.randrange(1, 64)) for _ in range(50)]
+            text = "|".join(map(str, numbers))
+            self.assertEqual(list(parse_column(text, "i64", "|")), [int(one) for one in text.split("|")])
 
     def test_threads_share_a_text(self):
         text = b"".join(b"%d\n" % k for k in range(50_000))

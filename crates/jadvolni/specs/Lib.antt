@@ -1,4 +1,5 @@
 -- The definitions that contracts name, a file for each subject.
+pub mod Columns
 pub mod Effect
 pub mod FormatFields
 pub mod Halves

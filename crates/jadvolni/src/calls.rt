@@ -63,7 +63,7 @@ pub fn partial<T: FromLexical, S: Slot<T>>(text: &[u8], value: &mut S) -> Outcom
 }
 
 // What a format with an unknown field is to C.
-const UNKNOWN: Outcome = Outcome {
+pub(crate) const UNKNOWN: Outcome = Outcome {
     status: UNKNOWN_FIELD,
     place: 0,
 };

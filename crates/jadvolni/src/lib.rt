@@ -2,6 +2,7 @@
 #![tactic(auto)]
 
 pub mod calls;
+pub mod columns;
 pub mod format;
 pub mod halves;
 pub mod outcome;

@@ -1,5 +1,9 @@
 // The calls as C makes them, at a text or two each.
 
+use crate::columns::{
+    jadvolni_i8_column, jadvolni_i16_column, jadvolni_i32_column, jadvolni_i64_column,
+    jadvolni_u8_column, jadvolni_u16_column, jadvolni_u32_column, jadvolni_u64_column,
+};
 use crate::format::{FormatFields, jadvolni_format_error};
 use crate::halves::{Signed128, Unsigned128};
 use crate::signed::{jadvolni_i8_partial, jadvolni_i128};
@@ -92,5 +96,85 @@ fn halves(rt: HostRuntime) {
     assert_eq!(rt;
         (read.status, signed.low, signed.high),
         (0, 18446744073709551615, -1)
+    );
+}
+
+#[test]
+fn columns_of_each_type(rt: HostRuntime) {
+    let (format, mut count) = (standard(), 9);
+    let mut bytes = [7; 3];
+    let read = jadvolni_u8_column(b"0,255,", b',', &format, &mut bytes, &mut count);
+    assert_eq!(rt;
+        (read.status, read.place, count, bytes),
+        (0, 6, 2, [0, 255, 7])
+    );
+    let mut shorts = [7; 1];
+    let read = jadvolni_u16_column(b"65535\nx", b'\n', &format, &mut shorts, &mut count);
+    assert_eq!(rt;
+        (read.status, read.place, count, shorts),
+        (0, 6, 1, [65535])
+    );
+    let mut words = [7; 2];
+    let read = jadvolni_u32_column(b"1\t4294967296", b'\t', &format, &mut words, &mut count);
+    assert_eq!(rt; (read.status, read.place, count, words), (1, 11, 1, [1, 7]));
+    let mut wide = [7; 2];
+    let read = jadvolni_u64_column(
+        b"18446744073709551615",
+        b';',
+        &format,
+        &mut wide,
+        &mut count,
+    );
+    assert_eq!(rt;
+        (read.status, read.place, count, wide),
+        (0, 20, 1, [u64::MAX, 7])
+    );
+    let mut small = [7; 2];
+    let read = jadvolni_i8_column(b"-128 -129", b' ', &format, &mut small, &mut count);
+    assert_eq!(rt;
+        (read.status, read.place, count, small),
+        (2, 8, 1, [-128, 7])
+    );
+    let mut signed = [7; 2];
+    let read = jadvolni_i16_column(b"-32768||", b'|', &format, &mut signed, &mut count);
+    assert_eq!(rt;
+        (read.status, read.place, count, signed),
+        (4, 7, 1, [-32768, 7])
+    );
+    let mut longer = [7; 2];
+    let read = jadvolni_i32_column(b"5\0-2147483648", 0, &format, &mut longer, &mut count);
+    assert_eq!(rt;
+        (read.status, read.place, count, longer),
+        (0, 13, 2, [5, -2147483648])
+    );
+    let mut longest = [7; 2];
+    let read = jadvolni_i64_column(b"", b',', &format, &mut longest, &mut count);
+    assert_eq!(rt;
+        (read.status, read.place, count, longest),
+        (0, 0, 0, [7, 7])
+    );
+}
+
+#[test]
+fn columns_under_a_format(rt: HostRuntime) {
+    let (mut format, mut count, mut values) = (standard(), 9, [7; 2]);
+    format.mantissa_radix = 16;
+    let read = jadvolni_u64_column(b"FF,10,x", b',', &format, &mut values, &mut count);
+    assert_eq!(rt;
+        (read.status, read.place, count, values),
+        (0, 6, 2, [255, 16])
+    );
+    format.mantissa_radix = 1;
+    let read = jadvolni_u64_column(b"1", b',', &format, &mut values, &mut count);
+    assert_eq!(rt;
+        (read.status, read.place, count, values),
+        (8, 0, 0, [255, 16])
+    );
+    format.reserved = [1, 0, 0];
+    count = 9;
+    let read = jadvolni_u64_column(b"1", b',', &format, &mut values, &mut count);
+    assert_eq!(rt;
+        (read.status, read.place, count, values),
+        (64, 0, 0, [255, 16])
     );
 }

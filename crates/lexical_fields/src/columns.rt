@@ -3,8 +3,8 @@
 ghost use Rattle.std.specs.Prelude.{◌≡◌, length, take, drop, map, IfOk};
 ghost use Rattle.lexical_fields.specs.Columns.{GoesOn, answer_of, numbers_of};
 
-use crate::places::field_answer;
-use crate::split::split_field;
+use crate::first::read_first;
+use lexical_parse_integer::algorithm::is_separated;
 use lexical_parse_integer::parse::ParseInteger;
 use lexical_parse_integer::{Error, NumberFormat, Options};
 
@@ -65,14 +65,15 @@ pub fn read_column<T: ParseInteger>(
     if let Some(error) = format.error() {
         return Err(ColumnError::InvalidFormat(error));
     }
+    let separated = is_separated(format, separator);
     let mut rest = text;
     for count in 0..values.len() {
         let start = text.len() - rest.len();
         if rest.is_empty() {
             return Ok(Column { count, stop: start });
         }
-        let (field, behind) = split_field(rest, separator);
-        match field_answer::<T>(start, field, format, options) {
+        let (answer, behind) = read_first::<T>(start, rest, separator, format, options, separated);
+        match answer {
             Ok(value) => values[count] = value,
             Err(error) => {
                 return Err(ColumnError::InvalidField {

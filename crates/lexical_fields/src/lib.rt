@@ -9,6 +9,7 @@
 #![tactic(auto)]
 
 mod columns;
+mod first;
 mod iterator;
 mod places;
 mod search;

@@ -2,6 +2,7 @@
 pub mod DigitsAlone
 pub mod DigitsByTable
 pub mod DigitsInFront
+pub mod FieldsInFront
 pub mod FrontsByTable
 pub mod LongNumbers
 pub mod WordsOfDigits

@@ -23,6 +23,7 @@ mod zeros;
 use crate::algorithm::head::{is_prefix_alone, read_head};
 use crate::algorithm::marked::{settled_marked, settled_marked_front};
 use crate::algorithm::numeral::read_digits;
+pub use crate::algorithm::plain::fields::{field_in_front, is_separated};
 use crate::algorithm::plain::{answer_in_radix, settled, settled_front};
 use crate::algorithm::zeros::read_first;
 use crate::cursor::Cursor;

@@ -1,7 +1,8 @@
-use Rattle.std.proofs.Common.{subst, ◌≡◌, ◌<◌, length, sym, ap, ◌∙◌, arith, rules, Ok, ◌-◌}
+use Rattle.std.proofs.Common.{refl, subst, ◌≡◌, ◌<◌, length, sym, ap, ◌∙◌, arith, rules, Ok, ◌-◌}
 use Rattle.std.specs.Prelude.{IsNone}
 use Rattle.std.proofs.lemmas.Bool.Decides.{nat_tests}
 use Rattle.lexical_util.specs.Validity.{fault}
+use Rattle.lexical_parse_integer.specs.Answer.{view_of}
 use Rattle.lexical_fields.specs.Columns.{GoesOn, numbers_of}
 use Rattle.lexical_fields.proofs.ColumnSteps.{read_all, read_fault, read_full, read_invalid, reading_goes}
 use Rattle.lexical_fields.proofs.FieldAnswers.{valid_of}
@@ -19,15 +20,15 @@ returns-then-is_empty g c =
     let r = read_all _ g.T.Integer.number c.args.format.now g.T.Integer.TYPE c.args.separator c.args.text.now c.args.values.now c.loop-count.values c.loop-count.count c.loop-count.rest.now c.loop-count.invariant (valid_of _ none) (omega arith) ended in
     record { answer = r.answer_is; numbers = r.numbers_are; rest = r.rest_is; size = r.size_is; goes_on = r.goes_on }
 
-pub field_answer-requires-clause-fits : goal.field_answer-requires-clause-fits
-field_answer-requires-clause-fits g c = omega (arith, c.loop-count.invariant.within, c.split_field.ensures.within)
+pub read_first-answer-requires-clause-fits : goal.read_first-answer-requires-clause-fits
+read_first-answer-requires-clause-fits g c = omega (arith, c.loop-count.invariant.within)
 
 pub returns-in-Err : goal.returns-in-Err
 returns-in-Err g c =
     let none : IsNone (fault c.args.format.now) = search rules in
     let some : 0 < length c.loop-count.rest.now = grind (arith, nat_tests) in
     let room : c.loop-count.count < length c.args.values.now = omega arith in
-    let r = read_fault _ g.T.Integer.number c.args.format.now g.T.Integer.TYPE c.args.separator c.args.text.now c.args.values.now c.loop-count.values c.loop-count.count c.loop-count.rest.now c.loop-count.invariant c.split_field.result.0.now c.split_field.result.1.now c.in-Err.error (valid_of _ none) room some c.split_field.ensures.field c.split_field.ensures.behind c.split_field.ensures.shorter c.in-Err.ensures in
+    let r = read_fault _ g.T.Integer.number c.args.format.now g.T.Integer.TYPE c.args.separator c.args.text.now c.args.values.now c.loop-count.values c.loop-count.count c.loop-count.rest.now c.loop-count.invariant _ c.read_first-answer.result.1.now c.in-Err.error (valid_of _ none) room some refl c.read_first-answer.ensures.behind c.read_first-answer.ensures.shorter (ap (view_of g.T.Integer.number) (sym c.in-Err.is) ∙ c.read_first-answer.ensures.answer) in
     record { answer = r.answer_is; numbers = r.numbers_are; rest = r.rest_is; size = r.size_is; goes_on = tt }
 
 pub loop-count-preserved : goal.loop-count-preserved
@@ -35,7 +36,7 @@ loop-count-preserved g c =
     let some : 0 < length c.loop-count.rest.now = grind (arith, nat_tests) in
     let room : c.loop-count.count < length c.args.values.now = omega arith in
     reading_goes _ g.T.Integer.number c.args.format.now g.T.Integer.TYPE c.args.separator c.args.text.now c.args.values.now c.loop-count.values c.loop-count.count c.loop-count.rest.now c.loop-count.invariant
-    c.split_field.result.0.now c.split_field.result.1.now c.in-Ok.value room some c.split_field.ensures.field c.split_field.ensures.behind c.split_field.ensures.shorter c.in-Ok.ensures
+    _ c.read_first-answer.result.1.now c.in-Ok.value room some refl c.read_first-answer.ensures.behind c.read_first-answer.ensures.shorter (ap (view_of g.T.Integer.number) (sym c.in-Ok.is) ∙ c.read_first-answer.ensures.answer)
 
 pub returns : goal.returns
 returns g c =

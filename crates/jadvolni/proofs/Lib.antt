@@ -1,0 +1,3 @@
+-- The proofs beside the functions, a file for each idea.
+pub mod ColumnArrays
+pub mod ColumnRows

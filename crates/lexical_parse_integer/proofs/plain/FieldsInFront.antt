@@ -1,0 +1,81 @@
+-- The first field of a column, where it is digits alone behind an optional minus.
+use Rattle.std.proofs.Common.{◌≡◌, ◌≢◌, ℕ, zero, suc, ◌+◌, ◌<◌, ◌≤◌, Bool, true, false, not, cond, eqb, List, [], ◌∷◌, length, get_or, take, refl, sym, ap, ◌∙◌, subst, arith, Option, Some, None, Ok, inl, inr}
+use Rattle.std.specs.Prelude.{ℤ, IsNone, IsSome}
+use Rattle.std.proofs.lemmas.Bool.{ne_eqb}
+use Rattle.std.proofs.lemmas.Bool.Decides.{eqb_tells}
+use Rattle.std.proofs.lemmas.List.{length-take-le}
+use mir.Val.{bool_byte}
+use Rattle.lexical_util.specs.Digit.{digit}
+use Rattle.lexical_util.specs.Format.{Format}
+use Rattle.lexical_util.specs.Number.{IntegerType}
+use Rattle.lexical_parse_integer.specs.Grammar.{complete}
+use Rattle.lexical_parse_integer.specs.Plain.{BeginsWith, IsBehind, IsPlain}
+use Rattle.lexical_parse_integer.specs.Separated.{IsSeparated, bytes_before}
+use Rattle.lexical_parse_integer.specs.Words.{AreDigits}
+use Rattle.lexical_parse_integer.proofs.plain.DigitsAlone.{behind_read}
+use Rattle.lexical_parse_integer.proofs.plain.WordsOfDigits.{raised_none}
+
+-- the front of a text is behind the same minus
+front_behind : (t : IntegerType) (negative : Bool) (text digits : List ℕ) (count : ℕ) → IsBehind negative t text digits → IsBehind negative t (take (bool_byte negative + count) text) (take count digits)
+front_behind t false text digits count behind =
+    let none : 0 + count ≡ count = omega arith in
+    ap (λ k. take k text) none ∙ ap (take count) behind
+front_behind t true text digits count behind =
+    let one : 1 + count ≡ suc count = omega arith in
+    (ap (take (1 + count)) behind.0 ∙ ap (λ k. take k (45 ∷ digits)) one, behind.1)
+
+-- digits at the front are what their field stands for
+pub field_read : (f : Format) (t : IntegerType) (negative : Bool) (text digits : List ℕ) (value : ℤ) (count start : ℕ) → IsPlain f → f.mantissa_radix ≡ 10 → IsBehind negative t text digits → start ≡ bool_byte negative → BeginsWith f t negative digits value count → complete f t (take (start + count) text) ≡ Ok value
+field_read f t negative text digits value count start plain ten behind at b =
+    let taken : length (take count digits) ≡ count = length-take-le count digits b.within in
+    let some : 0 < length (take count digits) = omega (arith, b.some) in
+    ap (λ k. complete f t (take (k + count) text)) at
+    ∙ behind_read f t negative (take (bool_byte negative + count) text) (take count digits) value plain ten (front_behind t negative text digits count behind) some b.rule b.stands
+
+-- a byte that the separator is not
+apart : (s b : ℕ) → b ≢ s → not (eqb b s) ≡ true
+apart s b other = ap not (ne_eqb b s other)
+
+-- a digit is no separator
+digit_apart : (s b : ℕ) → IsNone (digit s 10) → IsSome (digit b 10) → b ≢ s
+digit_apart s b none some same = by_digit (digit s 10) none (subst (λ c. IsSome (digit c 10)) same some)
+  where
+    by_digit : (o : Option ℕ) → IsNone o → IsSome o → ⊥
+    by_digit None none some = cc
+    by_digit (Some d) none some = cc
+
+-- the field of digits ends at the separator behind them
+digits_end : (s : ℕ) (digits : List ℕ) (count : ℕ) → IsNone (digit s 10) → AreDigits 10 (take count digits) → count < length digits → get_or digits count 0 ≡ s → bytes_before s digits ≡ count
+digits_end s [] count none all low stop = absurd (omega arith)
+digits_end s (b ∷ bs) zero none all low stop = rw stop (at_once s bs)
+  where
+    at_once : (s : ℕ) (bs : List ℕ) → bytes_before s (s ∷ bs) ≡ 0
+    at_once s bs = elim (eqb_tells s s) [ inl is ↦ ap (λ k. cond (not k) (1 + bytes_before s bs) 0) is.0 | inr is ↦ absurd (is.1 refl) ]
+digits_end s (b ∷ bs) (suc n) none all low stop =
+    let more = digits_end s bs n none all.1 (omega arith) stop in
+    let here : not (eqb b s) ≡ true = apart s b (digit_apart s b none all.0) in
+    let one : 1 + n ≡ suc n = omega arith in
+    ap (λ k. cond k (1 + bytes_before s bs) 0) here ∙ ap (λ n. 1 + n) more ∙ one
+
+-- the same behind a minus
+pub field_ends : (f : Format) (t : IntegerType) (s : ℕ) (negative : Bool) (text digits : List ℕ) (value : ℤ) (count start : ℕ) → IsSeparated f s → IsBehind negative t text digits → start ≡ bool_byte negative → BeginsWith f t negative digits value count → start + count < length text → get_or text (start + count) 0 ≡ s → start + count ≡ bytes_before s text
+field_ends f t s negative text digits value count start apart_from behind at b low stop = by_sign negative text start behind at b low stop
+  where
+    all_digits : (negative : Bool) → BeginsWith f t negative digits value count → AreDigits 10 (take count digits)
+    all_digits negative b = subst (AreDigits 10) (raised_none (take count digits)) b.stands.writes.digits
+
+    by_sign : (negative : Bool) (text : List ℕ) (start : ℕ) → IsBehind negative t text digits → start ≡ bool_byte negative → BeginsWith f t negative digits value count → start + count < length text → get_or text (start + count) 0 ≡ s → start + count ≡ bytes_before s text
+    by_sign false text start behind at b low stop =
+        let place : start + count ≡ count = omega (arith, at) in
+        let size : length text ≡ length digits = ap length behind in
+        let here : get_or digits count 0 ≡ s = ap (λ l. get_or l count 0) (sym behind) ∙ ap (λ k. get_or text k 0) (sym place) ∙ stop in
+        place ∙ sym (digits_end s digits count apart_from.no_digit (all_digits false b) (omega (arith, size)) here) ∙ ap (bytes_before s) (sym behind)
+    by_sign true text start behind at b low stop =
+        let place : start + count ≡ suc count = omega (arith, at) in
+        let size : length text ≡ suc (length digits) = ap length behind.0 in
+        let here : get_or digits count 0 ≡ s = ap (λ l. get_or l (suc count) 0) (sym behind.0) ∙ ap (λ k. get_or text k 0) (sym place) ∙ stop in
+        let rest : bytes_before s digits ≡ count = digits_end s digits count apart_from.no_digit (all_digits true b) (omega (arith, size)) here in
+        let minus_apart : not (eqb 45 s) ≡ true = apart s 45 (λ same. apart_from.no_minus (sym same)) in
+        let whole : bytes_before s (45 ∷ digits) ≡ 1 + count = ap (λ k. cond k (1 + bytes_before s digits) 0) minus_apart ∙ ap (λ n. 1 + n) rest in
+        let one : 1 + count ≡ suc count = omega arith in
+        place ∙ sym one ∙ sym whole ∙ ap (bytes_before s) (sym behind.0)

@@ -1,0 +1,214 @@
+/* The calls of jadvolni.h that read columns: each type, each status, each end of the room, and hostile columns. */
+#include "jadvolni.h"
+#include "check.h"
+
+static const jadvolni_format STANDARD = JADVOLNI_FORMAT_STANDARD;
+
+/* A column of a type between commas: two numbers of it and one wrong field, with room for four. */
+#define EACH_TYPE(name, type, least, greatest, at)                                                \
+    do {                                                                                          \
+        static const type before[4] = {77, 77, 77, 77};                                           \
+        static const char text[] = #least "," #greatest ",x";                                     \
+        char *bytes = exactly(text, sizeof text - 1);                                             \
+        type *values = exactly(before, sizeof before);                                            \
+        size_t count = 9;                                                                         \
+        jadvolni_result r = jadvolni_##name##_column(bytes, sizeof text - 1, ',', &STANDARD,      \
+                                                     values, 4, &count);                          \
+        CHECK(r.status == JADVOLNI_INVALID_DIGIT && r.place == (at) && count == 2);               \
+        CHECK(jadvolni_field_start(bytes, r.place, ',') == (at));                                 \
+        CHECK(values[0] == (type)strtoll(#least, NULL, 10));                                      \
+        CHECK(values[1] == (type)strtoull(#greatest, NULL, 10));                                  \
+        CHECK(values[2] == 77 && values[3] == 77);                                                \
+        r = jadvolni_##name##_column(bytes, sizeof text - 3, ',', &STANDARD, values, 4, &count);  \
+        CHECK(r.status == JADVOLNI_OK && r.place == (at)-1 && count == 2);                        \
+        free(bytes);                                                                              \
+        free(values);                                                                             \
+    } while (0)
+
+static void each_type(void)
+{
+    EACH_TYPE(u8, uint8_t, 0, 255, 6);
+    EACH_TYPE(u16, uint16_t, 0, 65535, 8);
+    EACH_TYPE(u32, uint32_t, 0, 4294967295, 13);
+    EACH_TYPE(u64, uint64_t, 0, 18446744073709551615, 23);
+    EACH_TYPE(i8, int8_t, -128, 127, 9);
+    EACH_TYPE(i16, int16_t, -32768, 32767, 13);
+    EACH_TYPE(i32, int32_t, -2147483648, 2147483647, 23);
+    EACH_TYPE(i64, int64_t, -9223372036854775808, 9223372036854775807, 41);
+}
+
+/* Checks what a column of int16_t answers, where there is room for three and 77 stands in each place. */
+#define EXPECT(text, separator, format, wanted_status, wanted_place, wanted_count, first, second)  \
+    do {                                                                                           \
+        int16_t values[3] = {77, 77, 77};                                                          \
+        size_t count = 9;                                                                          \
+        char *bytes = exactly(text, sizeof(text) - 1);                                             \
+        jadvolni_result r = jadvolni_i16_column(bytes, sizeof(text) - 1, separator, &(format),     \
+                                                values, 3, &count);                                \
+        free(bytes);                                                                               \
+        CHECK(r.status == (wanted_status) && r.place == (wanted_place));                           \
+        CHECK(count == (wanted_count));                                                            \
+        CHECK(values[0] == (first) && values[1] == (second) && values[2] == 77);                   \
+    } while (0)
+
+/* Each fault of a text in the second field, with its place counted from the start of the text. */
+static void faults_of_fields(void)
+{
+    jadvolni_format json = JADVOLNI_FORMAT_JSON, with_sign = JADVOLNI_FORMAT_STANDARD;
+    with_sign.required_mantissa_sign = 1;
+    EXPECT("1,32768,x", ',', STANDARD, JADVOLNI_OVERFLOW, 6, 1, 1, 77);
+    EXPECT("1,-32769,x", ',', STANDARD, JADVOLNI_UNDERFLOW, 7, 1, 1, 77);
+    EXPECT("1,2 ,3", ',', STANDARD, JADVOLNI_INVALID_DIGIT, 3, 1, 1, 77);
+    EXPECT("1,,3", ',', STANDARD, JADVOLNI_EMPTY, 2, 1, 1, 77);
+    EXPECT("1,-,3", ',', STANDARD, JADVOLNI_EMPTY, 3, 1, 1, 77);
+    EXPECT("+1,2", ',', with_sign, JADVOLNI_MISSING_SIGN, 3, 1, 1, 77);
+    EXPECT("1,+2", ',', json, JADVOLNI_INVALID_POSITIVE_SIGN, 2, 1, 1, 77);
+    EXPECT("1,-02", ',', json, JADVOLNI_INVALID_LEADING_ZEROS, 3, 1, 1, 77);
+}
+
+/* An invalid format is told before all else, also of an empty text and of no room, and nothing is read. */
+static void expect_invalid(const jadvolni_format *format, uint32_t status)
+{
+    size_t count = 9;
+    jadvolni_result r = jadvolni_i16_column(NULL, 0, ',', format, NULL, 0, &count);
+    CHECK(r.status == status && r.place == 0 && count == 0);
+    EXPECT("1,x", ',', *format, status, 0, 0, 77, 77);
+}
+
+/* The rules that a format may break, from the last that is looked at to the first. */
+static void faults_of_formats(void)
+{
+    jadvolni_format format = JADVOLNI_FORMAT_STANDARD;
+    format.base_prefix = 'x';
+    format.literal_prefixes = 1;
+    expect_invalid(&format, JADVOLNI_INVALID_LITERAL_PREFIXES);
+    format.digit_separator = 'X';
+    expect_invalid(&format, JADVOLNI_INVALID_PUNCTUATION);
+    format.base_suffix = 0x80;
+    expect_invalid(&format, JADVOLNI_INVALID_BASE_SUFFIX);
+    format.base_prefix = '9';
+    expect_invalid(&format, JADVOLNI_INVALID_BASE_PREFIX);
+    format.digit_separator = '+';
+    expect_invalid(&format, JADVOLNI_INVALID_DIGIT_SEPARATOR);
+    format.mantissa_radix = 1;
+    expect_invalid(&format, JADVOLNI_INVALID_MANTISSA_RADIX);
+    format.reserved[1] = 1;
+    expect_invalid(&format, JADVOLNI_UNKNOWN_FIELD);
+}
+
+/* Any byte parts fields, also a digit, a sign and the format's own mark. */
+static void separators(void)
+{
+    jadvolni_format grouped = JADVOLNI_FORMAT_STANDARD, prefixed = JADVOLNI_FORMAT_STANDARD;
+    grouped.digit_separator = '_';
+    grouped.integer_internal_digit_separator = 1;
+    prefixed.base_prefix = 'x';
+    EXPECT("1020", '0', STANDARD, JADVOLNI_OK, 4, 2, 1, 2);
+    EXPECT("3+4", '+', STANDARD, JADVOLNI_OK, 3, 2, 3, 4);
+    EXPECT("3--4", '-', STANDARD, JADVOLNI_EMPTY, 2, 1, 3, 77);
+    EXPECT("1_2", '_', grouped, JADVOLNI_OK, 3, 2, 1, 2);
+    EXPECT("1_2,3", ',', grouped, JADVOLNI_OK, 5, 2, 12, 3);
+    EXPECT("0x1,2", 'x', prefixed, JADVOLNI_INVALID_DIGIT, 3, 1, 0, 77);
+    EXPECT("1\0002", 0, STANDARD, JADVOLNI_OK, 3, 2, 1, 2);
+    EXPECT("1\3772", 255, STANDARD, JADVOLNI_OK, 3, 2, 1, 2);
+    EXPECT("12", ',', STANDARD, JADVOLNI_OK, 2, 1, 12, 77);
+    EXPECT(",,,,", ',', STANDARD, JADVOLNI_EMPTY, 0, 0, 77, 77);
+    EXPECT("1,2,", ',', STANDARD, JADVOLNI_OK, 4, 2, 1, 2);
+}
+
+/* A text of no bytes may be NULL, and so may an array without room. */
+static void no_room(void)
+{
+    uint64_t value = 77;
+    size_t count = 9;
+    jadvolni_result r = jadvolni_u64_column(NULL, 0, ',', &STANDARD, &value, 1, &count);
+    CHECK(r.status == JADVOLNI_OK && r.place == 0 && count == 0 && value == 77);
+    count = 9;
+    r = jadvolni_u64_column("x", 1, ',', &STANDARD, NULL, 0, &count);
+    CHECK(r.status == JADVOLNI_OK && r.place == 0 && count == 0);
+    r = jadvolni_u64_column("5,x", 3, ',', &STANDARD, &value, 1, &count);
+    CHECK(r.status == JADVOLNI_OK && r.place == 2 && count == 1 && value == 5);
+    r = jadvolni_u64_column("6,", 2, ',', &STANDARD, &value, 1, &count);
+    CHECK(r.status == JADVOLNI_OK && r.place == 2 && count == 1 && value == 6);
+    r = jadvolni_u64_column("x,7", 3, ',', &STANDARD, &value, 1, &count);
+    CHECK(r.status == JADVOLNI_INVALID_DIGIT && r.place == 0 && count == 0 && value == 6);
+}
+
+/* A text is read by pieces of each size, and the fault of its last field has its place in the text. */
+static void pieces(void)
+{
+    static const char text[] = "10\n200\n3\n\n";
+    size_t len = sizeof text - 1;
+    for (size_t room = 1; room <= 5; room++) {
+        uint8_t values[5];
+        size_t from = 0, read = 0, count;
+        jadvolni_result r;
+        do {
+            r = jadvolni_u8_column(text + from, len - from, '\n', &STANDARD, values, room, &count);
+            CHECK(count <= room);
+            read += count;
+            from += r.place;
+        } while (r.status == JADVOLNI_OK && from < len);
+        CHECK(r.status == JADVOLNI_EMPTY && read == 3 && from == 9);
+    }
+}
+
+/* A wrong field at each place of a column, and none that is lost. */
+static void each_field_wrong(void)
+{
+    enum { FIELDS = 40 };
+    for (size_t bad = 0; bad < FIELDS; bad++) {
+        char text[3 * FIELDS];
+        uint32_t values[FIELDS];
+        size_t count;
+        for (size_t k = 0; k < FIELDS; k++) {
+            char field[4];
+            snprintf(field, sizeof field, "%02u,", (unsigned)k % 100);
+            memcpy(text + 3 * k, k == bad ? "1x," : field, 3);
+            values[k] = 77;
+        }
+        jadvolni_result r = jadvolni_u32_column(text, sizeof text, ',', &STANDARD, values, FIELDS, &count);
+        CHECK(r.status == JADVOLNI_INVALID_DIGIT && r.place == 3 * bad + 1 && count == bad);
+        CHECK(jadvolni_field_start(text, r.place, ',') == 3 * bad);
+        for (size_t k = 0; k < FIELDS; k++)
+            CHECK(values[k] == (k < bad ? k : 77));
+    }
+}
+
+/* 16 MiB without a separator, of separators alone, and of numbers. */
+static void large(void)
+{
+    size_t len = (size_t)1 << 24, count;
+    char *text = malloc(len);
+    uint64_t *values = malloc(len / 2 * sizeof *values), value = 77, sum = 0;
+    if (!text || !values) abort();
+    memset(text, '9', len);
+    jadvolni_result r = jadvolni_u64_column(text, len, ',', &STANDARD, &value, 1, &count);
+    CHECK(r.status == JADVOLNI_OVERFLOW && r.place == 19 && count == 0 && value == 77);
+    memset(text, '0', len);
+    r = jadvolni_u64_column(text, len, ',', &STANDARD, &value, 1, &count);
+    CHECK(r.status == JADVOLNI_OK && r.place == len && count == 1 && value == 0);
+    memset(text, ',', len);
+    r = jadvolni_u64_column(text, len, ',', &STANDARD, &value, 1, &count);
+    CHECK(r.status == JADVOLNI_EMPTY && r.place == 0 && count == 0);
+    for (size_t k = 0; k < len; k += 2) text[k] = (char)('0' + k / 2 % 10);
+    r = jadvolni_u64_column(text, len, ',', &STANDARD, values, len / 2, &count);
+    CHECK(r.status == JADVOLNI_OK && r.place == len && count == len / 2);
+    for (size_t k = 0; k < count; k++) sum += values[k] != k % 10;
+    CHECK(sum == 0);
+    free(text);
+    free(values);
+}
+
+int main(void)
+{
+    each_type();
+    faults_of_fields();
+    faults_of_formats();
+    separators();
+    no_room();
+    pieces();
+    each_field_wrong();
+    large();
+    return checked();
+}
