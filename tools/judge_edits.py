@@ -146,22 +146,22 @@ class Judge:
                 self.edits.append(edit_files.Edit(path, self.folder))
             except edit_files.BadEdit as why:
                 self.bad[name] = str(why)
-        self.rooms, self.checks = queue.Queue(), 0
+        self.rooms, self.made, self.checks, self.lock = queue.Queue(), [], 0, threading.Lock()
 
     def run(self, temporary):
         """Judges all edits. It answers how many are refused, and how many aren't."""
         for name, why in self.bad.items():
             self.say(f"{self.name}/{name}: NOT REFUSED: {why}")
         if self.edits:
-            first = self.first_room(temporary)
+            self.temporary, self.first = temporary, self.first_room(temporary)
             batches = edit_files.batches_of(self.edits, edit_files.calls_of(self.folder), self.options.most)
-            self.open_rooms(first, temporary, len(batches))
+            self.jobs = min(self.options.jobs or jobs_for_memory(), len(batches))
             self.progress(f"{len(self.edits)} edits in {len(batches)} batches, {self.jobs} at once")
             with concurrent.futures.ThreadPoolExecutor(self.jobs) as pool:
                 again = [edit for left in pool.map(self.judge, batches) for edit in left]
                 for _ in pool.map(self.judge_alone, again):
                     pass
-                for _ in pool.map(self.close_room, range(self.jobs)):
+                for _ in pool.map(self.close_room, self.made):
                     pass
         refused = sum(why is None for _, why in self.told.values())
         return refused, len(self.edits) + len(self.bad) - refused
@@ -178,16 +178,17 @@ class Judge:
             self.settle_constants(edit, check)
         return first
 
-    def open_rooms(self, first, temporary, most):
-        """Makes a room for each check that runs at once, of which there are no more than these."""
-        self.jobs = min(self.options.jobs or jobs_for_memory(), most)
-        self.rooms.put(first)
-        for number in range(1, self.jobs):
-            self.rooms.put(first.copy(os.path.join(temporary, self.name, str(number))))
+    def room(self):
+        """A room that no other check is in. It is made when it is needed: a room takes up to a gigabyte of disk."""
+        try:
+            return self.rooms.get_nowait()
+        except queue.Empty:
+            with self.lock:
+                self.made.append(self.first.copy(os.path.join(self.temporary, self.name, str(len(self.made) + 1))))
+                return self.made[-1]
 
-    def close_room(self, _):
+    def close_room(self, room):
         """Checks that the crate is still proved in a room, once no edit is left in it."""
-        room = self.rooms.get()
         with self.slot():
             check, said = room.check({})
         if not check.is_proved():
@@ -225,14 +226,13 @@ class Judge:
         self.note(edit, *check_output.judged(edit, self.checked([edit])))
 
     def checked(self, batch):
-        room = self.rooms.get()
-        try:
-            paths = sorted({path for it in batch for path in it.items}) if not batch[0].shows_beside_items() else []
-            with self.slot():
-                start = time.time()
+        paths = sorted({path for it in batch for path in it.items}) if not batch[0].shows_beside_items() else []
+        with self.slot():
+            start, room = time.time(), self.room()
+            try:
                 check, said = room.check(edit_files.applied(batch, self.folder), paths)
-        finally:
-            self.rooms.put(room)
+            finally:
+                self.rooms.put(room)
         self.checks += 1
         if self.options.said:
             with open(os.path.join(self.options.said, f"{self.name}.{self.checks}.txt"), "w", encoding="utf-8") as file:
