@@ -39,7 +39,9 @@ pub fn parse<T: Integer>(text: impl AsRef<[u8]>) -> Result<T, Error> {
     integer::complete(text.as_ref())
 }
 
-/// The front of the text as a `T`, and where reading stopped. A front of no digits is 0 at place 0.
+/// The front of the text as a `T`, and where reading stopped. A front of no digits, before other bytes, is 0 and no
+/// fault: `x` at place 0, and `+a` at place 1. Where a number has to be there, see that the byte before the place is a
+/// digit.
 ///
 /// ```
 /// assert_eq!(jadvolni::parse_partial::<u64>("1234 }"), Ok((1234, 4)));
