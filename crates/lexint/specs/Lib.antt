@@ -6,6 +6,7 @@ pub mod Field
 pub mod Gather
 pub mod Given
 pub mod Lines
+pub mod Number
 pub mod Numeral
 pub mod Output
 pub mod Settings

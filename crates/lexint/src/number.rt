@@ -22,29 +22,33 @@ impl Model for Number {
     ghost invariant = { λ n. IsTrue n.is_negative → 0 < n.size };
 }
 
-impl Number {
-    /// A number from 0 up.
+/// A number from 0 up.
+impl From<u128> for Number {
+    ghost from_gives = { λ n number. number ≡ pos n };
+
     #[inline(always)]
-    pub fn unsigned(n: u128) -> Number
-        ensures { result ≡ pos n }
-    {
+    fn from(n: u128) -> Number {
         Number {
             is_negative: false,
             size: n,
         }
     }
+}
 
-    /// A number that may be negative.
+/// A number that may be negative.
+impl From<i128> for Number {
+    ghost from_gives = { λ z number. number ≡ z };
+
     #[inline(always)]
-    pub fn signed(z: i128) -> Number
-        ensures { result ≡ z }
-    {
+    fn from(z: i128) -> Number {
         Number {
             is_negative: z < 0,
             size: z.unsigned_abs(),
         }
     }
+}
 
+impl Number {
     /// Whether it is below 0.
     pub fn is_negative(&self) -> bool
         ensures { IsTrue result ↔ (self.now <ℤ pos 0) }

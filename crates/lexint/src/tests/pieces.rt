@@ -72,13 +72,13 @@ fn writes_numbers_of_each_length(rt: HostRuntime) {
 #[test]
 fn writes_signs(rt: HostRuntime) {
     let mut place = [0u8; MOST];
-    let start = write_number(&Number::signed(i128::MIN), &mut place);
+    let start = write_number(&Number::from(i128::MIN), &mut place);
     assert_eq!(rt;
         &place[start..],
         "-170141183460469231731687303715884105728".as_bytes()
     );
-    let start = write_number(&Number::signed(-1), &mut place);
+    let start = write_number(&Number::from(-1i128), &mut place);
     assert_eq!(rt; &place[start..], "-1".as_bytes());
-    let start = write_number(&Number::signed(0), &mut place);
+    let start = write_number(&Number::from(0i128), &mut place);
     assert_eq!(rt; &place[start..], "0".as_bytes());
 }
