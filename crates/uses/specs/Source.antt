@@ -1,26 +1,16 @@
 -- Integer literals of programming languages: which text is which number.
-use Rattle.std.specs.Prelude.{ℕ, zero, Bool, true, false, ◌||◌, List, codes, Some, if◌then◌else◌, ℤ, pos, Result, Ok, Err, nat_eq}
+use Rattle.std.specs.Prelude.{ℕ, zero, Bool, false, ◌||◌, List, codes, if◌then◌else◌, ℤ, pos, Result, Ok, Err, nat_eq}
 use Rattle.std.specs.List.{starts_with}
 use Rattle.lexical_util.specs.declared.error.Error.{Error}
 use Rattle.lexical_util.specs.declared.error.Error.TheVariants.{InvalidDigit, InvalidLeadingZeros}
-use Rattle.lexical_util.specs.Ascii.{underscore}
-use Rattle.lexical_util.specs.Format.{Format, standard}
+use Rattle.lexical_util.specs.Format.{Format}
+use Rattle.lexical_util.specs.Languages.{c23, python}
 use Rattle.lexical_util.specs.Number.{integer_type}
 use Rattle.lexical_parse_integer.specs.Grammar.{complete}
 
--- the apostrophe as a byte
-abbrev pub apostrophe : ℕ
-apostrophe = 39
-
 -- literals of C23: `511`, `0777`, `0x1FF`, `0b101`, with `'` between digits, and no sign; `0o` is read too
 abbrev pub c_format : Format
-c_format = record standard {
-  no_positive_mantissa_sign = true;
-  digit_separator = Some apostrophe;
-  integer_internal_digit_separator = true;
-  literal_prefixes = true;
-  literal_octal_zero = true;
-}
+c_format = c23
 
 -- whether a text begins with `0o`, which is no prefix of C's
 abbrev pub begins_with_o : List ℕ → Bool
@@ -32,19 +22,14 @@ c_in text =
     if begins_with_o text then Err (InvalidDigit 1)
     else complete c_format (integer_type 64 false) text
 
--- literals of Python, but for zeros in front: `511`, `0o777`, `0x_1FF`, `0b101`, with `_` between digits, and no sign
-abbrev pub padded_format : Format
-padded_format = record standard {
-  no_positive_mantissa_sign = true;
-  digit_separator = Some underscore;
-  integer_internal_digit_separator = true;
-  integer_prefix_digit_separator = true;
-  literal_prefixes = true;
-}
-
--- the same where no zero stands in front of another digit
+-- literals of Python: `511`, `0o777`, `0x_1FF`, `0b101`, with `_` between digits, no sign, and no zero before another
+-- digit
 abbrev pub python_format : Format
-python_format = record padded_format { no_integer_leading_zeros = true }
+python_format = python
+
+-- the same with any zeros in front
+abbrev pub padded_format : Format
+padded_format = record python { no_integer_leading_zeros = false }
 
 -- 0 where that is what was read, and else a fault
 abbrev pub zero_or : Error → Result ℤ Error → Result ℤ Error

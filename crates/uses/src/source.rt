@@ -1,56 +1,41 @@
 //! Integer literals of C and of Python, as their references write them: `0777` is octal in C and a fault in Python,
 //! and `0x_1F` is a literal of Python alone.
 
-ghost use Rattle.std.specs.Prelude.{◌≡◌, false, pos, true, Some};
+ghost use Rattle.std.specs.Prelude.{◌≡◌, false, pos};
 ghost use Rattle.lexical_parse_integer.specs.Answer.{view_of};
 ghost use Rattle.uses.specs.Source.{begins_with_o, c_format, c_in, padded_format, python_format, python_in, zero_or};
 ghost use Rattle.lexical_parse_integer.specs.Grammar.{complete};
-ghost use Rattle.lexical_util.specs.Format.{standard};
 ghost use Rattle.lexical_util.specs.Number.{integer_type};
 
+use lexical_parse_integer::format::languages;
 use lexical_parse_integer::{
     Error, FromLexicalWithOptions, NumberFormat, NumberFormatBuilder, Result, options,
 };
-
-// Radix 10, or 16, 8 or 2 behind `0x`, `0o` or `0b`, with this separator between digits, and no sign.
-fn marked(separator: u8) -> NumberFormatBuilder
-    ensures { result ≡ record standard {
-      no_positive_mantissa_sign = true;
-      digit_separator = Some separator;
-      integer_internal_digit_separator = true;
-      literal_prefixes = true;
-    } }
-{
-    NumberFormatBuilder::new()
-        .no_positive_mantissa_sign(true)
-        .digit_separator(Some(separator))
-        .internal_digit_separator(true)
-        .literal_prefixes(true)
-}
 
 /// Literals of C23, and `0o17` besides: `511`, `0777`, `0x1FF` and `0b101`, with `'` between digits.
 pub fn c_format() -> NumberFormat
     ensures { result ≡ c_format }
 {
-    marked(b'\'').literal_octal_zero(true).build_strict()
-}
-
-// Literals of Python, with any zeros in front: `0o777`, `0x_1FF` and `0b101`, with `_` between digits.
-fn padded_format() -> NumberFormat
-    ensures { result ≡ padded_format }
-{
-    marked(b'_')
-        .integer_prefix_digit_separator(true)
-        .build_strict()
+    languages::c23()
 }
 
 /// Literals of Python, where no zero stands in front of another digit.
 pub fn python_format() -> NumberFormat
     ensures { result ≡ python_format }
 {
-    marked(b'_')
+    languages::python()
+}
+
+// The same with any zeros in front: `0o777`, `0x_1FF` and `0b101`, with `_` between digits.
+fn padded_format() -> NumberFormat
+    ensures { result ≡ padded_format }
+{
+    NumberFormatBuilder::new()
+        .no_positive_mantissa_sign(true)
+        .digit_separator(Some(b'_'))
+        .internal_digit_separator(true)
         .integer_prefix_digit_separator(true)
-        .no_integer_leading_zeros(true)
+        .literal_prefixes(true)
         .build_strict()
 }
 
