@@ -3,6 +3,7 @@ pub mod ColumnNumbers
 pub mod ColumnRows
 pub mod ColumnSteps
 pub mod FieldAnswers
+pub mod FieldEnds
 pub mod FieldPieces
 pub mod FieldRows
 pub mod FieldSteps

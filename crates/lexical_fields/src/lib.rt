@@ -17,6 +17,7 @@ mod split;
 
 pub use columns::{Column, ColumnError, read_column};
 pub use iterator::{Field, Fields};
+pub use split::field_length;
 
 #[cfg(test)]
 mod tests;

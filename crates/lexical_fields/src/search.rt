@@ -1,5 +1,5 @@
 // Where a byte first stands, by sixteen bytes at once.
-ghost use Rattle.std.specs.Prelude.{◌≡◌, ◌≢◌, ◌==◌, ◌<◌, ◌≤◌, ℕ, if◌then◌else◌, length, slice_index, IfSome};
+ghost use Rattle.std.specs.Prelude.{◌≡◌, ◌≢◌, ◌==◌, ◌<◌, ◌≤◌, ℕ, if◌then◌else◌, length, slice_index, IfSome, IsNone};
 ghost use Rattle.std.specs.Int.{bit_at};
 ghost use Rattle.lexical_fields.specs.Search.{StandsFirst};
 
@@ -29,7 +29,8 @@ fn lowest(marks: u64) -> usize
 #[inline(always)]
 pub(crate) fn first_of_16(bytes: &[u8], byte: u8) -> Option<usize>
     requires { length bytes.now ≡ 16 }
-    ensures { IfSome result (StandsFirst byte bytes.now) }
+    ensures found { IfSome result (StandsFirst byte bytes.now) }
+    ensures none { IsNone result → (k : ℕ) → k < 16 → slice_index bytes.now k ≢ byte }
 {
     let marks = marks(u8x16::from_slice(bytes), byte);
     if marks == 0 {

@@ -1,7 +1,5 @@
 -- The lemmas of the proofs, a file for each subject.
-pub mod LineEnds
 pub mod LineSteps
-pub mod Marks
 pub mod NumeralSteps
 pub mod Pieces
 pub mod AfterLast

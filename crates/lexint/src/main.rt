@@ -13,7 +13,6 @@ mod number;
 mod numeral;
 mod parse;
 mod program;
-mod search;
 mod settings;
 #[cfg(test)]
 mod tests;

@@ -1,6 +1,6 @@
 // Texts with their fields and what each stands for.
 
-use crate::{Field, Fields};
+use crate::{Field, Fields, field_length};
 use lexical_parse_integer::{Error, NumberFormatBuilder, Result as Parse, format, options};
 use std::process::Abort;
 
@@ -51,9 +51,12 @@ fn fields_go_on_behind_a_fault(rt: HostRuntime) {
 #[test]
 fn the_separator_is_found_at_each_place(rt: HostRuntime) {
     let zeros = b"0000000000000000000000000000000000000000";
+    assert_eq!(rt; field_length(zeros, b';'), 40);
+    assert_eq!(rt; field_length(b"", b';'), 0);
     let mut text = [b'0'; 40];
     for place in 0..text.len() {
         text[place] = b';';
+        assert_eq!(rt; field_length(&text, b';'), place);
         let mut fields = Fields::<u8>::new(&text, b';', &format::STANDARD, &options::STANDARD);
         let front = if place == 0 {
             Err(Error::Empty(0))
