@@ -20,7 +20,7 @@ import slow_reading
 
 MOST_WORDS = 10000
 BUDGETS = {
-    "README.md": 800, "CONTRIBUTING.md": 800, "CHANGELOG.md": 300, "docs/ARCHITECTURE.md": 1100,
+    "README.md": 800, "CONTRIBUTING.md": 820, "CHANGELOG.md": 300, "docs/ARCHITECTURE.md": 1100,
     "docs/DECISIONS.md": 2000, "docs/DIFFERENCES.md": 1200, "docs/GRAMMAR.md": 2000, "docs/PROOFS.md": 1310,
     "docs/SPEED.md": 500,
 }
