@@ -1,4 +1,4 @@
-//! Where a byte first stands among sixteen.
+//! Where a byte first is among sixteen.
 
 ghost use Rattle.std.specs.Prelude.{◌≡◌, ◌≢◌, ◌==◌, ◌<◌, ◌≤◌, ℕ, if◌then◌else◌, length, slice_index};
 ghost use Rattle.std.specs.Int.{bit_at};
