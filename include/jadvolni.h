@@ -17,8 +17,8 @@
  *     jadvolni_u64_with_format(text, len, &format, &value)          the whole text, under a format
  *     jadvolni_u64_partial_with_format(text, len, &format, &value)  its front, under a format
  *
- * The first two read what JADVOLNI_FORMAT_STANDARD says: decimal digits, behind a "+" or nothing,
- * or behind a "-" where the type is signed. The calls on the front stop at the first byte that
+ * The first two read what JADVOLNI_FORMAT_STANDARD says: decimal digits, after a "+" or nothing,
+ * or after a "-" where the type is signed. The calls on the front stop at the first byte that
  * doesn't belong to the number: "12, 13" gives 12, and the place 2. A front of no digits, before
  * other bytes, is mostly 0 and no fault: under the standard format "x" is 0 at place 0, and "+a" is
  * 0 at place 1. Where a number has to be there, see that the byte before the place is a digit.
@@ -105,7 +105,7 @@ typedef enum jadvolni_status {
     /* The text begins with "+", which the format forbids. The place is 0. */
     JADVOLNI_INVALID_POSITIVE_SIGN = 6,
 
-    /* A zero stands in front of another digit, which the format forbids. The place is that of the
+    /* A zero comes before another digit, which the format forbids. The place is that of the
      * first zero: 1 in "-01". */
     JADVOLNI_INVALID_LEADING_ZEROS = 7,
 
@@ -151,18 +151,18 @@ typedef struct jadvolni_result {
  *
  * A flag is set by every byte but 0. A separator, prefix or suffix of 0 is none; to have the byte 0
  * itself (as in texts of UTF-16), set the flag `.._is_nul` beside it. A format needs no call to
- * make it or to free it. Any bytes may stand in one: each call refuses a format that breaks a rule,
+ * make it or to free it. Any bytes may be in one: each call refuses a format that breaks a rule,
  * whatever the text is, and jadvolni_format_error tells beforehand.
  */
 typedef struct jadvolni_format {
     /* The radix, from 2 to 36. Digits above 9 are letters, in either case. */
     uint8_t mantissa_radix;
 
-    /* A byte that counts for nothing among the digits: '_' in "1_000". Where it may stand, the four
+    /* A byte that counts for nothing among the digits: '_' in "1_000". Where it may be, the four
      * flags below say; with none of them it is no part of a number. */
     uint8_t digit_separator;
 
-    /* A byte that may follow a 0 in front of the digits: with 'x', "0x1F" is read as "1F" is. The
+    /* A byte that may follow a 0 before the digits: with 'x', "0x1F" is read as "1F" is. The
      * radix stays. */
     uint8_t base_prefix;
 
@@ -185,32 +185,32 @@ typedef struct jadvolni_format {
     /* Flag: a text without a sign is refused. */
     uint8_t required_mantissa_sign;
 
-    /* Flag: a zero in front of another digit is refused, as in "01". Behind a prefix it is not. */
+    /* Flag: a zero before another digit is refused, as in "01". After a prefix it is not. */
     uint8_t no_integer_leading_zeros;
 
-    /* Flag: separators may stand in front of all digits: "_12". */
+    /* Flag: separators may come before all digits: "_12". */
     uint8_t integer_leading_digit_separator;
 
-    /* Flag: separators may stand between two digits: "1_2". */
+    /* Flag: separators may come between two digits: "1_2". */
     uint8_t integer_internal_digit_separator;
 
-    /* Flag: separators may stand behind all digits: "12_". */
+    /* Flag: separators may come after all digits: "12_". */
     uint8_t integer_trailing_digit_separator;
 
-    /* Flag: where one separator may stand, more may: "1__2". */
+    /* Flag: where one separator may be, more may: "1__2". */
     uint8_t integer_consecutive_digit_separator;
 
-    /* Flag: separators may stand directly behind a prefix, as in "0x_1F", as if they might stand in
-     * front of all digits there. Elsewhere it changes nothing. */
+    /* Flag: separators may come directly after a prefix, as in "0x_1F", as if they might come
+     * before all digits there. Elsewhere it changes nothing. */
     uint8_t integer_prefix_digit_separator;
 
-    /* Flag: "0x", "0o" and "0b" choose the radix 16, 8 or 2 for the digits behind them; so do "0X",
+    /* Flag: "0x", "0o" and "0b" choose the radix 16, 8 or 2 for the digits after them; so do "0X",
      * "0O" and "0B", unless the prefix is matched exactly. `mantissa_radix` has to be 10, and is the
      * radix of a text without one of them. */
     uint8_t literal_prefixes;
 
-    /* Flag: a zero in front of another digit, or of the separator, makes the number octal: "0777" is
-     * 511, and "08" ends behind its zero. `mantissa_radix` has to be 10. */
+    /* Flag: a zero before another digit, or before the separator, makes the number octal: "0777" is
+     * 511, and "08" ends after its zero. `mantissa_radix` has to be 10. */
     uint8_t literal_octal_zero;
 
     /* Flag: the separator is the byte 0, where `digit_separator` is 0. */
@@ -227,11 +227,11 @@ typedef struct jadvolni_format {
     uint8_t reserved[3];
 } jadvolni_format;
 
-/* Decimal digits behind an optional sign. A digit is required. */
+/* Decimal digits after an optional sign. A digit is required. */
 #define JADVOLNI_FORMAT_STANDARD \
     {10, 0, 0, 0, 0, 0, 0, 1, 0, 0, 0, 0, 0, 0, 0, 0, 0, 0, 0, 0, 0, {0, 0, 0}}
 
-/* Integers as JSON has them (RFC 8259): no "+", and no zero in front of another digit. */
+/* Integers as JSON has them (RFC 8259): no "+", and no zero before another digit. */
 #define JADVOLNI_FORMAT_JSON \
     {10, 0, 0, 0, 0, 0, 1, 1, 1, 0, 1, 0, 0, 0, 0, 0, 0, 0, 0, 0, 0, {0, 0, 0}}
 

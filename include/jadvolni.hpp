@@ -308,7 +308,7 @@ inline int digit_value(char byte) noexcept
 } // namespace detail
 
 // std::from_chars, with its answers: the front of [first, last) as a T in a base from 2 to 36, with no
-// plus. `ptr` is behind the digits, also where the type hasn't the number; where there are no digits
+// plus. `ptr` is after the digits, also where the type hasn't the number; where there are no digits
 // it is `first`, with std::errc::invalid_argument.
 template <class T>
 std::from_chars_result from_chars(const char *first, const char *last, T &value,
@@ -333,7 +333,7 @@ std::from_chars_result from_chars(const char *first, const char *last, T &value,
         while (read.ptr != last && detail::digit_value(*read.ptr) < base) ++read.ptr;
         return read;
     }
-    // A front without digits is 0 to jadvolni_*_partial, at the start or behind the minus.
+    // A front without digits is 0 to jadvolni_*_partial, at the start or after the minus.
     bool is_empty = read.ptr == first || (read.ptr == first + 1 && *first == '-');
     if (read.ec != std::errc() || is_empty) return {first, std::errc::invalid_argument};
     value = number;

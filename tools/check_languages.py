@@ -72,7 +72,8 @@ def literals(rng: random.Random, language: Language, count: int) -> list[str]:
     found: dict[str, None] = {}
     while len(found) < count:
         text = literal(rng, language)
-        if text and len(re.findall(r"[0-9a-fA-F]", text)) <= 8 and not re.fullmatch(r"[uL]?'.*'", text):
+        is_asked = re.fullmatch(r"[uL]?'.*'|" + language.unasked, text) is None
+        if text and is_asked and len(re.findall(r"[0-9a-fA-F]", text)) <= 8:
             found[text] = None
     return list(found)
 
@@ -168,9 +169,31 @@ GNAT = Compiler("x.adb", "with Ada.Text_IO; use Ada.Text_IO;\nprocedure X is\nty
                 "procedure P (At_Line : Integer; Value : Wide) is\nbegin\n"
                 "Put_Line (Integer'Image (At_Line) & Wide'Image (Value));\nend P;\nbegin\n", "P ({at}, {text});",
                 "null;\nend X;\n", ["gnatmake", "-gnatm99999", "-gnatws", "x.adb"], ["./x"])
+MCS = Compiler("x.cs", 'class X {\nstatic void P(int at, ulong value) { System.Console.WriteLine(at + " " + value); }\n'
+               "static void Main() {\n", "P({at}, {text});", "} }\n", ["mcs", "x.cs"], ["mono", "x.exe"])
+KOTLINC = Compiler("x.kt", 'fun p(at: Int, value: Long) { println("$at $value") }\nfun main() {\n', "p({at}, {text})", "}\n",
+                   ["kotlinc", "x.kt", "-d", "x.jar"], ["kotlin", "-cp", "x.jar", "XKt"])
+GHDL = Compiler("x.vhd", "use std.textio.all;\nentity x is end;\narchitecture a of x is\n"
+                "procedure p(at, value : integer) is variable l : line;\nbegin\n"
+                'write(l, integer\'image(at) & " " & integer\'image(value)); writeline(output, l);\nend;\nbegin process begin\n',
+                "p({at}, {text});", "wait; end process; end a;\n", ["ghdl", "-a", "--std=08", "x.vhd"],
+                ["ghdl", "--elab-run", "--std=08", "x"])
+# (it writes two words of eight bytes for each line)
+NASM = Compiler("x.asm", "", "dq {at}, {text}", "", ["nasm", "-f", "bin", "x.asm", "-o", "x"],
+                [sys.executable, "-c", "import struct\nfor pair in struct.iter_unpack('<QQ', open('x', 'rb').read()): print(*pair)"])
 
 
 # ---- interpreters
+
+def answers_so(asked: Interpreter | Toplevel, wanted: Answers) -> bool:
+    """Whether a command is there and answers some texts so."""
+    if shutil.which(asked.command[0]) is None:
+        return False
+    try:
+        return asked.ask(list(wanted)) == wanted
+    except RuntimeError:
+        return False
+
 
 class Interpreter:
     """A command that reads texts, a line each, and prints a line for each: an integer, or nothing."""
@@ -179,7 +202,7 @@ class Interpreter:
         self.command = command
 
     def is_there(self) -> bool:
-        return shutil.which(self.command[0]) is not None
+        return answers_so(self, {"1": 1})
 
     def ask(self, texts: list[str]) -> Answers:
         said = run(self.command, "/", "\n".join(texts) + "\n").stdout.split("\n")
@@ -189,13 +212,14 @@ class Interpreter:
 
 
 class Toplevel:
-    """A toplevel: a phrase on each line, and those that are read print their place and value."""
+    """A toplevel: a phrase on each line, and those that are read print their place and value. What is `known` tells
+    whether it is the version that is wanted."""
 
-    def __init__(self, command: list[str], before: str, phrase: str):
-        self.command, self.before, self.phrase = command, before, phrase
+    def __init__(self, command: list[str], before: str, phrase: str, known: Answers):
+        self.command, self.before, self.phrase, self.known = command, before, phrase, known
 
     def is_there(self) -> bool:
-        return shutil.which(self.command[0]) is not None
+        return answers_so(self, self.known)
 
     def ask(self, texts: list[str]) -> Answers:
         phrases = [self.before, *(self.phrase.format(at=at, text=text) for at, text in enumerate(texts))]
@@ -205,10 +229,15 @@ class Toplevel:
 
 
 OCAML = Toplevel(["ocaml", "-noinit", "-w", "-a"], 'let p at value = Printf.printf "\\n@%d %d\\n" at value;;',
-                 "p {at} ({text});;")
+                 "p {at} ({text});;", {"1": 1})
 GHCI = Toplevel(["ghci", "-v0", "-ignore-dot-ghci", "-XNumericUnderscores", "-XBinaryLiterals"],
                 'let { p :: Int -> Integer -> IO (); p at value = putStrLn ("@" ++ show at ++ " " ++ show value) }',
-                "p {at} ({text})")
+                "p {at} ({text})", {"1": 1})
+
+
+def postgres(known: Answers) -> Toplevel:
+    """PostgreSQL, by the server that psql finds by itself. From version 16 on it reads `1_0` as SQL:2023 does."""
+    return Toplevel(["psql", "-XqAt"], "", "select '@{at} ' || ({text});", known)
 
 
 class Here:
@@ -245,6 +274,21 @@ for (const text of require("fs").readFileSync(0, "utf8").split("\\n").slice(0, -
   try { value = new Function('"use strict"; return (' + text + ')')(); } catch (fault) { }
   console.log(typeof value == "bigint" || Number.isInteger(value) ? String(value) : "");
 }"""])
+# (packages of node, which NODE_PATH finds)
+JSON5 = Interpreter(["node", "-e", """
+const JSON5 = require("json5");
+for (const text of require("fs").readFileSync(0, "utf8").split("\\n").slice(0, -1)) {
+  let value = null;
+  try { value = JSON5.parse(text); } catch (fault) { }
+  console.log(Number.isInteger(value) ? String(value) : "");
+}"""])
+YAML = Interpreter(["node", "-e", """
+const YAML = require("yaml");
+for (const text of require("fs").readFileSync(0, "utf8").split("\\n").slice(0, -1)) {
+  let value = null;
+  try { value = YAML.parse(text, { version: "1.2", schema: "core", intAsBigInt: true }); } catch (fault) { }
+  console.log(typeof value == "bigint" ? String(value) : "");
+}"""])
 RUBY = Interpreter(["ruby", "-e", """
 $VERBOSE = nil
 STDIN.each_line(chomp: true) do |text|
@@ -254,11 +298,12 @@ end"""])
 
 
 class Language:
-    """A language, what of it is asked, and of what its texts are made: separators, ends, and signs that belong to it."""
+    """A language, what of it is asked, and of what its texts are made: separators, ends, and signs that belong to it.
+    Texts that fit `unasked` aren't asked."""
 
-    def __init__(self, name: str, asked: dict, separators: str, ends: str, signs: str = ""):
+    def __init__(self, name: str, asked: dict, separators: str, ends: str, signs: str = "", unasked: str = ""):
         self.name, self.asked = name, asked
-        self.separators, self.ends, self.signs = separators, ends.split(), signs
+        self.separators, self.ends, self.signs, self.unasked = separators, ends.split(), signs, unasked
 
 
 GCC = c_compiler(["gcc", "-std=c17", "-fmax-errors=0"])
@@ -271,16 +316,25 @@ LANGUAGES = [
                      "clang -std=c2x": c_compiler(["clang", "-std=c2x", "-ferror-limit=0"])}, "'''_", "u L ul"),
     Language("cpp14", {"g++ -std=c++14": c_compiler(["g++", "-std=c++14", "-fmax-errors=0"], "x.cpp"),
                        "clang++ -std=c++14": c_compiler(["clang++", "-std=c++14", "-ferror-limit=0"], "x.cpp")}, "'''_", "u L ul"),
+    # (mcs takes `_` among decimal digits for something else: 067_4 is 6744 to it)
+    Language("csharp", {"mcs": MCS}, "_", "u L ul f", unasked="[0-9]+_.*"),
     Language("java", {"javac": JAVAC}, "_", "l L u f"),
+    Language("kotlin", {"kotlinc": KOTLINC}, "_", "l L u f"),
     Language("rust", {"rustc": RUSTC}, "_", "u8 u128 i64 f32"),
     Language("go", {"go": GO}, "_", "u i"),
     Language("ada", {"gnatmake": GNAT}, "_", "E E1 #"),
+    Language("vhdl", {"ghdl": GHDL}, "_", "E E1 #"),
+    Language("assembler_hexadecimal", {"nasm": NASM}, "_", "h h h H b d"),
     Language("haskell", {"ghci": GHCI}, "_", "e e1"),
     Language("python", {"python3": Here(python_literal)}, "_", "l L j"),
     Language("ruby", {"ruby": RUBY}, "_", "r i d", "+-"),
     Language("javascript", {"node": NODE}, "_", "n N e e1"),
     Language("ocaml", {"ocaml": OCAML}, "_", "l L n u", "-"),
     Language("json", {"Python's json": Here(json.loads)}, "_", "e e1 . .0", "+-"),
+    Language("json5", {"node's json5": JSON5}, "_", "e e1 . .0", "+-"),
+    Language("yaml", {"node's yaml": YAML}, "_", "e e1 . .0", "+-"),
+    Language("sql", {"PostgreSQL before 16": postgres({"1": 1, "1_0": None})}, "_", "e e1 . .0", "+-"),
+    Language("sql_2023", {"PostgreSQL from 16 on": postgres({"1": 1, "1_0": 10})}, "_", "e e1 . .0", "+-"),
     Language("toml", {"Python's tomllib": Here(lambda text: tomllib.loads(f"a = {text}")["a"])}, "_", "e e1 . .0", "+-"),
 ]
 

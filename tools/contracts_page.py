@@ -173,7 +173,7 @@ def page(top, crates):
     """The text of docs/CONTRACTS.md."""
     found = [
         "# Contracts", "",
-        "Each public call of each crate with its clauses, word for word as they stand in the source, and the wrong edits "
+        "Each public call of each crate with its clauses, word for word as the source has them, and the wrong edits "
         "of its body that the prover has to refuse: the files of that name in the crate's folder `must-fail`. `make docs` "
         "writes this page.", "",
         "A clause names definitions of `specs/`. `x.now` is what `x` points to, `self.old` and `self.new` are what it "

@@ -24,7 +24,7 @@ Each function's contract says the fields of its format, and that the format is v
 
 What holds for each of them:
 
-- The text is the literal alone: no blank stands before it or after it, and no comment.
+- The text is the literal alone: no blank comes before it or after it, and no comment.
 - The type is the caller's. A language that chooses a type by the value, or by letters at the end, leaves that choice to the caller, and a value outside of the type is `Overflow` or `Underflow`.
 - Where a sign is no part of the literal, a plus is refused. A minus is refused by an unsigned type, and read by a signed one.
 - A place counts the bytes of the text from 0. The faults are those of [GRAMMAR.md](GRAMMAR.md#faults-and-their-places).

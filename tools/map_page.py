@@ -119,7 +119,7 @@ def page(top: str, files: list[str], crates: list[str], faults: list[str]) -> st
     found = [
         "# Map", "",
         "Every file, with what it has: the first sentence of the comment that it begins with. `make docs` writes this "
-        "page. [ARCHITECTURE.md](ARCHITECTURE.md) says how the parts stand on each other.", "",
+        "page. [ARCHITECTURE.md](ARCHITECTURE.md) says how the parts use each other.", "",
         "In each crate, `src/` is the code with its contracts, `specs/` the definitions that contracts name, and "
         "`proofs/` the lemmas. A function without a file of its own below `proofs/` is proved by the check alone, with "
         "the lemmas that its `#[tactic(..)]` names where it has one.", "",

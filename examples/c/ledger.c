@@ -1,4 +1,4 @@
-/* Adds up a ledger, a line `NAME AMOUNT` for each entry: ledger < FILE. An amount stands after the last space. */
+/* Adds up a ledger, a line `NAME AMOUNT` for each entry: ledger < FILE. An amount comes after the last space. */
 #include "cells.h"
 
 static int amount(const char *line, size_t len, size_t *start, size_t *stop)

@@ -23,7 +23,7 @@ class WrongLine(Exception):
 
 
 def cuts(data, count: int):
-    """The starts and stops of pieces, about `count` of them. Each but the last ends behind a line feed."""
+    """The starts and stops of pieces, about `count` of them. Each but the last ends after a line feed."""
     start, pieces = 0, []
     for piece in range(1, count + 1):
         stop = len(data)

@@ -26,7 +26,7 @@ def column_of(data: bytes, column: int):
         if len(parts) < column:
             raise ValueError(f"line {number} has {len(parts)} cells, and no column {column}")
         cells.append(parts[column - 1])
-    # The line feed behind the last cell lets it be empty: it is a field then, and wrong.
+    # The line feed after the last cell lets it be empty: it is a field then, and wrong.
     text = b"".join(cell + b"\n" for cell in cells)
     try:
         return jadvolni.parse_column(text, "i64")

@@ -2,7 +2,7 @@
 
     python3 ledger.py FILE
 
-An amount is a number of cents behind the line's last space: `rent -80000`.
+An amount is a number of cents after the line's last space: `rent -80000`.
 """
 
 import sys

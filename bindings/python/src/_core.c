@@ -1,7 +1,7 @@
 /*
  * _core.c - the library `jadvolni` for Python, in the stable ABI from 3.11 on.
  *
- * What is read is read by the library. Here stand the types, the arguments, the exceptions and the
+ * The library reads the texts. Here are the types, the arguments, the exceptions and the
  * arrays. `__init__.py` has `Format`, whose bytes come as the attribute `_fields`.
  */
 #define PY_SSIZE_T_CLEAN
@@ -248,7 +248,7 @@ static void raise_fault(uint32_t status, size_t place, const char *text, size_t 
 
 static const jadvolni_format STANDARD = JADVOLNI_FORMAT_STANDARD;
 
-/* Puts arguments, by place and by name, to where their names stand. The first has to be there. */
+/* Puts arguments, by place and by name, to the slots of their names. The first has to be there. */
 static int arguments(const char *call, PyObject *const *args, Py_ssize_t count, PyObject *keywords,
                      const char *const *names, Py_ssize_t most, PyObject **found)
 {

@@ -13,7 +13,7 @@ use lexical_parse_integer::parse::ParseInteger;
 
 /// The numbers of a text's fields, under a format that may be invalid.
 ///
-/// They are put at the front of `values`, as far as there is room, and the rest of it is as it was,
+/// They are put at the front of `values`, as far as there is room, and the rest is as it was,
 /// also after a fault. `count` then says how many they are. At status 0 the place is where reading
 /// stopped: the text's end, or the start of the first field for which there was no room.
 #[inline(always)]

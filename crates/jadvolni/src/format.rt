@@ -11,7 +11,7 @@ use lexical_parse_integer::{NumberFormat, NumberFormatBuilder};
 ///
 /// The names are those of `NumberFormatBuilder`. A flag is set by every byte but 0. A separator,
 /// prefix or suffix of 0 is none, or the byte 0 itself where the flag `.._is_nul` beside it is set.
-/// Any bytes may stand here: the calls refuse what breaks a rule.
+/// Any bytes may be here: the calls refuse what breaks a rule.
 #[repr(C)]
 #[derive(Copy, Clone)]
 pub struct FormatFields {

@@ -23,7 +23,7 @@ pub struct Column {
 pub enum ColumnError {
     /// The format is invalid, and nothing was read.
     InvalidFormat(Error),
-    /// A field is no number of the type. It is the first such one, and all in front of it were read.
+    /// A field is no number of the type. It is the first such one, and all before it were read.
     InvalidField {
         /// Which field it is, counted from 0: so many numbers were read.
         field: usize,
@@ -36,9 +36,9 @@ pub enum ColumnError {
 
 /// Reads the numbers in the fields of a text between a separator, as far as the slice has room.
 ///
-/// The numbers stand at the slice's front, and the rest of the slice is as it was, also after a fault.
+/// The numbers are at the slice's front, and the rest of the slice is as it was, also after a fault.
 /// Where the text has more fields than the slice has room for, it is read up to the start of the next
-/// one, and what stands there isn't looked at: a call on the text from `stop` on goes on exactly there,
+/// one, and what is there isn't looked at: a call on the text from `stop` on goes on exactly there,
 /// and its places count from that `stop`. An invalid format is told before all else.
 ///
 /// With a comma, `12,7,` gives two numbers and stops at 5; in a slice of one it gives one number and

@@ -1,7 +1,7 @@
 //! The numbers of a text's fields: one after the other, or a column of them by one call.
 //!
 //! A field is the bytes up to a separator, one byte that the caller names. The last field needs none
-//! behind it, and a last separator starts no further field: the lines of a file are its fields between
+//! after it, and a last separator starts no further field: the lines of a file are its fields between
 //! line feeds. The empty text has no field, and a field may be empty.
 //!
 //! Any byte may be the separator, also a digit, a sign or a byte that the format gives a meaning: the

@@ -35,7 +35,7 @@ use std::marker::Model;
 /// `12_3` is `Number(123)`, `x1` is `Word`, `+` is `Byte`, and `0xg` is `Fault(Error::Empty(2))`.
 #[derive(Debug, PartialEq, Eq, Drop)]
 pub enum Kind {
-    /// A number, by its value: decimal, or behind `0x`, `0o` or `0b`, as [`literal_format`] has it,
+    /// A number, by its value: decimal, or after `0x`, `0o` or `0b`, as [`literal_format`] has it,
     /// or as the source's own format has it.
     Number(u128),
     /// An ASCII letter or `_`, and the ASCII letters, `0` to `9` and `_` that follow. Where a format's radix
@@ -44,7 +44,7 @@ pub enum Kind {
     /// Any other byte.
     Byte,
     /// What begins with a digit and is no number of `u128`: `Overflow` where it is too great, and
-    /// `Empty` where no digit stands behind `0x`, `0o` or `0b`; under a format of the caller's choice
+    /// `Empty` where no digit comes after `0x`, `0o` or `0b`; under a format of the caller's choice
     /// any fault of its partial parser. Its place counts the bytes from the token's start, from 0.
     Fault(Error),
 }
@@ -56,7 +56,7 @@ pub struct Token<'a> {
     pub kind: Kind,
     /// The place of its first byte.
     pub start: usize,
-    /// The place behind its last byte, which is greater than `start`.
+    /// The place after its last byte, which is greater than `start`.
     pub stop: usize,
     /// Its bytes, lent as long as the source is.
     pub text: &'a [u8],
@@ -146,7 +146,7 @@ impl<'a> Tokens<'a> {
     /// The tokens of a source, with the numbers of [`literal_format`]. `x1 = 0x1F` has a word from 0 to 2,
     /// a byte from 3 to 4, and the number 31 from 5 to 9.
     ///
-    /// Each begins at the least place behind the one before it that isn't skipped, and is what the
+    /// Each begins at the least place after the one before it that isn't skipped, and is what the
     /// source begins with there (`order`); none is empty, and its bytes are those of the source
     /// (`parts`); there are no more than the source has bytes (`count`).
     pub fn new(source: &'a [u8]) -> Tokens<'a>

@@ -79,8 +79,8 @@ fn is_settled(c: &Cursor<'_>) -> bool
 
 /// The integer that the cursor's whole text stands for; the cursor's position has to be 0.
 ///
-/// The faults are those of [`algorithm_complete`]. At `Ok` the cursor stands where reading stops, with all digits of
-/// the numeral counted. After a fault it stands somewhere in its text. Whatever the answer is, it is over the text and
+/// The faults are those of [`algorithm_complete`]. At `Ok` the cursor is where reading stops, with all digits of
+/// the numeral counted. After a fault it is somewhere in its text. Whatever the answer is, it is over the text and
 /// under the format that it had.
 ///
 /// It takes few turns. With `no_multi_digit` an `Ok` takes one turn a digit. Without it, where the format has no
@@ -139,9 +139,9 @@ pub fn algorithm_partial_on<T: Integer>(c: &mut Cursor<'_>, options: &Options) -
 /// Places count bytes from 0. The first of these faults that applies is the answer:
 ///
 /// 1. `InvalidPositiveSign(0)`, a `+` that the format forbids, or `MissingSign(0)`, no sign where it requires one;
-/// 2. `Empty` at the text's end, where the text ends behind its prefix;
-/// 3. `InvalidLeadingZeros` at the first digit, a zero in front of another digit that the format forbids;
-/// 4. `Overflow` or, behind a minus, `Underflow` at the digit with which the value leaves `T`;
+/// 2. `Empty` at the text's end, where the text ends after its prefix;
+/// 3. `InvalidLeadingZeros` at the first digit, a zero before another digit that the format forbids;
+/// 4. `Overflow` or, after a minus, `Underflow` at the digit with which the value leaves `T`;
 /// 5. `InvalidDigit` where reading stops, before the text's end;
 /// 6. `Empty` at the text's end, where no digit was read and the format requires one.
 ///

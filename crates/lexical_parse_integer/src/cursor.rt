@@ -1,7 +1,7 @@
 //! A place in a text, from which a numeral is read: sign, prefix, digits and suffix.
 //!
 //! A cursor borrows the text and keeps the format. It goes forward alone, and lends no more of the text than the
-//! next word. The parsers of [`algorithm`](crate::algorithm) stand on its calls; a reader written by hand can too:
+//! next word. The parsers of [`algorithm`](crate::algorithm) use its calls; a reader written by hand can too:
 //! after `new` come `step_sign`, `read_prefix`, `read_octal_zero`, the digits by `next_digit` or `take_digits`, and `read_suffix`, each
 //! where it is wanted.
 //!
@@ -92,7 +92,7 @@ impl<'a> Cursor<'a> {
         }
     }
 
-    /// The position: how many bytes of the text stand before it.
+    /// The position: how many bytes of the text come before it.
     ///
     /// Its contract also says what is true of each cursor: the region starts at the position or before it, no
     /// more turns than digits were taken, and `digits` counts the digits from the region's start to the position.
@@ -114,7 +114,7 @@ impl<'a> Cursor<'a> {
         let _position = &self.position;
     }
 
-    /// Where the numeral's region starts: behind the sign and the prefix that were read.
+    /// Where the numeral's region starts: after the sign and the prefix that were read.
     #[inline(always)]
     pub fn start(&self) -> usize
         ensures { result ≡ self.now.start }
@@ -154,7 +154,7 @@ impl<'a> Cursor<'a> {
         self.closed
     }
 
-    /// Whether the format has no separator byte, so that the digits stand in a row.
+    /// Whether the format has no separator byte, so that the digits are in a row.
     #[inline(always)]
     pub fn is_contiguous(&self) -> bool
         ensures { IsTrue result ↔ IsNone self.now.format.digit_separator }
@@ -217,10 +217,10 @@ impl<'a> Cursor<'a> {
         self.position = 1;
     }
 
-    /// Steps over the prefix where it stands at the position, and answers whether it does; else the cursor stays.
+    /// Steps over the prefix where it is at the position, and answers whether it does; else the cursor stays.
     ///
-    /// The prefix is a `0` and the format's prefix byte directly behind it. Where the format has literal prefixes,
-    /// `0x`, `0o` and `0b` are prefixes too, and put 16, 8 or 2 in force. The region starts behind the prefix. The
+    /// The prefix is a `0` and the format's prefix byte directly after it. Where the format has literal prefixes,
+    /// `0x`, `0o` and `0b` are prefixes too, and put 16, 8 or 2 in force. The region starts after the prefix. The
     /// position has to be where the region starts, at most 1, and no digit may have been read.
     #[inline(always)]
     pub fn read_prefix(&mut self) -> bool
@@ -243,7 +243,7 @@ impl<'a> Cursor<'a> {
         }
     }
 
-    /// Puts 8 in force where an octal zero stands at the position, and answers whether one does. The cursor stays, since
+    /// Puts 8 in force where an octal zero is at the position, and answers whether one is. The cursor stays, since
     /// that zero is the numeral's first digit.
     ///
     /// An octal zero is a `0` where the format has `literal_octal_zero`; a prefix has to be looked for before. The
@@ -263,8 +263,8 @@ impl<'a> Cursor<'a> {
         true
     }
 
-    /// Takes the next digit of the numeral, behind separators that pass, and answers its value; `None` where no
-    /// digit is left, and the cursor then stands at the numeral's end.
+    /// Takes the next digit of the numeral, after separators that pass, and answers its value; `None` where no
+    /// digit is left, and the cursor is then at the numeral's end.
     ///
     /// A digit takes one turn. A run of separators is judged whole, by the digits beside it, with one look over it.
     /// The suffix may not have been read.
@@ -324,10 +324,10 @@ impl<'a> Cursor<'a> {
         self.digits > 0 && suffix_at(self.bytes, &self.format, self.position)
     }
 
-    /// Steps over the suffix where it stands at the position and a digit was read, closes the cursor, and answers
+    /// Steps over the suffix where it is at the position and a digit was read, closes the cursor, and answers
     /// whether it did; else the cursor stays.
     ///
-    /// At the numeral's end the cursor then stands where reading stops. The suffix may not have been read before.
+    /// At the numeral's end the cursor is then where reading stops. The suffix may not have been read before.
     #[inline(always)]
     pub fn read_suffix(&mut self) -> bool
         requires is_open { self.old.closed ≡ false }

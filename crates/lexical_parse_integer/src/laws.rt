@@ -2,7 +2,7 @@
 //!
 //! A law is a call whose contract says what always holds. Each call here makes its parses and hands
 //! their answers back; those of `grammar` are about the definitions alone.
-//! A text's front is what the partial parser reads of it.
+//! A text's front is what the partial parser reads.
 ghost use Rattle.std.specs.Prelude.{◌≡◌, ◌+◌, IsNone, Ok, OnOk, length, ℕ, ℤ};
 ghost use Rattle.lexical_parse_integer.specs.Answer.{with_place, view_of};
 ghost use Rattle.lexical_parse_integer.specs.Grammar.{complete, partial};
@@ -24,7 +24,7 @@ use lexical_util::result::Result;
 /// The complete and the partial answer of one text: the first follows from the second.
 ///
 /// Lean on it where a front was parsed and the whole text is to be judged too: one parse is enough.
-/// The whole text is read exactly where its front is all of it. A front that stops before the end
+/// The whole text is read exactly where its front is the whole text. A front that stops before the end
 /// makes the complete answer `InvalidDigit` at that place. A fault other than `Empty` is the
 /// complete one too. A partial `Empty` is the complete one at the text's end, and before it makes
 /// that `InvalidDigit` at its place.
@@ -54,8 +54,8 @@ pub fn complete_and_partial<T: Integer>(
 /// value leaves the type there. The format has no separator byte: with one, later bytes may decide
 /// whether a run of separators passes.
 ///
-/// Lean on it to cut an input behind the byte at which a parse stopped, or to parse before all of
-/// it has come: no byte behind that one changes the answer. A front that is all of the text isn't
+/// Lean on it to cut an input after the byte at which a parse stopped, or to parse before all of
+/// it has come: no byte after that one changes the answer. A front that is all of the text isn't
 /// settled: `12` may go on as `123`.
 ///
 /// Under the standard format `12 x` and `12 345` both give `Ok((12, 2))` as `u64`, and `2567` and
@@ -82,7 +82,7 @@ pub fn local<T: Integer>(
 /// a number of the type, that number.
 ///
 /// Lean on it to read back what a writer wrote. Show that its text is the shortest numeral of a
-/// value, with letters in either case and `-` in front of a value below 0; then that value is read.
+/// value, with letters in either case and `-` before a value below 0; then that value is read.
 /// What std writes of an integer is such a text: see `grammar::numerals`.
 ///
 /// `-10000000` in radix 2 gives -128 as `i8`, and `zZ` in radix 36 gives 1295 as `u16`.

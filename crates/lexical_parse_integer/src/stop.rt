@@ -5,7 +5,7 @@ ghost use Rattle.lexical_util.specs.Digit.{IsRadix};
 
 use lexical_util::digit::char_is_digit;
 
-/// Whether a digit of the radix stands directly before a place: where a partial parse stopped there, whether it read
+/// Whether a digit of the radix is directly before a place: where a partial parse stopped there, whether it read
 /// a digit.
 ///
 /// A partial parse of a text without digits is no fault: under the standard format the front of `x` is `Ok((0, 0))`,

@@ -116,7 +116,7 @@ pub const STANDARD: NumberFormat = NumberFormat {
 };
 
 /// Integers as JSON writes them (RFC 8259, section 6): [`STANDARD`] without a plus, and without a zero
-/// in front of another digit. Digits are required twice over, as integer and as mantissa digits.
+/// before another digit. Digits are required twice over, as integer and as mantissa digits.
 pub const JSON: NumberFormat = NumberFormat {
     required_integer_digits: true,
     no_positive_mantissa_sign: true,
@@ -148,10 +148,10 @@ impl NumberFormat {
         self.mantissa_radix()
     }
 
-    /// The byte that may stand among the digits and counts for nothing, as `_` in `1_000`.
+    /// The byte that may come among the digits and counts for nothing, as `_` in `1_000`.
     ///
-    /// It is matched exactly, also where it is a letter. The `integer_` flags say where it may stand;
-    /// with none of them it may stand nowhere, and without a separator they have no effect.
+    /// It is matched exactly, also where it is a letter. The `integer_` flags say where it may be;
+    /// with none of them it may be nowhere, and without a separator they have no effect.
     #[inline(always)]
     pub fn digit_separator(&self) -> Option<u8>
         ensures { result ≡ self.now.digit_separator }
@@ -170,7 +170,7 @@ impl NumberFormat {
         self.base_prefix
     }
 
-    /// The byte that may stand behind the last digit, as `h` in `1Fh`.
+    /// The byte that may come after the last digit, as `h` in `1Fh`.
     ///
     /// A text may leave the suffix out. It is read once, and only where there is a digit before it.
     #[inline(always)]
@@ -249,7 +249,7 @@ impl NumberFormat {
         self.required_mantissa_sign
     }
 
-    /// Whether a zero in front of another digit is refused (`Error::InvalidLeadingZeros`): `01` is,
+    /// Whether a zero before another digit is refused (`Error::InvalidLeadingZeros`): `01` is,
     /// `0` isn't. Zeros after a prefix, and in a numeral that a zero makes octal, are never refused.
     #[inline(always)]
     pub fn no_integer_leading_zeros(&self) -> bool
@@ -258,7 +258,7 @@ impl NumberFormat {
         self.no_integer_leading_zeros
     }
 
-    /// Whether separators may stand before the first digit, as in `_12`, or where there is none.
+    /// Whether separators may come before the first digit, as in `_12`, or where there is none.
     #[inline(always)]
     pub fn integer_leading_digit_separator(&self) -> bool
         ensures { result ≡ self.now.integer_leading_digit_separator }
@@ -266,7 +266,7 @@ impl NumberFormat {
         self.integer_leading_digit_separator
     }
 
-    /// Whether separators may stand between two digits, as in `1_2`.
+    /// Whether separators may come between two digits, as in `1_2`.
     #[inline(always)]
     pub fn integer_internal_digit_separator(&self) -> bool
         ensures { result ≡ self.now.integer_internal_digit_separator }
@@ -274,7 +274,7 @@ impl NumberFormat {
         self.integer_internal_digit_separator
     }
 
-    /// Whether separators may stand behind the last digit, as in `12_`, or where there is none.
+    /// Whether separators may come after the last digit, as in `12_`, or where there is none.
     #[inline(always)]
     pub fn integer_trailing_digit_separator(&self) -> bool
         ensures { result ≡ self.now.integer_trailing_digit_separator }
@@ -282,8 +282,8 @@ impl NumberFormat {
         self.integer_trailing_digit_separator
     }
 
-    /// Whether separators may stand next to one another, as in `1__2`. Where this isn't set, two in a
-    /// row may stand nowhere, whatever the other three flags are.
+    /// Whether separators may come side by side, as in `1__2`. Where this isn't set, two in a
+    /// row may be nowhere, whatever the other three flags are.
     #[inline(always)]
     pub fn integer_consecutive_digit_separator(&self) -> bool
         ensures { result ≡ self.now.integer_consecutive_digit_separator }
@@ -291,7 +291,7 @@ impl NumberFormat {
         self.integer_consecutive_digit_separator
     }
 
-    /// Whether separators may stand directly behind a prefix, as in `0x_1F`: a run of them with no digit before it is
+    /// Whether separators may come directly after a prefix, as in `0x_1F`: a run of them with no digit before it is
     /// judged there as if `integer_leading_digit_separator` were set. Without a prefix this has no effect.
     #[inline(always)]
     pub fn integer_prefix_digit_separator(&self) -> bool
@@ -310,7 +310,7 @@ impl NumberFormat {
         self.literal_prefixes
     }
 
-    /// Whether a zero in front makes a numeral octal, as in C: where a `0` stands directly after the sign, and is no part
+    /// Whether a first zero makes a numeral octal, as in C: where a `0` is directly after the sign, and is no part
     /// of a prefix, the radix in force is 8, and that zero is the numeral's first digit. `0777` is 511, and `0` is 0.
     #[inline(always)]
     pub fn literal_octal_zero(&self) -> bool

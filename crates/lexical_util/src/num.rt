@@ -34,12 +34,12 @@ macro_rules! checked_mul_add {
 mod signed;
 mod unsigned;
 
-/// An integer type whose values stand for whole numbers.
+/// An integer type, whose values are whole numbers.
 ///
 /// Its numbers are 0 to `2^BITS - 1`, or `-2^(BITS-1)` to `2^(BITS-1) - 1` where it is signed. The
 /// twelve primitive types implement it; `usize` and `isize` are 64 bits wide.
 ///
-/// A function with this bound is proved once, from the contracts and the laws that stand here, for
+/// A function with this bound is proved once, from the contracts and the laws here, for
 /// every type that keeps them.
 pub trait Integer: Copy + Eq + Ord {
     // The whole number that a value stands for.

@@ -22,7 +22,7 @@ pub fn output_lines_are_those_of_the_answers()
         (scan settings_after answer_lines standard_settings (lines input)) }
 {}
 
-/// What is printed of a number is its shortest numeral in radix 10, with a minus in front where it is
+/// What is printed of a number is its shortest numeral in radix 10, after a minus where it is
 /// below 0. So the parsers read it back.
 pub fn numeral_is_shortest()
     ensures { (number : ℤ) → IsNumeralOf 10 number (signed_numeral number) }

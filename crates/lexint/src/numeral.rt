@@ -68,7 +68,7 @@ fn put_pair(pair: u8, place: &mut [u8; MOST], end: usize)
     place[end - 2] = b'0' + pair / 10;
 }
 
-/// Writes the numeral of a number, with `-` in front where it is negative.
+/// Writes the numeral of a number, after a `-` where it is negative.
 pub fn write_number(number: &Number, place: &mut [u8; MOST]) -> usize
     ensures within { result ≤ 40 }
     ensures written { drop result place.new ≡ signed_numeral number.now }

@@ -18,15 +18,15 @@ use lexical_parse_integer::{
 /// Why a text doesn't begin with a fixed-point number. Places count bytes of the text from 0.
 #[derive(Debug, Copy, Clone, PartialEq, Eq)]
 pub enum FixedPointError {
-    /// The whole part isn't read; a byte that stands in place of its first digit is an
+    /// The whole part isn't read; a byte where its first digit would be is an
     /// `InvalidDigit`.
     Whole(Error),
-    /// A point stands before `start`, and the fraction there isn't read; the fault's place counts
-    /// from `start`. A byte that stands in place of its first digit is an `InvalidDigit`.
+    /// A point comes before `start`, and the fraction there isn't read; the fault's place counts
+    /// from `start`. A byte where its first digit would be is an `InvalidDigit`.
     Fraction { start: usize, error: Error },
     /// The fraction has more digits than asked for. The place is that of the first one too many.
     TooManyDigits(usize),
-    /// The number in front of this place is read, and leaves `i64` in units.
+    /// The number before this place is read, and leaves `i64` in units.
     OutOfRange(usize),
 }
 
@@ -130,7 +130,7 @@ fn fraction_behind(text: &[u8], end: usize, digits: usize) -> Result<(i128, usiz
 }
 
 /// The fixed-point number that a text begins with, in units of the last of so many fraction
-/// digits, and the place behind it. There may be at most 18 such digits: `i64` has no higher power
+/// digits, and the place after it. There may be at most 18 such digits: `i64` has no higher power
 /// of ten.
 ///
 /// A text may have fewer fraction digits, or no point at all. With two digits `12.5 EUR` is 1250 and

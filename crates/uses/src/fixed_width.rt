@@ -1,4 +1,4 @@
-//! Rows of columns of fixed width, whose numbers are filled up with zeros in front.
+//! Rows of columns of fixed width, whose numbers begin with zeros that fill them up.
 
 ghost use Rattle.std.specs.Prelude.{◌≡◌, ◌^◌, ◌<◌, sum};
 ghost use Rattle.uses.specs.FixedWidth.{values_in};
@@ -24,7 +24,7 @@ pub enum RowError {
 
 /// The numbers in the columns of a row, whose widths are in bytes and add up to a `usize`.
 ///
-/// A number may have zeros in front, behind its sign if it has one; spaces aren't read. A row of
+/// A number may begin with zeros, after its sign if it has one; spaces aren't read. A row of
 /// another length than its columns' is told first.
 ///
 /// With the widths 4, 3 and 5 the row `0007042-0013` has the numbers 7, 42 and -13.

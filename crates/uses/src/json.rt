@@ -9,7 +9,7 @@ use lexical_parse_integer::{Error, FromLexicalWithOptions, format, options, stop
 /// What a reader knows of the number that its input begins with.
 #[derive(Debug, Copy, Clone, PartialEq, Eq)]
 pub enum Part {
-    /// The integer part, and the place behind its last digit.
+    /// The integer part, and the place after its last digit.
     Whole { value: i64, end: usize },
     /// The input so far may go on as a longer integer part: read on, and ask again.
     Unfinished,
@@ -18,18 +18,18 @@ pub enum Part {
 /// Why an input doesn't begin with the integer part of a JSON number that is an `i64`.
 #[derive(Debug, Copy, Clone, PartialEq, Eq)]
 pub enum NumberError {
-    /// No digit stands at this place, where the integer part's first would.
+    /// No digit is at this place, where the integer part's first would be.
     NoDigit(usize),
     /// The integer part leaves `i64`: `Overflow` or `Underflow`.
     OutOfRange(Error),
-    /// A plus, or a zero in front of another digit.
+    /// A plus, or a zero before another digit.
     Malformed(Error),
 }
 
 /// The integer part of the JSON number that the input begins with, `read` being what has come so
 /// far.
 ///
-/// An answer other than `Unfinished` and `Malformed` is final: a reader may cut its buffer behind
+/// An answer other than `Unfinished` and `Malformed` is final: a reader may cut its buffer after
 /// the byte at the answer's place, since the answer is the same whatever follows that byte.
 ///
 /// `12` is `Unfinished`, and `12.5` and `12,` are `Whole { value: 12, end: 2 }`.

@@ -10,9 +10,9 @@ use lexical_parse_integer::{Error, FromLexical};
 /// One line of a ledger.
 #[derive(Debug, Copy, Clone, PartialEq, Eq)]
 pub struct Entry<'a> {
-    /// What stands before the first space or tab.
+    /// What comes before the first space or tab.
     pub name: &'a [u8],
-    /// What stands behind it.
+    /// What comes after it.
     pub cents: i64,
 }
 

@@ -19,7 +19,7 @@ pub fn c_format() -> NumberFormat
     languages::c23()
 }
 
-/// Literals of Python, where no zero stands in front of another digit.
+/// Literals of Python, where no zero comes before another digit.
 pub fn python_format() -> NumberFormat
     ensures { result ≡ python_format }
 {
@@ -46,8 +46,8 @@ fn begins_with_o(text: &[u8]) -> bool
     text.starts_with(b"0o") || text.starts_with(b"0O")
 }
 
-/// The `u64` that an integer literal of C stands for, without its suffix: decimal, octal behind a `0`, hexadecimal
-/// behind `0x`, or binary behind `0b`, with `'` between digits.
+/// The `u64` that an integer literal of C stands for, without its suffix: decimal, octal after a `0`, hexadecimal
+/// after `0x`, or binary after `0b`, with `'` between digits.
 ///
 /// `0777` is 511, `0x1FF` too, and `1'000` is 1000. `08` and `0o7` give `InvalidDigit(1)`.
 pub fn c(text: &[u8]) -> Result<u64>
@@ -70,8 +70,8 @@ fn zero_or(fault: Error, text: &[u8]) -> Result<u64>
     }
 }
 
-/// The `u64` that an integer literal of Python stands for: decimal, or hexadecimal, octal or binary behind `0x`, `0o`
-/// or `0b`, with `_` between digits and behind the prefix. A zero in front of other digits is refused, unless all of
+/// The `u64` that an integer literal of Python stands for: decimal, or hexadecimal, octal or binary after `0x`, `0o`
+/// or `0b`, with `_` between digits and after the prefix. A zero before other digits is refused, unless all of
 /// them are zeros.
 ///
 /// `0x_1FF` is 511, and `00` is 0. `0777` gives `InvalidLeadingZeros(0)`, and `_1` `InvalidDigit(0)`.

@@ -1,6 +1,6 @@
 //! Integers of TOML, and a line that sets one: `+1_000` and `-17`, or `0xdead_beef`, `0o755` and `0b1101` without a sign.
 //!
-//! `languages::toml` says all of TOML's rules but one: that no sign stands before a prefix. So the reader asks that
+//! `languages::toml` says all of TOML's rules but one: that no sign comes before a prefix. So the reader asks that
 //! first.
 
 ghost use Rattle.std.specs.Prelude.{◌≡◌};
@@ -45,7 +45,7 @@ fn after<'a>(front: &[u8], text: &'a [u8]) -> Option<&'a [u8]>
     text.strip_prefix(front)
 }
 
-/// The `i64` that a line of a configuration gives a name, as `retries = 1_000`: [`integer`] of what stands after the
+/// The `i64` that a line of a configuration gives a name, as `retries = 1_000`: [`integer`] of what comes after the
 /// name and ` = `, with one blank on either side. `None` where the line begins with something else.
 ///
 /// For the name `retries`, that line is 1000, and `retries = 007` gives `InvalidLeadingZeros(0)`: places count from the

@@ -23,7 +23,7 @@ pub enum Error {
     MissingSign(usize),
     /// The format forbids the plus. The place is 0.
     InvalidPositiveSign(usize),
-    /// The format forbids the zero at the place, in front of another digit.
+    /// The format forbids the zero at the place, before another digit.
     InvalidLeadingZeros(usize),
     /// The format's radix isn't from 2 to 36.
     InvalidMantissaRadix,

@@ -5,15 +5,15 @@ use jadvolni_sys as sys;
 
 /// What a text may look like. Start from one of the constants, and change fields.
 ///
-/// Any fields may stand here: the calls refuse a format that breaks a rule, and `error` tells it
+/// Any fields may be here: the calls refuse a format that breaks a rule, and `error` tells it
 /// beforehand.
 #[derive(Debug, Copy, Clone, PartialEq, Eq, Hash)]
 pub struct Format {
     /// The radix, from 2 to 36.
     pub mantissa_radix: u8,
-    /// A byte that counts for nothing among the digits, where the flags on separators let it stand.
+    /// A byte that counts for nothing among the digits, where the flags on separators allow it.
     pub digit_separator: Option<u8>,
-    /// A byte that may follow a `0` in front of the digits, as `x` in `0x1F`. The radix stays.
+    /// A byte that may follow a `0` before the digits, as `x` in `0x1F`. The radix stays.
     pub base_prefix: Option<u8>,
     /// A byte that may follow the digits.
     pub base_suffix: Option<u8>,
@@ -29,26 +29,26 @@ pub struct Format {
     pub no_positive_mantissa_sign: bool,
     /// A text without a sign is refused.
     pub required_mantissa_sign: bool,
-    /// A zero in front of another digit is refused.
+    /// A zero before another digit is refused.
     pub no_integer_leading_zeros: bool,
-    /// Separators may stand in front of all digits.
+    /// Separators may come before all digits.
     pub integer_leading_digit_separator: bool,
-    /// Separators may stand between two digits.
+    /// Separators may come between two digits.
     pub integer_internal_digit_separator: bool,
-    /// Separators may stand behind all digits.
+    /// Separators may come after all digits.
     pub integer_trailing_digit_separator: bool,
-    /// Where one separator may stand, more may.
+    /// Where one separator may be, more may.
     pub integer_consecutive_digit_separator: bool,
-    /// Separators may stand directly behind a prefix, as in `0x_1F`.
+    /// Separators may come directly after a prefix, as in `0x_1F`.
     pub integer_prefix_digit_separator: bool,
-    /// `0x`, `0o` and `0b` choose the radix for the digits behind them.
+    /// `0x`, `0o` and `0b` choose the radix for the digits after them.
     pub literal_prefixes: bool,
-    /// A zero in front of another digit, or of the separator, makes the number octal.
+    /// A zero before another digit, or before the separator, makes the number octal.
     pub literal_octal_zero: bool,
 }
 
 impl Format {
-    /// Decimal digits behind an optional sign. A digit is required.
+    /// Decimal digits after an optional sign. A digit is required.
     pub const STANDARD: Format = Format {
         mantissa_radix: 10,
         digit_separator: None,
@@ -70,7 +70,7 @@ impl Format {
         literal_octal_zero: false,
     };
 
-    /// Integers as JSON has them: no plus, and no zero in front of another digit.
+    /// Integers as JSON has them: no plus, and no zero before another digit.
     pub const JSON: Format = Format {
         required_integer_digits: true,
         no_positive_mantissa_sign: true,

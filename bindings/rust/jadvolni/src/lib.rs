@@ -9,7 +9,7 @@
 //! assert_eq!(parse_with::<u8>("0x1F", &hexadecimal), Ok(31));
 //! ```
 //!
-//! No call allocates or panics. The proofs are of the library behind these calls: that this crate hands
+//! No call allocates or panics. The proofs are of the library below these calls: that this crate hands
 //! its texts over and its answers back is tested.
 #![no_std]
 
@@ -28,7 +28,7 @@ pub use integer::Integer;
 
 use jadvolni_sys as sys;
 
-/// The whole text as a `T`: decimal digits behind an optional sign.
+/// The whole text as a `T`: decimal digits after an optional sign.
 ///
 /// ```
 /// assert_eq!(jadvolni::parse::<i8>("-128"), Ok(-128));

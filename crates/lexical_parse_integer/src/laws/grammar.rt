@@ -28,16 +28,16 @@ pub fn greatest_end(bytes: &[u8], format: &NumberFormat, radix: u32, start: usiz
 /// The run of a separator is the longest stretch of separators, within the region that begins at
 /// `start`, that holds it.
 ///
-/// With the separator `_`, the run of place 2 in `1__2` begins at 1, and 3 is the place behind it.
+/// With the separator `_`, the run of place 2 in `1__2` begins at 1, and 3 is the place after it.
 pub fn longest_run(bytes: &[u8], format: &NumberFormat, start: usize, place: usize)
     requires within { start ≤ place }
     requires separator { separator_at format.now bytes.now place ≡ true }
     ensures { IsLongestRun format.now bytes.now start place }
 {}
 
-/// A region starts at 2 or later exactly where a prefix stands behind the sign. There separators are judged as under a
+/// A region starts at 2 or later exactly where a prefix comes after the sign. There separators are judged as under a
 /// format that has the flag for leading separators where either flag is set, and elsewhere as under one without the
-/// flag for separators behind a prefix.
+/// flag for separators after a prefix.
 pub fn prefixes()
     ensures place { (format : Format) (type : IntegerType) (text : List ℕ) (sign_read : Bool × ℕ)
         (head : Head)
@@ -56,7 +56,7 @@ pub fn prefixes()
 /// Where a value leaves its type, it does so at a place within the text.
 ///
 /// As `u8`, `256x` gives `Overflow(2)`, and the text has four bytes. A fault where digits are missing
-/// may stand at the text's end.
+/// may be at the text's end.
 pub fn range_faults()
     ensures front { (format : Format) (type : IntegerType) (text : List ℕ)
         → LeavesWithin (length text) (partial format type text) }
@@ -64,7 +64,7 @@ pub fn range_faults()
         → LeavesWithin (length text) (complete format type text) }
 {}
 
-/// Each fault of a text stands within it or at its end.
+/// Each fault of a text is within the text or at its end.
 ///
 /// So a place may be added to the place of a text within a longer one: the sum is within that.
 /// `12x` gives `InvalidDigit(2)`, and `+` gives `Empty(1)`, at its end.
@@ -97,10 +97,10 @@ pub fn front_end()
         → partial format type text ≡ Ok (value, place) → 0 < place }
 {}
 
-/// The front that is read of a text with neither a prefix nor an octal zero has a digit exactly where one stands directly before its place,
+/// The front that is read of a text with neither a prefix nor an octal zero has a digit exactly where one is directly before its place,
 /// under a format without separator byte and suffix: what `stops_after_digit` answers is whether a digit was read.
 ///
-/// Under the standard format the front of `+a` stops at 1, behind no digit, and has none.
+/// Under the standard format the front of `+a` stops at 1, after no digit, and has none.
 pub fn front_digits()
     ensures { (format : Format) (type : IntegerType) (text : List ℕ)
         → IsNone format.digit_separator → IsNone format.base_suffix → TellsDigits format type text }

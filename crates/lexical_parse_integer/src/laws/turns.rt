@@ -2,7 +2,7 @@
 //!
 //! A turn is one digit taken alone, or one word of four or eight digits taken at once. Each call here parses over a
 //! cursor with `LARGE_NUMBERS` and hands back the answer and the cursor, which counts its turns. Let `d` be how many
-//! digits the numeral has, whatever stands before or after it, and `o` what `T::overflow_digits` answers for the radix
+//! digits the numeral has, whatever comes before or after it, and `o` what `T::overflow_digits` answers for the radix
 //! in force. The clauses hold for every text and every answer, where the format has no separator byte and the radix in
 //! force is at most 10:
 //!

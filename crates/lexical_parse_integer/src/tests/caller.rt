@@ -39,7 +39,7 @@ pub fn number_and_rest(line: &[u8]) -> Result<(u32, &[u8])>
     Ok((number, &line[place..]))
 }
 
-/// An address in radix 16, with `0x` in front or without it: `0x1F` or `1f`.
+/// An address in radix 16, with `0x` or without it: `0x1F` or `1f`.
 pub fn address(text: &[u8]) -> Result<u32>
     ensures { view_of (λ address. pos address) result
         ≡ complete (record standard { mantissa_radix = 16; base_prefix = Some 120 })

@@ -69,7 +69,7 @@ impl NumberFormatBuilder {
         self
     }
 
-    /// Sets the separator. Flags say where it may stand:
+    /// Sets the separator. Flags say where it may be:
     ///
     /// ```rust
     /// // 1_000_000, but not 1__000 or _1.
@@ -96,7 +96,7 @@ impl NumberFormatBuilder {
         self
     }
 
-    /// Sets the suffix: with `Some(b'h')` a text may end with `h`, directly behind its digits.
+    /// Sets the suffix: with `Some(b'h')` a text may end with `h`, directly after its digits.
     #[inline]
     pub fn base_suffix(mut self, value: Option<u8>) -> Self
         ensures { result ≡ record self { base_suffix = value } }
@@ -174,7 +174,7 @@ impl NumberFormatBuilder {
         self
     }
 
-    /// Sets whether a zero in front of another digit is refused.
+    /// Sets whether a zero before another digit is refused.
     #[inline]
     pub fn no_integer_leading_zeros(mut self, value: bool) -> Self
         ensures { result ≡ record self { no_integer_leading_zeros = value } }
@@ -215,7 +215,7 @@ impl NumberFormatBuilder {
         self.integer_consecutive_digit_separator(value)
     }
 
-    /// Sets whether separators may stand before the first digit, as in `_12`, or where there is none.
+    /// Sets whether separators may come before the first digit, as in `_12`, or where there is none.
     #[inline]
     pub fn integer_leading_digit_separator(mut self, value: bool) -> Self
         ensures { result ≡ record self { integer_leading_digit_separator = value } }
@@ -224,7 +224,7 @@ impl NumberFormatBuilder {
         self
     }
 
-    /// Sets whether separators may stand between two digits, as in `1_2`.
+    /// Sets whether separators may come between two digits, as in `1_2`.
     #[inline]
     pub fn integer_internal_digit_separator(mut self, value: bool) -> Self
         ensures { result ≡ record self { integer_internal_digit_separator = value } }
@@ -233,7 +233,7 @@ impl NumberFormatBuilder {
         self
     }
 
-    /// Sets whether separators may stand behind the last digit, as in `12_`, or where there is none.
+    /// Sets whether separators may come after the last digit, as in `12_`, or where there is none.
     #[inline]
     pub fn integer_trailing_digit_separator(mut self, value: bool) -> Self
         ensures { result ≡ record self { integer_trailing_digit_separator = value } }
@@ -242,7 +242,7 @@ impl NumberFormatBuilder {
         self
     }
 
-    /// Sets whether separators may stand next to one another, as in `1__2`.
+    /// Sets whether separators may come side by side, as in `1__2`.
     #[inline]
     pub fn integer_consecutive_digit_separator(mut self, value: bool) -> Self
         ensures { result ≡ record self { integer_consecutive_digit_separator = value } }
@@ -251,7 +251,7 @@ impl NumberFormatBuilder {
         self
     }
 
-    /// Sets whether separators may stand directly behind a prefix:
+    /// Sets whether separators may come directly after a prefix:
     ///
     /// ```rust
     /// // 0x_1F and 0x1_F, but not _1F.
@@ -279,7 +279,7 @@ impl NumberFormatBuilder {
         self
     }
 
-    /// Sets whether a zero in front makes a numeral octal:
+    /// Sets whether a first zero makes a numeral octal:
     ///
     /// ```rust
     /// // C's integers: 511, 0777, 0x1FF and 1'000.

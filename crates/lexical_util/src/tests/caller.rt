@@ -9,7 +9,7 @@ use crate::digit::char_to_digit;
 use crate::format::{NumberFormat, NumberFormatBuilder};
 use crate::num::Integer;
 
-/// The number with the digit `byte` behind it, and `None` where the byte is no digit of the format's
+/// The number with the digit `byte` after it, and `None` where the byte is no digit of the format's
 /// radix or the new number is none of the type.
 pub fn pushed<T: Integer>(number: T, byte: u8, format: &NumberFormat) -> Option<T>
     requires radix { IsRadix format.now.mantissa_radix }

@@ -20,7 +20,7 @@ pub fn is_separated(format: &NumberFormat, separator: u8) -> bool
 }
 
 /// The number of a text's first field and the field's length, where the field is up to seven decimal digits after an
-/// optional minus, and a separator stands after it.
+/// optional minus, and a separator comes after it.
 ///
 /// `None` says nothing of the field. Between commas the first field of `12,345678,x` is 12, of length 2.
 #[inline(always)]

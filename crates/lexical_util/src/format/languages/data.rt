@@ -71,7 +71,7 @@ pub fn sql_2023() -> NumberFormat
 
 /// Whole amounts of money in columns, with `,` between digits: `-1,234,567`.
 ///
-/// That three digits stand between two commas isn't asked for.
+/// It isn't asked that three digits come between two commas.
 pub fn money() -> NumberFormat
     ensures fields { result ≡ money }
     ensures valid { fault result ≡ None }
