@@ -52,10 +52,11 @@ def read_file(path: str, threads: int):
         pieces = cuts(data, threads)
         with ThreadPoolExecutor(threads) as pool:
             answers = list(pool.map(lambda piece: read_piece(data, *piece), pieces))
-        for (start, _), answer in zip(pieces, answers):
-            if isinstance(answer, jadvolni.ParseError):
-                lines_before = data[:start].count(b"\n")
-                raise WrongLine(lines_before + answer.field + 1, start + answer.place, answer.kind)
+    lines = 0
+    for (start, _), answer in zip(pieces, answers):
+        if isinstance(answer, jadvolni.ParseError):
+            raise WrongLine(lines + answer.field + 1, start + answer.place, answer.kind)
+        lines += len(answer)
     return answers
 
 

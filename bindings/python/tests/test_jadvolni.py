@@ -2,14 +2,18 @@
 
 import array
 import doctest
+import pathlib
 import pickle
 import random
 import sys
 import threading
+import tracemalloc
 import unittest
 
 import jadvolni
 from jadvolni import Format, FormatError, ParseError, parse, parse_column, parse_partial
+
+README = pathlib.Path(__file__).resolve().parents[1] / "README.md"
 
 # The least and the greatest number of each type.
 BOUNDS = {
@@ -280,6 +284,14 @@ class Arguments(Case):
 
         def calls():
             for call, arguments in (
+                (Format, ()),
+                (parse, (str(2**127), "u128")),
+                (parse, (str(-(2**127)), "i128", format)),
+                (parse_partial, (text, "i128")),
+                (parse_column, (text, "u128")),
+                (parse_column, (b"12,13", name, b"ab")),
+                (parse_column, (b"12,13", name, 5)),
+                (parse_column, (5, name, separator)),
                 (parse, (text, name, format)),
                 (parse, (b"12", name, format)),
                 (parse_partial, (text, name, format)),
@@ -299,12 +311,25 @@ class Arguments(Case):
         for _ in range(1000):
             calls()
         self.assertEqual([sys.getrefcount(one) for one in objects], before)
+        # What each call has taken is given back: a byte lost by each would be 1000.
+        tracemalloc.start()
+        try:
+            calls()
+            taken = tracemalloc.get_traced_memory()[0]
+            for _ in range(1000):
+                calls()
+            self.assertLess(tracemalloc.get_traced_memory()[0] - taken, 1000)
+        finally:
+            tracemalloc.stop()
 
 
 def load_tests(loader, tests, pattern):
     """The examples of the documentation are tests too."""
     tests.addTests(doctest.DocTestSuite(jadvolni))
     tests.addTests(doctest.DocTestSuite(sys.modules["jadvolni._format"]))
+    # (the line that ends a block of code would count as expected output)
+    shown = README.read_text(encoding="utf-8").replace("```\n", "\n")
+    tests.addTest(doctest.DocTestCase(doctest.DocTestParser().get_doctest(shown, {}, README.name, str(README), 0)))
     return tests
 
 
