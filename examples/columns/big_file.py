@@ -35,13 +35,18 @@ def cuts(data, count: int):
     return pieces
 
 
+def read_lines(text):
+    """The numbers of the lines of a text, or the fault of the first wrong one. This is what a worker calls."""
+    try:
+        return jadvolni.parse_column(text, "i64")
+    except jadvolni.ParseError as error:
+        return error
+
+
 def read_piece(data, start: int, stop: int):
-    """The numbers of a piece, or the fault of its first wrong line. This is what a worker calls."""
+    """The same of the lines from one place of the data to another, which aren't copied."""
     with memoryview(data) as whole, whole[start:stop] as piece:
-        try:
-            return jadvolni.parse_column(piece, "i64")
-        except jadvolni.ParseError as error:
-            return error
+        return read_lines(piece)
 
 
 def read_file(path: str, threads: int):

@@ -175,6 +175,11 @@ class Columns(Case):
             text = b",".join(b"x" if k == field else b"%d" % k for k in range(4))
             self.assertEqual(self.fault("InvalidDigit", 2 * field, parse_column, text, "u8", b",").field, field)
 
+    def test_a_fault_is_pickled(self):
+        error = self.fault("Overflow", 5, parse_column, b"12\n256\nx\n", "u8")
+        again = pickle.loads(pickle.dumps(error))
+        self.assertEqual((type(again), str(again), vars(again)), (ParseError, str(error), vars(error)))
+
     def test_long_columns(self):
         numbers = [k * k * k % 2**64 for k in range(100_000)]
         text = "\n".join(map(str, numbers)).encode()
