@@ -2,6 +2,7 @@
 
 import array
 import doctest
+import gc
 import pathlib
 import pickle
 import random
@@ -316,14 +317,16 @@ class Arguments(Case):
         for _ in range(1000):
             calls()
         self.assertEqual([sys.getrefcount(one) for one in objects], before)
-        # What each call has taken is given back: a byte lost by each would be 1000.
+        # What a call takes is given back: the least object that each round lost would be 160,000 bytes.
         tracemalloc.start()
         try:
-            calls()
-            taken = tracemalloc.get_traced_memory()[0]
-            for _ in range(1000):
-                calls()
-            self.assertLess(tracemalloc.get_traced_memory()[0] - taken, 1000)
+            taken = []
+            for rounds in (2000, 10_000):
+                for _ in range(rounds):
+                    calls()
+                gc.collect()
+                taken.append(tracemalloc.get_traced_memory()[0])
+            self.assertLess(taken[1] - taken[0], 100_000)
         finally:
             tracemalloc.stop()
 
