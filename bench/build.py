@@ -1,4 +1,4 @@
-"""Builds the driver: the measured library, proved in a tree of its own, and the peers that are there."""
+"""Builds the driver: the measured library, proved in a tree of its own, that for C, and the peers that are there."""
 from __future__ import annotations
 
 import glob
@@ -52,7 +52,7 @@ def run(words: list[str], folder: str, **more: str) -> None:
 
 def missing() -> list[str]:
     """The programs that a measurement needs and that aren't there."""
-    return [name for name in (os.environ.get("RT", "rt"), "cargo", "c++", "ar") if not shutil.which(name)]
+    return [name for name in (os.environ.get("RT", "rt"), "cargo", "make", "cc", "c++", "ar") if not shutil.which(name)]
 
 
 def room() -> str:
@@ -74,6 +74,12 @@ def library(room: str) -> None:
     shutil.copy(os.path.join(folder, "out", "libbench_calls.a"), os.path.join(room, "driver"))
 
 
+def library_for_c(folder: str) -> None:
+    """The library that C calls, `libjadvolni.a`, as `make lib` builds it for its users."""
+    run(["make", "-s", "lib"], TOP)
+    shutil.copy(os.path.join(TOP, "build", "libjadvolni.a"), folder)
+
+
 def copy(source: str, to: str) -> None:
     """A crate, and at first the proofs that it has. What was removed from it is removed from an older copy too."""
     for part in ("src", "specs", "proofs"):
@@ -92,8 +98,10 @@ def driver() -> tuple[str, list[str]]:
     """(the driver's path, what could not be measured and why)."""
     at = os.path.join(room(), "driver")
     os.makedirs(os.path.join(at, "src"), exist_ok=True)
+    library_for_c(at)
     library(room())
-    run(["c++", "-std=gnu++20", "-O3", "-march=x86-64-v2", "-c", os.path.join(HERE, "driver", "peers.cpp"), "-o", "peers.o"], at)
+    run(["c++", "-std=gnu++20", "-O3", "-march=x86-64-v2", f"-I{os.path.join(TOP, 'include')}", "-c",
+         os.path.join(HERE, "driver", "peers.cpp"), "-o", "peers.o"], at)
     run(["ar", "crs", "libpeers.a", "peers.o"], at)
     for name in ("main.rs", "peers.rs", "sets.rs", "texts.rs"):
         shutil.copy(os.path.join(HERE, "driver", name), os.path.join(at, "src", name))
@@ -102,7 +110,7 @@ def driver() -> tuple[str, list[str]]:
     os.makedirs(os.path.join(at, ".cargo"), exist_ok=True)
     write(os.path.join(at, ".cargo", "config.toml"), CONFIG.format(registry=REGISTRY) if has_lexical else "")
     words = ["cargo", "build", "--release", "--offline", "--quiet", *(["--features", "lexical-core"] if has_lexical else [])]
-    flags = f"-C target-cpu=x86-64-v2 -L native={at} -l static=bench_calls -l static=peers -l stdc++"
+    flags = f"-C target-cpu=x86-64-v2 -L native={at} -l static=bench_calls -l static=peers -l static=jadvolni -l stdc++"
     run(words, at, RUSTFLAGS=flags)
     left_out = [] if has_lexical else [f"lexical-core: {REGISTRY} has none (Debian's librust-lexical-core-dev)"]
     return os.path.join(at, "target", "release", "driver"), left_out

@@ -5,8 +5,9 @@
 
 A column has 1,000,000 numbers of u64, a line feed after each. The C call and a loop of std::from_chars take turns in one
 run, so that their ratio holds on a busy machine too; the others have runs of their own. Of each the least time counts.
-It needs the library of `make lib`, a C++ compiler and Python's headers; rustc and NumPy are taken where they are there. It
-writes bench/columns.tsv and prints the table. The gate runs none of this.
+All have to read the same numbers before their time counts. It needs the library of `make lib`, a C++ compiler and Python's
+headers; rustc and NumPy are taken where they are there. It writes bench/columns.tsv and a table of docs/SPEED.md, and prints
+what it sees. The gate runs none of this.
 """
 from __future__ import annotations
 
@@ -14,6 +15,7 @@ import argparse
 import datetime
 import os
 import random
+import re
 import shutil
 import subprocess
 import sys
@@ -23,6 +25,8 @@ import time
 HERE = os.path.dirname(os.path.abspath(__file__))
 TOP = os.path.dirname(HERE)
 PYTHON = os.path.join(TOP, "bindings", "python")
+PAGE = os.path.join(TOP, "docs", "SPEED.md")
+MEASURED = re.compile(r"(<!-- measured: bench/columns.py writes this -->\n)(?s:.*?)(<!-- end of what was measured -->)")
 FLAGS = ["-std=c++17", "-O3", "-march=x86-64-v2", f"-I{os.path.join(TOP, 'include')}"]
 
 
@@ -89,18 +93,68 @@ def least_time(read, count: int, rounds: int) -> float:
     return least
 
 
-def by_python(jadvolni, text: bytes, count: int, rounds: int) -> dict[str, float]:
-    """What Python's readers take."""
-    readers = {"Python: parse_column": lambda: jadvolni.parse_column(text, "u64"),
-               "Python: int over split": lambda: [int(one) for one in text.split()]}
+def readers(jadvolni, text: bytes) -> dict:
+    """Python's readers of a text."""
+    found = {"Python: parse_column": lambda: jadvolni.parse_column(text, "u64"),
+             "Python: int over split": lambda: [int(one) for one in text.split()]}
     try:
         import io
         import numpy
-        readers["NumPy: fromstring"] = lambda: numpy.fromstring(text, dtype="u8", sep="\n")
-        readers["NumPy: loadtxt"] = lambda: numpy.loadtxt(io.BytesIO(text), dtype="u8")
     except ImportError:
-        pass
-    return {name: least_time(read, count, max(rounds // 5, 3)) for name, read in readers.items()}
+        return found
+    return {**found, "NumPy: fromstring": lambda: numpy.fromstring(text, dtype="u8", sep="\n"),
+            "NumPy: loadtxt": lambda: numpy.loadtxt(io.BytesIO(text), dtype="u8")}
+
+
+def measured(drivers: list[list[str]], jadvolni, numbers: list[int], rounds: int) -> dict[str, float]:
+    """Nanoseconds a number of each reader of a column."""
+    text = "".join(f"{number}\n" for number in numbers).encode()
+    found = {}
+    for driver in drivers:
+        said = subprocess.run([*driver, str(rounds)], input=text, capture_output=True, check=True).stdout
+        found.update((peer, float(taken)) for peer, taken in (line.split("\t") for line in said.decode().splitlines()))
+    for peer, read in readers(jadvolni, text).items():
+        if list(read()) != numbers:
+            sys.exit(f"bench: {peer} reads other numbers")
+        found[peer] = least_time(read, len(numbers), max(rounds // 5, 3))
+    return found
+
+
+Seen = dict[str, dict[str, float]]
+
+
+def lines_of(seen: Seen) -> list[str]:
+    """What was seen, a line for each column and reader."""
+    return ["\t".join((name, peer, f"{taken:.2f}", f"{taken / found['from_chars']:.2f}"))
+            for name, found in seen.items() for peer, taken in found.items()]
+
+
+def table(seen: Seen) -> list[str]:
+    """The same as a table: what a reader takes where from_chars takes 1."""
+    peers = [peer for peer in next(iter(seen.values())) if peer != "from_chars"]
+    lines = ["| numbers | from_chars, ns | " + " | ".join(peers) + " |", "|---" * (len(peers) + 2) + "|"]
+    for name, found in seen.items():
+        cells = [f"{found[peer] / found['from_chars']:.2f}" for peer in peers]
+        lines.append(f"| {name} | {found['from_chars']:.1f} | " + " | ".join(cells) + " |")
+    return lines
+
+
+def write(seen: Seen, asked: argparse.Namespace, load: float) -> None:
+    """Writes bench/columns.tsv and the table of docs/SPEED.md."""
+    on = (f"{datetime.date.today().isoformat()}: {os.cpu_count()} processors, load {load:.1f} at the start; "
+          f"{asked.numbers} numbers, seed {asked.seed}, {asked.rounds} rounds.")
+    has_numpy = any("NumPy: loadtxt" in found for found in seen.values())
+    left_out = [] if has_numpy else ["Not measured: NumPy, which is not installed."]
+    head = [f"# Columns, measured by make bench on {on}", *(f"# {one}" for one in left_out),
+            "\t".join(("numbers", "reader", "ns a number", "to from_chars"))]
+    with open(os.path.join(HERE, "columns.tsv"), "w", encoding="utf-8") as file:
+        file.write("\n".join([*head, *lines_of(seen)]) + "\n")
+    with open(PAGE, encoding="utf-8") as file:
+        page = file.read()
+    said = [f"Measured on {on}", *left_out, "", "The numbers are of `u64`, with a line feed after each. In the table a loop of "
+            "`from_chars` takes 1. [columns.tsv](../bench/columns.tsv) has the nanoseconds.", "", *table(seen), ""]
+    with open(PAGE, "w", encoding="utf-8") as file:
+        file.write(MEASURED.sub(lambda found: found[1] + "\n".join(said) + "\n" + found[2], page))
 
 
 def main() -> int:
@@ -109,26 +163,16 @@ def main() -> int:
     parser.add_argument("--rounds", type=int, default=25, help="how often each column is read")
     parser.add_argument("--seed", type=int, default=1, help="what the numbers come from")
     asked = parser.parse_args()
-    lines = [f"# Columns, measured by make bench on {datetime.date.today().isoformat()}: {os.cpu_count()} processors, load "
-             f"{os.getloadavg()[0]:.1f} at the start; {asked.numbers} numbers, seed {asked.seed}, {asked.rounds} rounds.",
-             "\t".join(("numbers", "reader", "ns a number", "to from_chars"))]
+    load = os.getloadavg()[0]
+    seen: Seen = {}
     with tempfile.TemporaryDirectory() as folder:
         drivers, jadvolni = built(folder), binding(folder)
         for name, number in SETS.items():
             random_ = random.Random(asked.seed)
-            text = "".join(f"{number(random_)}\n" for _ in range(asked.numbers)).encode()
-            found = {}
-            for driver in drivers:
-                said = subprocess.run([*driver, str(asked.rounds)], input=text, capture_output=True, check=True).stdout
-                found.update((peer, float(taken)) for peer, taken in (line.split("\t") for line in said.decode().splitlines()))
-            found.update(by_python(jadvolni, text, asked.numbers, asked.rounds))
-            lines += ["\t".join((name, peer, f"{taken:.2f}", f"{taken / found['from_chars']:.2f}"))
-                      for peer, taken in found.items()]
-            print("\n".join(lines[-len(found):]), flush=True)
-    if "NumPy: loadtxt" not in "".join(lines):
-        lines.insert(1, "# Not measured: NumPy, which is not installed.")
-    with open(os.path.join(HERE, "columns.tsv"), "w", encoding="utf-8") as file:
-        file.write("\n".join(lines) + "\n")
+            numbers = [number(random_) for _ in range(asked.numbers)]
+            seen[name] = measured(drivers, jadvolni, numbers, asked.rounds)
+            print("\n".join(lines_of({name: seen[name]})), flush=True)
+    write(seen, asked, load)
     return 0
 
 

@@ -10,8 +10,10 @@ from xml.sax.saxutils import escape
 HERE = os.path.dirname(os.path.abspath(__file__))
 PAGE = os.path.join(os.path.dirname(HERE), "docs", "SPEED.md")
 MEASURED = re.compile(r"(<!-- measured: make bench writes this -->\n)(?s:.*?)(<!-- end of what was measured -->)")
-PEERS = ("ours", "ours, constant", "from_chars", "strtoull", "lexical-core")
-COLOURS = {"ours": "#1f6f5c", "ours, constant": "#7fb8a8", "from_chars": "#c77d2e", "strtoull": "#b8a27a", "lexical-core": "#6b6fae"}
+OURS = ("ours", "ours, constant", "C call")
+PEERS = (*OURS, "from_chars", "strtoull", "lexical-core")
+COLOURS = {"ours": "#1f6f5c", "ours, constant": "#7fb8a8", "C call": "#4f9a86", "from_chars": "#c77d2e",
+           "strtoull": "#b8a27a", "lexical-core": "#6b6fae"}
 
 Numbers = dict[str, dict[str, float]]
 
@@ -113,7 +115,8 @@ def page(seen: Seen, text: str) -> str:
     """docs/SPEED.md with what was measured."""
     said = [f"Measured on {seen.date} by `make bench`: {seen.machine}. Seed {seen.asked.seed}, {seen.asked.rounds} rounds.", ""]
     said += [f"Not measured: {what}." for what in seen.left_out] + ([""] if seen.left_out else [])
-    said += ["![What each takes, where std takes 1](../bench/results.svg)", "", table(seen), "", slower(seen), ""]
+    said += ["![What each takes, where std takes 1](../bench/results.svg)", "", table(seen), "", slower(seen), "",
+             cost_of_call(seen), ""]
     return MEASURED.sub(lambda found: found[1] + "\n".join(said) + "\n" + found[2], text)
 
 
@@ -121,12 +124,23 @@ def slower(seen: Seen) -> str:
     """The rows in which another is faster than we are."""
     found = []
     for name, row in seen.small.items():
-        faster = [peer for peer in row if peer not in ("ours", "ours, constant") and row[peer] < row["ours"]]
+        faster = [peer for peer in row if peer not in OURS and row[peer] < row["ours"]]
         if faster:
             found.append(f"{name} ({', '.join(faster)})")
     if not found:
         return "In no row is another faster."
     return "Another is faster in these rows: " + "; ".join(found) + "."
+
+
+def cost_of_call(seen: Seen) -> str:
+    """What the call from C takes beside the inlined one, and the rows in which from_chars is faster than it."""
+    rows = {name: row for name, row in seen.small.items() if "C call" in row}
+    costs = sorted((row["C call"] - row["ours"], name) for name, row in rows.items())
+    (least, at_least), (middle, _), (most, at_most) = costs[0], costs[len(costs) // 2], costs[-1]
+    faster = [name for name, row in rows.items() if row.get("from_chars", row["C call"]) < row["C call"]]
+    return (f"Beside the inlined call, that from C takes {middle:+.1f} ns in the median row, {least:+.1f} ns at least "
+            f"({at_least}) and {most:+.1f} ns at most ({at_most}). `from_chars` is faster than it "
+            f"{'in these rows: ' + '; '.join(faster) if faster else 'in no row'}.")
 
 
 def write_all(seen: Seen) -> None:

@@ -21,7 +21,8 @@
  * or after a "-" where the type is signed. The calls on the front stop at the first byte that
  * doesn't belong to the number: "12, 13" gives 12, and the place 2. A front of no digits, before
  * other bytes, is mostly 0 and no fault: under the standard format "x" is 0 at place 0, and "+a" is
- * 0 at place 1. Where a number has to be there, see that the byte before the place is a digit.
+ * 0 at place 1. Where a number has to be there, ask for both `r.place > 0` and a digit at
+ * `text[r.place - 1]`.
  *
  * Eight of the types, u8 to u64 and i8 to i64, have a call that reads many numbers at once, described
  * at its declaration below:

@@ -1,5 +1,5 @@
 #!/usr/bin/env python3
-"""Builds and runs the callers of the library in C, C++ and Rust: make test-c.
+"""Builds and runs the callers of the library in C, C++, Rust and Python: make test-c.
 
     python3 tools/check_c.py [--lib FOLDER]
 
@@ -14,6 +14,7 @@ import re
 import shutil
 import subprocess
 import sys
+import sysconfig
 import tempfile
 
 sys.dont_write_bytecode = True
@@ -229,6 +230,29 @@ class Callers:
             cwd=os.path.join(TOP, "bindings", "rust"), env=where)
         return f"{sum(map(int, re.findall(r'(?m)^test result: ok. ([0-9]+) passed', said)))} tests"
 
+    # ---- Python
+
+    def python(self):
+        """The tests of the binding for Python, over the module as its wheel has it, with the examples of its documents."""
+        needs("cc")
+        if sys.version_info < (3, 11):
+            raise Skipped("it needs Python 3.11")
+        if not os.path.exists(os.path.join(sysconfig.get_paths()["include"], "Python.h")):
+            raise Skipped("Python's headers are not installed")
+        binding, packed = os.path.join(TOP, "bindings", "python"), self.path("python")
+        where = {**os.environ, "JADVOLNI_LIBRARY": os.path.join(self.libraries, "libjadvolni.a"),
+                 "PYTHONDONTWRITEBYTECODE": "1",
+                 "PYTHONPATH": os.pathsep.join([packed, *filter(None, [os.environ.get("PYTHONPATH")])])}
+        os.makedirs(packed)
+        run([sys.executable, "-c", "import sys, build_wheel; build_wheel.build_wheel(sys.argv[1])", packed], cwd=binding, env=where)
+        for wheel in os.listdir(packed):
+            shutil.unpack_archive(os.path.join(packed, wheel), packed, "zip")
+        done = subprocess.run([sys.executable, "-W", "error", "-m", "unittest", "discover", "-s", os.path.join(binding, "tests")],
+                              capture_output=True, text=True, timeout=900, env=where)
+        if done.returncode:
+            raise Failed(done.stderr)
+        return "; ".join(done.stderr.strip().splitlines()[-3::2])
+
     def steps(self):
         """The steps, in their order: a name and what to do."""
         wrapper = "tests/c/wrapper.cpp"
@@ -265,6 +289,7 @@ class Callers:
         yield "manual pages", self.man_pages
         yield "examples in documents", self.documents
         yield "Rust", self.cargo
+        yield "Python", self.python
 
 
 def main():

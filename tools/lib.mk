@@ -49,7 +49,7 @@ uninstall-lib: ## takes the library away
 	rm -rf $(DESTDIR)$(LIBDIR)/cmake/jadvolni
 
 # Without a compiler of C there is no shared library; check_c.py says what it skips then.
-test-c: build/libjadvolni.a $(if $(shell command -v $(CC) 2>/dev/null),build/libjadvolni.so) ## runs the callers in C, C++ and Rust; a part of the gate
+test-c: build/libjadvolni.a $(if $(shell command -v $(CC) 2>/dev/null),build/libjadvolni.so) ## runs the callers in C, C++, Rust and Python; a part of the gate
 	@python3 tools/check_c.py
 
 # What the random run asks for: the seed that a run before has printed, and how many parses and formats.

@@ -51,7 +51,7 @@ fn hold_alike(set: &Set) {
 fn loop_of(peer: &str) -> &'static str {
     match peer {
         "ours" | "ours, constant" => "ours",
-        "from_chars" | "strtoull" => "from_chars",
+        "C call" | "from_chars" | "strtoull" => "from_chars",
         _ => "std",
     }
 }

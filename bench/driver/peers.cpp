@@ -5,6 +5,8 @@
 #include <cstdint>
 #include <cstdlib>
 
+#include "jadvolni.h"
+
 namespace {
 
 // A loop around one call: it is handed the text's bytes and answers whether there is a value.
@@ -25,6 +27,14 @@ std::uint64_t whole(const char *texts, const std::uint32_t *stops, std::size_t c
     return sum_of<Value>(texts, stops, count, low_bits, [](const char *first, const char *last, Value &value) {
         auto [stop, fault] = std::from_chars(first, last, value, radix);
         return fault == std::errc() && stop == last;
+    });
+}
+
+// Texts by a call that the library for C exports. It is in an archive of its own, and so stays a call.
+template <class Value, jadvolni_result call(const char *, std::size_t, Value *)>
+std::uint64_t called(const char *texts, const std::uint32_t *stops, std::size_t count, std::uint64_t low_bits) {
+    return sum_of<Value>(texts, stops, count, low_bits, [](const char *first, const char *last, Value &value) {
+        return call(first, static_cast<std::size_t>(last - first), &value).status == JADVOLNI_OK;
     });
 }
 
@@ -74,6 +84,19 @@ LOOP(c_u64) {
         errno = 0;
         value = std::strtoull(first, &stop, 10);
         return stop == last && stop != first && errno == 0;
+    });
+}
+
+LOOP(call_u64) { return called<std::uint64_t, jadvolni_u64>(texts, stops, count, all); }
+LOOP(call_i64) { return called<std::int64_t, jadvolni_i64>(texts, stops, count, all_but_the_sign); }
+LOOP(call_front) { return called<std::uint64_t, jadvolni_u64_partial>(texts, stops, count, all); }
+
+LOOP(call_hex) {
+    jadvolni_format format = JADVOLNI_FORMAT_STANDARD;
+    format.mantissa_radix = 16;
+    return sum_of<std::uint64_t>(texts, stops, count, all, [&](const char *first, const char *last, std::uint64_t &value) {
+        auto size = static_cast<std::size_t>(last - first);
+        return jadvolni_u64_with_format(first, size, &format, &value).status == JADVOLNI_OK;
     });
 }
 

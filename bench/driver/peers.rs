@@ -101,6 +101,10 @@ unsafe extern "C" {
     pub fn cpp_hex(texts: *const u8, size: usize, stops: *const u32, count: usize) -> u64;
     pub fn cpp_front(texts: *const u8, size: usize, stops: *const u32, count: usize) -> u64;
     pub fn cpp_separators(texts: *const u8, size: usize, stops: *const u32, count: usize) -> u64;
+    pub fn call_u64(texts: *const u8, size: usize, stops: *const u32, count: usize) -> u64;
+    pub fn call_i64(texts: *const u8, size: usize, stops: *const u32, count: usize) -> u64;
+    pub fn call_hex(texts: *const u8, size: usize, stops: *const u32, count: usize) -> u64;
+    pub fn call_front(texts: *const u8, size: usize, stops: *const u32, count: usize) -> u64;
     pub fn c_u64(texts: *const u8, size: usize, stops: *const u32, count: usize) -> u64;
     pub fn c_hex(texts: *const u8, size: usize, stops: *const u32, count: usize) -> u64;
     pub fn ours_none(texts: *const u8, size: usize, stops: *const u32, count: usize) -> u64;

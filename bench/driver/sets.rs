@@ -63,14 +63,15 @@ macro_rules! decimal {
 
 fn u64_sets(sets: &mut Sets) {
     let mut peers = decimal!(std_u64, ours_u64, cpp_u64, lexical_u64);
+    peers.insert(2, ("C call", call_u64));
     sets.add("faults", &peers, faulty);
     sets.add("a fault at the end", &peers, between("", realistic, "x"));
     sets.add(
         "a plus",
-        &[("std", std_u64), ("ours", ours_u64)],
+        &[("std", std_u64), ("ours", ours_u64), ("C call", call_u64)],
         between("+", realistic, ""),
     );
-    peers.insert(3, ("strtoull", c_u64));
+    peers.insert(4, ("strtoull", c_u64));
     sets.add("u64, 1 digit", &peers, digits(1));
     sets.add("u64, 2 digits", &peers, digits(2));
     sets.add("u64, 3 digits", &peers, digits(3));
@@ -86,7 +87,8 @@ fn u64_sets(sets: &mut Sets) {
 }
 
 fn other_types(sets: &mut Sets) {
-    let peers = decimal!(std_i64, ours_i64, cpp_i64, lexical_i64);
+    let mut peers = decimal!(std_i64, ours_i64, cpp_i64, lexical_i64);
+    peers.insert(2, ("C call", call_i64));
     sets.add("i64, 15 digits", &peers, signed(digits(15)));
     sets.add("i64, 18 digits", &peers, signed(digits(18)));
     sets.add("i64, 1 to 18 digits", &peers, signed(digits_from_to(1, 18)));
@@ -116,9 +118,10 @@ fn at_run_time(sets: &mut Sets) {
     sets.add("radix 10 at run time, 8 digits", &peers, digits(8));
     sets.add("radix 10 at run time, 16 digits", &peers, digits(16));
     sets.add("radix 10 at run time, realistic", &peers, realistic);
-    let peers: [Peer; 4] = [
+    let peers: [Peer; 5] = [
         ("std", std_radix16),
         ("ours", ours_radix16),
+        ("C call", call_hex),
         ("from_chars", cpp_hex),
         ("strtoull", c_hex),
     ];
@@ -132,7 +135,8 @@ fn at_run_time(sets: &mut Sets) {
 }
 
 fn fronts(sets: &mut Sets) {
-    let peers = decimal!(std_front, ours_front, cpp_front, lexical_front);
+    let mut peers = decimal!(std_front, ours_front, cpp_front, lexical_front);
+    peers.insert(2, ("C call", call_front));
     sets.add("front, 4 digits", &peers, between("", digits(4), ",abc"));
     sets.add(
         "front, 1 to 20 digits",

@@ -25,7 +25,7 @@ HERE = Path(__file__).resolve().parent
 TOP = HERE.parent.parent
 NAME, VERSION = "jadvolni", "0.1.0"
 FLAGS = ["-std=c11", "-O2", "-Wall", "-Wextra", "-fPIC", "-shared", "-fvisibility=hidden"]
-SOURCES = ["__init__.py", "_format.py", "_core.pyi", "py.typed"]
+SOURCES = ["__init__.py", "_format.py", "_numpy.py", "_core.pyi", "py.typed"]
 
 
 def tag() -> str:

@@ -35,13 +35,18 @@ def cuts(data, count: int):
     return pieces
 
 
+def read_lines(text):
+    """The numbers of the lines of a text, or the fault of the first wrong one. This is what a worker calls."""
+    try:
+        return jadvolni.parse_column(text, "i64")
+    except jadvolni.ParseError as error:
+        return error
+
+
 def read_piece(data, start: int, stop: int):
-    """The numbers of a piece, or the fault of its first wrong line. This is what a worker calls."""
+    """The same of the lines from one place of the data to another, which aren't copied."""
     with memoryview(data) as whole, whole[start:stop] as piece:
-        try:
-            return jadvolni.parse_column(piece, "i64")
-        except jadvolni.ParseError as error:
-            return error
+        return read_lines(piece)
 
 
 def read_file(path: str, threads: int):
@@ -52,10 +57,11 @@ def read_file(path: str, threads: int):
         pieces = cuts(data, threads)
         with ThreadPoolExecutor(threads) as pool:
             answers = list(pool.map(lambda piece: read_piece(data, *piece), pieces))
-        for (start, _), answer in zip(pieces, answers):
-            if isinstance(answer, jadvolni.ParseError):
-                lines_before = data[:start].count(b"\n")
-                raise WrongLine(lines_before + answer.field + 1, start + answer.place, answer.kind)
+    lines = 0
+    for (start, _), answer in zip(pieces, answers):
+        if isinstance(answer, jadvolni.ParseError):
+            raise WrongLine(lines + answer.field + 1, start + answer.place, answer.kind)
+        lines += len(answer)
     return answers
 
 

@@ -136,6 +136,30 @@ static void formats(void)
     EXPECT(jadvolni_u16_with_format, uint16_t, UNDER(utf16), "0\00012", JADVOLNI_OK, 4, 12);
 }
 
+/* Each byte as the radix of a format that is else the standard one: "10" and "1" with the radix as a digit. */
+static void each_radix(void)
+{
+    for (unsigned radix = 0; radix < 256; radix++) {
+        jadvolni_format format = JADVOLNI_FORMAT_STANDARD;
+        int is_radix = radix >= 2 && radix <= 36;
+        char beyond[2] = {'1', (char)(radix < 10 ? '0' + radix : radix < 36 ? 'a' + radix - 10 : '~')};
+        uint32_t value = 77;
+        format.mantissa_radix = (uint8_t)radix;
+        jadvolni_result r = jadvolni_u32_with_format("10", 2, &format, &value);
+        CHECK(r.status == (is_radix ? JADVOLNI_OK : JADVOLNI_INVALID_MANTISSA_RADIX));
+        CHECK(r.place == (is_radix ? 2 : 0) && value == (is_radix ? radix : 77));
+        r = jadvolni_u32_partial_with_format(beyond, 2, &format, &value);
+        CHECK(r.status == (is_radix ? JADVOLNI_OK : JADVOLNI_INVALID_MANTISSA_RADIX));
+        CHECK(r.place == (is_radix ? 1 : 0) && value == (is_radix ? 1 : 77));
+        for (size_t k = 0; k < sizeof format.reserved; k++) {
+            format.reserved[k] = 1;
+            r = jadvolni_u32_with_format("10", 2, &format, &value);
+            CHECK(r.status == JADVOLNI_UNKNOWN_FIELD && r.place == 0);
+            format.reserved[k] = 0;
+        }
+    }
+}
+
 static void halves(void)
 {
     jadvolni_format standard = JADVOLNI_FORMAT_STANDARD;
@@ -200,6 +224,7 @@ int main(void)
     faults_of_texts();
     faults_of_formats();
     formats();
+    each_radix();
     halves();
     null_texts();
     names();

@@ -2,14 +2,19 @@
 
 import array
 import doctest
+import gc
+import pathlib
 import pickle
 import random
 import sys
 import threading
+import tracemalloc
 import unittest
 
 import jadvolni
 from jadvolni import Format, FormatError, ParseError, parse, parse_column, parse_partial
+
+README = pathlib.Path(__file__).resolve().parents[1] / "README.md"
 
 # The least and the greatest number of each type.
 BOUNDS = {
@@ -171,6 +176,11 @@ class Columns(Case):
             text = b",".join(b"x" if k == field else b"%d" % k for k in range(4))
             self.assertEqual(self.fault("InvalidDigit", 2 * field, parse_column, text, "u8", b",").field, field)
 
+    def test_a_fault_is_pickled(self):
+        error = self.fault("Overflow", 5, parse_column, b"12\n256\nx\n", "u8")
+        again = pickle.loads(pickle.dumps(error))
+        self.assertEqual((type(again), str(again), vars(again)), (ParseError, str(error), vars(error)))
+
     def test_long_columns(self):
         numbers = [k * k * k % 2**64 for k in range(100_000)]
         text = "\n".join(map(str, numbers)).encode()
@@ -280,6 +290,14 @@ class Arguments(Case):
 
         def calls():
             for call, arguments in (
+                (Format, ()),
+                (parse, (str(2**127), "u128")),
+                (parse, (str(-(2**127)), "i128", format)),
+                (parse_partial, (text, "i128")),
+                (parse_column, (text, "u128")),
+                (parse_column, (b"12,13", name, b"ab")),
+                (parse_column, (b"12,13", name, 5)),
+                (parse_column, (5, name, separator)),
                 (parse, (text, name, format)),
                 (parse, (b"12", name, format)),
                 (parse_partial, (text, name, format)),
@@ -299,12 +317,27 @@ class Arguments(Case):
         for _ in range(1000):
             calls()
         self.assertEqual([sys.getrefcount(one) for one in objects], before)
+        # What a call takes is given back: the least object that each round lost would be 160,000 bytes.
+        tracemalloc.start()
+        try:
+            taken = []
+            for rounds in (2000, 10_000):
+                for _ in range(rounds):
+                    calls()
+                gc.collect()
+                taken.append(tracemalloc.get_traced_memory()[0])
+            self.assertLess(taken[1] - taken[0], 100_000)
+        finally:
+            tracemalloc.stop()
 
 
 def load_tests(loader, tests, pattern):
     """The examples of the documentation are tests too."""
     tests.addTests(doctest.DocTestSuite(jadvolni))
     tests.addTests(doctest.DocTestSuite(sys.modules["jadvolni._format"]))
+    # (the line that ends a block of code would count as expected output)
+    shown = README.read_text(encoding="utf-8").replace("```\n", "\n")
+    tests.addTest(doctest.DocTestCase(doctest.DocTestParser().get_doctest(shown, {}, README.name, str(README), 0)))
     return tests
 
 

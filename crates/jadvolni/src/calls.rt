@@ -8,7 +8,9 @@ ghost use Rattle.jadvolni.specs.Effect.{complete_call, complete_call_under, part
 use crate::format::FormatFields;
 use crate::outcome::{Outcome, UNKNOWN_FIELD};
 use crate::slot::Slot;
-use lexical_parse_integer::{FromLexical, FromLexicalWithOptions, Options, Result, options};
+use lexical_parse_integer::{
+    FromLexical, FromLexicalWithOptions, NumberFormatBuilder, Options, Result, options,
+};
 use lexical_util::num::Integer;
 
 // Hands over a complete answer of a text of so many bytes.
@@ -68,9 +70,10 @@ pub(crate) const UNKNOWN: Outcome = Outcome {
     place: 0,
 };
 
-/// The whole text, under a format that may be invalid.
-#[inline(always)]
-pub fn complete_under<T: FromLexicalWithOptions<Options = Options>, S: Slot<T>>(
+// The whole text, under a format that is made field by field. It stays a call: else its loads of single fields would
+// stand in front of the test in `complete_under`.
+#[inline(never)]
+fn complete_under_any<T: FromLexicalWithOptions<Options = Options>, S: Slot<T>>(
     text: &[u8],
     fields: &FormatFields,
     value: &mut S,
@@ -85,9 +88,27 @@ pub fn complete_under<T: FromLexicalWithOptions<Options = Options>, S: Slot<T>>(
     give(answer, text.len(), value)
 }
 
-/// The text's front, under a format that may be invalid.
+/// The whole text, under a format that may be invalid.
 #[inline(always)]
-pub fn partial_under<T: FromLexicalWithOptions<Options = Options>, S: Slot<T>>(
+pub fn complete_under<T: FromLexicalWithOptions<Options = Options>, S: Slot<T>>(
+    text: &[u8],
+    fields: &FormatFields,
+    value: &mut S,
+) -> Outcome
+    ensures { effect result (S.number value.new)
+        ≡ complete_call_under fields.now T.TYPE text.now (S.number value.old) }
+{
+    if !fields.differ_in_radix_alone() {
+        return complete_under_any::<T, S>(text, fields, value);
+    }
+    let format = NumberFormatBuilder::from_radix(fields.mantissa_radix);
+    let answer = T::from_lexical_with_options(text, &format, &options::STANDARD);
+    give(answer, text.len(), value)
+}
+
+// The text's front, under a format that is made field by field.
+#[inline(never)]
+fn partial_under_any<T: FromLexicalWithOptions<Options = Options>, S: Slot<T>>(
     text: &[u8],
     fields: &FormatFields,
     value: &mut S,
@@ -99,5 +120,23 @@ pub fn partial_under<T: FromLexicalWithOptions<Options = Options>, S: Slot<T>>(
         return UNKNOWN;
     }
     let answer = T::from_lexical_partial_with_options(text, &fields.format(), &options::STANDARD);
+    give_front(answer, value)
+}
+
+/// The text's front, under a format that may be invalid.
+#[inline(always)]
+pub fn partial_under<T: FromLexicalWithOptions<Options = Options>, S: Slot<T>>(
+    text: &[u8],
+    fields: &FormatFields,
+    value: &mut S,
+) -> Outcome
+    ensures { effect result (S.number value.new)
+        ≡ partial_call_under fields.now T.TYPE text.now (S.number value.old) }
+{
+    if !fields.differ_in_radix_alone() {
+        return partial_under_any::<T, S>(text, fields, value);
+    }
+    let format = NumberFormatBuilder::from_radix(fields.mantissa_radix);
+    let answer = T::from_lexical_partial_with_options(text, &format, &options::STANDARD);
     give_front(answer, value)
 }

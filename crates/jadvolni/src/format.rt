@@ -1,6 +1,7 @@
 //! Formats as C writes them, and what is wrong with one.
 
-ghost use Rattle.std.specs.Prelude.{◌≡◌};
+ghost use Rattle.std.specs.Prelude.{◌≡◌, IsTrue};
+ghost use Rattle.lexical_util.specs.Format.{standard};
 ghost use Rattle.jadvolni.specs.Effect.{format_status};
 ghost use Rattle.jadvolni.specs.FormatFields.{are_known, flag, format_of, punctuation};
 
@@ -69,16 +70,45 @@ impl FormatFields {
         first == 0 && second == 0 && third == 0
     }
 
+    /// Whether all fields but the radix are those of the standard format.
+    ///
+    /// The fields are asked in their order, without a branch, so that one load has many of them.
+    #[inline(always)]
+    pub fn differ_in_radix_alone(&self) -> bool
+        ensures known { IsTrue result → IsTrue (are_known self.now) }
+        ensures format { IsTrue result
+            → format_of self.now ≡ record standard { mantissa_radix = self.now.mantissa_radix } }
+    {
+        let front = flag(self.digit_separator)
+            | flag(self.base_prefix)
+            | flag(self.base_suffix)
+            | flag(self.case_sensitive_base_prefix)
+            | flag(self.case_sensitive_base_suffix)
+            | flag(self.required_integer_digits);
+        let rest = flag(self.no_positive_mantissa_sign)
+            | flag(self.required_mantissa_sign)
+            | flag(self.no_integer_leading_zeros)
+            | flag(self.integer_leading_digit_separator)
+            | flag(self.integer_internal_digit_separator)
+            | flag(self.integer_trailing_digit_separator)
+            | flag(self.integer_consecutive_digit_separator)
+            | flag(self.integer_prefix_digit_separator)
+            | flag(self.literal_prefixes)
+            | flag(self.literal_octal_zero)
+            | flag(self.digit_separator_is_nul)
+            | flag(self.base_prefix_is_nul)
+            | flag(self.base_suffix_is_nul);
+        flag(self.required_mantissa_digits) & !(front | rest) & self.are_known()
+    }
+
     /// The format that the fields stand for, which may be invalid.
     #[inline(always)]
     pub fn format(&self) -> NumberFormat
         ensures { result ≡ format_of self.now }
     {
+        // Marks come last: in front of the flags they made the call 3 ns slower.
         NumberFormatBuilder::new()
             .mantissa_radix(self.mantissa_radix)
-            .digit_separator(punctuation(self.digit_separator, self.digit_separator_is_nul))
-            .base_prefix(punctuation(self.base_prefix, self.base_prefix_is_nul))
-            .base_suffix(punctuation(self.base_suffix, self.base_suffix_is_nul))
             .case_sensitive_base_prefix(flag(self.case_sensitive_base_prefix))
             .case_sensitive_base_suffix(flag(self.case_sensitive_base_suffix))
             .required_integer_digits(flag(self.required_integer_digits))
@@ -93,6 +123,9 @@ impl FormatFields {
             .integer_prefix_digit_separator(flag(self.integer_prefix_digit_separator))
             .literal_prefixes(flag(self.literal_prefixes))
             .literal_octal_zero(flag(self.literal_octal_zero))
+            .digit_separator(punctuation(self.digit_separator, self.digit_separator_is_nul))
+            .base_prefix(punctuation(self.base_prefix, self.base_prefix_is_nul))
+            .base_suffix(punctuation(self.base_suffix, self.base_suffix_is_nul))
             .build_unchecked()
     }
 }

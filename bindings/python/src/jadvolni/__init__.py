@@ -20,6 +20,7 @@ them and numbers back; it is tested, and not proved.
 
 from ._core import FormatError, ParseError, _check_format, parse, parse_column, parse_partial
 from ._format import Format
+from ._numpy import numpy_column
 
-__all__ = ["Format", "FormatError", "ParseError", "parse", "parse_column", "parse_partial"]
+__all__ = ["Format", "FormatError", "ParseError", "numpy_column", "parse", "parse_column", "parse_partial"]
 __version__ = "0.1.0"

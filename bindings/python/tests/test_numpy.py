@@ -1,0 +1,68 @@
+"""Tests of numpy_column, where NumPy is installed; without it, that it says so."""
+
+import importlib.util
+import unittest
+
+import jadvolni
+from jadvolni import numpy_column
+
+HAS_NUMPY = importlib.util.find_spec("numpy") is not None
+
+
+@unittest.skipUnless(HAS_NUMPY, "NumPy isn't installed")
+class NumpyColumns(unittest.TestCase):
+    """Columns as NumPy arrays."""
+
+    def test_columns_of_each_type(self):
+        for bits in (8, 16, 32, 64):
+            for letter, least, greatest in (("u", 0, 2**bits - 1), ("i", -(2 ** (bits - 1)), 2 ** (bits - 1) - 1)):
+                with self.subTest(type=f"{letter}{bits}"):
+                    column = numpy_column(f"{least};{greatest}", f"{letter}{bits}", ";")
+                    self.assertEqual(str(column.dtype), f"{'u' * (letter == 'u')}int{bits}")
+                    self.assertEqual(column.tolist(), [least, greatest])
+        self.assertEqual(str(numpy_column("1", "usize").dtype), "uint64")
+        self.assertEqual(str(numpy_column("1", "isize").dtype), "int64")
+
+    def test_an_array_is_the_callers(self):
+        column = numpy_column(b"1\n2\n3\n")
+        self.assertEqual(column.shape, (3,))
+        column += 1
+        self.assertEqual(column.tolist(), [2, 3, 4])
+
+    def test_no_fields(self):
+        column = numpy_column(b"", "u16")
+        self.assertEqual((column.shape, str(column.dtype)), ((0,), "uint16"))
+
+    def test_what_is_read_may_be_an_array(self):
+        import numpy
+
+        text = numpy.frombuffer(b"12,7", dtype="u1")
+        self.assertEqual(numpy_column(text, "u8", ",").tolist(), [12, 7])
+        with self.assertRaisesRegex(ValueError, "contiguous"):
+            numpy_column(text[::2], "u8", ",")
+
+    def test_beside_numpy(self):
+        import numpy
+
+        numbers = [k**5 % 2**63 * (-1) ** k for k in range(10_000)]
+        text = "".join(f"{k}\n" for k in numbers).encode()
+        self.assertTrue((numpy_column(text) == numpy.array(numbers)).all())
+
+    def test_faults(self):
+        with self.assertRaises(jadvolni.ParseError) as caught:
+            numpy_column(b"12,256,x", "u8", separator=b",")
+        self.assertEqual((caught.exception.place, caught.exception.field), (5, 1))
+        self.assertRaises(ValueError, numpy_column, b"1", "u128")
+        self.assertRaises(TypeError, numpy_column, 12)
+
+
+@unittest.skipIf(HAS_NUMPY, "NumPy is installed")
+class WithoutNumpy(unittest.TestCase):
+    """The call without NumPy."""
+
+    def test_it_says_what_is_missing(self):
+        self.assertRaises(ImportError, numpy_column, b"1")
+
+
+if __name__ == "__main__":
+    unittest.main()
