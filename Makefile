@@ -7,7 +7,7 @@ PROGRAM_CRATES := lexint $(shell sed -n 's/^lexint: *//p' crates.txt)
 SOURCES := $(shell find $(addprefix crates/,$(PROGRAM_CRATES)) -name out -prune -o -type f \( -name '*.rt' -o -name '*.antt' \) -print) crates.txt
 
 .PHONY: help toolchain run test test-one-by-one devices lexint install uninstall install-lexint uninstall-lexint rows docs
-.PHONY: check-docs check-languages bench judge test-judge must-not-compile fuzz
+.PHONY: check-docs check-languages bench judge test-judge must-not-compile fuzz fuzz-edges
 
 # A target is listed by the words after its two number signs.
 help:
@@ -85,6 +85,9 @@ LINES ?= 200000
 fuzz: $(PROGRAM) ## runs the program beside a slow reading of the grammar: SEED=1 LINES=1000000
 	@python3 tools/slow_reading.py --check
 	@python3 tools/fuzz.py --tokens --lines $(LINES) $(if $(SEED),--seed $(SEED))
+
+fuzz-edges: $(PROGRAM) ## the same over each length, end of a type and place of a separator: 3 million lines
+	@python3 tools/fuzz.py --tokens --edges
 
 # What bench/run.py is asked: make bench BENCH="--rounds 50 --no-counts".
 BENCH ?=

@@ -3,6 +3,7 @@
 
     python3 tools/fuzz.py [--program PATH] [--seed N] [--lines N] [--tokens]     random lines
     python3 tools/fuzz.py [--program PATH] [--tokens] --all [--longest N]        all short texts under a list of formats
+    python3 tools/fuzz.py [--program PATH] [--tokens] --edges                    each length, end of a type and separator
 
 The seed is printed, and the same seed gives the same lines. A difference is made as small as it can be and printed,
 and the status is then 1. `--tokens` says that the program knows the lines of tokens; without it they are bad lines.
@@ -23,6 +24,7 @@ from collections import Counter
 from dataclasses import replace
 from typing import Iterable, Iterator, List, NamedTuple, Optional
 
+from fuzz_edges import edge_runs
 from fuzz_lines import Lines
 from fuzz_short import short_runs
 from fuzz_shrink import smallest
@@ -268,6 +270,7 @@ def arguments() -> argparse.Namespace:
     parser.add_argument("--lines", type=int, default=200000)
     parser.add_argument("--tokens", action="store_true", help="the program knows the lines of tokens")
     parser.add_argument("--all", action="store_true", help="all short texts in the place of random lines")
+    parser.add_argument("--edges", action="store_true", help="the edges of lengths and types in the place of random lines")
     parser.add_argument("--longest", type=int, default=5, help="how long these are at most")
     return parser.parse_args()
 
@@ -278,6 +281,9 @@ def main() -> int:
     if given.all:
         print(f"fuzz: all texts of up to {given.longest} bytes", flush=True)
         runs = short_runs(given.longest, max(LINES_OF_RUNS))
+    elif given.edges:
+        print("fuzz: the edges of lengths and types", flush=True)
+        runs = edge_runs(max(LINES_OF_RUNS))
     else:
         print(f"fuzz: seed {given.seed}", flush=True)
         runs = random_runs(given.seed, given.lines, given.tokens)

@@ -76,9 +76,8 @@ def parses(longest: int) -> Iterator[bytes]:
         yield b"%c %s %s" % (parser, name, text)
 
 
-def runs_under(fields: List[bytes], longest: int, length: int) -> Iterator[List[bytes]]:
-    """Runs of about that many lines under a format."""
-    lines = parses(longest)
+def runs_under(fields: List[bytes], lines: Iterator[bytes], length: int) -> Iterator[List[bytes]]:
+    """The lines in runs of about that many, each under a format."""
     first = [b"r"] + [b"f " + field for field in fields]
     for front in iter(lambda: list(itertools.islice(lines, length)), []):
         yield first + front
@@ -87,4 +86,4 @@ def runs_under(fields: List[bytes], longest: int, length: int) -> Iterator[List[
 def short_runs(longest: int, length: int) -> Iterator[List[bytes]]:
     """Runs of about that many lines: all texts under all formats."""
     for fields in FORMATS:
-        yield from runs_under(fields, longest, length)
+        yield from runs_under(fields, parses(longest), length)
