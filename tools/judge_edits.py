@@ -104,6 +104,8 @@ class Room:
     def __init__(self, folder):
         self.folder = folder
         self.changed = {}
+        # What its checks took of the processors.
+        self.seconds = 0
 
     @classmethod
     def of(cls, root, name, folder):
@@ -167,11 +169,15 @@ class Room:
         paths = list(paths)
         while True:
             words = (["--jobs", str(jobs)] if jobs else []) + [word for path in paths for word in ("--only", path)]
-            ran = subprocess.run([RT, "check", *words], cwd=self.folder, stdin=subprocess.DEVNULL,
-                                 stdout=subprocess.PIPE, stderr=subprocess.STDOUT, errors="replace")
-            check = check_output.Check(ran.returncode, ran.stdout)
+            with subprocess.Popen([RT, "check", *words], cwd=self.folder, stdin=subprocess.DEVNULL,
+                                  stdout=subprocess.PIPE, stderr=subprocess.STDOUT, errors="replace") as started:
+                said = started.stdout.read()
+                _, status, used = os.wait4(started.pid, 0)
+                started.returncode = os.waitstatus_to_exitcode(status)
+            self.seconds += used.ru_utime + used.ru_stime
+            check = check_output.Check(started.returncode, said)
             if not set(check.missing) & set(paths):
-                return check, ran.stdout
+                return check, said
             paths = [path for path in paths if path not in check.missing]
 
 
@@ -290,16 +296,20 @@ class Judge:
         paths = sorted({path for it in batch for path in it.items}) if not batch[0].shows_beside_items() else []
         with self.slot():
             start, room = time.time(), self.room()
+            before = room.seconds
             try:
                 check, said = room.check(edit_files.applied(batch, self.folder), paths)
             finally:
                 room.restore(self.first)
                 self.rooms.put(room)
-        self.checks += 1
+        with self.lock:
+            self.checks += 1
+            number = self.checks
         if self.options.said:
-            with open(os.path.join(self.options.said, f"{self.name}.{self.checks}.txt"), "w", encoding="utf-8") as file:
+            with open(os.path.join(self.options.said, f"{self.name}.{number}.txt"), "w", encoding="utf-8") as file:
                 file.write("".join(f"edit: {it.name} {' '.join(it.items)}\n" for it in batch) + said)
-        self.progress(f"{len(batch)} edits tried in {time.time() - start:.0f} s")
+        self.progress(f"check {number}: {len(batch)} edits tried in {time.time() - start:.0f} s, "
+                      f"{room.seconds - before:.0f} s of processors")
         return check
 
     def note(self, edit, where, why):
