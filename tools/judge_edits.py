@@ -224,8 +224,11 @@ class Judge:
                 for _ in pool.map(self.judge_alone, again):
                     pass
             self.close_rooms()
-        refused = sum(why is None for _, why in self.told.values())
-        return refused, len(self.edits) + len(self.bad) - refused
+        refused = [where for where, why in self.told.values() if why is None]
+        by_answers = sum(check_output.is_by_answers(where) for where in refused)
+        self.progress(f"{by_answers} of {len(refused)} refused edits only by answers that don't fit: see that each is a "
+                      "mistake, and not another form")
+        return len(refused), len(self.edits) + len(self.bad) - len(refused)
 
     def first_room(self, temporary):
         """Checks the crate as it is, and settles what the edits' functions are called there."""

@@ -259,6 +259,12 @@ class Outputs(unittest.TestCase):
         said = refused_answer("as printed, the two types differ only where one has `1`") + "fn toy::m::f: not proved"
         self.assertEqual(self.told(said).goals(), ["returns (its answer doesn't fit)"])
 
+    def test_a_refusal_by_answers_alone(self):
+        unfit = check_output.UNFIT
+        for where, is_by_answers in ((f"m::f: a{unfit}", True), (f"m::f: a{unfit}, b{unfit}", True),
+                                     ("m::f: a, b", False), (f"m::f: a, b{unfit}", False), ("proofs/F.antt: two", False)):
+            self.assertEqual(check_output.is_by_answers(where), is_by_answers, where)
+
     def test_names_that_are_gone(self):
         for why in (
             "record `toy.proofs.m.f.Lts.Then7` has no field `format`",
