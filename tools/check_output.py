@@ -31,6 +31,8 @@ LEMMA = re.compile(r"(?:\./)?(proofs/\S+\.antt):\d+:\d+: error: `([^`]+)`: (.*)"
 WAITING = re.compile(r"\d+ declarations? that depends? on `[^`]+`, which was (?:rejected|not admitted), .*?: (.*)")
 UNREAD = re.compile(r"(?:\./)?((?:src|specs)/\S+?):(\d+):\d+: error(?:\[[\w-]+\])?: .*")
 MISSING = re.compile(r"has no function `([^`]+)`")
+# What stands behind a goal that search didn't try, since it has an answer.
+UNFIT = " (its answer doesn't fit)"
 CAUSE = re.compile(r"it calls .*?not proved|it passes .*?not proved")
 
 
@@ -56,7 +58,7 @@ class Told:
         """The goals at which the function is refused, none where names are lost."""
         if self.lost or self.status == "proved":
             return []
-        return self.open + [f"{goal} (its answer doesn't fit)" for goal in self.unfit if goal not in self.open]
+        return self.open + [goal + UNFIT for goal in self.unfit if goal not in self.open]
 
     def why_not(self):
         """Why it isn't refused."""
@@ -115,6 +117,11 @@ class Check:
 
     def is_proved(self):
         return self.status == 0 and self.reaches_end
+
+
+def is_by_answers(where):
+    """Whether each goal at which an edit is refused has an answer that doesn't fit, so that search tried none."""
+    return where.endswith(UNFIT) and where.count(UNFIT) == where.count(", ") + 1
 
 
 def judged(edit, check):

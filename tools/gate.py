@@ -173,7 +173,7 @@ class Gate:
                  "gate": (None, self.tests_of_gate),
                  "judge": (None, self.tests_of_judge),
                  "programs": (self.libraries_are_built, self.programs), "devices": (self.proofs_passed, self.devices),
-                 "callers": (self.libraries_are_built, self.callers)}
+                 "callers": (self.all_is_built, self.callers)}
         if self.is_one_by_one:
             del parts["edits"], parts["judge"]
             parts["programs"] = self.proofs_passed, self.programs
@@ -260,8 +260,10 @@ class Gate:
             self.say(f"proofs: {line[len('rt: '):].strip()[:200]}")
 
     def libraries(self):
-        """The crates that others stand on."""
-        return [name for name in self.crates if any(name in below for below in self.crates.values())]
+        """The crates that others stand on, and the library for C, which its callers' part takes as it is proved here."""
+        listed = edit_files.read(os.path.join(self.root, "crates.txt"))
+        return [name for name in self.crates if any(name in below for below in self.crates.values())
+                or re.search(rf"(?m)^{name} +staticlib\b", listed)]
 
     def build(self, name):
         """Proves a library from nothing in the copy for the edits, and tells those that wait for it."""
@@ -287,6 +289,9 @@ class Gate:
 
     def libraries_are_built(self):
         self.wait_for(must_not_compile.BELOW)
+
+    def all_is_built(self):
+        self.wait_for(self.built)
 
     def proofs_passed(self):
         if not self.proofs_end.result():

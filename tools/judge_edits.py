@@ -36,6 +36,8 @@ import edit_files  # noqa: E402
 ROOT = os.path.dirname(os.path.dirname(os.path.abspath(__file__)))
 RT = os.environ.get("RT", "rt")
 PARTS = ("src", "specs", "proofs")
+# Where a check keeps what it has proved.
+KEPT = "out/incremental"
 # What a check of the largest crate takes, and what is left to others.
 MEMORY, SPARE = 1.6e9, 1.5e9
 
@@ -66,12 +68,44 @@ def all_crates(root):
     return [os.path.basename(os.path.dirname(it)) for it in folders]
 
 
+def copied(of, to):
+    """Copies a file. What checks have kept is large, and linked where a link leads there: a check never writes into
+    such a file, but puts another one under its name."""
+    try:
+        if f"{os.sep}out{os.sep}" not in of:
+            raise OSError
+        os.link(of, to)
+    except OSError:
+        shutil.copy2(of, to)
+
+
+def paths_below(folder):
+    return (os.path.join(at, name) for at, _, names in os.walk(folder) for name in names)
+
+
+def files_below(folder):
+    """The time and the size of each file of a folder, but for empty ones: a check touches one to tell when it was."""
+    stats = ((it, os.stat(it)) for it in paths_below(folder))
+    return {os.path.relpath(it, folder): (stat.st_mtime_ns, stat.st_size) for it, stat in stats if stat.st_size}
+
+
+def bytes_below(folder):
+    """The bytes of each file of a folder."""
+    found = {}
+    for path in paths_below(folder):
+        with open(path, "rb") as file:
+            found[os.path.relpath(path, folder)] = file.read()
+    return found
+
+
 class Room:
     """A copy of a crate and of those below it, with their kept work, in which edits are tried."""
 
     def __init__(self, folder):
         self.folder = folder
         self.changed = {}
+        # What its checks took of the processors.
+        self.seconds = 0
 
     @classmethod
     def of(cls, root, name, folder):
@@ -85,14 +119,37 @@ class Room:
             for part in (*PARTS, "out/rlib", "out/incremental"):
                 of = os.path.join(root, "crates", crate, part)
                 if os.path.isdir(of) and (crate == name or part != "out/incremental" or not is_built(root, crate)):
-                    shutil.copytree(of, os.path.join(folder, "crates", crate, part))
+                    shutil.copytree(of, os.path.join(folder, "crates", crate, part), copy_function=copied)
         return cls(os.path.join(folder, "crates", name))
 
     def copy(self, folder):
         """Another room like this one."""
         top = os.path.dirname(os.path.dirname(self.folder))
-        shutil.copytree(top, folder)
+        shutil.copytree(top, folder, copy_function=copied)
         return Room(os.path.join(folder, os.path.relpath(self.folder, top)))
+
+    def kept(self):
+        """The files of kept work, each with its time and size."""
+        return files_below(os.path.join(self.folder, KEPT))
+
+    def restore(self, like):
+        """Gives the room the texts and the kept work that it was made with. So no check rests on an edit before it, nor
+        proves anew what one has changed."""
+        self.write({})
+        own, kept = self.kept(), like.kept()
+        for file in own.keys() - kept.keys():
+            os.remove(os.path.join(self.folder, KEPT, file))
+        for file in (it for it in kept if own.get(it) != kept[it]):
+            to = os.path.join(self.folder, KEPT, file)
+            if file in own:
+                os.remove(to)
+            os.makedirs(os.path.dirname(to), exist_ok=True)
+            copied(os.path.join(like.folder, KEPT, file), to)
+
+    def has_texts_of(self, folder):
+        """Whether its sources, definitions and proofs are those of this folder, byte for byte."""
+        return all(bytes_below(os.path.join(self.folder, part)) == bytes_below(os.path.join(folder, part))
+                   for part in PARTS)
 
     def write(self, texts):
         """Changes these files alone: those of the check before are as they were again."""
@@ -112,11 +169,15 @@ class Room:
         paths = list(paths)
         while True:
             words = (["--jobs", str(jobs)] if jobs else []) + [word for path in paths for word in ("--only", path)]
-            ran = subprocess.run([RT, "check", *words], cwd=self.folder, stdin=subprocess.DEVNULL,
-                                 stdout=subprocess.PIPE, stderr=subprocess.STDOUT, errors="replace")
-            check = check_output.Check(ran.returncode, ran.stdout)
+            with subprocess.Popen([RT, "check", *words], cwd=self.folder, stdin=subprocess.DEVNULL,
+                                  stdout=subprocess.PIPE, stderr=subprocess.STDOUT, errors="replace") as started:
+                said = started.stdout.read()
+                _, status, used = os.wait4(started.pid, 0)
+                started.returncode = os.waitstatus_to_exitcode(status)
+            self.seconds += used.ru_utime + used.ru_stime
+            check = check_output.Check(started.returncode, said)
             if not set(check.missing) & set(paths):
-                return check, ran.stdout
+                return check, said
             paths = [path for path in paths if path not in check.missing]
 
 
@@ -154,6 +215,7 @@ class Judge:
             self.say(f"{self.name}/{name}: NOT REFUSED: {why}")
         if self.edits:
             self.temporary, self.first = temporary, self.first_room(temporary)
+            self.kept = self.first.kept()
             batches = edit_files.batches_of(self.edits, edit_files.calls_of(self.folder), self.options.most)
             self.jobs = min(self.options.jobs or jobs_for_memory(), len(batches))
             self.progress(f"{len(self.edits)} edits in {len(batches)} batches, {self.jobs} at once")
@@ -161,10 +223,12 @@ class Judge:
                 again = [edit for left in pool.map(self.judge, batches) for edit in left]
                 for _ in pool.map(self.judge_alone, again):
                     pass
-                for _ in pool.map(self.close_room, self.made):
-                    pass
-        refused = sum(why is None for _, why in self.told.values())
-        return refused, len(self.edits) + len(self.bad) - refused
+            self.close_rooms()
+        refused = [where for where, why in self.told.values() if why is None]
+        by_answers = sum(check_output.is_by_answers(where) for where in refused)
+        self.progress(f"{by_answers} of {len(refused)} refused edits only by answers that don't fit: see that each is a "
+                      "mistake, and not another form")
+        return len(refused), len(self.edits) + len(self.bad) - len(refused)
 
     def first_room(self, temporary):
         """Checks the crate as it is, and settles what the edits' functions are called there."""
@@ -187,10 +251,16 @@ class Judge:
                 self.made.append(self.first.copy(os.path.join(self.temporary, self.name, str(len(self.made) + 1))))
                 return self.made[-1]
 
-    def close_room(self, room):
-        """Checks that the crate is still proved in a room, once no edit is left in it."""
+    def close_rooms(self):
+        """Sees that no edit is left in any room, that all began with the work of the first check, and that the crate is
+        still proved in one of them."""
+        if self.first.kept() != self.kept:
+            raise NotProved(f"{self.name}: a check of an edit has written into what the first check kept")
+        for room in self.made:
+            if not room.has_texts_of(self.folder) or room.kept() != self.kept:
+                raise NotProved(f"{self.name}: a room isn't as it was before its edits: {room.folder}")
         with self.slot():
-            check, said = room.check({})
+            check, said = self.made[0].check({})
         if not check.is_proved():
             raise NotProved(f"{self.name} is not proved any more after its edits:\n{said[-2000:]}")
 
@@ -229,15 +299,20 @@ class Judge:
         paths = sorted({path for it in batch for path in it.items}) if not batch[0].shows_beside_items() else []
         with self.slot():
             start, room = time.time(), self.room()
+            before = room.seconds
             try:
                 check, said = room.check(edit_files.applied(batch, self.folder), paths)
             finally:
+                room.restore(self.first)
                 self.rooms.put(room)
-        self.checks += 1
+        with self.lock:
+            self.checks += 1
+            number = self.checks
         if self.options.said:
-            with open(os.path.join(self.options.said, f"{self.name}.{self.checks}.txt"), "w", encoding="utf-8") as file:
+            with open(os.path.join(self.options.said, f"{self.name}.{number}.txt"), "w", encoding="utf-8") as file:
                 file.write("".join(f"edit: {it.name} {' '.join(it.items)}\n" for it in batch) + said)
-        self.progress(f"{len(batch)} edits tried in {time.time() - start:.0f} s")
+        self.progress(f"check {number}: {len(batch)} edits tried in {time.time() - start:.0f} s, "
+                      f"{room.seconds - before:.0f} s of processors")
         return check
 
     def note(self, edit, where, why):

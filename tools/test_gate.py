@@ -179,6 +179,13 @@ class GateTests(unittest.TestCase):
         self.write("Makefile", "test-c:\n\t@false\n")
         self.fails("make test-c ended with status 2")
 
+    def test_the_library_for_c_is_proved_before_its_callers_run(self):
+        self.write("Makefile", "test-c:\n\t@test -e crates/high/out/built && echo 'callers: 6 passed'\n")
+        self.fails("make test-c ended with status 2")
+        self.write("crates.txt", "low:\nhigh staticlib: low\n")
+        self.write("rt", STAND_IN.replace("exit 0", "mkdir -p out; touch out/built"))
+        self.assertEqual(self.said()[0], 0)
+
     def test_no_test_of_the_judge(self):
         self.write("tools/test_judge.py", "print('Ran 0 tests in 0s')\n")
         self.fails("no test ran")

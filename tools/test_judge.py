@@ -177,6 +177,24 @@ class Texts(unittest.TestCase):
         room.write({})
         self.assertEqual(edit_files.read(os.path.join(self.folder, "proofs", "Facts.antt")), FACTS)
 
+    def test_no_work_of_an_edit_is_left_in_a_room(self):
+        kept = os.path.join(self.folder, judge_edits.KEPT)
+        for name in "ab":
+            write(os.path.join(kept, "of_kit", name), "proved")
+        first = judge_edits.Room(self.folder)
+        room = first.copy(os.path.join(self.room.name, "1"))
+        folder = os.path.join(room.folder, judge_edits.KEPT, "of_kit")
+        room.write(edit_files.applied([self.edit("no_room")], self.folder))
+        self.assertFalse(room.has_texts_of(self.folder))
+        os.remove(os.path.join(folder, "a"))
+        for name in "bc":
+            write(os.path.join(folder, f"{name}.new"), "refused")
+            os.replace(os.path.join(folder, f"{name}.new"), os.path.join(folder, name))
+        room.restore(first)
+        self.assertTrue(room.has_texts_of(self.folder))
+        self.assertEqual((room.kept(), sorted(os.listdir(folder))), (first.kept(), ["a", "b"]))
+        self.assertEqual({edit_files.read(os.path.join(folder, name)) for name in "ab"}, {"proved"})
+
     def test_a_text_that_does_not_stand_once(self):
         with self.assertRaisesRegex(edit_files.BadEdit, "3 times"):
             self.edit("not_once")
@@ -240,6 +258,12 @@ class Outputs(unittest.TestCase):
     def test_an_answer_that_does_not_fit(self):
         said = refused_answer("as printed, the two types differ only where one has `1`") + "fn toy::m::f: not proved"
         self.assertEqual(self.told(said).goals(), ["returns (its answer doesn't fit)"])
+
+    def test_a_refusal_by_answers_alone(self):
+        unfit = check_output.UNFIT
+        for where, is_by_answers in ((f"m::f: a{unfit}", True), (f"m::f: a{unfit}, b{unfit}", True),
+                                     ("m::f: a, b", False), (f"m::f: a, b{unfit}", False), ("proofs/F.antt: two", False)):
+            self.assertEqual(check_output.is_by_answers(where), is_by_answers, where)
 
     def test_names_that_are_gone(self):
         for why in (
@@ -332,12 +356,12 @@ def stand_in(room, texts, paths=(), jobs=1):
 class Batches(unittest.TestCase):
     """How the judge goes through a crate's edits, with a stand-in for the prover."""
 
-    def judged(self, *names):
+    def judged(self, *names, check=stand_in):
         """The judge's status, and what it said of each edit."""
         with tempfile.TemporaryDirectory(prefix="test-judge-") as root:
-            toy(root)
+            write(os.path.join(toy(root), judge_edits.KEPT, "kept"), "proved")
             log = os.path.join(root, "log")
-            with mock.patch.object(judge_edits.Room, "check", stand_in):
+            with mock.patch.object(judge_edits.Room, "check", check):
                 status = judge_edits.main(["--root", root, "--jobs", "2", "--log", log, "--only", *names])
             return status, dict(line.split(": ", 1) for line in edit_files.read(log).splitlines())
 
@@ -367,6 +391,31 @@ class Batches(unittest.TestCase):
 
     def test_no_edit_at_all(self):
         self.assertEqual(self.judged("no_such_edit"), (1, {}))
+
+    def test_each_edit_is_tried_over_the_work_of_the_first_check(self):
+        seen = []
+
+        def keeps_more(room, texts, paths=(), jobs=1):
+            seen.append(sorted(room.kept()))
+            write(os.path.join(room.folder, judge_edits.KEPT, f"of check {len(seen)}"), "kept")
+            return stand_in(room, texts, paths, jobs)
+
+        self.assertEqual(self.judged("the_less", "no_room", check=keeps_more)[0], 0)
+        self.assertEqual(seen[1:], [["kept", "of check 1"]] * (len(seen) - 1))
+
+    def test_a_check_that_writes_into_the_work_of_the_first(self):
+        def writes(room, texts, paths=(), jobs=1):
+            if texts:
+                write(os.path.join(room.folder, judge_edits.KEPT, "kept"), "refused")
+            return stand_in(room, texts, paths, jobs)
+
+        with self.assertRaisesRegex(SystemExit, "written into what the first check kept"):
+            self.judged("the_less", check=writes)
+
+    def test_an_edit_that_is_left_in_a_room(self):
+        with mock.patch.object(judge_edits.Room, "restore", lambda room, like: None):
+            with self.assertRaisesRegex(SystemExit, "isn't as it was before its edits"):
+                self.judged("the_less")
 
 
 class Whole(unittest.TestCase):
