@@ -17,6 +17,7 @@ mod separated;
 mod threes;
 
 use crate::affixes::{octal_zero_at, prefix_radix, suffix_at};
+use crate::algorithm::marked::lone_mark::{is_valid_in_row, is_valid_with_separator};
 use crate::algorithm::marked::separated::{value_of_decimal_groups, value_of_groups};
 use crate::algorithm::marked::threes::value_of_threes;
 use crate::algorithm::plain::fronts::{value_of_digits, value_of_few};
@@ -272,9 +273,9 @@ fn value_of_short_row<T: Integer>(digits: &[u8], radix: u32, negative: bool) -> 
     None
 }
 
-// The same for few digits alone.
+// The value of the whole text, where that is few digits alone behind sign and prefix.
 #[inline(always)]
-pub(crate) fn settled_row<T: Integer>(bytes: &[u8], format: &NumberFormat) -> Option<T>
+fn settled_row<T: Integer>(bytes: &[u8], format: &NumberFormat) -> Option<T>
     requires valid { IsNone (fault format.now) }
     ensures { IfSome result (λ value. complete format.now T.TYPE bytes.now ≡ Ok (T.number value)) }
 {
@@ -283,13 +284,9 @@ pub(crate) fn settled_row<T: Integer>(bytes: &[u8], format: &NumberFormat) -> Op
     value_of_short_row::<T>(digits, region.front.radix, region.front.is_minus)
 }
 
-// The same for digits with a separator before each three.
+// The value of the whole text, where that is decimal digits with a separator before each three.
 #[inline(always)]
-pub(crate) fn settled_threes<T: Integer>(
-    bytes: &[u8],
-    format: &NumberFormat,
-    separator: u8,
-) -> Option<T>
+fn settled_threes<T: Integer>(bytes: &[u8], format: &NumberFormat, separator: u8) -> Option<T>
     requires valid { IsNone (fault format.now) }
     requires separator { format.now.digit_separator ≡ Some separator }
     requires internal { format.now.integer_internal_digit_separator ≡ true }
@@ -304,6 +301,52 @@ pub(crate) fn settled_threes<T: Integer>(
     }
     let digits = &bytes[region.front.start..region.end];
     value_of_threes::<T>(digits, format, separator, region.front.is_minus)
+}
+
+// The value of the whole text under a format that may be invalid, where it has a prefix alone or literal prefixes.
+//
+// It stays out of line, as the next, so that all that it needs stays in registers.
+#[inline(never)]
+fn settled_behind_prefix<T: Integer>(bytes: &[u8], format: &NumberFormat) -> Option<T>
+    ensures valid { IfSome result (λ value. IsNone (fault format.now)) }
+    ensures answer { IfSome result
+        (λ value. complete format.now T.TYPE bytes.now ≡ Ok (T.number value)) }
+{
+    if !is_valid_in_row(format) {
+        return None;
+    }
+    settled_row::<T>(bytes, format)
+}
+
+// The same, where the format has a separator alone.
+#[inline(never)]
+fn settled_between_separators<T: Integer>(
+    bytes: &[u8],
+    format: &NumberFormat,
+    separator: u8,
+) -> Option<T>
+    requires separator { format.now.digit_separator ≡ Some separator }
+    ensures valid { IfSome result (λ value. IsNone (fault format.now)) }
+    ensures answer { IfSome result
+        (λ value. complete format.now T.TYPE bytes.now ≡ Ok (T.number value)) }
+{
+    if !is_valid_with_separator(format, separator) {
+        return None;
+    }
+    settled_threes::<T>(bytes, format, separator)
+}
+
+// The same, where the format has one mark.
+#[inline(always)]
+pub(crate) fn settled_beside_mark<T: Integer>(bytes: &[u8], format: &NumberFormat) -> Option<T>
+    ensures valid { IfSome result (λ value. IsNone (fault format.now)) }
+    ensures answer { IfSome result
+        (λ value. complete format.now T.TYPE bytes.now ≡ Ok (T.number value)) }
+{
+    match format.digit_separator() {
+        Some(separator) => settled_between_separators::<T>(bytes, format, separator),
+        None => settled_behind_prefix::<T>(bytes, format),
+    }
 }
 
 // ---- the front of a text

@@ -3,8 +3,8 @@ ghost use Rattle.std.specs.Prelude.{◌≡◌};
 ghost use Rattle.lexical_parse_integer.specs.Answer.{with_place, view_of};
 ghost use Rattle.lexical_parse_integer.specs.Grammar.{complete_if_valid, partial_if_valid};
 
-use crate::algorithm::marked::lone_mark::{fault_of, is_valid_in_row, is_valid_with_separator};
-use crate::algorithm::marked::{settled_row, settled_threes};
+use crate::algorithm::marked::lone_mark::fault_of;
+use crate::algorithm::marked::settled_beside_mark;
 use crate::algorithm::plain::{settled, settled_front};
 use crate::algorithm::{complete_with_marks, partial_with_marks};
 use crate::api::{FromLexical, FromLexicalWithOptions};
@@ -20,46 +20,26 @@ fn complete<T: Integer>(bytes: &[u8], format: &NumberFormat, options: &Options) 
 {
     match settled::<T>(bytes, format) {
         Some(value) => Ok(value),
-        None => match format.digit_separator() {
-            Some(separator) => complete_parted::<T>(bytes, format, options, separator),
-            None => complete_in_row::<T>(bytes, format, options),
-        },
+        None => complete_beside_marks::<T>(bytes, format, options),
     }
 }
 
-// The same under a format with a separator.
-#[inline(never)]
-fn complete_parted<T: Integer>(
+// The same for a text under a format with marks, or for any that is left.
+#[inline(always)]
+fn complete_beside_marks<T: Integer>(
     bytes: &[u8],
     format: &NumberFormat,
     options: &Options,
-    separator: u8,
 ) -> Result<T>
-    requires separator { format.now.digit_separator ≡ Some separator }
     ensures { view_of T.number result ≡ complete_if_valid format.now T.TYPE bytes.now }
 {
-    if is_valid_with_separator(format, separator) {
-        if let Some(value) = settled_threes::<T>(bytes, format, separator) {
-            return Ok(value);
-        }
+    match settled_beside_mark::<T>(bytes, format) {
+        Some(value) => Ok(value),
+        None => complete_if_valid::<T>(bytes, format, options),
     }
-    complete_if_valid::<T>(bytes, format, options)
 }
 
-// The same under a format without one.
-#[inline(never)]
-fn complete_in_row<T: Integer>(bytes: &[u8], format: &NumberFormat, options: &Options) -> Result<T>
-    ensures { view_of T.number result ≡ complete_if_valid format.now T.TYPE bytes.now }
-{
-    if is_valid_in_row(format) {
-        if let Some(value) = settled_row::<T>(bytes, format) {
-            return Ok(value);
-        }
-    }
-    complete_if_valid::<T>(bytes, format, options)
-}
-
-// The same where none of that is sure.
+// The same for every text: one call, out of line, for all that is left.
 #[inline(never)]
 fn complete_if_valid<T: Integer>(
     bytes: &[u8],

@@ -35,18 +35,18 @@ fn is_fit_alone(format: &NumberFormat, mark: u8) -> bool
 
 // Whether a decimal format is valid that has this separator alone, which may stand between digits.
 #[inline(always)]
-pub(crate) fn is_valid_with_separator(format: &NumberFormat, separator: u8) -> bool
+pub(super) fn is_valid_with_separator(format: &NumberFormat, separator: u8) -> bool
     requires { format.now.digit_separator ≡ Some separator }
     ensures valid { IsTrue result → fault format.now ≡ None }
     ensures internal { IsTrue result → format.now.integer_internal_digit_separator ≡ true }
 {
-    if format.base_suffix().is_some()
-        | format.literal_octal_zero()
-        | format.base_prefix().is_some()
-        | format.literal_prefixes()
-        | (format.mantissa_radix() != 10)
-        | !format.integer_internal_digit_separator()
-    {
+    if format.base_suffix().is_some() || format.literal_octal_zero() {
+        return false;
+    }
+    if format.base_prefix().is_some() || format.literal_prefixes() {
+        return false;
+    }
+    if format.mantissa_radix() != 10 || !format.integer_internal_digit_separator() {
         return false;
     }
     is_fit(separator, 10)
@@ -54,13 +54,13 @@ pub(crate) fn is_valid_with_separator(format: &NumberFormat, separator: u8) -> b
 
 // Whether a format is valid that has a prefix alone, or literal prefixes alone.
 #[inline(always)]
-pub(crate) fn is_valid_in_row(format: &NumberFormat) -> bool
+pub(super) fn is_valid_in_row(format: &NumberFormat) -> bool
     ensures { IsTrue result → fault format.now ≡ None }
 {
-    if format.base_suffix().is_some()
-        | format.literal_octal_zero()
-        | format.digit_separator().is_some()
-    {
+    if format.base_suffix().is_some() || format.literal_octal_zero() {
+        return false;
+    }
+    if format.digit_separator().is_some() {
         return false;
     }
     match format.base_prefix() {

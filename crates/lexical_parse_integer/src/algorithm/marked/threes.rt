@@ -41,9 +41,12 @@ fn digit_at(bytes: &[u8], place: usize) -> Option<u32>
 fn three_at(bytes: &[u8], place: usize, separator: u8) -> Option<(u32, u32, u32)>
     requires { place + 4 ≤ length bytes.now }
     ensures parted { IfSome result (λ three. get_or bytes.now place 0 ≡ separator) }
-    ensures first { IfSome result (λ three. digit (get_or bytes.now (place + 1) 0) 10 ≡ Some three.0) }
-    ensures second { IfSome result (λ three. digit (get_or bytes.now (place + 2) 0) 10 ≡ Some three.1) }
-    ensures third { IfSome result (λ three. digit (get_or bytes.now (place + 3) 0) 10 ≡ Some three.2) }
+    ensures first { IfSome result
+        (λ three. digit (get_or bytes.now (place + 1) 0) 10 ≡ Some three.0) }
+    ensures second { IfSome result
+        (λ three. digit (get_or bytes.now (place + 2) 0) 10 ≡ Some three.1) }
+    ensures third { IfSome result
+        (λ three. digit (get_or bytes.now (place + 3) 0) 10 ≡ Some three.2) }
 {
     if bytes[place] != separator {
         return None;
@@ -62,8 +65,8 @@ fn with_three<T: Integer>(value: T, three: (u32, u32, u32), negative: bool) -> O
     requires second { three.1 < 10 }
     requires third { three.2 < 10 }
     requires sign { HasSign negative (T.number value) }
-    ensures value { IfSome result (λ next. T.number next
-        ≡ mul_add negative (T.number value) (pos 1000) (pos (three.0 * 100 + three.1 * 10 + three.2))) }
+    ensures value { IfSome result (λ next. T.number next ≡ mul_add negative (T.number value)
+        (pos 1000) (pos (three.0 * 100 + three.1 * 10 + three.2))) }
     ensures fits { IfSome result (λ next. IsNumber T.TYPE (T.number next)) }
 {
     let number = three.0 * 100 + three.1 * 10 + three.2;
