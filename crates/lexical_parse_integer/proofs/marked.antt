@@ -3,3 +3,4 @@ pub mod DigitsAmong
 pub mod GroupedNumerals
 pub mod MarkedAnswers
 pub mod PartedFronts
+pub mod Threes

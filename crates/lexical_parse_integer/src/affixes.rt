@@ -9,11 +9,10 @@ use lexical_util::format::NumberFormat;
 fn matches(is_case_sensitive: bool, affix: u8, byte: u8) -> bool
     ensures { result ≡ matches is_case_sensitive affix byte }
 {
-    if is_case_sensitive {
-        byte == affix
-    } else {
-        byte.eq_ignore_ascii_case(&affix)
+    if byte == affix {
+        return true;
     }
+    !is_case_sensitive && byte.eq_ignore_ascii_case(&affix)
 }
 
 #[inline(always)]

@@ -309,6 +309,22 @@ region_read f t text h end value valid head some within reached rule grouped wor
     let m : IsMarked f t text h (slice_range text h.start end) value = record { head = head; fit = fits_head f t text h valid head; stands = stands; grouped = grouped; rule = rule; worth = worth } in
     whole_marked f t text h (slice_range text h.start end) value m (ap (stop_after f text) place ∙ reached)
 
+-- the same for digits alone
+pub row_read : (f : Format) (t : IntegerType) (text : List ℕ) (h : Head) (end : ℕ) (value : ℤ) → IsNone (fault f) → head_of f t text ≡ Ok h → h.start < end → end ≤ length text → stop_after f text end ≡ length text →
+    (h.is_marked || keeps_zero_rule f (slice_range text h.start end)) ≡ true → AreDigitsOnly h.radix (slice_range text h.start end) → AreWorth t h.radix h.is_minus (slice_range text h.start end) value → complete f t text ≡ Ok value
+row_read f t text h end value valid head some within reached rule all worth =
+    let size : h.start + (end - h.start) ≡ end = omega arith in
+    let count : length (slice_range text h.start end) ≡ end - h.start = subst (λ (k : ℕ). length (slice_range text h.start k) ≡ end - h.start) size (length-ahead text h.start (end - h.start) (omega arith)) in
+    region_read f t text h end value valid head some within reached rule (row_grouped f h.radix (slice_range text h.start end) (omega arith) all) worth
+
+-- the same in radix 10
+pub decimal_read : (f : Format) (t : IntegerType) (text : List ℕ) (h : Head) (end : ℕ) (value : ℤ) → IsNone (fault f) → head_of f t text ≡ Ok h → h.start < end → end ≤ length text → stop_after f text end ≡ length text →
+    (h.is_marked || keeps_zero_rule f (slice_range text h.start end)) ≡ true → h.radix ≡ 10 → AreGrouped f 10 (slice_range text h.start end) → AreWorth t 10 h.is_minus (slice_range text h.start end) value → complete f t text ≡ Ok value
+decimal_read f t text h end value valid head some within reached rule ten grouped worth =
+    region_read f t text h end value valid head some within reached rule
+    (subst (λ (r : ℕ). AreGrouped f r (slice_range text h.start end)) (sym ten) grouped)
+    (subst (λ (r : ℕ). AreWorth t r h.is_minus (slice_range text h.start end) value) (sym ten) worth)
+
 -- the same at the front of a text, where neither a digit nor a separator follows so many bytes
 pub front_read : (f : Format) (t : IntegerType) (text : List ℕ) (h : Head) (count stop : ℕ) (value : ℤ) → IsNone (fault f) → head_of f t text ≡ Ok h → h.start ≤ length text → count ≤ length (slice_range text h.start (length text)) →
     (count < length (slice_range text h.start (length text)) → is_digit_in h.radix (slice_range text h.start (length text)) count ≡ false) →

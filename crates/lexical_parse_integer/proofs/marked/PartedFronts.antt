@@ -92,7 +92,7 @@ nothing_worth t r negative bytes value none =
     by_sign true = refl
     by_sign false = refl
 
-more_among : (r k : ℕ) (bytes : List ℕ) → k < length bytes → digits_among r (take (k + 1) bytes) ≡ digits_among r (take k bytes) ++ digits_among r (get_or bytes k 0 ∷ [])
+pub more_among : (r k : ℕ) (bytes : List ℕ) → k < length bytes → digits_among r (take (k + 1) bytes) ≡ digits_among r (take k bytes) ++ digits_among r (get_or bytes k 0 ∷ [])
 more_among r k bytes l = ap (digits_among r) (take_more bytes k 0 l) ∙ filter_map-append (λ byte. digit byte r) (take k bytes) (get_or bytes k 0 ∷ [])
 
 pub digit_worth : (t : IntegerType) (r : ℕ) (negative : Bool) (bytes : List ℕ) (k d : ℕ) (value next : ℤ) → AreWorth t r negative (take k bytes) value → k < length bytes → digit (get_or bytes k 0) r ≡ Some d → next ≡ mul_add negative value (pos r) (pos d) → IsNumber t next → AreWorth t r negative (take (k + 1) bytes) next

@@ -2,7 +2,7 @@
 //
 // As under formats without marks, only what is sure is answered: a numeral whose runs of separators all stand between
 // digits, where its type has the value. `None` says nothing: what is left goes over a cursor.
-ghost use Rattle.std.specs.Prelude.{◌≡◌, ◌+◌, ◌<◌, ◌≤◌, ◌||◌, IfSome, IsNone, IsTrue, Ok, Some, false, get_or, length};
+ghost use Rattle.std.specs.Prelude.{◌≡◌, ◌+◌, ◌<◌, ◌≤◌, ◌||◌, IfSome, IsNone, IsTrue, Ok, Some, false, get_or, length, slice_range, true};
 ghost use Rattle.lexical_util.specs.Digit.{IsRadix};
 ghost use Rattle.lexical_util.specs.Validity.{fault};
 ghost use Rattle.lexical_parse_integer.specs.Answer.{with_place};
@@ -14,10 +14,13 @@ ghost use Rattle.lexical_parse_integer.specs.Runs.{are_same};
 
 pub(crate) mod lone_mark;
 mod separated;
+mod threes;
 
 use crate::affixes::{octal_zero_at, prefix_radix, suffix_at};
+use crate::algorithm::marked::lone_mark::{is_valid_in_row, is_valid_with_separator};
 use crate::algorithm::marked::separated::{value_of_decimal_groups, value_of_groups};
-use crate::algorithm::plain::fronts::value_of_digits;
+use crate::algorithm::marked::threes::value_of_threes;
+use crate::algorithm::plain::fronts::{value_of_digits, value_of_few};
 use crate::algorithm::plain::keeps_zero_rule;
 use crate::algorithm::plain::table::value_by_table;
 use lexical_util::digit::char_to_digit;
@@ -203,11 +206,29 @@ fn keeps_rule(format: &NumberFormat, is_marked: bool, digits: &[u8]) -> bool
     is_marked || keeps_zero_rule(format, digits)
 }
 
-// The value of the whole text, where that is sure.
+// The numeral of a whole text: what stands before it, and where it ends.
+#[derive(Clone, Copy)]
+struct Region {
+    front: Front,
+    end: usize,
+}
+
+// The numeral of a text, if nothing is wrong with what stands around it.
 #[inline(always)]
-pub(crate) fn settled_marked<T: Integer>(bytes: &[u8], format: &NumberFormat) -> Option<T>
-    requires valid { IsNone (fault format.now) }
-    ensures { IfSome result (λ value. complete format.now T.TYPE bytes.now ≡ Ok (T.number value)) }
+fn region_of<T: Integer>(bytes: &[u8], format: &NumberFormat) -> Option<Region>
+    ensures head { IfSome result (λ region. head_of format.now T.TYPE bytes.now ≡ Ok (record {
+      is_minus = region.front.is_minus;
+      is_marked = region.front.is_marked;
+      start = region.front.start;
+      radix = region.front.radix;
+    })) }
+    ensures some { IfSome result (λ region. region.front.start < region.end) }
+    ensures within { IfSome result (λ region. region.end ≤ length bytes.now) }
+    ensures stop { IfSome result
+        (λ region. stop_after format.now bytes.now region.end ≡ length bytes.now) }
+    ensures rule { IfSome result
+        (λ region. (region.front.is_marked || keeps_zero_rule format.now
+        (slice_range bytes.now region.front.start region.end)) ≡ true) }
 {
     if bytes.is_empty() {
         return None;
@@ -217,11 +238,115 @@ pub(crate) fn settled_marked<T: Integer>(bytes: &[u8], format: &NumberFormat) ->
     if end <= front.start {
         return None;
     }
-    let digits = &bytes[front.start..end];
-    if !keeps_rule(format, front.is_marked, digits) {
+    if !keeps_rule(format, front.is_marked, &bytes[front.start..end]) {
         return None;
     }
-    value_of_region::<T>(digits, format, front.radix, front.is_minus)
+    Some(Region { front, end })
+}
+
+// The value of the whole text, where that is sure.
+#[inline(always)]
+pub(crate) fn settled_marked<T: Integer>(bytes: &[u8], format: &NumberFormat) -> Option<T>
+    requires valid { IsNone (fault format.now) }
+    ensures { IfSome result (λ value. complete format.now T.TYPE bytes.now ≡ Ok (T.number value)) }
+{
+    let region = region_of::<T>(bytes, format)?;
+    let digits = &bytes[region.front.start..region.end];
+    value_of_region::<T>(digits, format, region.front.radix, region.front.is_minus)
+}
+
+// The value of few digits of radix 10 or 16 alone.
+#[inline(always)]
+fn value_of_short_row<T: Integer>(digits: &[u8], radix: u32, negative: bool) -> Option<T>
+    requires some { 1 ≤ length digits.now }
+    requires minus { IsTrue negative → IsTrue T.TYPE.is_signed }
+    ensures digits { IfSome result (λ value. AreDigitsOnly radix digits.now) }
+    ensures worth { IfSome result
+        (λ value. AreWorth T.TYPE radix negative digits.now (T.number value)) }
+{
+    if radix == 10 {
+        return value_of_few::<T>(digits, negative);
+    }
+    if radix == 16 {
+        return value_by_table::<T>(digits, 16, negative);
+    }
+    None
+}
+
+// The value of the whole text, where that is few digits alone behind sign and prefix.
+#[inline(always)]
+fn settled_row<T: Integer>(bytes: &[u8], format: &NumberFormat) -> Option<T>
+    requires valid { IsNone (fault format.now) }
+    ensures { IfSome result (λ value. complete format.now T.TYPE bytes.now ≡ Ok (T.number value)) }
+{
+    let region = region_of::<T>(bytes, format)?;
+    let digits = &bytes[region.front.start..region.end];
+    value_of_short_row::<T>(digits, region.front.radix, region.front.is_minus)
+}
+
+// The value of the whole text, where that is decimal digits with a separator before each three.
+#[inline(always)]
+fn settled_threes<T: Integer>(bytes: &[u8], format: &NumberFormat, separator: u8) -> Option<T>
+    requires valid { IsNone (fault format.now) }
+    requires separator { format.now.digit_separator ≡ Some separator }
+    requires internal { format.now.integer_internal_digit_separator ≡ true }
+    ensures { IfSome result (λ value. complete format.now T.TYPE bytes.now ≡ Ok (T.number value)) }
+{
+    if T::BITS < 32 {
+        return None;
+    }
+    let region = region_of::<T>(bytes, format)?;
+    if region.front.radix != 10 {
+        return None;
+    }
+    let digits = &bytes[region.front.start..region.end];
+    value_of_threes::<T>(digits, format, separator, region.front.is_minus)
+}
+
+// The value of the whole text under a format that may be invalid, where it has a prefix alone or literal prefixes.
+//
+// It stays out of line, as the next, so that all that it needs stays in registers.
+#[inline(never)]
+fn settled_behind_prefix<T: Integer>(bytes: &[u8], format: &NumberFormat) -> Option<T>
+    ensures valid { IfSome result (λ value. IsNone (fault format.now)) }
+    ensures answer { IfSome result
+        (λ value. complete format.now T.TYPE bytes.now ≡ Ok (T.number value)) }
+{
+    if !is_valid_in_row(format) {
+        return None;
+    }
+    settled_row::<T>(bytes, format)
+}
+
+// The same, where the format has a separator alone.
+#[inline(never)]
+fn settled_between_separators<T: Integer>(
+    bytes: &[u8],
+    format: &NumberFormat,
+    separator: u8,
+) -> Option<T>
+    requires separator { format.now.digit_separator ≡ Some separator }
+    ensures valid { IfSome result (λ value. IsNone (fault format.now)) }
+    ensures answer { IfSome result
+        (λ value. complete format.now T.TYPE bytes.now ≡ Ok (T.number value)) }
+{
+    if !is_valid_with_separator(format, separator) {
+        return None;
+    }
+    settled_threes::<T>(bytes, format, separator)
+}
+
+// The same, where the format has one mark.
+#[inline(always)]
+pub(crate) fn settled_beside_mark<T: Integer>(bytes: &[u8], format: &NumberFormat) -> Option<T>
+    ensures valid { IfSome result (λ value. IsNone (fault format.now)) }
+    ensures answer { IfSome result
+        (λ value. complete format.now T.TYPE bytes.now ≡ Ok (T.number value)) }
+{
+    match format.digit_separator() {
+        Some(separator) => settled_between_separators::<T>(bytes, format, separator),
+        None => settled_behind_prefix::<T>(bytes, format),
+    }
 }
 
 // ---- the front of a text

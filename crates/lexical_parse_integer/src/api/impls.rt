@@ -4,6 +4,7 @@ ghost use Rattle.lexical_parse_integer.specs.Answer.{with_place, view_of};
 ghost use Rattle.lexical_parse_integer.specs.Grammar.{complete_if_valid, partial_if_valid};
 
 use crate::algorithm::marked::lone_mark::fault_of;
+use crate::algorithm::marked::settled_beside_mark;
 use crate::algorithm::plain::{settled, settled_front};
 use crate::algorithm::{complete_with_marks, partial_with_marks};
 use crate::api::{FromLexical, FromLexicalWithOptions};
@@ -18,6 +19,21 @@ fn complete<T: Integer>(bytes: &[u8], format: &NumberFormat, options: &Options) 
     ensures { view_of T.number result ≡ complete_if_valid format.now T.TYPE bytes.now }
 {
     match settled::<T>(bytes, format) {
+        Some(value) => Ok(value),
+        None => complete_beside_marks::<T>(bytes, format, options),
+    }
+}
+
+// The same for a text under a format with marks, or for any that is left.
+#[inline(always)]
+fn complete_beside_marks<T: Integer>(
+    bytes: &[u8],
+    format: &NumberFormat,
+    options: &Options,
+) -> Result<T>
+    ensures { view_of T.number result ≡ complete_if_valid format.now T.TYPE bytes.now }
+{
+    match settled_beside_mark::<T>(bytes, format) {
         Some(value) => Ok(value),
         None => complete_if_valid::<T>(bytes, format, options),
     }

@@ -100,3 +100,101 @@ fn a_long_text_of_parted_zeros(rt: HostRuntime) {
     complete_with::<u64>(&rt, &format, &[(&text, Ok(7))]);
     partial_with::<u64>(&rt, &format, &[(&text, Ok((7, MANY + 1)))]);
 }
+
+// The text itself, and with each of its bytes changed.
+fn with_each_byte_changed<T: Whole>(rt: &impl Abort, format: &NumberFormat, text: &[u8]) {
+    agrees::<T>(rt, format, text);
+    for place in 0..text.len() {
+        for byte in [b'0', b'9', b'_', b'x'] {
+            let mut changed = [b'1'; LONGEST];
+            for (to, from) in changed.iter_mut().zip(text) {
+                *to = *from;
+            }
+            if let Some(to) = changed.get_mut(place) {
+                *to = byte;
+            }
+            if let Some(changed) = changed.get(..text.len()) {
+                agrees::<T>(rt, format, changed);
+            }
+        }
+    }
+}
+
+// Ones with a separator before each three, counted from the end.
+fn in_threes<T: Whole>(rt: &impl Abort, format: &NumberFormat, head: &[u8]) {
+    for length in 1..=LONGEST {
+        let mut text = [b'1'; LONGEST];
+        for (place, byte) in text.iter_mut().enumerate() {
+            if place < length && place % 4 == length % 4 {
+                *byte = b'_';
+            }
+        }
+        for (byte, first) in text.iter_mut().zip(head) {
+            *byte = *first;
+        }
+        if let Some(text) = text.get(..length) {
+            with_each_byte_changed::<T>(rt, format, text);
+        }
+    }
+}
+
+// Digits behind a prefix or none.
+fn behind<T: Whole>(rt: &impl Abort, format: &NumberFormat, head: &[u8]) {
+    for length in [1, 2, 3, 4, 10, 18, 19, 20, 24] {
+        let mut text = [b'1'; LONGEST];
+        for (byte, first) in text.iter_mut().zip(head) {
+            *byte = *first;
+        }
+        if let Some(text) = text.get(..length) {
+            with_each_byte_changed::<T>(rt, format, text);
+        }
+    }
+}
+
+fn separated() -> NumberFormatBuilder {
+    NumberFormatBuilder::new()
+        .digit_separator(Some(b'_'))
+        .integer_internal_digit_separator(true)
+}
+
+#[test]
+fn threes_with_each_byte_changed(rt: HostRuntime) {
+    in_threes::<u64>(&rt, &separated().build_unchecked(), b"");
+}
+
+#[test]
+fn threes_behind_a_minus(rt: HostRuntime) {
+    let format = separated()
+        .integer_consecutive_digit_separator(true)
+        .no_integer_leading_zeros(true)
+        .build_unchecked();
+    in_threes::<i32>(&rt, &format, b"-");
+}
+
+#[test]
+fn threes_of_the_widest_and_the_narrowest_type(rt: HostRuntime) {
+    in_threes::<i128>(&rt, &separated().build_unchecked(), b"");
+    in_threes::<u8>(&rt, &separated().build_unchecked(), b"");
+}
+
+#[test]
+fn digits_behind_a_prefix_alone(rt: HostRuntime) {
+    let format = NumberFormatBuilder::new()
+        .mantissa_radix(16)
+        .base_prefix(Some(b'x'))
+        .build_unchecked();
+    behind::<u64>(&rt, &format, b"0x");
+    behind::<i64>(&rt, &format, b"-0X");
+    behind::<u32>(&rt, &format, b"");
+}
+
+#[test]
+fn digits_behind_a_literal_prefix_alone(rt: HostRuntime) {
+    let format = NumberFormatBuilder::new()
+        .literal_prefixes(true)
+        .case_sensitive_base_prefix(true)
+        .build_unchecked();
+    behind::<u64>(&rt, &format, b"0x");
+    behind::<i64>(&rt, &format, b"-0b");
+    behind::<u64>(&rt, &format, b"");
+}

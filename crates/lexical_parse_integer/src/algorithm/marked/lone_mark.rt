@@ -1,5 +1,5 @@
 // Formats with one mark at most, which little makes valid: so it is looked at first, and most of the rules needn't be.
-ghost use Rattle.std.specs.Prelude.{◌≡◌, IsTrue, None, false};
+ghost use Rattle.std.specs.Prelude.{◌≡◌, IsTrue, None, Some, false, true};
 ghost use Rattle.lexical_util.specs.Digit.{IsRadix};
 ghost use Rattle.lexical_util.specs.Validity.{fault, is_unfit_byte};
 
@@ -31,6 +31,42 @@ fn is_fit_alone(format: &NumberFormat, mark: u8) -> bool
         return false;
     }
     is_fit(mark, radix)
+}
+
+// Whether a decimal format is valid that has this separator alone, which may stand between digits.
+#[inline(always)]
+pub(super) fn is_valid_with_separator(format: &NumberFormat, separator: u8) -> bool
+    requires { format.now.digit_separator ≡ Some separator }
+    ensures valid { IsTrue result → fault format.now ≡ None }
+    ensures internal { IsTrue result → format.now.integer_internal_digit_separator ≡ true }
+{
+    if format.base_suffix().is_some() || format.literal_octal_zero() {
+        return false;
+    }
+    if format.base_prefix().is_some() || format.literal_prefixes() {
+        return false;
+    }
+    if format.mantissa_radix() != 10 || !format.integer_internal_digit_separator() {
+        return false;
+    }
+    is_fit(separator, 10)
+}
+
+// Whether a format is valid that has a prefix alone, or literal prefixes alone.
+#[inline(always)]
+pub(super) fn is_valid_in_row(format: &NumberFormat) -> bool
+    ensures { IsTrue result → fault format.now ≡ None }
+{
+    if format.base_suffix().is_some() || format.literal_octal_zero() {
+        return false;
+    }
+    if format.digit_separator().is_some() {
+        return false;
+    }
+    match format.base_prefix() {
+        Some(mark) => is_fit_alone(format, mark),
+        None => format.literal_prefixes() && format.mantissa_radix() == 10,
+    }
 }
 
 // Whether a format is valid that has a prefix alone, a separator alone, literal prefixes alone, or no mark.

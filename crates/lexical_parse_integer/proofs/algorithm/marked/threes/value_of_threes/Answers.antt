@@ -1,0 +1,45 @@
+use Rattle.std.proofs.Common.{◌+◌, ap, arith, get_or, refl, ◌∙◌}
+use Rattle.lexical_util.specs.Digit.{digit}
+use Rattle.lexical_parse_integer.proofs.marked.DigitsAmong.{words_only, words_worth}
+use Rattle.lexical_parse_integer.proofs.marked.PartedFronts.{worth_sign}
+use Rattle.lexical_parse_integer.proofs.marked.Threes.{digit_small, row_ends, row_parted, three_ends, three_parted, three_worth, threes_grouped}
+use Rattle.lexical_parse_integer.proofs.algorithm.marked.threes.value_of_threes.Goals as goal
+
+pub loop-place-init : goal.loop-place-init
+loop-place-init g c =
+    let told = c.guess_of_first-place.ensures in
+    let all = words_only _ 10 _ _ _ refl c.in_ok-value.ensures in
+    record {
+      within = told.within;
+      parted = row_parted _ _ _ c.args.bytes.now _ told.some told.within all;
+      ends = row_ends _ c.args.bytes.now _ told.some told.within all;
+      worth = words_worth _ 10 _ _ _ refl c.in_ok-value.ensures;
+    }
+
+pub with_three-requires-clause-first : goal.with_three-requires-clause-first
+with_three-requires-clause-first g c = digit_small (get_or c.args.bytes.now (c.loop-place.place + 1) 0) _ c.in-Some.ensures.first
+
+pub with_three-requires-clause-second : goal.with_three-requires-clause-second
+with_three-requires-clause-second g c = digit_small (get_or c.args.bytes.now (c.loop-place.place + 2) 0) _ c.in-Some.ensures.second
+
+pub with_three-requires-clause-third : goal.with_three-requires-clause-third
+with_three-requires-clause-third g c = digit_small (get_or c.args.bytes.now (c.loop-place.place + 3) 0) _ c.in-Some.ensures.third
+
+pub with_three-requires-clause-sign : goal.with_three-requires-clause-sign
+with_three-requires-clause-sign g c = worth_sign _ _ _ _ _ c.loop-place.invariant.worth
+
+pub loop-place-preserved : goal.loop-place-preserved
+loop-place-preserved g c =
+    let i = c.loop-place.invariant in
+    let told = c.in-Some.ensures in
+    record {
+      within = c.loop-place-test.true;
+      parted = three_parted _ _ _ c.args.bytes.now _ _ _ _ i.parted told.parted told.first told.second told.third;
+      ends = three_ends _ c.args.bytes.now _ _ told.third;
+      worth = three_worth _ _ c.args.bytes.now _ _ _ _ _ _ i.worth c.loop-place-test.true (ap (λ b. digit b 10) told.parted ∙ c.requires.no_digit) told.first told.second told.third c.in-Some-with_three.ensures.value c.in-Some-with_three.ensures.fits;
+    }
+
+pub returns-clause-grouped : goal.returns-clause-grouped
+returns-clause-grouped g c =
+    let i = c.loop-place.invariant in
+    threes_grouped _ c.args.separator c.args.bytes.now _ c.requires.separator c.requires.internal c.requires.no_digit c.requires.some (omega (arith, i.within, c.if-place-bytes.false)) i.ends i.parted

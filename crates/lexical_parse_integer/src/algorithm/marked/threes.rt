@@ -1,0 +1,110 @@
+// Decimal digits with a separator before the last three of them, or before each three but the first digits.
+ghost use Rattle.std.specs.Prelude.{◌≡◌, ◌+◌, ◌*◌, ◌<◌, ◌≤◌, IfSome, IsTrue, None, Some, get_or, length, pos, true};
+ghost use Rattle.lexical_util.specs.Digit.{digit};
+ghost use Rattle.lexical_util.specs.Number.{HasSign, IsNumber, mul_add};
+ghost use Rattle.lexical_parse_integer.specs.Marked.{AreGrouped, AreWorth};
+
+use crate::algorithm::plain::fronts::value_of_few;
+use lexical_util::digit::char_to_digit;
+use lexical_util::format::NumberFormat;
+use lexical_util::num::Integer;
+
+// How many digits seem to stand before the first separator: a guess by the length and by two bytes.
+#[inline(always)]
+fn guess_of_first(bytes: &[u8], separator: u8) -> usize
+    requires { 1 ≤ length bytes.now }
+    ensures some { 1 ≤ result }
+    ensures within { result ≤ length bytes.now }
+{
+    let n = bytes.len();
+    if n < 5 || bytes[n - 4] != separator {
+        return n;
+    }
+    if n < 9 || bytes[n - 8] != separator {
+        return n - 4;
+    }
+    let few = n % 4;
+    if few == 0 { n } else { few }
+}
+
+// The digit at a place.
+#[inline(always)]
+fn digit_at(bytes: &[u8], place: usize) -> Option<u32>
+    requires { place < length bytes.now }
+    ensures { result ≡ digit (get_or bytes.now place 0) 10 }
+{
+    char_to_digit(bytes[place], 10)
+}
+
+// The three digits behind a separator at a place.
+#[inline(always)]
+fn three_at(bytes: &[u8], place: usize, separator: u8) -> Option<(u32, u32, u32)>
+    requires { place + 4 ≤ length bytes.now }
+    ensures parted { IfSome result (λ three. get_or bytes.now place 0 ≡ separator) }
+    ensures first { IfSome result
+        (λ three. digit (get_or bytes.now (place + 1) 0) 10 ≡ Some three.0) }
+    ensures second { IfSome result
+        (λ three. digit (get_or bytes.now (place + 2) 0) 10 ≡ Some three.1) }
+    ensures third { IfSome result
+        (λ three. digit (get_or bytes.now (place + 3) 0) 10 ≡ Some three.2) }
+{
+    if bytes[place] != separator {
+        return None;
+    }
+    let first = digit_at(bytes, place + 1)?;
+    let second = digit_at(bytes, place + 2)?;
+    let third = digit_at(bytes, place + 3)?;
+    Some((first, second, third))
+}
+
+// The value with three digits more, where the type has it.
+#[inline(always)]
+fn with_three<T: Integer>(value: T, three: (u32, u32, u32), negative: bool) -> Option<T>
+    requires bits { 32 ≤ T.TYPE.bits }
+    requires first { three.0 < 10 }
+    requires second { three.1 < 10 }
+    requires third { three.2 < 10 }
+    requires sign { HasSign negative (T.number value) }
+    ensures value { IfSome result (λ next. T.number next ≡ mul_add negative (T.number value)
+        (pos 1000) (pos (three.0 * 100 + three.1 * 10 + three.2))) }
+    ensures fits { IfSome result (λ next. IsNumber T.TYPE (T.number next)) }
+{
+    let number = three.0 * 100 + three.1 * 10 + three.2;
+    value.checked_mul_add(T::from_u32(1000), T::from_u32(number), negative)
+}
+
+// The value of digits that stand so, behind a minus where that is negative.
+#[inline(always)]
+pub(super) fn value_of_threes<T: Integer>(
+    bytes: &[u8],
+    format: &NumberFormat,
+    separator: u8,
+    negative: bool,
+) -> Option<T>
+    requires bits { 32 ≤ T.TYPE.bits }
+    requires some { 1 ≤ length bytes.now }
+    requires separator { format.now.digit_separator ≡ Some separator }
+    requires internal { format.now.integer_internal_digit_separator ≡ true }
+    requires no_digit { digit separator 10 ≡ None }
+    requires minus { IsTrue negative → IsTrue T.TYPE.is_signed }
+    ensures grouped { IfSome result (λ value. AreGrouped format.now 10 bytes.now) }
+    ensures worth { IfSome result
+        (λ value. AreWorth T.TYPE 10 negative bytes.now (T.number value)) }
+{
+    let mut place = guess_of_first(bytes, separator);
+    let mut value = value_of_few::<T>(&bytes[..place], negative)?;
+    while place + 4 <= bytes.len() {
+        match three_at(bytes, place, separator) {
+            Some(three) => match with_three::<T>(value, three, negative) {
+                Some(next) => value = next,
+                None => return None,
+            },
+            None => return None,
+        }
+        place += 4;
+    }
+    if place < bytes.len() {
+        return None;
+    }
+    Some(value)
+}
