@@ -14,15 +14,15 @@ use lexical_parse_integer::{
 
 // The text of this number: it ends before a line feed, and the next begins behind that.
 #[inline(always)]
-fn text<'a>(texts: &'a [u8], stops: &[u32], number: usize) -> &'a [u8] {
+fn text<'a>(texts: &'a [u8], stops: &[u32], number: usize) -> Option<&'a [u8]> {
     if 1 <= number && number < stops.len() {
         let start = stops[number - 1] as usize;
         let stop = stops[number] as usize;
         if start < stop && stop <= texts.len() {
-            return &texts[start..stop - 1];
+            return Some(&texts[start..stop - 1]);
         }
     }
-    texts
+    None
 }
 
 // What a loop answers, so that no call of it can be left out.
@@ -77,8 +77,10 @@ LOOP = """
 pub extern "C" fn {name}(texts: &[u8], stops: &[u32]{more}) -> u64 {{
 {before}    let mut sum = 0u64;
     for number in 1..stops.len() {{
-        let bytes = text(texts, stops, number);
-        sum = added(sum, {call});
+        match text(texts, stops, number) {{
+            Some(bytes) => sum = added(sum, {call}),
+            None => return sum,
+        }}
     }}
     sum
 }}

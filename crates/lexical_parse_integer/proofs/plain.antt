@@ -5,4 +5,5 @@ pub mod DigitsInFront
 pub mod FieldsInFront
 pub mod FrontsByTable
 pub mod LongNumbers
+pub mod ShiftedWords
 pub mod WordsOfDigits

@@ -1,21 +1,13 @@
-// The numbers that decimal digits write, by words of eight bytes: digits 0 fill up a word that the text doesn't, and no
-// branch hangs on a digit. A minus in front is raised to the digit 0, so that no branch waits for the sign either.
-ghost use Rattle.std.specs.Prelude.{◌≡◌, ◌+◌, ◌*◌, ◌<◌, ◌≤◌, ◌^◌, ◌%◌, IfSome, get_or, length, slice_range, take};
-ghost use Rattle.lexical_parse_integer.specs.Plain.{WritesDecimal, bytes_number, minus_more};
+// The numbers that decimal digits write: a few by bytes, more by words of eight bytes. Digits 0 fill up a word that the
+// text doesn't, and no branch hangs on a digit.
+ghost use Rattle.std.specs.Prelude.{◌≡◌, ◌+◌, ◌*◌, ◌<◌, ◌≤◌, ◌^◌, ◌%◌, IfSome, length, slice_range, take};
+ghost use Rattle.lexical_parse_integer.specs.Plain.{WritesDecimal, bytes_number};
 ghost use Rattle.lexical_parse_integer.specs.Words.{AreDigits, word_bytes, word_value};
 
 use crate::algorithm::words::{is_8digits, parse_8digits};
 
 // Eight digits 0.
 pub(super) const ZEROS: u64 = 0x3030_3030_3030_3030;
-
-// What is added to a minus to make it the digit 0.
-#[inline(always)]
-pub(super) fn minus_more(negative: bool) -> u8
-    ensures { result ≡ minus_more negative }
-{
-    3 * u8::from(negative)
-}
 
 // Eight bytes of a text.
 #[inline(always)]
@@ -84,42 +76,58 @@ pub(super) fn number_of_word(word: u64) -> Option<u32>
     }
 }
 
-// The numbers that two words of eight digits write; one test says whether they are digits.
+// The number that the first digits of a word of eight write: the rest is shifted out.
 #[inline(always)]
-fn numbers_of_words(high: u64, low: u64) -> Option<(u32, u32)>
-    ensures high_digits { IfSome result (λ parts. AreDigits 10 (word_bytes 8 high)) }
-    ensures high_value { IfSome result (λ parts. parts.0 ≡ word_value 10 (word_bytes 8 high)) }
-    ensures high_small { IfSome result (λ parts. parts.0 < 100000000) }
-    ensures low_digits { IfSome result (λ parts. AreDigits 10 (word_bytes 8 low)) }
-    ensures low_value { IfSome result (λ parts. parts.1 ≡ word_value 10 (word_bytes 8 low)) }
-    ensures low_small { IfSome result (λ parts. parts.1 < 100000000) }
+fn number_of_first_digits(word: u64, count: usize) -> u32
+    requires some { 1 ≤ count }
+    requires few { count ≤ 8 }
+    requires digits { AreDigits 10 (word_bytes 8 word) }
+    ensures value { result ≡ word_value 10 (take count (word_bytes 8 word)) }
+    ensures small { result < 100000000 }
 {
-    if is_8digits(high, 10) & is_8digits(low, 10) {
-        Some((number_of_digits(high), number_of_digits(low)))
+    let shift = 64 - 8 * count as u32;
+    let first = (word - ZEROS) << shift;
+    number_of_digits(first + ZEROS)
+}
+
+// The numbers that the first digits of one word and all of another write; one test says whether both are digits.
+#[inline(always)]
+fn numbers_of_words(first: u64, count: usize, last: u64) -> Option<(u32, u32)>
+    requires some { 1 ≤ count }
+    requires few { count ≤ 8 }
+    ensures first_digits { IfSome result (λ parts. AreDigits 10 (word_bytes 8 first)) }
+    ensures first_value { IfSome result
+        (λ parts. parts.0 ≡ word_value 10 (take count (word_bytes 8 first))) }
+    ensures first_small { IfSome result (λ parts. parts.0 < 100000000) }
+    ensures last_digits { IfSome result (λ parts. AreDigits 10 (word_bytes 8 last)) }
+    ensures last_value { IfSome result (λ parts. parts.1 ≡ word_value 10 (word_bytes 8 last)) }
+    ensures last_small { IfSome result (λ parts. parts.1 < 100000000) }
+{
+    if is_8digits(first, 10) & is_8digits(last, 10) {
+        Some((number_of_first_digits(first, count), number_of_digits(last)))
     } else {
         None
     }
 }
 
-// What the first and the middle one of two or three digits are worth; the last is worth 1, and the middle one of two
-// is the last.
+// What the first and the middle one of up to three digits are worth. The last is worth 1, and one that is the last too
+// is worth nothing more.
 static FIRST: [u32; 4] = [0, 0, 10, 100];
 
 static MIDDLE: [u32; 4] = [0, 0, 0, 10];
 
-// The number of two or three digits.
+// The number of one to three digits, with no branch for their count.
 #[inline(always)]
-pub(super) fn number_to_3(text: &[u8], more: u8) -> Option<u32>
-    requires some { 2 ≤ length text.now }
+pub(super) fn number_to_3(text: &[u8]) -> Option<u32>
+    requires some { 1 ≤ length text.now }
     requires few { length text.now ≤ 3 }
-    requires more { get_or text.now 0 0 + more < 256 }
-    ensures writes { IfSome result (λ number. WritesDecimal more text.now number) }
+    ensures writes { IfSome result (λ number. WritesDecimal 0 text.now number) }
     ensures small { IfSome result (λ number. number < 1000) }
 {
     let n = text.len();
-    let first = (text[0] + more).wrapping_sub(b'0');
-    let middle = text[1].wrapping_sub(b'0');
     let last = text[n - 1].wrapping_sub(b'0');
+    let middle = text[n / 2].wrapping_sub(b'0');
+    let first = text[0].wrapping_sub(b'0');
     if (first < 10) & (middle < 10) & (last < 10) {
         Some(first as u32 * FIRST[n] + middle as u32 * MIDDLE[n] + last as u32)
     } else {
@@ -129,55 +137,37 @@ pub(super) fn number_to_3(text: &[u8], more: u8) -> Option<u32>
 
 // The number of four to eight digits: the first four and the last four, which overlap.
 #[inline(always)]
-pub(super) fn number_to_8(text: &[u8], more: u8) -> Option<u32>
+pub(super) fn number_to_8(text: &[u8]) -> Option<u32>
     requires some { 4 ≤ length text.now }
-    requires few { length text.now ≤ 8 }
-    requires more { get_or text.now 0 0 + more < 256 }
-    ensures writes { IfSome result (λ number. WritesDecimal more text.now number) }
-    ensures small { IfSome result (λ number. number < 100000000) }
-{
-    let n = text.len();
-    let shift = 64 - 8 * n as u32;
-    let last = half_at(text, n - 4) << 32;
-    let first = (half_at(text, 0) << shift) & 0xffff_ffff;
-    number_of_word(last + first + ((more as u64) << shift) + zeros_below(shift))
-}
-
-// The numbers of the last eight of nine to sixteen digits, and of those before: of the first eight bytes, those that
-// are among the last eight too are shifted out.
-#[inline(always)]
-pub(super) fn numbers_to_16(text: &[u8], more: u8) -> Option<(u32, u32)>
-    requires some { 8 < length text.now }
-    requires few { length text.now ≤ 16 }
-    requires more { get_or text.now 0 0 + more < 256 }
-    ensures writes { IfSome result
-        (λ parts. WritesDecimal more text.now (parts.0 * 100000000 + parts.1)) }
-    ensures high { IfSome result (λ parts. parts.0 < 100000000) }
-    ensures low { IfSome result (λ parts. parts.1 < 100000000) }
-{
-    let n = text.len();
-    let shift = 128 - 8 * n as u32;
-    let first = (word_at(text, 0) + more as u64) << shift;
-    numbers_of_words(first + zeros_below(shift), word_at(text, n - 8))
-}
-
-// The number of one to eight digits, the front of a longer text.
-#[inline(always)]
-pub(super) fn number_of_front(text: &[u8]) -> Option<u32>
-    requires some { 1 ≤ length text.now }
     requires few { length text.now ≤ 8 }
     ensures writes { IfSome result (λ number. WritesDecimal 0 text.now number) }
     ensures small { IfSome result (λ number. number < 100000000) }
 {
     let n = text.len();
-    if n == 1 {
-        let digit = text[0].wrapping_sub(b'0');
-        return if digit < 10 { Some(digit as u32) } else { None };
+    let last = half_at(text, n - 4) << 32;
+    let first = half_at(text, 0);
+    if !is_8digits(last + first, 10) {
+        return None;
     }
-    if n <= 3 {
-        return number_to_3(text, 0);
-    }
-    number_to_8(text, 0)
+    let shift = 64 - 8 * n as u32;
+    let front = ((first - 0x3030_3030) << shift) & 0xffff_ffff;
+    Some(number_of_digits(last + front + 0x3030_3030))
+}
+
+// The numbers of the last eight of nine to sixteen digits, and of those before: of the first eight bytes, those that
+// are among the last eight too are shifted out.
+#[inline(always)]
+pub(super) fn numbers_to_16(text: &[u8]) -> Option<(u32, u32)>
+    requires some { 8 < length text.now }
+    requires few { length text.now ≤ 16 }
+    ensures writes { IfSome result
+        (λ parts. WritesDecimal 0 text.now (parts.0 * 100000000 + parts.1)) }
+    ensures high { IfSome result (λ parts. parts.0 < 100000000) }
+    ensures low { IfSome result (λ parts. parts.1 < 100000000) }
+{
+    let n = text.len();
+    let last = word_at(text, n - 8);
+    numbers_of_words(word_at(text, 0), n - 8, last)
 }
 
 // The number of the first one to eight bytes of a longer text, which are digits: what stands after them in the first
@@ -209,14 +199,14 @@ pub(super) fn numbers_to_24(text: &[u8]) -> Option<(u32, u32, u32)>
 {
     let n = text.len();
     if n <= 16 {
-        return match numbers_to_16(text, 0) {
+        return match numbers_to_16(text) {
             Some((high, low)) => Some((0, high, low)),
             None => None,
         };
     }
     match (
         number_of_first(text, n - 16),
-        numbers_to_16(&text[n - 16..], 0),
+        numbers_to_16(&text[n - 16..]),
     ) {
         (Some(first), Some((high, low))) => Some((first, high, low)),
         _ => None,
@@ -241,7 +231,7 @@ pub(super) fn numbers_to_40(text: &[u8]) -> Option<((u32, u32, u32), (u32, u32))
     let n = text.len();
     match (
         numbers_to_24(&text[..n - 16]),
-        numbers_to_16(&text[n - 16..], 0),
+        numbers_to_16(&text[n - 16..]),
     ) {
         (Some(front), Some(back)) => Some((front, back)),
         _ => None,

@@ -5,10 +5,8 @@
 ghost use Rattle.std.specs.Prelude.{◌≡◌, ◌+◌, ◌%◌, ◌<◌, ◌≤◌, IfSome, IsTrue, get_or, length, take};
 ghost use Rattle.lexical_parse_integer.specs.Plain.{WritesDecimal, WritesValue};
 
-use crate::algorithm::plain::digits::{
-    ZEROS, first_word, number_of_front, number_of_word, numbers_to_16, zeros_below,
-};
-use crate::algorithm::plain::values::{value_of_long, value_to_8, value_to_16};
+use crate::algorithm::plain::digits::{ZEROS, first_word, number_of_word, zeros_below};
+use crate::algorithm::plain::values::{value_of, value_of_long};
 use lexical_util::num::Integer;
 
 // How many of the lowest bytes of a word seem to be digits.
@@ -98,15 +96,10 @@ pub(in crate::algorithm) fn value_of_few<T: Integer>(digits: &[u8], negative: bo
     requires minus { IsTrue negative → IsTrue T.TYPE.is_signed }
     ensures { IfSome result (λ value. WritesValue T.TYPE 0 negative digits.now (T.number value)) }
 {
-    let n = digits.len();
-    if n <= 8 {
-        return value_to_8::<T>(number_of_front(digits)?, negative);
-    }
-    if T::BITS < 32 || n > 16 {
+    if digits.len() > 16 {
         return None;
     }
-    let (high, low) = numbers_to_16(digits, 0)?;
-    value_to_16::<T>(high, low, negative)
+    value_of::<T>(digits, negative)
 }
 
 // The value of one digit and more, behind a minus where that is negative.
@@ -117,7 +110,7 @@ pub(in crate::algorithm) fn value_of_digits<T: Integer>(digits: &[u8], negative:
     ensures { IfSome result (λ value. WritesValue T.TYPE 0 negative digits.now (T.number value)) }
 {
     if digits.len() <= 16 {
-        return value_of_few::<T>(digits, negative);
+        return value_of::<T>(digits, negative);
     }
     if T::BITS <= 32 {
         return None;

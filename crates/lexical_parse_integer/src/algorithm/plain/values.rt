@@ -2,11 +2,11 @@
 ghost use Rattle.std.specs.Prelude.{◌≤ℤ◌, ◌∷◌, [], neg_ℤ, if◌then◌else◌, false, ◌≡◌, ◌+◌, ◌*◌, ◌<◌, ◌≤◌, IfSome, IsTrue, get_or, length, pos};
 ghost use Rattle.lexical_util.specs.Ascii.{minus};
 ghost use Rattle.lexical_util.specs.Number.{IsNumber, number_limit};
-ghost use Rattle.lexical_parse_integer.specs.Plain.{WritesValue, minus_more};
+ghost use Rattle.lexical_parse_integer.specs.Plain.{WritesValue};
 ghost use Rattle.lexical_parse_integer.specs.Value.{with_sign};
 
 use crate::algorithm::plain::digits::{
-    minus_more, number_to_3, number_to_8, numbers_to_16, numbers_to_24, numbers_to_40,
+    number_to_3, number_to_8, numbers_to_16, numbers_to_24, numbers_to_40,
 };
 use lexical_util::num::Integer;
 
@@ -130,41 +130,25 @@ fn value_to_40<T: Integer>(front: (u32, u32, u32), back: (u32, u32), negative: b
     }
 }
 
-// The value of one digit.
+// The value of one to sixteen digits, behind a minus where that is negative.
 #[inline(always)]
-pub(super) fn value_of_one<T: Integer>(byte: u8) -> Option<T>
-    ensures { IfSome result (λ value. WritesValue T.TYPE 0 false (byte ∷ []) (T.number value)) }
-{
-    let digit = byte.wrapping_sub(b'0');
-    if digit < 10 {
-        Some(T::from_u32(digit as u32))
-    } else {
-        None
-    }
-}
-
-// The value of two to sixteen digits, of which the first may be a minus.
-#[inline(always)]
-pub(super) fn value_of<T: Integer>(text: &[u8], negative: bool) -> Option<T>
-    requires some { 2 ≤ length text.now }
-    requires few { length text.now ≤ 16 }
+pub(super) fn value_of<T: Integer>(digits: &[u8], negative: bool) -> Option<T>
+    requires some { 1 ≤ length digits.now }
+    requires few { length digits.now ≤ 16 }
     requires minus { IsTrue negative → IsTrue T.TYPE.is_signed }
-    requires first { IsTrue negative → get_or text.now 0 0 ≡ minus }
-    ensures { IfSome result
-        (λ value. WritesValue T.TYPE (minus_more negative) negative text.now (T.number value)) }
+    ensures { IfSome result (λ value. WritesValue T.TYPE 0 negative digits.now (T.number value)) }
 {
-    let n = text.len();
-    let more = minus_more(negative);
+    let n = digits.len();
     if n <= 3 {
-        return value_to_8::<T>(number_to_3(text, more)?, negative);
+        return value_to_8::<T>(number_to_3(digits)?, negative);
     }
     if n <= 8 {
-        return value_to_8::<T>(number_to_8(text, more)?, negative);
+        return value_to_8::<T>(number_to_8(digits)?, negative);
     }
     if T::BITS < 32 {
         return None;
     }
-    let (high, low) = numbers_to_16(text, more)?;
+    let (high, low) = numbers_to_16(digits)?;
     value_to_16::<T>(high, low, negative)
 }
 

@@ -4,4 +4,4 @@ use Rattle.lexical_parse_integer.proofs.algorithm.plain.digits.number_to_3.Goals
 
 pub returns-then-first-middle-clause-writes : goal.returns-then-first-middle-clause-writes
 returns-then-first-middle-clause-writes c =
-    few_write c.args.text.now c.args.more c.requires.some c.requires.few (λ k. let f = c.type_inv.text k in omega arith) c.requires.more c.if-first-middle.true
+    few_write c.args.text.now c.requires.some c.requires.few (λ k. let f = c.type_inv.text k in omega arith) c.if-first-middle.true
