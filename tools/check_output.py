@@ -41,7 +41,7 @@ class Told:
 
     def __init__(self):
         self.status, self.rest = "", ""
-        self.open, self.unfit, self.lost = [], [], []
+        self.open, self.unfit, self.lost, self.why_unfit = [], [], [], ""
 
     def answers(self, file, goal, why):
         """Notes that an answer was refused: it says something else than its goal, or names what is gone. An invariant
@@ -53,12 +53,18 @@ class Told:
             self.lost.append((goal or file, why))
         elif goal not in self.unfit:
             self.unfit.append(goal)
+            self.why_unfit = self.why_unfit or why[:200]
 
     def goals(self):
         """The goals at which the function is refused, none where names are lost."""
         if self.lost or self.status == "proved":
             return []
         return self.open + [goal + UNFIT for goal in self.unfit if goal not in self.open]
+
+    def refusal(self):
+        """The goals at which it is refused, and where answers alone refuse it, what is said of the first of them."""
+        said = f"; {self.why_unfit}" if not self.open and self.why_unfit else ""
+        return ", ".join(self.goals()) + said
 
     def why_not(self):
         """Why it isn't refused."""
@@ -121,7 +127,8 @@ class Check:
 
 def is_by_answers(where):
     """Whether each goal at which an edit is refused has an answer that doesn't fit, so that search tried none."""
-    return where.endswith(UNFIT) and where.count(UNFIT) == where.count(", ") + 1
+    goals = where.partition("; ")[0]
+    return goals.endswith(UNFIT) and goals.count(UNFIT) == goals.count(", ") + 1
 
 
 def judged(edit, check):
@@ -137,7 +144,7 @@ def judged(edit, check):
     told = [(path, check.functions[path]) for path in edit.items if path in check.functions]
     for path, it in told:
         if it.goals():
-            return f"{path}: {', '.join(it.goals())}", None
+            return f"{path}: {it.refusal()}", None
     lemmas = [f"{file}: {lemma}" for file, lemma in check.lemmas if file in edit.lemmas]
     if lemmas and any(it.status != "proved" for _, it in told):
         return ", ".join(lemmas), None

@@ -68,12 +68,10 @@ def all_crates(root):
     return [os.path.basename(os.path.dirname(it)) for it in folders]
 
 
-def copied(of, to):
-    """Copies a file. What checks have kept is large, and linked where a link leads there: a check never writes into
-    such a file, but puts another one under its name."""
+def linked(of, to):
+    """Links a file that a check has made, or copies it to where no link leads. A check never writes into such a file, but
+    puts another one under its name."""
     try:
-        if f"{os.sep}out{os.sep}" not in of:
-            raise OSError
         os.link(of, to)
     except OSError:
         shutil.copy2(of, to)
@@ -119,14 +117,20 @@ class Room:
             for part in (*PARTS, "out/rlib", "out/incremental"):
                 of = os.path.join(root, "crates", crate, part)
                 if os.path.isdir(of) and (crate == name or part != "out/incremental" or not is_built(root, crate)):
-                    shutil.copytree(of, os.path.join(folder, "crates", crate, part), copy_function=copied)
+                    shutil.copytree(of, os.path.join(folder, "crates", crate, part),
+                                    copy_function=shutil.copy2 if part in PARTS else linked)
         return cls(os.path.join(folder, "crates", name))
 
     def copy(self, folder):
         """Another room like this one."""
-        top = os.path.dirname(os.path.dirname(self.folder))
-        shutil.copytree(top, folder, copy_function=copied)
-        return Room(os.path.join(folder, os.path.relpath(self.folder, top)))
+        crates = os.path.dirname(self.folder)
+        shutil.copytree(os.path.dirname(crates), folder,
+                        ignore=lambda at, _: ["out"] if os.path.dirname(at) == crates else [])
+        for crate in os.listdir(crates):
+            made = os.path.join(crates, crate, "out")
+            if os.path.isdir(made):
+                shutil.copytree(made, os.path.join(folder, "crates", crate, "out"), copy_function=linked)
+        return Room(os.path.join(folder, "crates", os.path.basename(self.folder)))
 
     def kept(self):
         """The files of kept work, each with its time and size."""
@@ -144,7 +148,7 @@ class Room:
             if file in own:
                 os.remove(to)
             os.makedirs(os.path.dirname(to), exist_ok=True)
-            copied(os.path.join(like.folder, KEPT, file), to)
+            linked(os.path.join(like.folder, KEPT, file), to)
 
     def has_texts_of(self, folder):
         """Whether its sources, definitions and proofs are those of this folder, byte for byte."""

@@ -195,6 +195,15 @@ class Texts(unittest.TestCase):
         self.assertEqual((room.kept(), sorted(os.listdir(folder))), (first.kept(), ["a", "b"]))
         self.assertEqual({edit_files.read(os.path.join(folder, name)) for name in "ab"}, {"proved"})
 
+    def test_only_what_checks_have_made_is_linked(self):
+        folder = toy(os.path.join(self.room.name, "out", "of"))
+        write(os.path.join(folder, judge_edits.KEPT, "a"), "proved")
+        room = judge_edits.Room(folder).copy(os.path.join(self.room.name, "out", "1"))
+        places = [[os.stat(os.path.join(it.folder, file)).st_ino for file in ("src/lib.rt", f"{judge_edits.KEPT}/a")]
+                  for it in (judge_edits.Room(folder), room)]
+        self.assertNotEqual(places[0][0], places[1][0])
+        self.assertEqual(places[0][1], places[1][1])
+
     def test_a_text_that_does_not_stand_once(self):
         with self.assertRaisesRegex(edit_files.BadEdit, "3 times"):
             self.edit("not_once")
