@@ -136,6 +136,9 @@ pub(super) fn number_to_3(text: &[u8]) -> Option<u32>
 }
 
 // The number of four to eight digits: the first four and the last four, which overlap.
+//
+// The last ones are loaded first, here and below. Else the compiler takes the first byte of both ranges before it knows
+// the range, and loads the others one by one.
 #[inline(always)]
 pub(super) fn number_to_8(text: &[u8]) -> Option<u32>
     requires some { 4 ≤ length text.now }
@@ -155,7 +158,7 @@ pub(super) fn number_to_8(text: &[u8]) -> Option<u32>
 }
 
 // The numbers of the last eight of nine to sixteen digits, and of those before: of the first eight bytes, those that
-// are among the last eight too are shifted out.
+// are among the last eight too are shifted out once all are known to be digits.
 #[inline(always)]
 pub(super) fn numbers_to_16(text: &[u8]) -> Option<(u32, u32)>
     requires some { 8 < length text.now }
