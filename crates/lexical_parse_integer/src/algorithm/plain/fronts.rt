@@ -91,9 +91,9 @@ fn digits_at_front(text: &[u8]) -> usize
     text.len()
 }
 
-// The value of one to sixteen digits, behind a minus where that is negative.
+// The value of one digit and more, behind a minus where that is negative.
 #[inline(always)]
-pub(in crate::algorithm) fn value_of_few<T: Integer>(digits: &[u8], negative: bool) -> Option<T>
+pub(in crate::algorithm) fn value_of_digits<T: Integer>(digits: &[u8], negative: bool) -> Option<T>
     requires some { 1 ≤ length digits.now }
     requires minus { IsTrue negative → IsTrue T.TYPE.is_signed }
     ensures { IfSome result (λ value. WritesValue T.TYPE 0 negative digits.now (T.number value)) }
@@ -102,22 +102,12 @@ pub(in crate::algorithm) fn value_of_few<T: Integer>(digits: &[u8], negative: bo
     if n <= 8 {
         return value_to_8::<T>(number_of_front(digits)?, negative);
     }
-    if T::BITS < 32 || n > 16 {
+    if T::BITS < 32 {
         return None;
     }
-    let (high, low) = numbers_to_16(digits, 0)?;
-    value_to_16::<T>(high, low, negative)
-}
-
-// The value of one digit and more, behind a minus where that is negative.
-#[inline(always)]
-pub(in crate::algorithm) fn value_of_digits<T: Integer>(digits: &[u8], negative: bool) -> Option<T>
-    requires some { 1 ≤ length digits.now }
-    requires minus { IsTrue negative → IsTrue T.TYPE.is_signed }
-    ensures { IfSome result (λ value. WritesValue T.TYPE 0 negative digits.now (T.number value)) }
-{
-    if digits.len() <= 16 {
-        return value_of_few::<T>(digits, negative);
+    if n <= 16 {
+        let (high, low) = numbers_to_16(digits, 0)?;
+        return value_to_16::<T>(high, low, negative);
     }
     if T::BITS <= 32 {
         return None;
