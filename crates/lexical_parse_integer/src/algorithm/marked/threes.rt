@@ -3,11 +3,25 @@ ghost use Rattle.std.specs.Prelude.{◌≡◌, ◌+◌, ◌*◌, ◌<◌, ◌≤
 ghost use Rattle.lexical_util.specs.Digit.{digit};
 ghost use Rattle.lexical_util.specs.Number.{HasSign, IsNumber, mul_add};
 ghost use Rattle.lexical_parse_integer.specs.Marked.{AreGrouped, AreWorth};
+ghost use Rattle.lexical_parse_integer.specs.Plain.{WritesValue};
 
-use crate::algorithm::plain::fronts::value_of_few;
+use crate::algorithm::plain::fronts::value_of_digits;
 use lexical_util::digit::char_to_digit;
 use lexical_util::format::NumberFormat;
 use lexical_util::num::Integer;
+
+// The value of one to sixteen digits, behind a minus where that is negative: what more have is read elsewhere.
+#[inline(always)]
+pub(super) fn value_of_few<T: Integer>(digits: &[u8], negative: bool) -> Option<T>
+    requires some { 1 ≤ length digits.now }
+    requires minus { IsTrue negative → IsTrue T.TYPE.is_signed }
+    ensures { IfSome result (λ value. WritesValue T.TYPE 0 negative digits.now (T.number value)) }
+{
+    if digits.len() > 16 {
+        return None;
+    }
+    value_of_digits::<T>(digits, negative)
+}
 
 // How many digits seem to stand before the first separator: a guess by the length and by two bytes.
 #[inline(always)]

@@ -89,19 +89,6 @@ fn digits_at_front(text: &[u8]) -> usize
     text.len()
 }
 
-// The value of one to sixteen digits, behind a minus where that is negative.
-#[inline(always)]
-pub(in crate::algorithm) fn value_of_few<T: Integer>(digits: &[u8], negative: bool) -> Option<T>
-    requires some { 1 ≤ length digits.now }
-    requires minus { IsTrue negative → IsTrue T.TYPE.is_signed }
-    ensures { IfSome result (λ value. WritesValue T.TYPE 0 negative digits.now (T.number value)) }
-{
-    if digits.len() > 16 {
-        return None;
-    }
-    value_of::<T>(digits, negative)
-}
-
 // The value of one digit and more, behind a minus where that is negative.
 #[inline(always)]
 pub(in crate::algorithm) fn value_of_digits<T: Integer>(digits: &[u8], negative: bool) -> Option<T>
