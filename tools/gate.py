@@ -43,7 +43,7 @@ import must_not_compile  # noqa: E402
 ROOT = os.path.dirname(os.path.dirname(os.path.abspath(__file__)))
 RT = os.environ.get("RT", "rt")
 # The folders that no clone has, as .gitignore names them.
-MADE = (".git", "out", "target", "__pycache__")
+MADE = (".git", "out", "build", "target", "__pycache__")
 # What `rt ci` takes beside the judge's checks, and the most that all take.
 MEMORY_OF_PROOFS, MOST_MEMORY = 7e9, 12e9
 # What comes first where checks wait for each other: libraries, then what is done by one check, then batches of edits.
