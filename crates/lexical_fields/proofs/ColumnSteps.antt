@@ -12,7 +12,7 @@ use Rattle.lexical_fields.specs.declared.columns.ColumnError.{ColumnError}
 use Rattle.lexical_fields.specs.declared.columns.ColumnError.TheVariants.{InvalidFormat}
 use Rattle.std.specs.Prelude.{IfOk}
 use Rattle.std.proofs.lemmas.Bool.{cases_lt}
-use Rattle.lexical_fields.specs.Columns.{GoesOn, answer_by, answer_of, answers, column, column_numbers, first_fault, next_start, numbers_by, numbers_of, stopped, values_before_fault}
+use Rattle.lexical_fields.specs.Columns.{GoesOn, answer_by, answer_of, answers, column, column_numbers, first_fault, next_start, numbers_by, numbers_of, outcome_at, values_before_fault}
 use Rattle.lexical_fields.specs.Fields.{FieldView, field_length, fields, fields_from}
 use Rattle.lexical_fields.specs.ReadFields.{field_answer}
 use Rattle.lexical_fields.proofs.FieldSteps.{next_field}
@@ -73,9 +73,9 @@ pub record IsRead (T : Type 0) (number : T → ℤ) (f : Format) (t : IntegerTyp
   pub size_is : length now ≡ length old
   pub goes_on : IfOk answer (GoesOn s text (length old) (numbers_of f t (length old) s text))
 
-if_stopped : (count stop : ℕ) (outcome : Option Error) (P : Column → Type 0) → P (record { count = count; stop = stop }) → IfOk (stopped count stop outcome) P
-if_stopped count stop None P here = here
-if_stopped count stop (Some error) P here = tt
+if_outcome_at : (count stop : ℕ) (outcome : Option Error) (P : Column → Type 0) → P (record { count = count; stop = stop }) → IfOk (outcome_at count stop outcome) P
+if_outcome_at count stop None P here = here
+if_outcome_at count stop (Some error) P here = tt
 
 -- an invalid format is told at once
 pub read_invalid : (T : Type 0) (number : T → ℤ) (f : Format) (t : IntegerType) (s : ℕ) (text : List ℕ) (old : List T) (error : Error) → Some error ≡ fault f → IsRead T number f t s text old old (Err (InvalidFormat error))
@@ -128,7 +128,7 @@ module _ (T : Type 0) (number : T → ℤ) (f : Format) (t : IntegerType) (s : �
 
   -- no number more
   reading_ends : (outcome : Option Error) → fault f ≡ None → count ≤ length old → values_before_fault (answers f t (length old - count) (left_of s text rest)) ≡ []
-      → first_fault (answers f t (length old - count) (left_of s text rest)) ≡ outcome → IsRead T number f t s text old now (stopped count (length text - length rest) outcome)
+      → first_fault (answers f t (length old - count) (left_of s text rest)) ≡ outcome → IsRead T number f t s text old now (outcome_at count (length text - length rest) outcome)
   unfolding answer_of numbers_of
   reading_ends outcome valid room none told =
       let front = map number (take count now) in
@@ -141,11 +141,11 @@ module _ (T : Type 0) (number : T → ℤ) (f : Format) (t : IntegerType) (s : �
       let all : numbers_of f t (length old) s text ≡ column_numbers f t (length old) s text = ap (λ e. numbers_by e (column_numbers f t (length old) s text)) valid in
       let all_size : length (numbers_of f t (length old) s text) ≡ count = ap length all ∙ size in
       record {
-        answer_is = sym (ap (λ e. answer_by e (column f t (length old) s text)) valid ∙ ap₂ (λ n k. stopped n k (first_fault (answers f t (length old) (fields s text)))) size stop ∙ ap (stopped count (length text - length rest)) first);
+        answer_is = sym (ap (λ e. answer_by e (column f t (length old) s text)) valid ∙ ap₂ (λ n k. outcome_at n k (first_fault (answers f t (length old) (fields s text)))) size stop ∙ ap (outcome_at count (length text - length rest)) first);
         numbers_are = ap (λ n. map number (take n now)) all_size ∙ sym (all ∙ numbers);
         rest_is = ap (λ n. drop n now) all_size ∙ reading.kept ∙ ap (λ n. drop n old) (sym all_size);
         size_is = reading.size;
-        goes_on = if_stopped count (length text - length rest) outcome (GoesOn s text (length old) (numbers_of f t (length old) s text)) (record {
+        goes_on = if_outcome_at count (length text - length rest) outcome (GoesOn s text (length old) (numbers_of f t (length old) s text)) (record {
           counted = sym all_size;
           within_room = room;
           within_text = omega arith;
@@ -154,7 +154,7 @@ module _ (T : Type 0) (number : T → ℤ) (f : Format) (t : IntegerType) (s : �
       }
 
   -- no field is left
-  pub read_all : fault f ≡ None → count ≤ length old → length rest ≡ 0 → IsRead T number f t s text old now (stopped count (length text - length rest) None)
+  pub read_all : fault f ≡ None → count ≤ length old → length rest ≡ 0 → IsRead T number f t s text old now (outcome_at count (length text - length rest) None)
   read_all valid room ended =
       let none : rest ≡ [] = none_of rest ended in
       let nothing : answers f t (length old - count) (left_of s text rest) ≡ [] = ap (λ r. answers f t (length old - count) (left_of s text r)) none ∙ answers_none (length old - count) in
@@ -169,7 +169,7 @@ module _ (T : Type 0) (number : T → ℤ) (f : Format) (t : IntegerType) (s : �
       answers_none (suc n) = refl
 
   -- no room is left
-  pub read_full : fault f ≡ None → count ≡ length old → IsRead T number f t s text old now (stopped count (length text - length rest) None)
+  pub read_full : fault f ≡ None → count ≡ length old → IsRead T number f t s text old now (outcome_at count (length text - length rest) None)
   read_full valid full =
       let room : length old - count ≡ 0 = omega (arith, full) in
       let nothing : answers f t (length old - count) (left_of s text rest) ≡ [] = ap (λ n. answers f t n (left_of s text rest)) room in
@@ -177,7 +177,7 @@ module _ (T : Type 0) (number : T → ℤ) (f : Format) (t : IntegerType) (s : �
 
   -- the next field is no number
   pub read_fault : (field behind : List ℕ) (error : Error) → fault f ≡ None → count < length old → 0 < length rest → field ≡ take (field_length s rest) rest → behind ≡ drop (field_length s rest + 1) rest → length behind ≤ length rest
-      → Err error ≡ field_answer f t (record { start = length text - length rest; text = field }) → IsRead T number f t s text old now (stopped count (length text - length rest) (Some error))
+      → Err error ≡ field_answer f t (record { start = length text - length rest; text = field }) → IsRead T number f t s text old now (outcome_at count (length text - length rest) (Some error))
   read_fault field behind error valid room some front back shorter told =
       let more : answers f t (length old - count) (left_of s text rest) ≡ Err error ∷ answers f t (length old - (count + 1)) (left_of s text behind) =
       next_answers field behind room some front back shorter ∙ ap (λ a. a ∷ answers f t (length old - (count + 1)) (left_of s text behind)) (sym told) in

@@ -36,9 +36,9 @@ next_start end [] = end
 next_start end (field ∷ more) = field.start
 
 -- so many fields were read, and reading stopped at a place, by a fault of the field there or without one
-abbrev pub stopped : ℕ → ℕ → Option Error → Result Column ColumnError
-stopped count place None = Ok (record { count = count; stop = place })
-stopped count place (Some error) = Err (InvalidField count place error)
+abbrev pub outcome_at : ℕ → ℕ → Option Error → Result Column ColumnError
+outcome_at count place None = Ok (record { count = count; stop = place })
+outcome_at count place (Some error) = Err (InvalidField count place error)
 
 -- the numbers that are read of a text's fields
 abbrev pub column_numbers : Format → IntegerType → ℕ → ℕ → List ℕ → List ℤ
@@ -50,7 +50,7 @@ abbrev pub column : Format → IntegerType → ℕ → ℕ → List ℕ → Resu
 column format type room separator text =
     let all = fields separator text in
     let count = length (column_numbers format type room separator text) in
-    stopped count (next_start (length text) (drop count all))
+    outcome_at count (next_start (length text) (drop count all))
     (first_fault (answers format type room all))
 
 -- the numbers that are read, none where the format is invalid

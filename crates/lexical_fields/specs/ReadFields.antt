@@ -40,6 +40,6 @@ abbrev pub texts : List ReadField → List (List ℕ)
 texts fields = map (λ field. field.text) fields
 
 -- a field as the program has it, with its number as view shows it
-abbrev pub seen_field : {T : Type 0} → (T → ℤ) → Field T → ReadField
-seen_field view field =
+abbrev pub view_of_field : {T : Type 0} → (T → ℤ) → Field T → ReadField
+view_of_field view field =
     record { start = field.start; text = field.text.now; answer = view_of view field.answer }

@@ -4,7 +4,7 @@ ghost use Rattle.std.specs.Prelude.{◌≡◌, ◌+◌, ◌<◌, ◌≤◌, ◌^
 ghost use Rattle.std.specs.Iterator.{YieldsFirstBy, item_count};
 ghost use Rattle.lexical_util.specs.Validity.{fault};
 ghost use Rattle.lexical_fields.specs.Fields.{fields_from, pieces, without_empty_last};
-ghost use Rattle.lexical_fields.specs.ReadFields.{ReadField, read_fields, read_from, seen_field, texts};
+ghost use Rattle.lexical_fields.specs.ReadFields.{ReadField, read_fields, read_from, view_of_field, texts};
 
 use crate::places::field_answer;
 use crate::split::split_field;
@@ -86,7 +86,7 @@ impl<'a, T: ParseInteger> Fields<'a, T> {
 impl<'a, T: ParseInteger> Iterator for Fields<'a, T> {
     type Item = Field<'a, T>;
 
-    ghost next_gives = { YieldsFirstBy (seen_field T.number) (λ left. left) };
+    ghost next_gives = { YieldsFirstBy (view_of_field T.number) (λ left. left) };
 
     ghost remaining = { item_count (λ left. left) };
 

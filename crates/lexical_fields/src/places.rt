@@ -3,7 +3,7 @@ ghost use Rattle.std.specs.Prelude.{◌≡◌, ◌+◌, ◌<◌, ◌^◌, length
 ghost use Rattle.lexical_util.specs.Faults.{place_of};
 ghost use Rattle.lexical_util.specs.Validity.{fault};
 ghost use Rattle.lexical_parse_integer.specs.Answer.{view_of};
-ghost use Rattle.lexical_fields.specs.Places.{moved};
+ghost use Rattle.lexical_fields.specs.Places.{error_in_text};
 ghost use Rattle.lexical_fields.specs.ReadFields.{field_answer};
 
 use lexical_parse_integer::laws::grammar::fault_places;
@@ -11,9 +11,9 @@ use lexical_parse_integer::parse::ParseInteger;
 use lexical_parse_integer::{Error, NumberFormat, Options, Result};
 
 // A fault of a field, with its place counted from the start of the text. A fault of a format has none.
-fn moved(start: usize, error: Error) -> Error
+fn error_in_text(start: usize, error: Error) -> Error
     requires { IfSome (place_of error) (λ place. start + place < 2 ^ 64) }
-    ensures { result ≡ moved start error }
+    ensures { result ≡ error_in_text start error }
 {
     match error {
         Error::Overflow(place) => Error::Overflow(start + place),
@@ -49,6 +49,6 @@ pub(crate) fn field_answer<T: ParseInteger>(
     fault_places();
     match T::parse_complete(field, format, options) {
         Ok(value) => Ok(value),
-        Err(error) => Err(moved(start, error)),
+        Err(error) => Err(error_in_text(start, error)),
     }
 }

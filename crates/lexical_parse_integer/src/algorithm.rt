@@ -21,10 +21,10 @@ mod words;
 mod zeros;
 
 use crate::algorithm::head::{is_prefix_alone, read_head};
-use crate::algorithm::marked::{settled_marked, settled_marked_front};
+use crate::algorithm::marked::{front_if_marked, value_if_marked};
 use crate::algorithm::numeral::read_digits;
 pub use crate::algorithm::plain::fields::{field_in_front, is_separated};
-use crate::algorithm::plain::{answer_in_radix, settled, settled_front};
+use crate::algorithm::plain::{answer_in_radix, front_if_plain, value_if_plain};
 use crate::algorithm::zeros::read_first;
 use crate::cursor::Cursor;
 use crate::options::{self, Options};
@@ -155,7 +155,7 @@ pub fn algorithm_complete<T: Integer>(
     requires valid { IsNone (fault format.now) }
     ensures { view_of T.number result ≡ complete format.now T.TYPE bytes.now }
 {
-    match settled::<T>(bytes, format) {
+    match value_if_plain::<T>(bytes, format) {
         Some(value) => Ok(value),
         None => complete_out_of_line::<T>(bytes, format, options),
     }
@@ -185,7 +185,7 @@ pub(crate) fn complete_with_marks<T: Integer>(
     requires valid { IsNone (fault format.now) }
     ensures { view_of T.number result ≡ complete format.now T.TYPE bytes.now }
 {
-    match settled_marked::<T>(bytes, format) {
+    match value_if_marked::<T>(bytes, format) {
         Some(value) => Ok(value),
         None => complete_over_cursor::<T>(bytes, format, options),
     }
@@ -234,7 +234,7 @@ pub fn algorithm_partial<T: Integer>(
     requires valid { IsNone (fault format.now) }
     ensures { view_of (with_place T.number) result ≡ partial format.now T.TYPE bytes.now }
 {
-    match settled_front::<T>(bytes, format) {
+    match front_if_plain::<T>(bytes, format) {
         Some(found) => Ok(found),
         None => partial_out_of_line::<T>(bytes, format, options),
     }
@@ -262,7 +262,7 @@ pub(crate) fn partial_with_marks<T: Integer>(
     requires valid { IsNone (fault format.now) }
     ensures { view_of (with_place T.number) result ≡ partial format.now T.TYPE bytes.now }
 {
-    match settled_marked_front::<T>(bytes, format) {
+    match front_if_marked::<T>(bytes, format) {
         Some(found) => Ok(found),
         None => partial_over_cursor::<T>(bytes, format, options),
     }

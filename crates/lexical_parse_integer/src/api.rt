@@ -6,7 +6,7 @@ ghost use Rattle.lexical_parse_integer.specs.Grammar.{complete, complete_if_vali
 
 mod impls;
 
-use crate::algorithm::plain::{settled, settled_front};
+use crate::algorithm::plain::{front_if_plain, value_if_plain};
 use crate::algorithm::{standard_over_cursor, standard_partial_over_cursor};
 use lexical_util::format::{self, NumberFormat};
 use lexical_util::num::Integer;
@@ -24,7 +24,7 @@ pub trait FromLexical: Integer {
     fn from_lexical(bytes: &[u8]) -> Result<Self>
         ensures { view_of Self.number result ≡ complete standard Self.TYPE bytes.now }
     {
-        match settled::<Self>(bytes, &format::STANDARD) {
+        match value_if_plain::<Self>(bytes, &format::STANDARD) {
             Some(value) => Ok(value),
             None => standard_over_cursor::<Self>(bytes),
         }
@@ -39,7 +39,7 @@ pub trait FromLexical: Integer {
     fn from_lexical_partial(bytes: &[u8]) -> Result<(Self, usize)>
         ensures { view_of (with_place Self.number) result ≡ partial standard Self.TYPE bytes.now }
     {
-        match settled_front::<Self>(bytes, &format::STANDARD) {
+        match front_if_plain::<Self>(bytes, &format::STANDARD) {
             Some(found) => Ok(found),
             None => standard_partial_over_cursor::<Self>(bytes),
         }

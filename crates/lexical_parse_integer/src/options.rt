@@ -37,7 +37,7 @@ pub const LARGE_NUMBERS: Options = Options {
 };
 
 // The fields of the constants: a clause can't name a constant of this type, so it stands here.
-fn ready_made() -> (Options, Options, Options)
+fn constants() -> (Options, Options, Options)
     ensures { result ≡ (
       record { no_multi_digit = true },
       record { no_multi_digit = true },

@@ -10,28 +10,28 @@ abbrev pub without_plus : Format
 without_plus = record standard { no_positive_mantissa_sign = true }
 
 -- the text chooses its radix by `0x`, `0o` or `0b`
-abbrev pub prefixed : Format
-prefixed = record without_plus { literal_prefixes = true }
+abbrev pub with_prefixes : Format
+with_prefixes = record without_plus { literal_prefixes = true }
 
 -- the same with a separator between digits, one at a time
-abbrev pub separated : ℕ → Format
-separated separator =
-    record prefixed {
+abbrev pub by_separator : ℕ → Format
+by_separator separator =
+    record with_prefixes {
       digit_separator = Some separator;
       integer_internal_digit_separator = true;
     }
 
 -- `_` among and after the digits, as many as one likes
-abbrev pub loose : Format
-loose =
-    record (separated underscore) {
+abbrev pub any_groups : Format
+any_groups =
+    record (by_separator underscore) {
       integer_trailing_digit_separator = true;
       integer_consecutive_digit_separator = true;
     }
 
 -- a sign is a part of the text, which chooses its radix by `0x`, `0o` or `0b`
-abbrev pub signed : Format
-signed = record standard { literal_prefixes = true }
+abbrev pub own_sign : Format
+own_sign = record standard { literal_prefixes = true }
 
 -- digits, with `_` between them, one at a time
 abbrev pub underscored_digits : Format
@@ -45,7 +45,7 @@ underscored_digits =
 
 -- C up to C17: `511`, `0777`, `0x1FF`
 abbrev pub c : Format
-c = record prefixed { literal_octal_zero = true }
+c = record with_prefixes { literal_octal_zero = true }
 
 -- the decimal constants of C: `511`
 abbrev pub c_decimal : Format
@@ -61,7 +61,7 @@ c_hexadecimal = record without_plus { mantissa_radix = 16; base_prefix = Some le
 
 -- C23: `1'000`, `0'777`, `0x1'FF`, `0b1'01`
 abbrev pub c23 : Format
-c23 = record (separated apostrophe) { literal_octal_zero = true }
+c23 = record (by_separator apostrophe) { literal_octal_zero = true }
 
 -- C++14 and later: the same texts as C23
 abbrev pub cpp14 : Format
@@ -70,7 +70,7 @@ cpp14 = c23
 -- C#: `1__000`, `0x_1FF`, `0b1_01`, and a leading zero means nothing
 abbrev pub csharp : Format
 csharp =
-    record (separated underscore) {
+    record (by_separator underscore) {
       integer_consecutive_digit_separator = true;
       integer_prefix_digit_separator = true;
     }
@@ -78,7 +78,7 @@ csharp =
 -- Java: `1__000L`, `0_777`, `0x1_FF`, `0b1_01`
 abbrev pub java : Format
 java =
-    record (separated underscore) {
+    record (by_separator underscore) {
       base_suffix = Some letter_l;
       integer_consecutive_digit_separator = true;
       literal_octal_zero = true;
@@ -87,7 +87,7 @@ java =
 -- Kotlin: `1__000L`, `0x1_FF`, `0b1_01`, and no zero before another digit
 abbrev pub kotlin : Format
 kotlin =
-    record (separated underscore) {
+    record (by_separator underscore) {
       base_suffix = Some capital_l;
       case_sensitive_base_suffix = true;
       integer_consecutive_digit_separator = true;
@@ -99,7 +99,7 @@ kotlin =
 -- Rust: `1__000_`, `0x_1FF_`, `0o777`, `0b1_01`
 abbrev pub rust : Format
 rust =
-    record loose {
+    record any_groups {
       case_sensitive_base_prefix = true;
       integer_prefix_digit_separator = true;
     }
@@ -107,14 +107,14 @@ rust =
 -- Go: `1_000`, `0_777`, `0x_1FF`, `0o_777`, `0b_1_01`
 abbrev pub go : Format
 go =
-    record (separated underscore) {
+    record (by_separator underscore) {
       integer_prefix_digit_separator = true;
       literal_octal_zero = true;
     }
 
 -- Swift: `1__000_`, `0x1FF_`, `0o777`, `0b1_01`
 abbrev pub swift : Format
-swift = record loose { case_sensitive_base_prefix = true }
+swift = record any_groups { case_sensitive_base_prefix = true }
 
 -- the decimal literals of Ada, without exponent: `1_000`
 abbrev pub ada : Format
@@ -133,7 +133,7 @@ assembler_hexadecimal = record without_plus { mantissa_radix = 16; base_suffix =
 -- Python 3: `1_000`, `0x_1FF`, `0o777`, `0b_1_01`, and no zero before another digit
 abbrev pub python : Format
 python =
-    record (separated underscore) {
+    record (by_separator underscore) {
       integer_prefix_digit_separator = true;
       no_integer_leading_zeros = true;
     }
@@ -141,7 +141,7 @@ python =
 -- Ruby: `+1_000`, `0_777`, `0x1_FF`, `0o777`, `0b1_01`
 abbrev pub ruby : Format
 ruby =
-    record (separated underscore) {
+    record (by_separator underscore) {
       no_positive_mantissa_sign = false;
       literal_octal_zero = true;
     }
@@ -149,7 +149,7 @@ ruby =
 -- JavaScript in strict mode: `1_000`, `1_000n`, `0x1_FF`, and no zero before another digit
 abbrev pub javascript : Format
 javascript =
-    record (separated underscore) {
+    record (by_separator underscore) {
       base_suffix = Some letter_n;
       case_sensitive_base_suffix = true;
       no_integer_leading_zeros = true;
@@ -157,32 +157,32 @@ javascript =
 
 -- Julia: `1_000`, `0x1_FF`, `0o777`, `0b1_01`
 abbrev pub julia : Format
-julia = record (separated underscore) { case_sensitive_base_prefix = true }
+julia = record (by_separator underscore) { case_sensitive_base_prefix = true }
 
 -- ---- functional languages
 
 -- Haskell with NumericUnderscores and BinaryLiterals: `1__000`, `0x_1FF`, `0o777`, `0b_1_01`
 abbrev pub haskell : Format
 haskell =
-    record (separated underscore) {
+    record (by_separator underscore) {
       integer_consecutive_digit_separator = true;
       integer_prefix_digit_separator = true;
     }
 
 -- OCaml: `1__000_`, `0x1FF_`, `0o777`, `0b1_01`
 abbrev pub ocaml : Format
-ocaml = loose
+ocaml = any_groups
 
 -- ---- data
 
 -- JSON5: `+511`, `0x1FF`, and no zero before another digit
 abbrev pub json5 : Format
-json5 = record signed { no_integer_leading_zeros = true }
+json5 = record own_sign { no_integer_leading_zeros = true }
 
 -- TOML: `+1_000`, `0x1_FF`, `0o777`, `0b1_01`, and no zero before another digit
 abbrev pub toml : Format
 toml =
-    record (separated underscore) {
+    record (by_separator underscore) {
       no_positive_mantissa_sign = false;
       case_sensitive_base_prefix = true;
       no_integer_leading_zeros = true;
@@ -190,7 +190,7 @@ toml =
 
 -- the core schema of YAML 1.2: `+0511`, `0x1FF`, `0o777`
 abbrev pub yaml : Format
-yaml = record signed { case_sensitive_base_prefix = true }
+yaml = record own_sign { case_sensitive_base_prefix = true }
 
 -- SQL up to SQL:2016: `+0511`
 abbrev pub sql : Format
@@ -199,7 +199,7 @@ sql = standard
 -- SQL:2023: `+1_000`, `0x_1FF`, `0o777`, `0b_1_01`
 abbrev pub sql_2023 : Format
 sql_2023 =
-    record (separated underscore) {
+    record (by_separator underscore) {
       no_positive_mantissa_sign = false;
       integer_prefix_digit_separator = true;
     }

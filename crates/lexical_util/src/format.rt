@@ -125,7 +125,7 @@ pub const JSON: NumberFormat = NumberFormat {
 };
 
 // The fields of the constants: a clause can't name a constant of this type, so it stands here.
-fn ready_made() -> (NumberFormat, NumberFormat)
+fn constants() -> (NumberFormat, NumberFormat)
     ensures { result ≡ (standard, json) }
 {
     (STANDARD, JSON)

@@ -11,7 +11,7 @@ use Rattle.lexical_util.specs.declared.error.Error.TheVariants.{Overflow}
 use Rattle.lexical_util.specs.Faults.{place_of}
 use Rattle.lexint.specs.Command.{Command, command_in, parse_complete, parse_partial, list_tokens, change, reset, type_of}
 use Rattle.lexint.specs.Lines.{lines, onto_line}
-use Rattle.lexint.specs.Numeral.{numeral, signed_numeral}
+use Rattle.lexint.specs.Decimal.{decimal_text, signed_text}
 use Rattle.lexint.specs.Output.{answer_lines, answer_of, answers, command_answer, command_lines, complete_text, fault_name, fault_text, kind_text, output, partial_text, place_text, settings_after, token_text, tokens_text}
 use Rattle.lexint.specs.Settings.{Settings, standard_settings}
 use Rattle.lexical_literals.specs.Tokens.{TokenView, tokens}
@@ -36,16 +36,16 @@ digits_have_none (d ∷ ds) =
     let e : eqb (48 + d) 10 ≡ false = grind (arith, nat_tests) in
     ap (λ b. b || has_feed (map (λ c. 48 + c) ds)) e ∙ digits_have_none ds
 
-numeral_has_none : (n : ℕ) → HasNoFeed (numeral n)
-numeral_has_none n = pick (eqb n 0)
+decimal_has_none : (n : ℕ) → HasNoFeed (decimal_text n)
+decimal_has_none n = pick (eqb n 0)
   where
     pick : (b : Bool) → HasNoFeed (cond b (48 ∷ []) (map (λ d. 48 + d) (digits_of 10 n)))
     pick true = refl
     pick false = digits_have_none (digits_of 10 n)
 
-signed_has_none : (z : ℤ) → HasNoFeed (signed_numeral z)
-signed_has_none (pos n) = numeral_has_none n
-signed_has_none (negsuc n) = numeral_has_none (suc n)
+signed_has_none : (z : ℤ) → HasNoFeed (signed_text z)
+signed_has_none (pos n) = decimal_has_none n
+signed_has_none (negsuc n) = decimal_has_none (suc n)
 
 name_has_none : (fault : Error) → HasNoFeed (fault_name fault)
 name_has_none (Overflow place) = refl
@@ -53,14 +53,14 @@ name_has_none _ = refl
 
 place_has_none : (place : Option ℕ) → HasNoFeed (place_text place)
 place_has_none None = refl
-place_has_none (Some place) = both (codes " ") (numeral place) refl (numeral_has_none place)
+place_has_none (Some place) = both (codes " ") (decimal_text place) refl (decimal_has_none place)
 
 fault_has_none : (fault : Error) → HasNoFeed (fault_text fault)
 fault_has_none fault =
     both (codes "err " ++ fault_name fault) (place_text (place_of fault)) (both (codes "err ") (fault_name fault) refl (name_has_none fault)) (place_has_none (place_of fault))
 
-value_has_none : (z : ℤ) → HasNoFeed (codes "ok " ++ signed_numeral z)
-value_has_none z = both (codes "ok ") (signed_numeral z) refl (signed_has_none z)
+value_has_none : (z : ℤ) → HasNoFeed (codes "ok " ++ signed_text z)
+value_has_none z = both (codes "ok ") (signed_text z) refl (signed_has_none z)
 
 complete_has_none : (found : Result ℤ Error) → HasNoFeed (complete_text found)
 complete_has_none (Ok z) = value_has_none z
@@ -68,11 +68,11 @@ complete_has_none (Err fault) = fault_has_none fault
 
 partial_has_none : (found : Result (ℤ × ℕ) Error) → HasNoFeed (partial_text found)
 partial_has_none (Ok found) =
-    both (codes "ok " ++ signed_numeral found.0) (place_text (Some found.1)) (value_has_none found.0) (place_has_none (Some found.1))
+    both (codes "ok " ++ signed_text found.0) (place_text (Some found.1)) (value_has_none found.0) (place_has_none (Some found.1))
 partial_has_none (Err fault) = fault_has_none fault
 
 kind_has_none : (kind : Kind) → HasNoFeed (kind_text kind)
-kind_has_none (Number value) = both (codes "number ") (numeral value) refl (numeral_has_none value)
+kind_has_none (Number value) = both (codes "number ") (decimal_text value) refl (decimal_has_none value)
 kind_has_none Word = refl
 kind_has_none Byte = refl
 kind_has_none (Fault fault) =

@@ -1,6 +1,6 @@
 -- The lemmas of the proofs, a file for each subject.
 pub mod LineSteps
-pub mod NumeralSteps
+pub mod DecimalSteps
 pub mod Pieces
 pub mod AfterLast
 pub mod AnswerLines

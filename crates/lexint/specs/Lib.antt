@@ -7,6 +7,6 @@ pub mod Gather
 pub mod Given
 pub mod Lines
 pub mod Number
-pub mod Numeral
+pub mod Decimal
 pub mod Output
 pub mod Settings

@@ -9,7 +9,7 @@ use Rattle.lexical_util.specs.Faults.{place_of}
 use Rattle.lexint.specs.Change.{with_change}
 use Rattle.lexint.specs.Command.{Command, command_in, parse_complete, parse_partial, list_tokens, change, reset, type_of}
 use Rattle.lexint.specs.Lines.{lines}
-use Rattle.lexint.specs.Numeral.{numeral, signed_numeral}
+use Rattle.lexint.specs.Decimal.{decimal_text, signed_text}
 use Rattle.lexint.specs.Settings.{Settings, standard_settings}
 use Rattle.lexical_literals.specs.Tokens.{TokenView, tokens}
 use Rattle.lexical_literals.specs.declared.Kind.{Kind}
@@ -36,7 +36,7 @@ fault_name InvalidLiteralPrefixes = codes "InvalidLiteralPrefixes"
 -- a space and a place, where there is one
 abbrev pub place_text : Option ℕ → List ℕ
 place_text None = []
-place_text (Some place) = codes " " ++ numeral place
+place_text (Some place) = codes " " ++ decimal_text place
 
 -- `err NAME PLACE`, or `err NAME` for a fault without a place
 abbrev pub fault_text : Error → List ℕ
@@ -44,19 +44,19 @@ fault_text fault = codes "err " ++ fault_name fault ++ place_text (place_of faul
 
 -- `ok V` for a value
 abbrev pub complete_text : Result ℤ Error → List ℕ
-complete_text (Ok value) = codes "ok " ++ signed_numeral value
+complete_text (Ok value) = codes "ok " ++ signed_text value
 complete_text (Err fault) = fault_text fault
 
 -- `ok V PLACE` for a value and a place
 abbrev pub partial_text : Result (ℤ × ℕ) Error → List ℕ
-partial_text (Ok found) = codes "ok " ++ signed_numeral found.0 ++ place_text (Some found.1)
+partial_text (Ok found) = codes "ok " ++ signed_text found.0 ++ place_text (Some found.1)
 partial_text (Err fault) = fault_text fault
 
 -- ---- tokens
 
 -- `number V`, `word`, `byte`, or `fault NAME PLACE`
 abbrev pub kind_text : Kind → List ℕ
-kind_text (Number value) = codes "number " ++ numeral value
+kind_text (Number value) = codes "number " ++ decimal_text value
 kind_text Word = codes "word"
 kind_text Byte = codes "byte"
 kind_text (Fault fault) = codes "fault " ++ fault_name fault ++ place_text (place_of fault)

@@ -5,7 +5,7 @@ ghost use Rattle.lexical_util.specs.Ascii.{line_feed};
 ghost use Rattle.lexical_util.specs.Faults.{place_of};
 ghost use Rattle.lexint.specs.Command.{view_of_command};
 ghost use Rattle.lexint.specs.Gather.{GainsFront, Gathers};
-ghost use Rattle.lexint.specs.Numeral.{numeral, signed_numeral};
+ghost use Rattle.lexint.specs.Decimal.{decimal_text, signed_text};
 ghost use Rattle.lexint.specs.Output.{answer_of, command_answer, command_effect, complete_text, fault_name, partial_text, place_text, settings_after};
 
 mod tokens;
@@ -16,7 +16,7 @@ use crate::command::Command;
 use crate::fault::RunError;
 use crate::number::Number;
 use crate::settings::Settings;
-use crate::{numeral, parse};
+use crate::{decimal, parse};
 use lexical_parse_integer::{Error, Result as Parse};
 use std::io::Write;
 
@@ -121,9 +121,9 @@ fn put_partial<W: Write>(
 // `ok V`.
 fn put_value<W: Write>(value: &Number, batch: &mut Batch, out: &mut W) -> Result<(), RunError>
     ensures ok { OnOk result (Gathers (W.contents out.old) batch.old (W.contents out.new) batch.new
-        (codes "ok " ++ signed_numeral value.now)) }
+        (codes "ok " ++ signed_text value.now)) }
     ensures front { GainsFront (W.contents out.old) (W.contents out.new)
-        (batch.old ++ (codes "ok " ++ signed_numeral value.now)) }
+        (batch.old ++ (codes "ok " ++ signed_text value.now)) }
     ensures fault { IsOkUnless result RunError.Write }
 {
     put(b"ok ", batch, out)?;
@@ -138,9 +138,9 @@ fn put_found<W: Write>(
     out: &mut W,
 ) -> Result<(), RunError>
     ensures ok { OnOk result (Gathers (W.contents out.old) batch.old (W.contents out.new) batch.new
-        (codes "ok " ++ signed_numeral value.now ++ place_text (Some stop))) }
+        (codes "ok " ++ signed_text value.now ++ place_text (Some stop))) }
     ensures front { GainsFront (W.contents out.old) (W.contents out.new)
-        (batch.old ++ (codes "ok " ++ signed_numeral value.now ++ place_text (Some stop))) }
+        (batch.old ++ (codes "ok " ++ signed_text value.now ++ place_text (Some stop))) }
     ensures fault { IsOkUnless result RunError.Write }
 {
     put_value(value, batch, out)?;
@@ -193,38 +193,38 @@ fn put_place_of<W: Write>(fault: Error, batch: &mut Batch, out: &mut W) -> Resul
 // A space and a place.
 fn put_place<W: Write>(place: usize, batch: &mut Batch, out: &mut W) -> Result<(), RunError>
     ensures ok { OnOk result (Gathers (W.contents out.old) batch.old (W.contents out.new) batch.new
-        (codes " " ++ numeral place)) }
+        (codes " " ++ decimal_text place)) }
     ensures front { GainsFront (W.contents out.old) (W.contents out.new)
-        (batch.old ++ (codes " " ++ numeral place)) }
+        (batch.old ++ (codes " " ++ decimal_text place)) }
     ensures fault { IsOkUnless result RunError.Write }
 {
     put(b" ", batch, out)?;
-    put_numeral(place as u128, batch, out)
+    put_decimal(place as u128, batch, out)
 }
 
-// The numeral of a number, with its sign.
+// The digits of a number, with its sign.
 fn put_signed<W: Write>(value: &Number, batch: &mut Batch, out: &mut W) -> Result<(), RunError>
     ensures ok { OnOk result (Gathers (W.contents out.old) batch.old (W.contents out.new) batch.new
-        (signed_numeral value.now)) }
+        (signed_text value.now)) }
     ensures front { GainsFront (W.contents out.old) (W.contents out.new)
-        (batch.old ++ signed_numeral value.now) }
+        (batch.old ++ signed_text value.now) }
     ensures fault { IsOkUnless result RunError.Write }
 {
-    let mut digits = [0u8; numeral::MOST];
-    let start = numeral::write_number(value, &mut digits);
+    let mut digits = [0u8; decimal::MOST];
+    let start = decimal::write_number(value, &mut digits);
     put(&digits[start..], batch, out)
 }
 
-// The numeral of a number from 0 up.
-fn put_numeral<W: Write>(number: u128, batch: &mut Batch, out: &mut W) -> Result<(), RunError>
+// The digits of a number from 0 up.
+fn put_decimal<W: Write>(number: u128, batch: &mut Batch, out: &mut W) -> Result<(), RunError>
     ensures ok { OnOk result (Gathers (W.contents out.old) batch.old (W.contents out.new) batch.new
-        (numeral number)) }
+        (decimal_text number)) }
     ensures front { GainsFront (W.contents out.old) (W.contents out.new)
-        (batch.old ++ numeral number) }
+        (batch.old ++ decimal_text number) }
     ensures fault { IsOkUnless result RunError.Write }
 {
-    let mut digits = [0u8; numeral::MOST];
-    let start = numeral::write_numeral(number, &mut digits);
+    let mut digits = [0u8; decimal::MOST];
+    let start = decimal::write_decimal(number, &mut digits);
     put(&digits[start..], batch, out)
 }
 

@@ -24,7 +24,7 @@ pub enum TypeName {
 
 impl TypeName {
     /// The type of a name, as Rust writes it.
-    pub fn named(name: &[u8]) -> Option<TypeName>
+    pub fn of_name(name: &[u8]) -> Option<TypeName>
         ensures { result ≡ type_named name.now }
     {
         match name {
@@ -108,7 +108,7 @@ fn type_and_text(text: &[u8]) -> Option<(TypeName, &[u8])>
     ensures { option_map (λ found. (found.0, found.1.now)) result ≡ type_and_text text.now }
 {
     let (name, text) = parts(text)?;
-    Some((TypeName::named(name)?, text))
+    Some((TypeName::of_name(name)?, text))
 }
 
 // The change that the text asks for: a field's name, a space, and its new value.
@@ -116,5 +116,5 @@ fn change(text: &[u8]) -> Option<Change>
     ensures { result ≡ change_named text.now }
 {
     let (name, value) = parts(text)?;
-    Field::named(name)?.change(value)
+    Field::of_name(name)?.change(value)
 }

@@ -138,7 +138,7 @@ impl Field {
     }
 
     /// The field of a name, which is that of its setter.
-    pub fn named(name: &[u8]) -> Option<Field>
+    pub fn of_name(name: &[u8]) -> Option<Field>
         ensures { result ≡ field_named name.now }
     {
         FIELDS.iter().copied().find(|field| field.has_name(name))

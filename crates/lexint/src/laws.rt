@@ -5,7 +5,7 @@ ghost use Rattle.std.specs.List.{flat_map, scan};
 ghost use Rattle.lexical_parse_integer.specs.Laws.{IsNumeralOf};
 ghost use Rattle.lexint.specs.Given.{IsAnsweredInTurn, LeavesLastGiven};
 ghost use Rattle.lexint.specs.Lines.{lines, pieces, without_empty_last};
-ghost use Rattle.lexint.specs.Numeral.{signed_numeral};
+ghost use Rattle.lexint.specs.Decimal.{signed_text};
 ghost use Rattle.lexint.specs.Output.{answer_lines, output, settings_after};
 ghost use Rattle.lexint.specs.Settings.{standard_settings};
 
@@ -24,8 +24,8 @@ pub fn output_lines_are_those_of_the_answers()
 
 /// What is printed of a number is its shortest numeral in radix 10, after a minus where it is
 /// below 0. So the parsers read it back.
-pub fn numeral_is_shortest()
-    ensures { (number : ℤ) → IsNumeralOf 10 number (signed_numeral number) }
+pub fn decimal_is_shortest()
+    ensures { (number : ℤ) → IsNumeralOf 10 number (signed_text number) }
 {}
 
 /// Each line is answered under the settings that the lines before it leave, and of those each

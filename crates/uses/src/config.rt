@@ -23,7 +23,7 @@ pub enum ValueError {
 }
 
 // `_` between digits, one at a time.
-fn separated() -> NumberFormatBuilder
+fn grouped_builder() -> NumberFormatBuilder
     ensures { result ≡ grouped }
 {
     NumberFormatBuilder::new()
@@ -35,14 +35,14 @@ fn separated() -> NumberFormatBuilder
 pub fn grouped() -> NumberFormat
     ensures { result ≡ grouped }
 {
-    separated().build_strict()
+    grouped_builder().build_strict()
 }
 
 /// Radix 16, with the prefix `0x` or without it, and with `_` between digits: `0x1F_FF`.
 pub fn hexadecimal() -> NumberFormat
     ensures { result ≡ hexadecimal }
 {
-    separated()
+    grouped_builder()
         .mantissa_radix(16)
         .base_prefix(Some(b'x'))
         .case_sensitive_base_prefix(true)

@@ -5,7 +5,7 @@ use Rattle.std.specs.List.{AllByRecursion}
 use Rattle.std.proofs.lemmas.Nat.{and_mask}
 use Rattle.std.proofs.Math.Nat.{pow-suc, pow-zero}
 use Rattle.std.proofs.lemmas.List.{get_or-take, length-take-le}
-use Rattle.lexical_parse_integer.specs.Plain.{WritesDecimal, bytes_number, raised}
+use Rattle.lexical_parse_integer.specs.Plain.{WritesDecimal, bytes_number, with_more}
 use Rattle.lexical_parse_integer.specs.Words.{AreDigits, word_bytes, word_value}
 use Rattle.lexical_parse_integer.proofs.words.AsciiDigits.{AreAsciiDigits, IsAsciiDigit, ascii_from_digits, digits_from_ascii}
 use Rattle.lexical_parse_integer.proofs.plain.WordsOfDigits.{all_bytes, all_taken, bytes_again, holds_digits, padded, padded_value, raised_none}
@@ -21,7 +21,7 @@ word_again (suc n) word small =
 -- eight digits, of which so many stay, behind digits 0
 shifted_bytes : (k a b c d e f g h : ℕ) → 1 ≤ k → k ≤ 8 → IsAsciiDigit 10 a → IsAsciiDigit 10 b → IsAsciiDigit 10 c → IsAsciiDigit 10 d → IsAsciiDigit 10 e → IsAsciiDigit 10 f → IsAsciiDigit 10 g → IsAsciiDigit 10 h →
     (bytes_number (a ∷ b ∷ c ∷ d ∷ e ∷ f ∷ g ∷ h ∷ []) - 3472328296227680304) * 2 ^ (64 - 8 * k) % 18446744073709551616 + 3472328296227680304
-    ≡ bytes_number (padded (8 - k) (raised 0 (take k (a ∷ b ∷ c ∷ d ∷ e ∷ f ∷ g ∷ h ∷ []))))
+    ≡ bytes_number (padded (8 - k) (with_more 0 (take k (a ∷ b ∷ c ∷ d ∷ e ∷ f ∷ g ∷ h ∷ []))))
 shifted_bytes zero a b c d e f g h low high ia ib ic id ie if_ ig ih = absurd (omega arith)
 shifted_bytes (suc zero) a b c d e f g h low high ia ib ic id ie if_ ig ih = omega (arith, ia, ib, ic, id, ie, if_, ig, ih)
 shifted_bytes (suc (suc zero)) a b c d e f g h low high ia ib ic id ie if_ ig ih = omega (arith, ia, ib, ic, id, ie, if_, ig, ih)
@@ -35,7 +35,7 @@ shifted_bytes (suc (suc (suc (suc (suc (suc (suc (suc (suc k))))))))) a b c d e 
 
 -- the same of a word
 shifted_word : (k word : ℕ) → 1 ≤ k → k ≤ 8 → word < 18446744073709551616 → AreAsciiDigits 10 (word_bytes 8 word) →
-    (word - 3472328296227680304) * 2 ^ (64 - 8 * k) % 18446744073709551616 + 3472328296227680304 ≡ bytes_number (padded (8 - k) (raised 0 (take k (word_bytes 8 word))))
+    (word - 3472328296227680304) * 2 ^ (64 - 8 * k) % 18446744073709551616 + 3472328296227680304 ≡ bytes_number (padded (8 - k) (with_more 0 (take k (word_bytes 8 word))))
 shifted_word k word low high small ascii =
     let again : bytes_number (word_bytes 8 word) ≡ word = word_again 8 word small in
     ap (λ (w : ℕ). (w - 3472328296227680304) * 2 ^ (64 - 8 * k) % 18446744073709551616 + 3472328296227680304) (sym again)
@@ -118,7 +118,7 @@ whole_digits (a ∷ b ∷ c ∷ d ∷ e ∷ f ∷ g ∷ h ∷ i ∷ rest) first 
 filled_word : (text : List ℕ) (first last part : ℕ) → 4 ≤ length text → length text ≤ 8 → AreAsciiDigits 10 text →
     first ≡ bytes_number (slice_range text 0 4) → last ≡ bytes_number (slice_range text (length text - 4) (length text - 4 + 4)) →
     part ≡ (first - 808464432) * 2 ^ (64 - 8 * length text) % 18446744073709551616 % 4294967296 →
-    last * 4294967296 % 18446744073709551616 + part + 808464432 ≡ bytes_number (padded (8 - length text) (raised 0 text))
+    last * 4294967296 % 18446744073709551616 + part + 808464432 ≡ bytes_number (padded (8 - length text) (with_more 0 text))
 filled_word [] first last part low high ascii is_first is_last is_part = absurd (omega arith)
 filled_word (a ∷ []) first last part low high ascii is_first is_last is_part = absurd (omega arith)
 filled_word (a ∷ b ∷ []) first last part low high ascii is_first is_last is_part = absurd (omega arith)

@@ -246,7 +246,7 @@ fn region_of<T: Integer>(bytes: &[u8], format: &NumberFormat) -> Option<Region>
 
 // The value of the whole text, where that is sure.
 #[inline(always)]
-pub(crate) fn settled_marked<T: Integer>(bytes: &[u8], format: &NumberFormat) -> Option<T>
+pub(crate) fn value_if_marked<T: Integer>(bytes: &[u8], format: &NumberFormat) -> Option<T>
     requires valid { IsNone (fault format.now) }
     ensures { IfSome result (λ value. complete format.now T.TYPE bytes.now ≡ Ok (T.number value)) }
 {
@@ -275,7 +275,7 @@ fn value_of_short_row<T: Integer>(digits: &[u8], radix: u32, negative: bool) -> 
 
 // The value of the whole text, where that is few digits alone behind sign and prefix.
 #[inline(always)]
-fn settled_row<T: Integer>(bytes: &[u8], format: &NumberFormat) -> Option<T>
+fn value_if_one_row<T: Integer>(bytes: &[u8], format: &NumberFormat) -> Option<T>
     requires valid { IsNone (fault format.now) }
     ensures { IfSome result (λ value. complete format.now T.TYPE bytes.now ≡ Ok (T.number value)) }
 {
@@ -286,7 +286,7 @@ fn settled_row<T: Integer>(bytes: &[u8], format: &NumberFormat) -> Option<T>
 
 // The value of the whole text, where that is decimal digits with a separator before each three.
 #[inline(always)]
-fn settled_threes<T: Integer>(bytes: &[u8], format: &NumberFormat, separator: u8) -> Option<T>
+fn value_if_threes<T: Integer>(bytes: &[u8], format: &NumberFormat, separator: u8) -> Option<T>
     requires valid { IsNone (fault format.now) }
     requires separator { format.now.digit_separator ≡ Some separator }
     requires internal { format.now.integer_internal_digit_separator ≡ true }
@@ -307,7 +307,7 @@ fn settled_threes<T: Integer>(bytes: &[u8], format: &NumberFormat, separator: u8
 //
 // It stays out of line, as the next, so that all that it needs stays in registers.
 #[inline(never)]
-fn settled_behind_prefix<T: Integer>(bytes: &[u8], format: &NumberFormat) -> Option<T>
+fn value_if_behind_prefix<T: Integer>(bytes: &[u8], format: &NumberFormat) -> Option<T>
     ensures valid { IfSome result (λ value. IsNone (fault format.now)) }
     ensures answer { IfSome result
         (λ value. complete format.now T.TYPE bytes.now ≡ Ok (T.number value)) }
@@ -315,12 +315,12 @@ fn settled_behind_prefix<T: Integer>(bytes: &[u8], format: &NumberFormat) -> Opt
     if !is_valid_in_row(format) {
         return None;
     }
-    settled_row::<T>(bytes, format)
+    value_if_one_row::<T>(bytes, format)
 }
 
 // The same, where the format has a separator alone.
 #[inline(never)]
-fn settled_between_separators<T: Integer>(
+fn value_if_between_separators<T: Integer>(
     bytes: &[u8],
     format: &NumberFormat,
     separator: u8,
@@ -333,19 +333,19 @@ fn settled_between_separators<T: Integer>(
     if !is_valid_with_separator(format, separator) {
         return None;
     }
-    settled_threes::<T>(bytes, format, separator)
+    value_if_threes::<T>(bytes, format, separator)
 }
 
 // The same, where the format has one mark.
 #[inline(always)]
-pub(crate) fn settled_beside_mark<T: Integer>(bytes: &[u8], format: &NumberFormat) -> Option<T>
+pub(crate) fn value_if_beside_mark<T: Integer>(bytes: &[u8], format: &NumberFormat) -> Option<T>
     ensures valid { IfSome result (λ value. IsNone (fault format.now)) }
     ensures answer { IfSome result
         (λ value. complete format.now T.TYPE bytes.now ≡ Ok (T.number value)) }
 {
     match format.digit_separator() {
-        Some(separator) => settled_between_separators::<T>(bytes, format, separator),
-        None => settled_behind_prefix::<T>(bytes, format),
+        Some(separator) => value_if_between_separators::<T>(bytes, format, separator),
+        None => value_if_behind_prefix::<T>(bytes, format),
     }
 }
 
@@ -406,10 +406,7 @@ fn stop_after(bytes: &[u8], format: &NumberFormat, end: usize) -> usize
 
 // The value of the numeral at the text's front and the place at which reading stops, where these are sure.
 #[inline(always)]
-pub(crate) fn settled_marked_front<T: Integer>(
-    bytes: &[u8],
-    format: &NumberFormat,
-) -> Option<(T, usize)>
+pub(crate) fn front_if_marked<T: Integer>(bytes: &[u8], format: &NumberFormat) -> Option<(T, usize)>
     requires valid { IsNone (fault format.now) }
     ensures { IfSome result
         (λ found. partial format.now T.TYPE bytes.now ≡ Ok (with_place T.number found)) }

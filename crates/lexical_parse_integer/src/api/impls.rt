@@ -4,8 +4,8 @@ ghost use Rattle.lexical_parse_integer.specs.Answer.{with_place, view_of};
 ghost use Rattle.lexical_parse_integer.specs.Grammar.{complete_if_valid, partial_if_valid};
 
 use crate::algorithm::marked::lone_mark::fault_of;
-use crate::algorithm::marked::settled_beside_mark;
-use crate::algorithm::plain::{settled, settled_front};
+use crate::algorithm::marked::value_if_beside_mark;
+use crate::algorithm::plain::{front_if_plain, value_if_plain};
 use crate::algorithm::{complete_with_marks, partial_with_marks};
 use crate::api::{FromLexical, FromLexicalWithOptions};
 use crate::options::Options;
@@ -18,7 +18,7 @@ use lexical_util::result::Result;
 fn complete<T: Integer>(bytes: &[u8], format: &NumberFormat, options: &Options) -> Result<T>
     ensures { view_of T.number result ≡ complete_if_valid format.now T.TYPE bytes.now }
 {
-    match settled::<T>(bytes, format) {
+    match value_if_plain::<T>(bytes, format) {
         Some(value) => Ok(value),
         None => complete_beside_marks::<T>(bytes, format, options),
     }
@@ -33,7 +33,7 @@ fn complete_beside_marks<T: Integer>(
 ) -> Result<T>
     ensures { view_of T.number result ≡ complete_if_valid format.now T.TYPE bytes.now }
 {
-    match settled_beside_mark::<T>(bytes, format) {
+    match value_if_beside_mark::<T>(bytes, format) {
         Some(value) => Ok(value),
         None => complete_if_valid::<T>(bytes, format, options),
     }
@@ -59,7 +59,7 @@ fn complete_if_valid<T: Integer>(
 fn partial<T: Integer>(bytes: &[u8], format: &NumberFormat, options: &Options) -> Result<(T, usize)>
     ensures { view_of (with_place T.number) result ≡ partial_if_valid format.now T.TYPE bytes.now }
 {
-    match settled_front::<T>(bytes, format) {
+    match front_if_plain::<T>(bytes, format) {
         Some(found) => Ok(found),
         None => partial_if_valid::<T>(bytes, format, options),
     }

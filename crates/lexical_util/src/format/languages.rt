@@ -8,7 +8,7 @@
 //! the type is unsigned; a signed type reads it.
 
 ghost use Rattle.std.specs.Prelude.{◌≡◌};
-ghost use Rattle.lexical_util.specs.Languages.{loose, prefixed, separated, signed, underscored_digits, without_plus};
+ghost use Rattle.lexical_util.specs.Languages.{any_groups, with_prefixes, by_separator, own_sign, underscored_digits, without_plus};
 
 mod c_like;
 mod compiled;
@@ -31,33 +31,33 @@ fn without_plus() -> NumberFormatBuilder
 }
 
 // The same in radix 10, or 16, 8 or 2 where `0x`, `0o` or `0b` comes first.
-fn prefixed() -> NumberFormatBuilder
-    ensures { result ≡ prefixed }
+fn with_prefixes() -> NumberFormatBuilder
+    ensures { result ≡ with_prefixes }
 {
     without_plus().literal_prefixes(true)
 }
 
 // The same with this separator between digits, one at a time.
-fn separated(separator: u8) -> NumberFormatBuilder
-    ensures { result ≡ separated separator }
+fn by_separator(separator: u8) -> NumberFormatBuilder
+    ensures { result ≡ by_separator separator }
 {
-    prefixed()
+    with_prefixes()
         .digit_separator(Some(separator))
         .integer_internal_digit_separator(true)
 }
 
 // The same with `_` among and after the digits, as many as one likes.
-fn loose() -> NumberFormatBuilder
-    ensures { result ≡ loose }
+fn any_groups() -> NumberFormatBuilder
+    ensures { result ≡ any_groups }
 {
-    separated(b'_')
+    by_separator(b'_')
         .integer_trailing_digit_separator(true)
         .integer_consecutive_digit_separator(true)
 }
 
 // Texts of which a sign is a part, in radix 10, or 16, 8 or 2 where `0x`, `0o` or `0b` comes first.
-fn signed() -> NumberFormatBuilder
-    ensures { result ≡ signed }
+fn own_sign() -> NumberFormatBuilder
+    ensures { result ≡ own_sign }
 {
     NumberFormatBuilder::new().literal_prefixes(true)
 }

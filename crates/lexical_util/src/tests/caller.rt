@@ -11,7 +11,7 @@ use crate::num::Integer;
 
 /// The number with the digit `byte` after it, and `None` where the byte is no digit of the format's
 /// radix or the new number is none of the type.
-pub fn pushed<T: Integer>(number: T, byte: u8, format: &NumberFormat) -> Option<T>
+pub fn with_digit<T: Integer>(number: T, byte: u8, format: &NumberFormat) -> Option<T>
     requires radix { IsRadix format.now.mantissa_radix }
     requires not_negative { pos 0 ≤ℤ T.number number }
     ensures { option_map T.number result ≡ option_and_then

@@ -2,11 +2,11 @@
 
 ghost use Rattle.std.specs.Prelude.{◌++◌, codes, OnOk, IsOkUnless};
 ghost use Rattle.lexint.specs.Gather.{GainsFront, Gathers};
-ghost use Rattle.lexint.specs.Numeral.{numeral};
+ghost use Rattle.lexint.specs.Decimal.{decimal_text};
 ghost use Rattle.lexint.specs.Output.{kind_text, token_text, tokens_text};
 ghost use Rattle.lexical_literals.specs.Tokens.{view_of_token, tokens};
 
-use crate::answer::{put_fault, put_numeral, put_place};
+use crate::answer::{put_decimal, put_fault, put_place};
 use crate::batch::{Batch, put};
 use crate::fault::RunError;
 use crate::literals::{Kind, Token, Tokens};
@@ -59,11 +59,11 @@ fn put_kind<W: Write>(kind: &Kind, batch: &mut Batch, out: &mut W) -> Result<(),
 // `number V`.
 fn put_number<W: Write>(value: u128, batch: &mut Batch, out: &mut W) -> Result<(), RunError>
     ensures ok { OnOk result (Gathers (W.contents out.old) batch.old (W.contents out.new) batch.new
-        (codes "number " ++ numeral value)) }
+        (codes "number " ++ decimal_text value)) }
     ensures front { GainsFront (W.contents out.old) (W.contents out.new)
-        (batch.old ++ (codes "number " ++ numeral value)) }
+        (batch.old ++ (codes "number " ++ decimal_text value)) }
     ensures fault { IsOkUnless result RunError.Write }
 {
     put(b"number ", batch, out)?;
-    put_numeral(value, batch, out)
+    put_decimal(value, batch, out)
 }

@@ -1,10 +1,10 @@
-// The parts below the lines: numerals and batches.
+// The parts below the lines: numbers and batches.
 
 use super::devices::{BlockWriter, Refusal};
 use crate::batch::{Batch, SIZE, put, send};
+use crate::decimal::{MOST, write_decimal, write_number};
 use crate::fault::RunError;
 use crate::number::Number;
-use crate::numeral::{MOST, write_number, write_numeral};
 use crate::program::run;
 use std::io::ErrorKind;
 
@@ -64,7 +64,7 @@ fn writes_numbers_of_each_length(rt: HostRuntime) {
         (18_446_744_073_709_551_616, "18446744073709551616"),
         (u128::MAX, "340282366920938463463374607431768211455"),
     ] {
-        let start = write_numeral(number, &mut place);
+        let start = write_decimal(number, &mut place);
         assert_eq!(rt; &place[start..], want.as_bytes(), "{number}");
     }
 }

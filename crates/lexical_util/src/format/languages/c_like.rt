@@ -4,7 +4,7 @@ ghost use Rattle.std.specs.Prelude.{◌≡◌, None};
 ghost use Rattle.lexical_util.specs.Languages.{c, c23, c_decimal, c_hexadecimal, c_octal, cpp14, csharp, java, kotlin};
 ghost use Rattle.lexical_util.specs.Validity.{fault};
 
-use super::{prefixed, separated, without_plus};
+use super::{by_separator, with_prefixes, without_plus};
 use crate::format::NumberFormat;
 
 /// Integer constants of C up to C17, of each of the three kinds: `511`, `0777` and `0x1FF`.
@@ -14,7 +14,7 @@ pub fn c() -> NumberFormat
     ensures fields { result ≡ c }
     ensures valid { fault result ≡ None }
 {
-    prefixed().literal_octal_zero(true).build_strict()
+    with_prefixes().literal_octal_zero(true).build_strict()
 }
 
 /// The decimal constants of C: `511`. A zero before another digit is refused, since it makes a constant octal.
@@ -51,7 +51,7 @@ pub fn c23() -> NumberFormat
     ensures fields { result ≡ c23 }
     ensures valid { fault result ≡ None }
 {
-    separated(b'\'').literal_octal_zero(true).build_strict()
+    by_separator(b'\'').literal_octal_zero(true).build_strict()
 }
 
 /// Integer literals of C++14 and later: the texts of [`c23`].
@@ -69,7 +69,7 @@ pub fn csharp() -> NumberFormat
     ensures fields { result ≡ csharp }
     ensures valid { fault result ≡ None }
 {
-    separated(b'_')
+    by_separator(b'_')
         .integer_consecutive_digit_separator(true)
         .integer_prefix_digit_separator(true)
         .build_strict()
@@ -82,7 +82,7 @@ pub fn java() -> NumberFormat
     ensures fields { result ≡ java }
     ensures valid { fault result ≡ None }
 {
-    separated(b'_')
+    by_separator(b'_')
         .base_suffix(Some(b'l'))
         .integer_consecutive_digit_separator(true)
         .literal_octal_zero(true)
@@ -97,7 +97,7 @@ pub fn kotlin() -> NumberFormat
     ensures fields { result ≡ kotlin }
     ensures valid { fault result ≡ None }
 {
-    separated(b'_')
+    by_separator(b'_')
         .base_suffix(Some(b'L'))
         .case_sensitive_base_suffix(true)
         .integer_consecutive_digit_separator(true)

@@ -4,7 +4,7 @@ ghost use Rattle.std.specs.Prelude.{◌≡◌, None};
 ghost use Rattle.lexical_util.specs.Languages.{ada, assembler_hexadecimal, go, rust, swift, vhdl};
 ghost use Rattle.lexical_util.specs.Validity.{fault};
 
-use super::{loose, separated, underscored_digits, without_plus};
+use super::{any_groups, by_separator, underscored_digits, without_plus};
 use crate::format::NumberFormat;
 
 /// Integer literals of Rust: `1__000_`, `0x_1FF_`, `0o777` and `0b1_01`. `0777` is 777.
@@ -14,7 +14,7 @@ pub fn rust() -> NumberFormat
     ensures fields { result ≡ rust }
     ensures valid { fault result ≡ None }
 {
-    loose()
+    any_groups()
         .case_sensitive_base_prefix(true)
         .integer_prefix_digit_separator(true)
         .build_strict()
@@ -25,7 +25,7 @@ pub fn go() -> NumberFormat
     ensures fields { result ≡ go }
     ensures valid { fault result ≡ None }
 {
-    separated(b'_')
+    by_separator(b'_')
         .integer_prefix_digit_separator(true)
         .literal_octal_zero(true)
         .build_strict()
@@ -36,7 +36,7 @@ pub fn swift() -> NumberFormat
     ensures fields { result ≡ swift }
     ensures valid { fault result ≡ None }
 {
-    loose().case_sensitive_base_prefix(true).build_strict()
+    any_groups().case_sensitive_base_prefix(true).build_strict()
 }
 
 /// Decimal literals of Ada: `1_000`.

@@ -5,7 +5,7 @@ ghost use Rattle.lexical_util.specs.Format.{json};
 ghost use Rattle.lexical_util.specs.Languages.{json5, money, sql, sql_2023, toml, yaml};
 ghost use Rattle.lexical_util.specs.Validity.{fault};
 
-use super::{separated, signed};
+use super::{by_separator, own_sign};
 use crate::format::{JSON, NumberFormat, NumberFormatBuilder, STANDARD};
 
 /// Integers of JSON: [`JSON`].
@@ -23,7 +23,7 @@ pub fn json5() -> NumberFormat
     ensures fields { result ≡ json5 }
     ensures valid { fault result ≡ None }
 {
-    signed().no_integer_leading_zeros(true).build_strict()
+    own_sign().no_integer_leading_zeros(true).build_strict()
 }
 
 /// Integers of TOML: `+1_000`, `0x1_FF`, `0o777` and `0b1_01`. A zero before another digit is refused.
@@ -33,7 +33,7 @@ pub fn toml() -> NumberFormat
     ensures fields { result ≡ toml }
     ensures valid { fault result ≡ None }
 {
-    separated(b'_')
+    by_separator(b'_')
         .no_positive_mantissa_sign(false)
         .case_sensitive_base_prefix(true)
         .no_integer_leading_zeros(true)
@@ -47,7 +47,7 @@ pub fn yaml() -> NumberFormat
     ensures fields { result ≡ yaml }
     ensures valid { fault result ≡ None }
 {
-    signed().case_sensitive_base_prefix(true).build_strict()
+    own_sign().case_sensitive_base_prefix(true).build_strict()
 }
 
 /// Integers of SQL up to SQL:2016, with their sign: `+0511`.
@@ -63,7 +63,7 @@ pub fn sql_2023() -> NumberFormat
     ensures fields { result ≡ sql_2023 }
     ensures valid { fault result ≡ None }
 {
-    separated(b'_')
+    by_separator(b'_')
         .no_positive_mantissa_sign(false)
         .integer_prefix_digit_separator(true)
         .build_strict()

@@ -4,7 +4,7 @@ ghost use Rattle.std.specs.Prelude.{◌≡◌, None};
 ghost use Rattle.lexical_util.specs.Languages.{haskell, ocaml};
 ghost use Rattle.lexical_util.specs.Validity.{fault};
 
-use super::{loose, separated};
+use super::{any_groups, by_separator};
 use crate::format::NumberFormat;
 
 /// Integer literals of Haskell with NumericUnderscores and BinaryLiterals: `1__000`, `0x_1FF`, `0o777` and `0b_1_01`.
@@ -13,7 +13,7 @@ pub fn haskell() -> NumberFormat
     ensures fields { result ≡ haskell }
     ensures valid { fault result ≡ None }
 {
-    separated(b'_')
+    by_separator(b'_')
         .integer_consecutive_digit_separator(true)
         .integer_prefix_digit_separator(true)
         .build_strict()
@@ -26,5 +26,5 @@ pub fn ocaml() -> NumberFormat
     ensures fields { result ≡ ocaml }
     ensures valid { fault result ≡ None }
 {
-    loose().build_strict()
+    any_groups().build_strict()
 }

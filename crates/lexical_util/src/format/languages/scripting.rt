@@ -4,7 +4,7 @@ ghost use Rattle.std.specs.Prelude.{◌≡◌, None};
 ghost use Rattle.lexical_util.specs.Languages.{javascript, julia, python, ruby};
 ghost use Rattle.lexical_util.specs.Validity.{fault};
 
-use super::separated;
+use super::by_separator;
 use crate::format::NumberFormat;
 
 /// Integer literals of Python 3: `1_000`, `0x_1FF`, `0o777` and `0b_1_01`. A zero before another digit is refused.
@@ -14,7 +14,7 @@ pub fn python() -> NumberFormat
     ensures fields { result ≡ python }
     ensures valid { fault result ≡ None }
 {
-    separated(b'_')
+    by_separator(b'_')
         .integer_prefix_digit_separator(true)
         .no_integer_leading_zeros(true)
         .build_strict()
@@ -27,7 +27,7 @@ pub fn ruby() -> NumberFormat
     ensures fields { result ≡ ruby }
     ensures valid { fault result ≡ None }
 {
-    separated(b'_')
+    by_separator(b'_')
         .no_positive_mantissa_sign(false)
         .literal_octal_zero(true)
         .build_strict()
@@ -41,7 +41,7 @@ pub fn javascript() -> NumberFormat
     ensures fields { result ≡ javascript }
     ensures valid { fault result ≡ None }
 {
-    separated(b'_')
+    by_separator(b'_')
         .base_suffix(Some(b'n'))
         .case_sensitive_base_suffix(true)
         .no_integer_leading_zeros(true)
@@ -53,7 +53,7 @@ pub fn julia() -> NumberFormat
     ensures fields { result ≡ julia }
     ensures valid { fault result ≡ None }
 {
-    separated(b'_')
+    by_separator(b'_')
         .case_sensitive_base_prefix(true)
         .build_strict()
 }

@@ -1,5 +1,5 @@
 use Rattle.lexical_parse_integer.proofs.marked.MarkedAnswers.{fits_head, head_signed, if_both, region_read}
-use Rattle.lexical_parse_integer.proofs.algorithm.marked.settled_marked.Goals as goal
+use Rattle.lexical_parse_integer.proofs.algorithm.marked.value_if_marked.Goals as goal
 
 pub value_of_region-requires-clause-radix : goal.value_of_region-requires-clause-radix
 value_of_region-requires-clause-radix g c = (fits_head _ _ _ _ c.requires.valid c.in_ok-region.ensures.head).is_radix

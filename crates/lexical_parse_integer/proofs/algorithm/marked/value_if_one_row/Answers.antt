@@ -1,5 +1,5 @@
 use Rattle.lexical_parse_integer.proofs.marked.MarkedAnswers.{head_signed, if_both, row_read}
-use Rattle.lexical_parse_integer.proofs.algorithm.marked.settled_row.Goals as goal
+use Rattle.lexical_parse_integer.proofs.algorithm.marked.value_if_one_row.Goals as goal
 
 pub value_of_short_row-requires-clause-minus : goal.value_of_short_row-requires-clause-minus
 value_of_short_row-requires-clause-minus g c = head_signed _ _ _ _ c.in_ok-region.ensures.head

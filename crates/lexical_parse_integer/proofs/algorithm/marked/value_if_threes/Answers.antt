@@ -1,7 +1,7 @@
 use Rattle.std.proofs.Common.{◌≡◌, ℕ, None, subst}
 use Rattle.lexical_util.specs.Digit.{digit}
 use Rattle.lexical_parse_integer.proofs.marked.MarkedAnswers.{decimal_read, fits_head, head_signed, if_both}
-use Rattle.lexical_parse_integer.proofs.algorithm.marked.settled_threes.Goals as goal
+use Rattle.lexical_parse_integer.proofs.algorithm.marked.value_if_threes.Goals as goal
 
 pub value_of_threes-requires-clause-no_digit : goal.value_of_threes-requires-clause-no_digit
 value_of_threes-requires-clause-no_digit g c =

@@ -2,19 +2,19 @@
 
 ghost use Rattle.std.specs.Prelude.{◌≡◌, ◌≤◌, ◌<◌, ◌+◌, ◌-◌, ◌/◌, ◌%◌, ◌^◌, ◌∷◌, ◌++◌, drop, take};
 ghost use Rattle.lexical_util.specs.Ascii.{digit_zero};
-ghost use Rattle.lexint.specs.Numeral.{numeral, signed_numeral};
+ghost use Rattle.lexint.specs.Decimal.{decimal_text, signed_text};
 
 use crate::number::Number;
 
-/// The room that the longest numeral takes.
+/// The room that the longest text takes.
 pub const MOST: usize = 40;
 
-/// Writes the numeral so that it ends where the array does, and answers where it starts. What comes
+/// Writes the digits so that it ends where the array does, and answers where it starts. What comes
 /// before it in the array stays.
-pub fn write_numeral(n: u128, place: &mut [u8; MOST]) -> usize
+pub fn write_decimal(n: u128, place: &mut [u8; MOST]) -> usize
     ensures within { result ≤ 40 }
     ensures room { 1 ≤ result }
-    ensures written { drop result place.new ≡ numeral n }
+    ensures written { drop result place.new ≡ decimal_text n }
     ensures kept { take result place.new ≡ take result place.old }
 {
     let mut rest = n;
@@ -27,7 +27,7 @@ pub fn write_numeral(n: u128, place: &mut [u8; MOST]) -> usize
     write_front(rest as u64, place, start)
 }
 
-// Writes the numeral in front of a place, two digits a division, and answers where it starts.
+// Writes the digits in front of a place, two digits a division, and answers where it starts.
 #[inline(always)]
 fn write_front(n: u64, place: &mut [u8; MOST], end: usize) -> usize
     requires low { 2 ≤ end }
@@ -35,7 +35,7 @@ fn write_front(n: u64, place: &mut [u8; MOST], end: usize) -> usize
     requires room { n < 10 ^ (end - 1) }
     ensures within { result ≤ end }
     ensures room { 1 ≤ result }
-    ensures written { drop result place.new ≡ numeral n ++ drop end place.old }
+    ensures written { drop result place.new ≡ decimal_text n ++ drop end place.old }
     ensures kept { take result place.new ≡ take result place.old }
 {
     let mut rest = n;
@@ -68,13 +68,13 @@ fn put_pair(pair: u8, place: &mut [u8; MOST], end: usize)
     place[end - 2] = b'0' + pair / 10;
 }
 
-/// Writes the numeral of a number, after a `-` where it is negative.
+/// Writes the digits of a number, after a `-` where it is negative.
 pub fn write_number(number: &Number, place: &mut [u8; MOST]) -> usize
     ensures within { result ≤ 40 }
-    ensures written { drop result place.new ≡ signed_numeral number.now }
+    ensures written { drop result place.new ≡ signed_text number.now }
     ensures kept { take result place.new ≡ take result place.old }
 {
-    let start = write_numeral(number.size(), place);
+    let start = write_decimal(number.size(), place);
     if !number.is_negative() {
         return start;
     }

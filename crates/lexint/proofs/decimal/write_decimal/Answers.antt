@@ -1,8 +1,8 @@
 use Rattle.std.proofs.Common.{ℕ, ◌-◌, arith, refl}
 use Rattle.std.proofs.lemmas.List.{drop_all, append-nil, length-set, take-set}
-use Rattle.lexint.specs.Numeral.{numeral}
-use Rattle.lexint.proofs.NumeralSteps.{kept_less, numeral_more, room_some, room_next}
-use Rattle.lexint.proofs.numeral.write_numeral.Goals as goal
+use Rattle.lexint.specs.Decimal.{decimal_text}
+use Rattle.lexint.proofs.DecimalSteps.{kept_less, decimal_more, room_some, room_next}
+use Rattle.lexint.proofs.decimal.write_decimal.Goals as goal
 
 pub loop-rest-init : goal.loop-rest-init
 loop-rest-init c = record {
@@ -23,7 +23,7 @@ loop-rest-preserved c =
       some = omega arith;
       size = omega (arith, length-set {A = ℕ});
       room = room_next l.rest (l.start - 1) l.invariant.room (omega arith);
-      written = numeral_more (numeral c.args.n) l.rest l.start l.place (omega arith) (omega arith) (omega arith) l.invariant.written;
+      written = decimal_more (decimal_text c.args.n) l.rest l.start l.place (omega arith) (omega arith) (omega arith) l.invariant.written;
       kept = kept_less _ l.place _ (l.start - 1) l.start (omega arith) l.invariant.kept (take-set l.place (l.start - 1) _);
     }
 

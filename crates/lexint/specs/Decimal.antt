@@ -1,14 +1,14 @@
--- The numeral of a number.
+-- The digits of a number.
 use Rattle.std.specs.Prelude.{ℕ, suc, ◌+◌, List, [], ◌∷◌, map, if◌then◌else◌, ◌==◌, pos, negsuc}
 use Rattle.std.specs.Int.Digits.{digits_of}
 use lib.IntN.{ℤ}
 use Rattle.lexical_util.specs.Ascii.{digit_zero, minus}
 
 -- the digits of a number in radix 10 as text, the highest first, and `0` alone for 0
-abbrev pub numeral : ℕ → List ℕ
-numeral n = if n == 0 then digit_zero ∷ [] else map (λ d. digit_zero + d) (digits_of 10 n)
+abbrev pub decimal_text : ℕ → List ℕ
+decimal_text n = if n == 0 then digit_zero ∷ [] else map (λ d. digit_zero + d) (digits_of 10 n)
 
 -- the same of a whole number: `-` before its size where it is negative
-abbrev pub signed_numeral : ℤ → List ℕ
-signed_numeral (pos n) = numeral n
-signed_numeral (negsuc n) = minus ∷ numeral (suc n)
+abbrev pub signed_text : ℤ → List ℕ
+signed_text (pos n) = decimal_text n
+signed_text (negsuc n) = minus ∷ decimal_text (suc n)

@@ -1,15 +1,15 @@
 use Rattle.std.proofs.Common.{◌≡◌, ◌≤◌, ◌<◌, ◌^◌, ◌-◌, ◌++◌, drop, length, take}
-use Rattle.lexint.specs.Numeral.{numeral}
-use Rattle.lexint.proofs.numeral.write_front.Given as goal
+use Rattle.lexint.specs.Decimal.{decimal_text}
+use Rattle.lexint.proofs.decimal.write_decimal.Given as goal
 
--- the digits written so far end the numeral, and there is room for the others
+-- the digits written so far end the text, and there is room for the others
 abbrev pub invariant-loop-rest : goal.invariant-loop-rest
 invariant-loop-rest l = record {
-  within : l.start ≤ l.end;
+  within : l.start ≤ 40;
   some : 2 ≤ l.start;
   size : length l.place ≡ 40;
   room : l.rest < 10 ^ (l.start - 1);
-  written : numeral l.n ++ drop l.end l.initial.place ≡ numeral l.rest ++ drop l.start l.place;
+  written : decimal_text l.n ≡ decimal_text l.rest ++ drop l.start l.place;
   kept : take l.start l.place ≡ take l.start l.initial.place;
 }
 

@@ -1,6 +1,6 @@
 use Rattle.std.proofs.Common.{◌<◌, arith, sym, ◌∙◌}
 use Rattle.lexical_parse_integer.proofs.marked.MarkedAnswers.{fits_head, front_read, head_signed}
-use Rattle.lexical_parse_integer.proofs.algorithm.marked.settled_marked_front.Goals as goal
+use Rattle.lexical_parse_integer.proofs.algorithm.marked.front_if_marked.Goals as goal
 
 pub count_of_marked-count-requires : goal.count_of_marked-count-requires
 count_of_marked-count-requires g c = record { radix = (fits_head _ _ _ _ c.requires.valid c.in_ok-front.ensures.head).is_radix }

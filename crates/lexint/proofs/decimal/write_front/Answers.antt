@@ -1,7 +1,7 @@
 use Rattle.std.proofs.Common.{◌-◌, arith, rules}
 use Rattle.std.proofs.lemmas.List.{take-set}
-use Rattle.lexint.proofs.NumeralSteps.{kept_less, numeral_last, numeral_pair, numeral_pair_last, room_pair}
-use Rattle.lexint.proofs.numeral.write_front.Goals as goal
+use Rattle.lexint.proofs.DecimalSteps.{kept_less, decimal_last, decimal_pair, decimal_pair_last, room_pair}
+use Rattle.lexint.proofs.decimal.write_front.Goals as goal
 
 pub loop-rest-preserved : goal.loop-rest-preserved
 loop-rest-preserved c =
@@ -12,19 +12,19 @@ loop-rest-preserved c =
       some = omega arith;
       size = search rules;
       room = room;
-      written = numeral_pair _ l.rest l.start l.place c.put_pair.new.place (omega arith) l.invariant.written c.put_pair.ensures.written;
+      written = decimal_pair _ l.rest l.start l.place c.put_pair.new.place (omega arith) l.invariant.written c.put_pair.ensures.written;
       kept = kept_less _ l.place _ (l.start - 2) l.start (omega arith) l.invariant.kept c.put_pair.ensures.kept;
     }
 
 pub returns-then-rest-ge10-clause-written : goal.returns-then-rest-ge10-clause-written
 returns-then-rest-ge10-clause-written c =
     let l = c.loop-rest in
-    numeral_pair_last _ l.rest l.start l.place c.put_pair-then-rest-ge10.new.place (omega arith) (omega arith) l.invariant.written c.put_pair-then-rest-ge10.ensures.written
+    decimal_pair_last _ l.rest l.start l.place c.put_pair-then-rest-ge10.new.place (omega arith) (omega arith) l.invariant.written c.put_pair-then-rest-ge10.ensures.written
 
 pub returns-clause-written : goal.returns-clause-written
 returns-clause-written c =
     let l = c.loop-rest in
-    numeral_last _ l.rest l.start l.place (omega arith) (omega arith) (omega arith) l.invariant.written
+    decimal_last _ l.rest l.start l.place (omega arith) (omega arith) (omega arith) l.invariant.written
 
 pub returns-then-rest-ge10-clause-kept : goal.returns-then-rest-ge10-clause-kept
 returns-then-rest-ge10-clause-kept c =

@@ -1,0 +1,117 @@
+-- The last digit of a number, and the digits in front of it.
+use Rattle.std.proofs.Common.{◌≡◌, ℕ, zero, suc, ◌+◌, ◌-◌, ◌/◌, ◌%◌, ◌^◌, ◌<◌, ◌≤◌, true, cond, List, [], ◌∷◌, ◌++◌, length, drop, take, set, map, pos, negsuc, refl, ap, sym, subst, ◌∙◌, arith}
+use Rattle.std.proofs.lemmas.Bool.{lt-ltb}
+use Rattle.std.proofs.lemmas.Int.Digits.{digits_of_step, all_below_base_digits_of}
+use Rattle.std.proofs.lemmas.List.{map-append, drop-set, append_assoc, take-take}
+use Rattle.std.proofs.Math.Nat.{pow-suc}
+use Rattle.std.specs.Char.{digit_char}
+use Rattle.std.specs.Int.Digits.{digits_of, AllBelowBase}
+use Rattle.std.specs.Prelude.{nat_lt}
+use lib.IntN.{ℤ}
+use Rattle.lexical_parse_integer.proofs.theorems.ReadBack.{digits_text, digits_text_is}
+use Rattle.lexical_parse_integer.specs.Laws.{IsNumeralOf, WritesShortest}
+use Rattle.lexint.specs.Decimal.{decimal_text, signed_text}
+
+decimal_some : (n : ℕ) → 0 < n → decimal_text n ≡ map (λ d. 48 + d) (digits_of 10 n)
+decimal_some n some = grind arith
+
+pub decimal_digit : (n : ℕ) → n < 10 → decimal_text n ≡ (48 + n) ∷ []
+decimal_digit zero small = refl
+decimal_digit (suc n) small =
+    let front : suc n / 10 ≡ 0 = omega arith in
+    let last : suc n % 10 ≡ suc n = omega arith in
+    decimal_some (suc n) (omega arith) ∙ ap (λ ds. map (λ d. 48 + d) ds) (digits_of_step 10 (suc n) (omega arith) (omega arith))
+    ∙ rw (front, last) refl
+
+pub decimal_step : (n : ℕ) → 10 ≤ n → decimal_text n ≡ decimal_text (n / 10) ++ (48 + n % 10) ∷ []
+decimal_step n big =
+    decimal_some n (omega arith) ∙ ap (λ ds. map (λ d. 48 + d) ds) (digits_of_step 10 n (omega arith) (omega arith))
+    ∙ map-append (λ d. 48 + d) (digits_of 10 (n / 10)) (n % 10 ∷ [])
+    ∙ ap (λ t. t ++ (48 + n % 10) ∷ []) (sym (decimal_some (n / 10) (omega arith)))
+
+pub room : (n at : ℕ) → n < 10 ^ suc at → n / 10 < 10 ^ at
+room n at lt = omega (arith, rw pow-suc at lt)
+
+-- one more digit in front of those that stand
+pub decimal_more : (whole : List ℕ) (left at : ℕ) (place : List ℕ) → 10 ≤ left → 0 < at → at ≤ length place → whole ≡ decimal_text left ++ drop at place
+    → whole ≡ decimal_text (left / 10) ++ drop (at - 1) (set place (at - 1) (48 + left % 10))
+decimal_more whole left at place big some within e =
+    let back : at - 1 + 1 ≡ at = omega arith in
+    rw (drop-set place (at - 1) (48 + left % 10) (omega arith), back) (rw (decimal_step left big, append_assoc) at e)
+
+-- the first digit
+pub decimal_last : (whole : List ℕ) (left at : ℕ) (place : List ℕ) → left < 10 → 0 < at → at ≤ length place → whole ≡ decimal_text left ++ drop at place
+    → drop (at - 1) (set place (at - 1) (48 + left)) ≡ whole
+decimal_last whole left at place small some within e =
+    let back : at - 1 + 1 ≡ at = omega arith in
+    rw (drop-set place (at - 1) (48 + left) (omega arith), back) (sym (rw (decimal_digit left small) at e))
+
+pub room_some : (n at : ℕ) → n < 10 ^ at → 10 ≤ n → 2 ≤ at
+room_some n zero lt big = absurd (omega arith)
+room_some n (suc zero) lt big = absurd (omega arith)
+room_some n (suc (suc at)) lt big = omega arith
+
+pub room_next : (n at : ℕ) → n < 10 ^ at → 10 ≤ n → n / 10 < 10 ^ (at - 1)
+room_next n zero lt big = absurd (omega arith)
+room_next n (suc at) lt big = let e : suc at - 1 ≡ at = omega arith in rw e (room n at lt)
+
+-- the last two digits, and the digits in front of them
+decimal_pair_step : (n : ℕ) → 100 ≤ n → decimal_text n ≡ decimal_text (n / 100) ++ (48 + n % 100 / 10) ∷ (48 + n % 100 % 10) ∷ []
+decimal_pair_step n big =
+    let a : n / 10 / 10 ≡ n / 100 = omega arith in
+    let b : n / 10 % 10 ≡ n % 100 / 10 = omega arith in
+    let d : n % 10 ≡ n % 100 % 10 = omega arith in
+    decimal_step n (omega arith) ∙ ap (λ t. t ++ (48 + n % 10) ∷ []) (decimal_step (n / 10) (omega arith)) ∙ rw (append_assoc, a, b, d) refl
+
+decimal_two : (n : ℕ) → 10 ≤ n → n < 100 → decimal_text n ≡ (48 + n / 10) ∷ (48 + n % 10) ∷ []
+decimal_two n big small = decimal_step n big ∙ ap (λ t. t ++ (48 + n % 10) ∷ []) (decimal_digit (n / 10) (omega arith))
+
+-- two more digits in front of those that stand
+pub decimal_pair : (whole : List ℕ) (left at : ℕ) (place next : List ℕ) → 100 ≤ left → whole ≡ decimal_text left ++ drop at place
+    → drop (at - 2) next ≡ (48 + left % 100 / 10) ∷ (48 + left % 100 % 10) ∷ drop at place
+    → whole ≡ decimal_text (left / 100) ++ drop (at - 2) next
+decimal_pair whole left at place next big e w =
+    e ∙ ap (λ t. t ++ drop at place) (decimal_pair_step left big) ∙ append_assoc (decimal_text (left / 100)) ((48 + left % 100 / 10) ∷ (48 + left % 100 % 10) ∷ []) (drop at place) ∙ ap (λ t. decimal_text (left / 100) ++ t) (sym w)
+
+-- the first two digits
+pub decimal_pair_last : (whole : List ℕ) (left at : ℕ) (place next : List ℕ) → 10 ≤ left → left < 100 → whole ≡ decimal_text left ++ drop at place
+    → drop (at - 2) next ≡ (48 + left / 10) ∷ (48 + left % 10) ∷ drop at place
+    → drop (at - 2) next ≡ whole
+decimal_pair_last whole left at place next big small e w = w ∙ sym (e ∙ ap (λ t. t ++ drop at place) (decimal_two left big small))
+
+pub room_pair : (n at : ℕ) → n < 10 ^ (at - 1) → 100 ≤ n → (n / 100 < 10 ^ (at - 2 - 1)) × (4 ≤ at)
+room_pair n at lt big =
+    let one : n / 10 < 10 ^ (at - 1 - 1) = room_next n (at - 1) lt (omega arith) in
+    let more : 2 ≤ at - 1 - 1 = room_some (n / 10) (at - 1 - 1) one (omega arith) in
+    let two : n / 10 / 10 < 10 ^ (at - 1 - 1 - 1) = room_next (n / 10) (at - 1 - 1) one (omega arith) in
+    let a : n / 10 / 10 ≡ n / 100 = omega arith in
+    let b : at - 1 - 1 - 1 ≡ at - 2 - 1 = omega arith in
+    (rw (a, b) at two, omega arith)
+
+-- what stands in front of a place stays where it stays in front of a later one
+pub kept_less : (first place next : List ℕ) (m n : ℕ) → m ≤ n → take n place ≡ take n first → take m next ≡ take m place → take m next ≡ take m first
+kept_less first place next m n le e f = f ∙ sym (take-take m n place le) ∙ ap (λ l. take m l) e ∙ take-take m n first le
+
+-- ---- the shortest text
+
+-- each digit as its byte
+chars_of_digits : (ds : List ℕ) → AllBelowBase 10 ds → map (λ d. 48 + d) ds ≡ map digit_char ds
+chars_of_digits [] all = refl
+chars_of_digits (d ∷ ds) all =
+    let low : nat_lt d 10 ≡ true = lt-ltb d 10 all.0 in
+    let here : 48 + d ≡ digit_char d = sym (ap (λ b. cond b (48 + d) (87 + d)) low) in
+    let more = chars_of_digits ds all.1 in
+    cc
+
+decimal_text-digits_text : (n : ℕ) → decimal_text n ≡ digits_text 10 n
+unfolding digits_text
+decimal_text-digits_text zero = refl
+decimal_text-digits_text (suc n) =
+    decimal_some (suc n) (omega arith) ∙ chars_of_digits (digits_of 10 (suc n)) (all_below_base_digits_of 10 (suc n) (omega arith))
+
+shortest : (n : ℕ) → WritesShortest 10 n (decimal_text n)
+shortest n = subst (WritesShortest 10 n) (sym (decimal_text-digits_text n)) (digits_text_is 10 n (omega arith) (omega arith))
+
+pub is_decimal : (z : ℤ) → IsNumeralOf 10 z (signed_text z)
+is_decimal (pos n) = shortest n
+is_decimal (negsuc n) = (decimal_text (suc n), refl, shortest (suc n))
