@@ -84,9 +84,11 @@ class Item:
 
 
 def owner_named(header):
-    """What a check calls the block of this header: `impl Tr for Ty` is `TyTr`, one for every type of a bound, as
-    `impl<T> Tr for T`, is `AnyTr`, and a type's own methods stand under its name."""
+    """What a check calls the block of this header: `impl Tr for Ty` is `TyTr`, `impl Tr<Of> for Ty` is `TyTrOf`, one for
+    every type of a bound, as `impl<T> Tr for T`, is `AnyTr`, and a type's own methods stand under its name."""
     arguments = arguments_of(header)
+    of_trait = re.search(r"<(\w+)>\s+for\s", header)
+    more = of_trait[1][0].upper() + of_trait[1][1:] if of_trait and of_trait[1] not in arguments else ""
     header = re.sub(r"\bwhere\b(?s:.*)", "", header)
     while "<" in header:
         less = re.sub(r"<[^<>]*>", "", header)
@@ -102,7 +104,7 @@ def owner_named(header):
     of = last(of)
     if not trait:
         return of
-    return ("Any" if of in arguments else of[0].upper() + of[1:]) + last(trait)
+    return ("Any" if of in arguments else of[0].upper() + of[1:]) + last(trait) + more
 
 
 def arguments_of(header):

@@ -36,8 +36,9 @@ import edit_files  # noqa: E402
 ROOT = os.path.dirname(os.path.dirname(os.path.abspath(__file__)))
 RT = os.environ.get("RT", "rt")
 PARTS = ("src", "specs", "proofs")
-# Where a check keeps what it has proved.
+# Where a check keeps what it has proved, and how the names of its modules end there.
 KEPT = "out/incremental"
+MODULE = ".oantt"
 # What a check of the largest crate takes, and what is left to others.
 MEMORY, SPARE = 1.6e9, 1.5e9
 
@@ -69,12 +70,13 @@ def all_crates(root):
 
 
 def linked(of, to):
-    """Links a file that a check has made, or copies it to where no link leads. A check never writes into such a file, but
-    puts another one under its name."""
-    try:
-        os.link(of, to)
-    except OSError:
-        shutil.copy2(of, to)
+    """Links a file that a check has made, or copies it to where no link leads. A check never writes into a built library
+    or a module that it has proved, but puts another file under its name. Into what else it keeps it may write."""
+    if of.endswith(MODULE) or f"/{KEPT}/" not in of:
+        with contextlib.suppress(OSError):
+            os.link(of, to)
+            return
+    shutil.copy2(of, to)
 
 
 def paths_below(folder):
@@ -258,8 +260,9 @@ class Judge:
     def close_rooms(self):
         """Sees that no edit is left in any room, that all began with the work of the first check, and that the crate is
         still proved in one of them."""
-        if self.first.kept() != self.kept:
-            raise NotProved(f"{self.name}: a check of an edit has written into what the first check kept")
+        written = sorted(dict(self.first.kept().items() ^ self.kept.items()))
+        if written:
+            raise NotProved(f"{self.name}: a check of an edit has written into what the first check kept: {written[0]}")
         for room in self.made:
             if not room.has_texts_of(self.folder) or room.kept() != self.kept:
                 raise NotProved(f"{self.name}: a room isn't as it was before its edits: {room.folder}")

@@ -144,7 +144,10 @@ class Texts(unittest.TestCase):
         text = "impl<T: Clone, U: From<T>> Tr<T> for U {\n    fn f(&self) {}\n}\n"
         self.assertEqual([it.path() for it in edit_files.items_of("src/a.rt", text)], ["a::AnyTr::f"])
         text = "impl From<Ty> for Ty {\n    fn f(&self) {}\n}\n"
-        self.assertEqual([it.path() for it in edit_files.items_of("src/a.rt", text)], ["a::TyFrom::f"])
+        self.assertEqual([it.path() for it in edit_files.items_of("src/a.rt", text)], ["a::TyFromTy::f"])
+        text = "impl From<u128> for Ty {\n    fn f(&self) {}\n}\nimpl From<i128> for Ty {\n    fn f(&self) {}\n}\n"
+        self.assertEqual([it.path() for it in edit_files.items_of("src/a.rt", text)],
+                         ["a::TyFromU128::f", "a::TyFromI128::f"])
         text = "impl<T: Clone> Tr for Vec<T> {\n    fn f(&self) {}\n}\n"
         self.assertEqual([it.path() for it in edit_files.items_of("src/a.rt", text)], ["a::VecTr::f"])
 
@@ -195,14 +198,15 @@ class Texts(unittest.TestCase):
         self.assertEqual((room.kept(), sorted(os.listdir(folder))), (first.kept(), ["a", "b"]))
         self.assertEqual({edit_files.read(os.path.join(folder, name)) for name in "ab"}, {"proved"})
 
-    def test_only_what_checks_have_made_is_linked(self):
+    def test_only_modules_that_checks_have_made_are_linked(self):
         folder = toy(os.path.join(self.room.name, "out", "of"))
-        write(os.path.join(folder, judge_edits.KEPT, "a"), "proved")
+        files = "src/lib.rt", f"{judge_edits.KEPT}/a.oantt", f"{judge_edits.KEPT}/linked-compared"
+        for file in files[1:]:
+            write(os.path.join(folder, file), "proved")
         room = judge_edits.Room(folder).copy(os.path.join(self.room.name, "out", "1"))
-        places = [[os.stat(os.path.join(it.folder, file)).st_ino for file in ("src/lib.rt", f"{judge_edits.KEPT}/a")]
-                  for it in (judge_edits.Room(folder), room)]
-        self.assertNotEqual(places[0][0], places[1][0])
-        self.assertEqual(places[0][1], places[1][1])
+        of, to = ([os.stat(os.path.join(it.folder, file)).st_ino for file in files]
+                  for it in (judge_edits.Room(folder), room))
+        self.assertEqual([a == b for a, b in zip(of, to)], [False, True, False])
 
     def test_a_text_that_does_not_stand_once(self):
         with self.assertRaisesRegex(edit_files.BadEdit, "3 times"):
@@ -413,13 +417,16 @@ class Batches(unittest.TestCase):
         self.assertEqual(seen[1:], [["kept", "of check 1"]] * (len(seen) - 1))
 
     def test_a_check_that_writes_into_the_work_of_the_first(self):
+        self.assertEqual(self.judged_by_a_check_that_writes_into("linked-compared")[0], 0)
+        with self.assertRaisesRegex(SystemExit, "written into what the first check kept: a.oantt"):
+            self.judged_by_a_check_that_writes_into("a.oantt")
+
+    def judged_by_a_check_that_writes_into(self, file):
         def writes(room, texts, paths=(), jobs=1):
-            if texts:
-                write(os.path.join(room.folder, judge_edits.KEPT, "kept"), "refused")
+            write(os.path.join(room.folder, judge_edits.KEPT, file), "refused" if texts else "proved")
             return stand_in(room, texts, paths, jobs)
 
-        with self.assertRaisesRegex(SystemExit, "written into what the first check kept"):
-            self.judged("the_less", check=writes)
+        return self.judged("the_less", check=writes)
 
     def test_an_edit_that_is_left_in_a_room(self):
         with mock.patch.object(judge_edits.Room, "restore", lambda room, like: None):
