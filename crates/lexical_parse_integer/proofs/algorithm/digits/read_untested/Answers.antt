@@ -13,15 +13,15 @@ from_u32-requires g c =
     small_is_number _ _ c.in-Some.digit g.met.T.Integer.width_law
     (digit_small c.args.c.now c.loop-radix.c c.next_digit.new.self c.in-Some.digit c.requires.ready.sound c.loop-radix.invariant.goes_on c.in-Some.ensures.step)
 
-joined : (g : Over) (c : goal.In-Some g) (digit : ℤ) → digit ≡ pos c.in-Some.digit → JoinsDigit g.T.Integer.TYPE.bits g.T.Integer.TYPE.is_signed c.args.negative c.args.c.now c.next_digit.new.self (mul_add c.args.negative (g.T.Integer.number c.loop-radix.value) (g.T.Integer.number c.from_u32-radix.result) digit)
-joined g c digit is_digit =
+joins_next : (g : Over) (c : goal.In-Some g) (digit : ℤ) → digit ≡ pos c.in-Some.digit → JoinsDigit g.T.Integer.TYPE.bits g.T.Integer.TYPE.is_signed c.args.negative c.args.c.now c.next_digit.new.self (mul_add c.args.negative (g.T.Integer.number c.loop-radix.value) (g.T.Integer.number c.from_u32-radix.result) digit)
+joins_next g c digit is_digit =
     let i = c.loop-radix.invariant in
     let count = c.digits.ensures in
     joins_digit _ _ c.args.negative c.args.c.now c.loop-radix.c c.next_digit.new.self c.args.most c.in-Some.digit _ _ _
     c.requires.ready.sound i.goes_on c.in-Some.ensures.step c.requires.room c.requires.ready.minus (omega (arith, c.loop-radix-test.true)) i.reads i.radix is_digit
 
 pub mul_add-value-requires-clause-fits : goal.mul_add-value-requires-clause-fits
-mul_add-value-requires-clause-fits g c = (joined g c.before _ c.from_u32.ensures).fits
+mul_add-value-requires-clause-fits g c = (joins_next g c.before _ c.from_u32.ensures).fits
 
 pub loop-radix-preserved : goal.loop-radix-preserved
 loop-radix-preserved g c =
@@ -31,7 +31,7 @@ loop-radix-preserved g c =
     let before = i.turns in
     record {
       goes_on = goes_on_digit c.args.c.now c.loop-radix.c c.next_digit.new.self c.in-Some.digit i.goes_on c.in-Some.ensures.step c.in-Some.ensures.sound;
-      reads = rw c.mul_add-value.ensures (joined g c.before.before _ c.from_u32.ensures).reads;
+      reads = rw c.mul_add-value.ensures (joins_next g c.before.before _ c.from_u32.ensures).reads;
       turns = omega arith;
       radix = i.radix;
       sign = i.sign;
