@@ -71,7 +71,7 @@ pub(crate) const UNKNOWN: Outcome = Outcome {
 };
 
 // The whole text, under a format that is made field by field. It stays a call: else its loads of single fields would
-// stand in front of the test in `complete_under`.
+// come before the test in `complete_under`.
 #[inline(never)]
 fn complete_under_any<T: FromLexicalWithOptions<Options = Options>, S: Slot<T>>(
     text: &[u8],

@@ -9,8 +9,8 @@ use crate::number::Number;
 /// The room that the longest text takes.
 pub const MOST: usize = 40;
 
-/// Writes the digits so that it ends where the array does, and answers where it starts. What comes
-/// before it in the array stays.
+/// Writes the digits so that they end where the array does, and answers where they start. What is
+/// before them in the array stays.
 pub fn write_decimal(n: u128, place: &mut [u8; MOST]) -> usize
     ensures within { result ≤ 40 }
     ensures room { 1 ≤ result }
@@ -27,7 +27,7 @@ pub fn write_decimal(n: u128, place: &mut [u8; MOST]) -> usize
     write_front(rest as u64, place, start)
 }
 
-// Writes the digits in front of a place, two digits a division, and answers where it starts.
+// Writes the digits before a place, two digits a division, and answers where they start.
 #[inline(always)]
 fn write_front(n: u64, place: &mut [u8; MOST], end: usize) -> usize
     requires low { 2 ≤ end }
