@@ -8,11 +8,12 @@
                                             ones; so it does for those of SAME, where it should find none
 
 The definitions are read from the specs folders themselves (tools/antt.py computes them). First every row of
-tools/rows.txt that is a theorem, and every row of turns (proofs/bound/WorkedTurns.antt), is computed with the definitions as
-they are: where one disagrees, the exit status is 1. Then one thing at a time is changed: a truth value is negated or
-fixed, `&&` and `||` or `<` and `≤` are exchanged, a number is one more or less, a field, a word or a fault is another
-of its type, a case is that of another case, a fault is left out of its list, or two stand the other way round. BY_HAND
-has changes besides. A change that each row agrees with is printed, with its file and line, and the exit status is 1.
+tools/rows.txt that is a theorem, and every row of turns (WorkedTurns.antt of library_tests), is computed with the
+definitions as they are: where one disagrees, the exit status is 1. Then one thing at a time is changed: a truth value
+is negated or fixed, `&&` and `||` or `<` and `≤` are exchanged, a number is one more or less, a field, a word or a
+fault is another of its type, a case is that of another case, a fault is left out of its list, or two stand the other
+way round. BY_HAND has changes besides. A change that each row agrees with is printed, with its file and line, and the
+exit status is 1.
 
 Some changes can be refused by no row, since they mean what the definition means: SAME lists them, each with the reason.
 Where a row refuses a change of SAME, or nothing is changed so, the exit status is 1 too. A change that promises fewer
@@ -32,7 +33,7 @@ from antt import NONE, Node, Reader, children, shown
 
 UTIL = os.path.join(rows.TOP, "crates", "lexical_util", "specs")
 PARSE = os.path.join(rows.TOP, "crates", "lexical_parse_integer", "specs")
-TURN_ROWS = os.path.join(rows.TOP, "crates", "lexical_parse_integer", "proofs", "bound", "WorkedTurns.antt")
+TURN_ROWS = os.path.join(rows.TOP, "crates", "library_tests", "proofs", "WorkedTurns.antt")
 FILES = [(os.path.join(UTIL, f"{name}.antt"), f"lexical_util/specs/{name}.antt")
          for name in ("Ascii", "Digit", "Format", "Number", "Validity")]
 FILES += [(os.path.join(PARSE, f"{name}.antt"), f"lexical_parse_integer/specs/{name}.antt")

@@ -146,6 +146,3 @@ pub fn rebuilt(options: &Options) -> Options
 {
     options.rebuild().build_unchecked()
 }
-
-#[cfg(test)]
-mod tests;

@@ -19,6 +19,3 @@ pub use lexical_util::options::ParseOptions;
 pub use lexical_util::result::Result;
 pub use options::{Options, OptionsBuilder};
 pub use stop::stops_after_digit;
-
-#[cfg(test)]
-mod tests;

@@ -1,6 +1,0 @@
-use Rattle.std.proofs.Common.{refl, arith}
-use Rattle.lexical_parse_integer.proofs.theorems.Examples.{eight_digits}
-use Rattle.lexical_parse_integer.proofs.laws.tests.eight_in_a_turn.Goals as goal
-
-pub returns : goal.returns
-returns c = rw eight_digits.1 at (c.complete_in_few_turns.ensures.eight refl (omega arith) _ eight_digits.0 (omega arith) (rw eight_digits.1 (omega arith)))

@@ -1,6 +1,0 @@
-use Rattle.std.proofs.Common.{refl, arith}
-use Rattle.lexical_parse_integer.proofs.theorems.Examples.{plus_forbidden}
-use Rattle.lexical_parse_integer.proofs.laws.tests.plus_in_no_turn.Goals as goal
-
-pub returns : goal.returns
-returns c = c.complete_in_few_turns.ensures.sign refl (omega arith) _ plus_forbidden

@@ -1,7 +1,0 @@
-use Rattle.std.proofs.Common.{refl}
-use Rattle.std.specs.Fmt.{digits}
-use Rattle.lexical_parse_integer.proofs.laws.tests.what_std_writes_is_read_back.Goals as goal
-
-pub read_back-requires : goal.read_back-requires
-unfolding digits
-read_back-requires g c = refl

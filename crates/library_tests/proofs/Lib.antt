@@ -1,0 +1,2 @@
+-- How many turns texts take, worked out.
+pub mod WorkedTurns

@@ -1,0 +1,6 @@
+use Rattle.std.proofs.Common.{refl, arith}
+use Rattle.lexical_parse_integer.proofs.theorems.Examples.{plus_forbidden}
+use Rattle.library_tests.proofs.tests.parser.laws.plus_in_no_turn.Goals as goal
+
+pub returns : goal.returns
+returns c = c.complete_in_few_turns.ensures.sign refl (omega arith) _ plus_forbidden

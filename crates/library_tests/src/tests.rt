@@ -1,0 +1,4 @@
+// A module for each library that is called.
+
+mod parser;
+mod util;

@@ -1,0 +1,81 @@
+// A cursor's calls, on texts that have every part of a numeral.
+use lexical_parse_integer::cursor::Cursor;
+use lexical_parse_integer::format::STANDARD;
+use lexical_parse_integer::{NumberFormat, NumberFormatBuilder};
+
+/// A sign, a prefix, digits with separators between them, and a suffix.
+pub fn with_all_parts() -> NumberFormat {
+    NumberFormatBuilder::new()
+        .digit_separator(Some(b'_'))
+        .integer_internal_digit_separator(true)
+        .base_prefix(Some(b'x'))
+        .base_suffix(Some(b'h'))
+        .build_unchecked()
+}
+
+// Where a cursor stands, where its region starts, how many digits it read, and whether it is closed.
+fn state(c: &Cursor<'_>) -> (usize, usize, usize, bool) {
+    (c.cursor(), c.start(), c.digits(), c.is_closed())
+}
+
+#[test]
+fn a_new_cursor_shows_its_text(rt: HostRuntime) {
+    let format = with_all_parts();
+    assert!(rt; format.is_valid());
+    let c = Cursor::new(b"+0x1_23h.", &format);
+    assert_eq!(rt; state(&c), (0, 0, 0, false));
+    assert_eq!(rt; c.buffer_length(), 9);
+    assert!(rt; !c.is_buffer_empty());
+    assert!(rt; Cursor::new(b"", &format).is_buffer_empty());
+    assert_eq!(rt; c.first(), Some(b'+'));
+    assert_eq!(rt; c.radix(), 10);
+    assert_eq!(rt; c.format(), format);
+    assert!(rt; !c.is_contiguous());
+    assert!(rt; Cursor::new(b"", &STANDARD).is_contiguous());
+}
+
+#[test]
+fn a_cursor_reads_part_by_part(rt: HostRuntime) {
+    let format = with_all_parts();
+    assert!(rt; format.is_valid());
+    let mut c = Cursor::new(b"+0x1_23h.", &format);
+    c.step_sign();
+    assert_eq!(rt; state(&c), (1, 1, 0, false));
+    assert!(rt; c.read_prefix());
+    assert_eq!(rt; state(&c), (3, 3, 0, false));
+    assert_eq!(rt; c.next_digit(), Some(1));
+    assert_eq!(rt; state(&c), (4, 3, 1, false));
+    assert_eq!(rt; c.first(), Some(b'_'));
+    assert_eq!(rt; c.next_digit(), Some(2));
+    assert_eq!(rt; state(&c), (6, 3, 2, false));
+    assert!(rt; !c.read_suffix());
+    assert_eq!(rt; c.next_digit(), Some(3));
+    assert_eq!(rt; c.next_digit(), None);
+    assert_eq!(rt; state(&c), (7, 3, 3, false));
+    assert!(rt; c.read_suffix());
+    assert_eq!(rt; state(&c), (8, 3, 3, true));
+    assert_eq!(rt; c.first(), Some(b'.'));
+}
+
+#[test]
+fn a_cursor_takes_four_bytes_at_once(rt: HostRuntime) {
+    let mut c = Cursor::new(b"12345", &STANDARD);
+    assert_eq!(rt; c.peek_word(4), Some(&b"1234"[..]));
+    assert_eq!(rt; c.peek_word(8), None);
+    c.take_digits(4);
+    assert_eq!(rt; state(&c), (4, 0, 4, false));
+    assert_eq!(rt; c.next_digit(), Some(5));
+    assert!(rt; c.is_buffer_empty());
+}
+
+// The text's first eight bytes. The cursor that lent them is gone when it returns.
+fn first_word<'a>(text: &'a [u8]) -> Option<&'a [u8]> {
+    let c = Cursor::new(text, &STANDARD);
+    c.peek_word(8)
+}
+
+#[test]
+fn a_word_outlives_the_cursor(rt: HostRuntime) {
+    let text = *b"12345678, 9";
+    assert_eq!(rt; first_word(&text), Some(&b"12345678"[..]));
+}

@@ -1,0 +1,151 @@
+// The laws at examples, and callers that lean on them.
+
+ghost use Rattle.std.specs.Prelude.{◌≡◌, ◌<◌, ◌≤◌, Ok, length};
+ghost use Rattle.std.specs.Fmt.{decimal};
+ghost use Rattle.lexical_parse_integer.specs.Answer.{with_place, view_of};
+ghost use Rattle.lexical_parse_integer.specs.Laws.{IsSettledAt};
+
+use lexical_parse_integer::FromLexical;
+use lexical_parse_integer::cursor::Cursor;
+use lexical_parse_integer::laws::grammar::{numerals, range_faults};
+use lexical_parse_integer::laws::turns::{complete_in_few_turns, partial_in_few_turns};
+use lexical_parse_integer::laws::{
+    complete_and_partial, local, numeral, rebuilt, small_and_large, zeros_in_front,
+};
+use lexical_parse_integer::options::{LARGE_NUMBERS, SMALL_NUMBERS};
+use lexical_util::error::Error;
+use lexical_util::format::{JSON, NumberFormatBuilder, STANDARD};
+use lexical_util::num::Integer;
+use lexical_util::result::Result as Answer;
+use std::test::Fail;
+
+// A reader that cuts its text behind a place: where the answer is settled there, the rest isn't needed.
+fn cut<T: Integer>(text: &[u8], place: usize) -> (Answer<(T, usize)>, Answer<(T, usize)>)
+    requires { place < length text.now }
+    ensures { IsSettledAt (length text.now) place (view_of (with_place T.number) result.0)
+        → result.1 ≡ result.0 }
+{
+    local::<T>(text, &text[..place + 1], &STANDARD, &SMALL_NUMBERS)
+}
+
+// A round trip: what std writes of a number is read back.
+fn read_back(text: &[u8], value: u64) -> Answer<u64>
+    requires { text.now ≡ decimal value }
+    ensures { result ≡ Ok value }
+{
+    numerals();
+    numeral::<u64>(text, 10)
+}
+
+// The byte with which a value leaves `u8`: its place is within the text, so that no index fails.
+fn byte_too_many(text: &[u8]) -> Option<u8> {
+    range_faults();
+    match u8::from_lexical(text) {
+        Err(Error::Overflow(place)) => Some(text[place]),
+        _ => None,
+    }
+}
+
+// Readers that count: eight digits of 64 bits are one turn, and a sign that is a fault is none.
+fn eight_in_a_turn() -> (Answer<u64>, Cursor<'static>)
+    ensures { result.1.turns ≤ 1 }
+{
+    complete_in_few_turns::<u64>(b"12345678", &STANDARD)
+}
+
+fn front_in_a_turn() -> (Answer<(u64, usize)>, Cursor<'static>)
+    ensures { result.1.turns ≤ 1 }
+{
+    partial_in_few_turns::<u64>(b"12345678", &STANDARD)
+}
+
+fn plus_in_no_turn() -> (Answer<u64>, Cursor<'static>)
+    ensures { result.1.turns ≡ 0 }
+{
+    complete_in_few_turns::<u64>(b"+1", &JSON)
+}
+
+#[test]
+fn turns_follow_from_digits(rt: HostRuntime) {
+    assert_eq!(rt; eight_in_a_turn().0, Ok(12_345_678));
+    assert_eq!(rt; front_in_a_turn().0, Ok((12_345_678, 8)));
+    assert_eq!(rt; plus_in_no_turn().0, Err(Error::InvalidPositiveSign(0)));
+}
+
+#[test]
+fn complete_follows_partial(rt: HostRuntime) -> Result<(), Fail> {
+    assert_eq!(rt;
+        complete_and_partial::<i32>(b"12x", &STANDARD, &SMALL_NUMBERS),
+        (Err(Error::InvalidDigit(2)), Ok((12, 2)))
+    );
+    let internal = NumberFormatBuilder::new()
+        .digit_separator(Some(b'_'))
+        .integer_internal_digit_separator(true)
+        .build_unchecked();
+    assert_eq!(rt;
+        complete_and_partial::<i64>(b"_1_", &internal, &SMALL_NUMBERS),
+        (Err(Error::InvalidDigit(0)), Err(Error::Empty(0)))
+    );
+    Ok(())
+}
+
+#[test]
+fn a_value_leaves_its_type_within_the_text(rt: HostRuntime) -> Result<(), Fail> {
+    assert_eq!(rt; byte_too_many(b"256"), Some(b'6'));
+    assert_eq!(rt; byte_too_many(b"1000"), Some(b'0'));
+    assert_eq!(rt; byte_too_many(b"25x"), None);
+    Ok(())
+}
+
+#[test]
+fn later_bytes_change_nothing(rt: HostRuntime) -> Result<(), Fail> {
+    assert_eq!(rt;
+        local::<u64>(b"12 x", b"12 345", &STANDARD, &LARGE_NUMBERS),
+        (Ok((12, 2)), Ok((12, 2)))
+    );
+    assert_eq!(rt;
+        local::<u8>(b"2567", b"256abc", &STANDARD, &SMALL_NUMBERS),
+        (Err(Error::Overflow(2)), Err(Error::Overflow(2)))
+    );
+    assert_eq!(rt; cut::<u64>(b"12 x", 2), (Ok((12, 2)), Ok((12, 2))));
+    Ok(())
+}
+
+#[test]
+fn numerals_are_read_back(rt: HostRuntime) -> Result<(), Fail> {
+    assert_eq!(rt; numeral::<i8>(b"-10000000", 2), Ok(-128));
+    assert_eq!(rt; numeral::<u16>(b"zZ", 36), Ok(1295));
+    Ok(())
+}
+
+#[test]
+fn what_std_writes_is_read_back(rt: HostRuntime) -> Result<(), Fail> {
+    assert_eq!(rt; read_back(b"42", 42), Ok(42));
+    Ok(())
+}
+
+#[test]
+fn zeros_leave_the_value(rt: HostRuntime) -> Result<(), Fail> {
+    assert_eq!(rt;
+        zeros_in_front::<i8>(b"-128", b"-00128"),
+        (Ok(-128), Ok(-128))
+    );
+    Ok(())
+}
+
+#[test]
+fn options_change_no_answer(rt: HostRuntime) -> Result<(), Fail> {
+    assert_eq!(rt;
+        small_and_large::<u64>(b"18446744073709551616", &STANDARD),
+        (Err(Error::Overflow(19)), Err(Error::Overflow(19)))
+    );
+    Ok(())
+}
+
+#[test]
+fn rebuilt_options_are_equal(rt: HostRuntime) -> Result<(), Fail> {
+    let options = rebuilt(&LARGE_NUMBERS);
+    assert!(rt; options == LARGE_NUMBERS);
+    assert!(rt; !options.get_no_multi_digit());
+    Ok(())
+}

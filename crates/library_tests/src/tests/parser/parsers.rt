@@ -1,0 +1,174 @@
+// The parsers: each call at concrete types, and generic callers that know a type by its bound alone.
+ghost use Rattle.std.specs.Prelude.{◌≡◌};
+ghost use Rattle.lexical_util.specs.Format.{standard};
+ghost use Rattle.lexical_parse_integer.specs.Answer.{with_place, view_of};
+ghost use Rattle.lexical_parse_integer.specs.Grammar.{complete, partial, partial_if_valid};
+
+use super::cursor::with_all_parts;
+use lexical_parse_integer::algorithm::{
+    algorithm_complete, algorithm_complete_on, algorithm_partial, algorithm_partial_on,
+};
+use lexical_parse_integer::cursor::Cursor;
+use lexical_parse_integer::format::{JSON, STANDARD};
+use lexical_parse_integer::options::{LARGE_NUMBERS, SMALL_NUMBERS};
+use lexical_parse_integer::parse::ParseInteger;
+use lexical_parse_integer::{
+    Error, FromLexical, FromLexicalWithOptions, NumberFormat, NumberFormatBuilder, Options, Result,
+};
+use lexical_util::num::Integer;
+use std::fmt::Debug;
+use std::process::Abort;
+
+// What each type answers alike: a number of five digits, and the same behind a plus.
+fn five_digits<T: Integer + Debug>(rt: &impl Abort, value: T) {
+    let plain = algorithm_partial::<T>(b"12345", &STANDARD, &SMALL_NUMBERS);
+    assert_eq!(rt; plain, Ok((value, 5)));
+    let plus = algorithm_partial::<T>(b"+12345", &STANDARD, &SMALL_NUMBERS);
+    assert_eq!(rt; plus, Ok((value, 6)));
+}
+
+#[test]
+fn partial_answers_of_unsigned_types(rt: HostRuntime) {
+    five_digits::<u32>(&rt, 12345);
+    five_digits::<u128>(&rt, 12345);
+    let text = b"-12345";
+    assert_eq!(rt;
+        algorithm_partial::<u32>(text, &STANDARD, &SMALL_NUMBERS),
+        Ok((0, 0))
+    );
+    assert_eq!(rt;
+        algorithm_partial::<u128>(text, &STANDARD, &SMALL_NUMBERS),
+        Ok((0, 0))
+    );
+}
+
+#[test]
+fn partial_answers_of_signed_types(rt: HostRuntime) {
+    five_digits::<i32>(&rt, 12345);
+    five_digits::<i128>(&rt, 12345);
+    let minus = b"-12345";
+    assert_eq!(rt;
+        algorithm_partial::<i32>(minus, &STANDARD, &SMALL_NUMBERS),
+        Ok((-12345, 6))
+    );
+    assert_eq!(rt;
+        algorithm_partial::<i128>(minus, &STANDARD, &SMALL_NUMBERS),
+        Ok((-12345, 6))
+    );
+    let dot = b"+123.45";
+    assert_eq!(rt;
+        algorithm_partial::<i32>(dot, &STANDARD, &SMALL_NUMBERS),
+        Ok((123, 4))
+    );
+    assert_eq!(rt;
+        algorithm_partial::<i128>(dot, &STANDARD, &SMALL_NUMBERS),
+        Ok((123, 4))
+    );
+}
+
+// The complete parser of a type in a radix, with either kind of options.
+fn read_in<T: ParseInteger + Debug>(rt: &impl Abort, radix: u8, rows: &[(&[u8], Result<T>)]) {
+    let format = NumberFormatBuilder::from_radix(radix);
+    assert!(rt; format.is_valid());
+    for (text, expected) in rows {
+        for options in [SMALL_NUMBERS, LARGE_NUMBERS] {
+            let answer = T::parse_complete(text, &format, &options);
+            assert_eq!(rt;
+                answer,
+                *expected,
+                "{} in radix {radix}",
+                text.escape_ascii()
+            );
+        }
+    }
+}
+
+// The last radix of which a byte has room for two digits, and the greatest radix, in which it has room for one.
+#[test]
+fn ends_in_large_radixes(rt: HostRuntime) {
+    read_in::<u8>(&rt, 16, &[(b"FF", Ok(255))]);
+    read_in::<i8>(
+        &rt,
+        16,
+        &[
+            (b"7F", Ok(127)),
+            (b"80", Err(Error::Overflow(1))),
+            (b"-80", Ok(-128)),
+        ],
+    );
+    read_in::<u8>(
+        &rt,
+        36,
+        &[(b"73", Ok(255)), (b"74", Err(Error::Overflow(1)))],
+    );
+}
+
+#[test]
+fn parsers_of_a_type(rt: HostRuntime) {
+    let answer = u64::parse_complete(b"18446744073709551616", &STANDARD, &LARGE_NUMBERS);
+    assert_eq!(rt; answer, Err(Error::Overflow(19)));
+    let front = u64::parse_partial(b"1234 }, {\"Key\"", &STANDARD, &SMALL_NUMBERS);
+    assert_eq!(rt; front, Ok((1234, 4)));
+    let json = algorithm_complete::<i32>(b"-01", &JSON, &LARGE_NUMBERS);
+    assert_eq!(rt; json, Err(Error::InvalidLeadingZeros(1)));
+}
+
+// At an answer the cursor stands behind the suffix, and counts the digits alone.
+#[test]
+fn cursors_stand_where_reading_stops(rt: HostRuntime) {
+    let format = with_all_parts();
+    assert!(rt; format.is_valid());
+    for options in [SMALL_NUMBERS, LARGE_NUMBERS] {
+        let mut whole = Cursor::new(b"-0x1_2h", &format);
+        assert_eq!(rt; algorithm_complete_on::<i32>(&mut whole, &options), Ok(-12));
+        assert_eq!(rt; (whole.cursor(), whole.digits()), (7, 2));
+        let mut front = Cursor::new(b"-0x1_2hh", &format);
+        assert_eq!(rt;
+            algorithm_partial_on::<i32>(&mut front, &options),
+            Ok((-12, 7))
+        );
+        assert_eq!(rt; (front.cursor(), front.digits()), (7, 2));
+    }
+}
+
+// The number of the whole text and of its front, by what the bound says of the type alone.
+fn both<T: FromLexical>(text: &[u8]) -> (Result<T>, Result<(T, usize)>)
+    ensures whole { view_of T.number result.0 ≡ complete standard T.TYPE text.now }
+    ensures front { view_of (with_place T.number) result.1 ≡ partial standard T.TYPE text.now }
+{
+    (T::from_lexical(text), T::from_lexical_partial(text))
+}
+
+#[test]
+fn callers_over_every_type_that_reads_itself(rt: HostRuntime) {
+    let text = b"-12,5";
+    assert_eq!(rt;
+        both::<i8>(text),
+        (Err(Error::InvalidDigit(3)), Ok((-12, 3)))
+    );
+    assert_eq!(rt;
+        both::<u64>(text),
+        (Err(Error::InvalidDigit(0)), Ok((0, 0)))
+    );
+}
+
+// The number at the front of a text under a format.
+fn field<T>(text: &[u8], format: &NumberFormat) -> Result<(T, usize)>
+where
+    T: FromLexicalWithOptions<Options = Options>,
+    ensures { view_of (with_place T.number) result ≡ partial_if_valid format.now T.TYPE text.now }
+{
+    T::from_lexical_partial_with_options(text, format, &LARGE_NUMBERS)
+}
+
+#[test]
+fn callers_over_every_type_that_reads_itself_with_options(rt: HostRuntime) {
+    let format = with_all_parts();
+    assert_eq!(rt; field::<i16>(b"-0x1_2h,", &format), Ok((-12, 7)));
+    assert_eq!(rt; field::<u128>(b"1_2_3", &format), Ok((123, 5)));
+    let radixless = NumberFormatBuilder::from_radix(1);
+    assert_eq!(rt;
+        field::<u128>(b"0", &radixless),
+        Err(Error::InvalidMantissaRadix)
+    );
+}

@@ -1,0 +1,56 @@
+// Callers that pin the words of contracts: each says in plain terms what follows from a word, so that a word that said
+// less would leave its caller without a proof.
+ghost use Rattle.std.specs.Prelude.{◌≡◌, ◌+◌, ◌≤◌, false, IfSome, length, None, Some, take, ℕ};
+ghost use Rattle.lexical_parse_integer.specs.Runs.{digit_at};
+
+use lexical_parse_integer::algorithm::algorithm_complete_on;
+use lexical_parse_integer::cursor::Cursor;
+use lexical_parse_integer::format::STANDARD;
+use lexical_parse_integer::options::LARGE_NUMBERS;
+
+// What a reader passed before its fault: the cursor is still over the text that it was given.
+fn passed_before_fault(text: &[u8]) -> Option<&[u8]>
+    ensures { IfSome result
+        (λ front. (count : ℕ) × (count ≤ length text.now) × (front.now ≡ take count text.now)) }
+{
+    let mut c = Cursor::new(text, &STANDARD);
+    match algorithm_complete_on::<u16>(&mut c, &LARGE_NUMBERS) {
+        Ok(_) => None,
+        Err(_) => Some(&text[..c.cursor()]),
+    }
+}
+
+// At position 0 nothing was read: it answers how many digits were. The radix is the format's, where no octal zero can
+// have put another in force.
+fn digits_at_front(c: &Cursor<'_>) -> usize
+    requires front { c.now.position ≡ 0 }
+    ensures none { result ≡ 0 }
+    ensures start { c.now.start ≡ 0 }
+    ensures turns { c.now.turns ≡ 0 }
+    ensures closed { c.now.closed ≡ false }
+    ensures radix { c.now.format.literal_octal_zero ≡ false
+        → c.now.radix ≡ c.now.format.mantissa_radix }
+{
+    c.cursor();
+    c.digits()
+}
+
+// The first digit of a text, and the byte that holds it: no byte before it is a digit.
+fn first_digit(text: &[u8]) -> Option<(u32, usize)>
+    ensures digit { IfSome result (λ found. digit_at 10 text.now found.1 ≡ Some found.0) }
+    ensures least { IfSome result
+        (λ found. (place : ℕ) → place + 1 ≤ found.1 → digit_at 10 text.now place ≡ None) }
+{
+    let mut c = Cursor::new(text, &STANDARD);
+    let digit = c.next_digit()?;
+    Some((digit, c.cursor() - 1))
+}
+
+#[test]
+fn words_of_contracts_are_pinned(rt: HostRuntime) {
+    assert_eq!(rt; passed_before_fault(b"655361"), Some(b"65536".as_slice()));
+    assert_eq!(rt; passed_before_fault(b"7"), None);
+    assert_eq!(rt; digits_at_front(&Cursor::new(b"7", &STANDARD)), 0);
+    assert_eq!(rt; first_digit(b"7"), Some((7, 0)));
+    assert_eq!(rt; first_digit(b"x7"), None);
+}

@@ -1,0 +1,298 @@
+// How many turns a parse takes. The numbers stand in contracts, which the check proves for the texts at hand; a run
+// shows the answers alone.
+ghost use Rattle.std.specs.Prelude.{◌≡◌, ◌≤◌, OnOk};
+
+use lexical_parse_integer::algorithm::{algorithm_complete_on, algorithm_partial_on};
+use lexical_parse_integer::cursor::Cursor;
+use lexical_parse_integer::format::STANDARD;
+use lexical_parse_integer::options::{LARGE_NUMBERS, SMALL_NUMBERS};
+use lexical_parse_integer::{Error, NumberFormatBuilder, Result};
+
+// Eight digits have room in 32 bits: two words of four.
+fn eight_of_u32() -> (Result<u32>, Cursor<'static>)
+    ensures { result.1.turns ≤ 2 }
+{
+    let mut c = Cursor::new(b"12345678", &STANDARD);
+    let answer = algorithm_complete_on::<u32>(&mut c, &LARGE_NUMBERS);
+    (answer, c)
+}
+
+// Of nine digits seven have room: a word of four and three digits, and then two that are tested.
+fn nine_of_i32() -> (Result<i32>, Cursor<'static>)
+    ensures { result.1.turns ≤ 6 }
+{
+    let mut c = Cursor::new(b"123456789", &STANDARD);
+    let answer = algorithm_complete_on::<i32>(&mut c, &LARGE_NUMBERS);
+    (answer, c)
+}
+
+// Seven digits are no word of eight.
+fn seven_of_u64() -> (Result<u64>, Cursor<'static>)
+    ensures { result.1.turns ≤ 7 }
+{
+    let mut c = Cursor::new(b"1234567", &STANDARD);
+    let answer = algorithm_complete_on::<u64>(&mut c, &LARGE_NUMBERS);
+    (answer, c)
+}
+
+// Sixteen digits have room in 64 bits: two words of eight.
+fn sixteen_of_u64() -> (Result<u64>, Cursor<'static>)
+    ensures { result.1.turns ≤ 2 }
+{
+    let mut c = Cursor::new(b"1234567812345678", &STANDARD);
+    let answer = algorithm_complete_on::<u64>(&mut c, &LARGE_NUMBERS);
+    (answer, c)
+}
+
+// Of twenty digits sixteen have room, and four are tested.
+fn twenty_of_u64() -> (Result<u64>, Cursor<'static>)
+    ensures { result.1.turns ≤ 6 }
+{
+    let mut c = Cursor::new(b"12345678901234567890", &STANDARD);
+    let answer = algorithm_complete_on::<u64>(&mut c, &LARGE_NUMBERS);
+    (answer, c)
+}
+
+// Of sixteen digits fifteen have room behind a sign: a word, seven digits, and one that is tested.
+fn sixteen_of_i64() -> (Result<i64>, Cursor<'static>)
+    ensures { result.1.turns ≤ 9 }
+{
+    let mut c = Cursor::new(b"1234567812345678", &STANDARD);
+    let answer = algorithm_complete_on::<i64>(&mut c, &LARGE_NUMBERS);
+    (answer, c)
+}
+
+// Thirty-two digits have room in 128 bits: four words of eight.
+fn thirty_two_of_u128() -> (Result<u128>, Cursor<'static>)
+    ensures { result.1.turns ≤ 4 }
+{
+    let mut c = Cursor::new(b"12345678123456781234567812345678", &STANDARD);
+    let answer = algorithm_complete_on::<u128>(&mut c, &LARGE_NUMBERS);
+    (answer, c)
+}
+
+// Whatever follows the digits, a word of them is taken as one: twelve are a word and four digits.
+fn twelve_before_a_brace() -> (Result<(u64, usize)>, Cursor<'static>)
+    ensures { result.1.turns ≤ 5 }
+{
+    let mut c = Cursor::new(b"123456789012}                    ", &STANDARD);
+    let answer = algorithm_partial_on::<u64>(&mut c, &LARGE_NUMBERS);
+    (answer, c)
+}
+
+// Five digits are a word of four and one.
+fn five_before_a_letter() -> (Result<(i32, usize)>, Cursor<'static>)
+    ensures { result.1.turns ≤ 2 }
+{
+    let mut c = Cursor::new(b"12345x", &STANDARD);
+    let answer = algorithm_partial_on::<i32>(&mut c, &LARGE_NUMBERS);
+    (answer, c)
+}
+
+// Eight digits are one word.
+fn eight_before_a_comma() -> (Result<(u64, usize)>, Cursor<'static>)
+    ensures { result.1.turns ≤ 1 }
+{
+    let mut c = Cursor::new(b"12345678, 9", &STANDARD);
+    let answer = algorithm_partial_on::<u64>(&mut c, &LARGE_NUMBERS);
+    (answer, c)
+}
+
+// The bound holds at a fault too: of eight zeros that may not lead, the first alone is taken.
+fn eight_zeros() -> (Result<u64>, Cursor<'static>)
+    ensures { result.1.turns ≤ 1 }
+{
+    let format = NumberFormatBuilder::new()
+        .no_integer_leading_zeros(true)
+        .build_unchecked();
+    let mut c = Cursor::new(b"00000000", &format);
+    let answer = algorithm_complete_on::<u64>(&mut c, &LARGE_NUMBERS);
+    (answer, c)
+}
+
+// Of sixty-four digits of radix 2, which the text chooses, sixteen are two words.
+fn sixty_four_binary() -> (Result<u64>, Cursor<'static>)
+    ensures { result.1.turns ≤ 50 }
+{
+    let format = NumberFormatBuilder::new()
+        .literal_prefixes(true)
+        .build_unchecked();
+    let mut c = Cursor::new(
+        b"0b1111111111111111111111111111111111111111111111111111111111111111",
+        &format,
+    );
+    let answer = algorithm_complete_on::<u64>(&mut c, &LARGE_NUMBERS);
+    (answer, c)
+}
+
+// Behind a sign eight digits of 64 bits are a word.
+fn minus_eight_of_i64() -> (Result<i64>, Cursor<'static>)
+    ensures { result.1.turns ≤ 1 }
+{
+    let mut c = Cursor::new(b"-12345678", &STANDARD);
+    let answer = algorithm_complete_on::<i64>(&mut c, &LARGE_NUMBERS);
+    (answer, c)
+}
+
+// Of sixty-five digits thirty-two have room in 128 bits, and thirty-three are tested.
+fn sixty_five_of_u128() -> (Result<u128>, Cursor<'static>)
+    ensures { result.1.turns ≤ 37 }
+{
+    let mut c = Cursor::new(
+        b"00000000000000000000000000123456789012345678901234567890123456789",
+        &STANDARD,
+    );
+    let answer = algorithm_complete_on::<u128>(&mut c, &LARGE_NUMBERS);
+    (answer, c)
+}
+
+// In radix 8 sixteen digits are two words of eight too.
+fn sixteen_octal() -> (Result<u64>, Cursor<'static>)
+    ensures { result.1.turns ≤ 2 }
+{
+    let format = NumberFormatBuilder::from_radix(8);
+    let mut c = Cursor::new(b"1234567012345670", &format);
+    let answer = algorithm_complete_on::<u64>(&mut c, &LARGE_NUMBERS);
+    (answer, c)
+}
+
+// In radix 3 eleven digits are a word and three.
+fn eleven_ternary() -> (Result<u64>, Cursor<'static>)
+    ensures { result.1.turns ≤ 4 }
+{
+    let format = NumberFormatBuilder::from_radix(3);
+    let mut c = Cursor::new(b"12012012012", &format);
+    let answer = algorithm_complete_on::<u64>(&mut c, &LARGE_NUMBERS);
+    (answer, c)
+}
+
+// A byte that is no digit of the radix takes no turn, nor does what is behind it.
+fn two_before_an_eight() -> (Result<(u32, usize)>, Cursor<'static>)
+    ensures { result.1.turns ≤ 2 }
+{
+    let format = NumberFormatBuilder::from_radix(8);
+    let mut c = Cursor::new(b"1281", &format);
+    let answer = algorithm_partial_on::<u32>(&mut c, &LARGE_NUMBERS);
+    (answer, c)
+}
+
+// In radix 9 seven digits have room in 32 bits behind a sign: a word of four, three digits, and one that is tested.
+fn eight_in_radix_nine() -> (Result<i32>, Cursor<'static>)
+    ensures { result.1.turns ≤ 5 }
+{
+    let format = NumberFormatBuilder::from_radix(9);
+    let mut c = Cursor::new(b"12345678", &format);
+    let answer = algorithm_complete_on::<i32>(&mut c, &LARGE_NUMBERS);
+    (answer, c)
+}
+
+// A suffix takes no turn.
+fn eight_before_a_suffix() -> (Result<u64>, Cursor<'static>)
+    ensures { result.1.turns ≤ 1 }
+{
+    let format = NumberFormatBuilder::new()
+        .base_suffix(Some(b'h'))
+        .build_unchecked();
+    let mut c = Cursor::new(b"12345678h", &format);
+    let answer = algorithm_complete_on::<u64>(&mut c, &LARGE_NUMBERS);
+    (answer, c)
+}
+
+// Neither does a prefix, nor the sign in front of it.
+fn eight_behind_a_prefix() -> (Result<i64>, Cursor<'static>)
+    ensures { result.1.turns ≤ 1 }
+{
+    let format = NumberFormatBuilder::new()
+        .base_prefix(Some(b'x'))
+        .build_unchecked();
+    let mut c = Cursor::new(b"+0x12345678", &format);
+    let answer = algorithm_complete_on::<i64>(&mut c, &LARGE_NUMBERS);
+    (answer, c)
+}
+
+// A prefix by which the text chooses radix 8 takes no turn either.
+fn sixteen_behind_a_literal_prefix() -> (Result<u64>, Cursor<'static>)
+    ensures { result.1.turns ≤ 2 }
+{
+    let format = NumberFormatBuilder::new()
+        .literal_prefixes(true)
+        .build_unchecked();
+    let mut c = Cursor::new(b"0o1234567012345670", &format);
+    let answer = algorithm_complete_on::<u64>(&mut c, &LARGE_NUMBERS);
+    (answer, c)
+}
+
+// At the fault of a sign there is none.
+fn refused_plus() -> (Result<i32>, Cursor<'static>)
+    ensures { result.1.turns ≡ 0 }
+{
+    let format = NumberFormatBuilder::new()
+        .no_positive_mantissa_sign(true)
+        .build_unchecked();
+    let mut c = Cursor::new(b"+1", &format);
+    let answer = algorithm_complete_on::<i32>(&mut c, &LARGE_NUMBERS);
+    (answer, c)
+}
+
+// Without words an answer takes a turn for each digit, for every type.
+fn sixteen_one_by_one() -> (Result<u64>, Cursor<'static>)
+    ensures { OnOk result.0 (result.1.turns ≡ 16) }
+{
+    let mut c = Cursor::new(b"1234567812345678", &STANDARD);
+    let answer = algorithm_complete_on::<u64>(&mut c, &SMALL_NUMBERS);
+    (answer, c)
+}
+
+fn three_one_by_one() -> (Result<(u8, usize)>, Cursor<'static>)
+    ensures { OnOk result.0 (result.1.turns ≡ 3) }
+{
+    let mut c = Cursor::new(b"255.5", &STANDARD);
+    let answer = algorithm_partial_on::<u8>(&mut c, &SMALL_NUMBERS);
+    (answer, c)
+}
+
+#[test]
+fn whole_texts_in_few_turns(rt: HostRuntime) {
+    assert_eq!(rt; eight_of_u32().0, Ok(12_345_678));
+    assert_eq!(rt; nine_of_i32().0, Ok(123_456_789));
+    assert_eq!(rt; seven_of_u64().0, Ok(1_234_567));
+    assert_eq!(rt; sixty_four_binary().0, Ok(u64::MAX));
+    assert_eq!(rt; sixteen_of_u64().0, Ok(1_234_567_812_345_678));
+    assert_eq!(rt; twenty_of_u64().0, Ok(12_345_678_901_234_567_890));
+    assert_eq!(rt; sixteen_of_i64().0, Ok(1_234_567_812_345_678));
+    assert_eq!(rt;
+        thirty_two_of_u128().0,
+        Ok(12_345_678_123_456_781_234_567_812_345_678)
+    );
+}
+
+#[test]
+fn fronts_in_few_turns(rt: HostRuntime) {
+    assert_eq!(rt; twelve_before_a_brace().0, Ok((123_456_789_012, 12)));
+    assert_eq!(rt; five_before_a_letter().0, Ok((12_345, 5)));
+    assert_eq!(rt; eight_before_a_comma().0, Ok((12_345_678, 8)));
+    assert_eq!(rt; eight_zeros().0, Err(Error::InvalidLeadingZeros(0)));
+}
+
+#[test]
+fn few_turns_behind_signs_and_in_radixes(rt: HostRuntime) {
+    assert_eq!(rt; minus_eight_of_i64().0, Ok(-12_345_678));
+    assert_eq!(rt;
+        sixty_five_of_u128().0,
+        Ok(123_456_789_012_345_678_901_234_567_890_123_456_789)
+    );
+    assert_eq!(rt; sixteen_octal().0, Ok(45_954_944_846_776));
+    assert_eq!(rt; eleven_ternary().0, Ok(102_200));
+    assert_eq!(rt; two_before_an_eight().0, Ok((10, 2)));
+    assert_eq!(rt; eight_in_radix_nine().0, Ok(6_053_444));
+    assert_eq!(rt; eight_before_a_suffix().0, Ok(12_345_678));
+    assert_eq!(rt; eight_behind_a_prefix().0, Ok(12_345_678));
+    assert_eq!(rt; sixteen_behind_a_literal_prefix().0, Ok(45_954_944_846_776));
+    assert_eq!(rt; refused_plus().0, Err(Error::InvalidPositiveSign(0)));
+}
+
+#[test]
+fn digits_one_by_one(rt: HostRuntime) {
+    assert_eq!(rt; sixteen_one_by_one().0, Ok(1_234_567_812_345_678));
+    assert_eq!(rt; three_one_by_one().0, Ok((255, 3)));
+}

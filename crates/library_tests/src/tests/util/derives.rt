@@ -1,0 +1,75 @@
+// What the derives promise: equality is that of variant and place, or of all fields, and a copy keeps
+// the value. The clauses are the laws; the calls below only run them.
+
+ghost use Rattle.std.specs.Prelude.{◌≡◌, ◌↔◌, IsTrue, Ok};
+
+use lexical_util::error::Error;
+use lexical_util::format::{JSON, NumberFormat, NumberFormatBuilder, STANDARD};
+use std::alloc::AllocError;
+use std::test::Fail;
+
+fn are_equal_faults(fault: Error, other: Error) -> bool
+    ensures { IsTrue result ↔ (fault ≡ other) }
+{
+    fault == other
+}
+
+#[tactic(auto, using(lexical_util::proofs::Same::format_eq_decides))]
+fn are_equal_formats(format: &NumberFormat, other: &NumberFormat) -> bool
+    ensures { IsTrue result ↔ (format.now ≡ other.now) }
+{
+    format == other
+}
+
+#[tactic(auto, using(lexical_util::proofs::Same::format_eq_decides))]
+fn are_equal_builders(builder: &NumberFormatBuilder, other: &NumberFormatBuilder) -> bool
+    ensures { IsTrue result ↔ (builder.now ≡ other.now) }
+{
+    builder == other
+}
+
+fn copied(
+    fault: &Error,
+    format: &NumberFormat,
+    builder: &NumberFormatBuilder,
+) -> (Error, NumberFormat, NumberFormatBuilder)
+    ensures { result ≡ (fault.now, format.now, builder.now) }
+{
+    (*fault, *format, *builder)
+}
+
+fn cloned_fault(fault: &Error) -> Result<Error, AllocError>
+    ensures { result ≡ Ok fault.now }
+{
+    fault.clone()
+}
+
+fn cloned_format(format: &NumberFormat) -> Result<NumberFormat, AllocError>
+    ensures { result ≡ Ok format.now }
+{
+    format.clone()
+}
+
+fn cloned_builder(builder: &NumberFormatBuilder) -> Result<NumberFormatBuilder, AllocError>
+    ensures { result ≡ Ok builder.now }
+{
+    builder.clone()
+}
+
+#[test]
+fn equality_and_copies(rt: HostRuntime) -> Result<(), Fail> {
+    assert!(rt; are_equal_faults(Error::Empty(1), Error::Empty(1)));
+    assert!(rt; !are_equal_faults(Error::Empty(1), Error::Empty(2)));
+    assert!(rt; !are_equal_faults(Error::Empty(1), Error::InvalidDigit(1)));
+    assert!(rt; are_equal_formats(&NumberFormatBuilder::from_radix(10), &STANDARD));
+    assert!(rt; !are_equal_formats(&JSON, &STANDARD));
+    let builder = NumberFormatBuilder::new();
+    assert!(rt; are_equal_builders(&builder, &NumberFormatBuilder::new()));
+    assert!(rt; !are_equal_builders(&builder, &builder.base_suffix(Some(b'h'))));
+    let copies = copied(&Error::Empty(1), &JSON, &builder);
+    assert!(rt; copies == (Error::Empty(1), JSON, builder));
+    assert_eq!(rt; cloned_fault(&Error::Empty(1))?, Error::Empty(1));
+    assert_eq!(rt; cloned_format(&JSON)?, JSON);
+    assert_eq!(rt; cloned_builder(&builder)?, builder);
+    Ok(())
+}

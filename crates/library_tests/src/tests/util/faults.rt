@@ -1,0 +1,116 @@
+// Faults: which test holds of each, its place, and its text.
+
+ghost use Rattle.std.specs.Prelude.{◌≡◌, IfOk, string_bytes};
+ghost use Rattle.lexical_util.specs.Faults.{fault_text};
+
+use lexical_util::error::Error;
+use std::alloc::{AllocError, Allocator};
+use std::error;
+use std::test::Fail;
+
+// Which of the thirteen tests hold, in the order of the variants.
+fn tests_of(fault: &Error) -> [bool; 13] {
+    [
+        fault.is_overflow(),
+        fault.is_underflow(),
+        fault.is_invalid_digit(),
+        fault.is_empty(),
+        fault.is_missing_sign(),
+        fault.is_invalid_positive_sign(),
+        fault.is_invalid_leading_zeros(),
+        fault.is_invalid_mantissa_radix(),
+        fault.is_invalid_digit_separator(),
+        fault.is_invalid_base_prefix(),
+        fault.is_invalid_base_suffix(),
+        fault.is_invalid_punctuation(),
+        fault.is_invalid_literal_prefixes(),
+    ]
+}
+
+#[test]
+fn faults_and_their_places(rt: HostRuntime) -> Result<(), Fail> {
+    for (fault, place, variant) in [
+        (Error::Overflow(19), Some(19), 0),
+        (Error::Underflow(3), Some(3), 1),
+        (Error::InvalidDigit(1), Some(1), 2),
+        (Error::Empty(0), Some(0), 3),
+        (Error::MissingSign(0), Some(0), 4),
+        (Error::InvalidPositiveSign(0), Some(0), 5),
+        (Error::InvalidLeadingZeros(1), Some(1), 6),
+        (Error::InvalidMantissaRadix, None, 7),
+        (Error::InvalidDigitSeparator, None, 8),
+        (Error::InvalidBasePrefix, None, 9),
+        (Error::InvalidBaseSuffix, None, 10),
+        (Error::InvalidPunctuation, None, 11),
+        (Error::InvalidLiteralPrefixes, None, 12),
+    ] {
+        assert_eq!(rt; fault.index(), place, "{fault:?}");
+        for (i, holds) in tests_of(&fault).iter().enumerate() {
+            assert_eq!(rt; *holds, i == variant, "{fault:?}, test {i}");
+        }
+    }
+    Ok(())
+}
+
+// A caller knows the text of a fault by the contract of `Display`.
+fn text_of<A: Allocator>(alloc: A, fault: &Error) -> Result<String<A>, AllocError>
+    ensures { IfOk result (λ text. string_bytes text ≡ fault_text fault.now) }
+{
+    fault.to_string(alloc)
+}
+
+// The same through the bound that callers of many crates' errors have.
+fn message_of<A: Allocator, E: error::Error>(alloc: A, e: &E) -> Result<String<A>, AllocError> {
+    format!(in alloc; "{e}")
+}
+
+#[test]
+fn texts_of_faults(rt: HostRuntime) -> Result<(), Fail> {
+    for (fault, text) in [
+        (Error::Overflow(19), "overflow at byte 19"),
+        (Error::Underflow(3), "underflow at byte 3"),
+        (Error::InvalidDigit(1), "invalid digit at byte 1"),
+        (Error::Empty(0), "missing digit at byte 0"),
+        (Error::MissingSign(0), "missing sign at byte 0"),
+        (
+            Error::InvalidPositiveSign(0),
+            "forbidden plus sign at byte 0",
+        ),
+        (
+            Error::InvalidLeadingZeros(10),
+            "forbidden leading zero at byte 10",
+        ),
+        (
+            Error::InvalidMantissaRadix,
+            "the radix of the format is not from 2 to 36",
+        ),
+        (
+            Error::InvalidDigitSeparator,
+            "the separator of the format is not ASCII, or is a sign or a digit",
+        ),
+        (
+            Error::InvalidBasePrefix,
+            "the prefix of the format is not ASCII, or is a sign or a digit",
+        ),
+        (
+            Error::InvalidBaseSuffix,
+            "the suffix of the format is not ASCII, or is a sign or a digit",
+        ),
+        (
+            Error::InvalidPunctuation,
+            "two of separator, prefix and suffix of the format are alike",
+        ),
+        (
+            Error::InvalidLiteralPrefixes,
+            "the format cannot have literal prefixes",
+        ),
+        (
+            Error::Overflow(18446744073709551615),
+            "overflow at byte 18446744073709551615",
+        ),
+    ] {
+        assert_eq!(rt; text_of(rt.alloc(), &fault)?.as_str(), text);
+        assert_eq!(rt; message_of(rt.alloc(), &fault)?.as_str(), text);
+    }
+    Ok(())
+}

@@ -1,0 +1,108 @@
+// The integer types through the bound, at each of the twelve.
+
+ghost use Rattle.std.specs.Prelude.{◌+◌, ◌<◌, pos};
+ghost use Rattle.lexical_util.specs.Digit.{IsRadix};
+ghost use Rattle.lexical_util.specs.Number.{HasSign, IsNumber, mul_add};
+
+use lexical_util::num::Integer;
+use std::fmt::Debug;
+use std::process::Abort;
+use std::test::Fail;
+
+fn room<T: Integer>(radix: u32) -> usize
+    requires { IsRadix radix }
+{
+    T::overflow_digits(radix)
+}
+
+#[test]
+fn digits_that_never_overflow(rt: HostRuntime) -> Result<(), Fail> {
+    for radix in 2..=16 {
+        assert_eq!(rt; room::<u8>(radix), 2);
+        assert_eq!(rt; room::<i8>(radix), 1);
+        assert_eq!(rt; room::<u16>(radix), 4);
+        assert_eq!(rt; room::<i16>(radix), 3);
+        assert_eq!(rt; room::<u32>(radix), 8);
+        assert_eq!(rt; room::<i32>(radix), 7);
+        assert_eq!(rt; room::<u64>(radix), 16);
+        assert_eq!(rt; room::<i64>(radix), 15);
+        assert_eq!(rt; room::<usize>(radix), 16);
+        assert_eq!(rt; room::<isize>(radix), 15);
+        assert_eq!(rt; room::<u128>(radix), 32);
+        assert_eq!(rt; room::<i128>(radix), 31);
+    }
+    for radix in 17..=36 {
+        assert_eq!(rt; room::<u8>(radix), 1);
+        assert_eq!(rt; room::<i8>(radix), 1);
+        assert_eq!(rt; room::<u16>(radix), 2);
+        assert_eq!(rt; room::<i16>(radix), 2);
+        assert_eq!(rt; room::<u32>(radix), 4);
+        assert_eq!(rt; room::<i32>(radix), 4);
+        assert_eq!(rt; room::<u64>(radix), 8);
+        assert_eq!(rt; room::<i64>(radix), 8);
+        assert_eq!(rt; room::<usize>(radix), 8);
+        assert_eq!(rt; room::<isize>(radix), 8);
+        assert_eq!(rt; room::<u128>(radix), 16);
+        assert_eq!(rt; room::<i128>(radix), 16);
+    }
+    Ok(())
+}
+
+// A decimal digit behind the front leads to the end of the type, and the next greater one out of it.
+fn reaches_end<T: Integer + Debug>(rt: &impl Abort, front: T, digit: u32, negative: bool, end: T)
+    requires small { digit < 10 }
+    requires ten { IsNumber T.TYPE (pos 10) }
+    requires digit { IsNumber T.TYPE (pos digit) }
+    requires next { IsNumber T.TYPE (pos (digit + 1)) }
+    requires sign { HasSign negative (T.number front) }
+    requires fits { IsNumber T.TYPE
+        (mul_add negative (T.number front) (pos 10) (pos digit)) }
+{
+    let ten = T::from_u32(10);
+    let last = T::from_u32(digit);
+    let next = T::from_u32(digit + 1);
+    assert_eq!(rt; front.mul_add(ten, last, negative), end);
+    assert_eq!(rt; front.checked_mul_add(ten, last, negative), Some(end));
+    assert_eq!(rt; front.checked_mul_add(ten, next, negative), None);
+}
+
+#[test]
+fn ends_of_the_types(rt: HostRuntime) {
+    reaches_end::<u8>(&rt, 25, 5, false, 255);
+    reaches_end::<u16>(&rt, 6553, 5, false, 65535);
+    reaches_end::<u32>(&rt, 429496729, 5, false, 4294967295);
+    reaches_end::<u64>(&rt, 1844674407370955161, 5, false, 18446744073709551615);
+    reaches_end::<usize>(&rt, 1844674407370955161, 5, false, 18446744073709551615);
+    reaches_end::<u128>(
+        &rt,
+        34028236692093846346337460743176821145,
+        5,
+        false,
+        340282366920938463463374607431768211455,
+    );
+    reaches_end::<i8>(&rt, 12, 7, false, 127);
+    reaches_end::<i8>(&rt, -12, 8, true, -128);
+    reaches_end::<i16>(&rt, 3276, 7, false, 32767);
+    reaches_end::<i16>(&rt, -3276, 8, true, -32768);
+    reaches_end::<i32>(&rt, 214748364, 7, false, 2147483647);
+    reaches_end::<i32>(&rt, -214748364, 8, true, -2147483648);
+    reaches_end::<i64>(&rt, 922337203685477580, 7, false, 9223372036854775807);
+    reaches_end::<i64>(&rt, -922337203685477580, 8, true, -9223372036854775808);
+    reaches_end::<isize>(&rt, 922337203685477580, 7, false, 9223372036854775807);
+    reaches_end::<isize>(&rt, -922337203685477580, 8, true, -9223372036854775808);
+    reaches_end::<i128>(
+        &rt,
+        17014118346046923173168730371588410572,
+        7,
+        false,
+        170141183460469231731687303715884105727,
+    );
+    reaches_end::<i128>(
+        &rt,
+        -17014118346046923173168730371588410572,
+        8,
+        true,
+        -170141183460469231731687303715884105728,
+    );
+    assert_eq!(rt; <u8 as Integer>::ZERO.checked_mul_add(10, 1, true), None);
+}
