@@ -1,4 +1,4 @@
--- The laws at examples: their premises can be met, and without them they fail. For `laws::tests`.
+-- The laws at examples: their premises can be met, and without them they fail. For the tests of laws in `library_tests`.
 use Rattle.std.proofs.Common.{◌≡◌, ℕ, zero, suc, true, false, List, [], ◌∷◌, ◌++◌, refl, arith, None, Some, IsSome, Ok, Err, codes, inr}
 use Rattle.std.proofs.Math.IntN.{pos, negsuc}
 use Rattle.std.specs.Prelude.{replicate}
