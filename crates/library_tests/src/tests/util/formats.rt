@@ -2,6 +2,7 @@
 
 use lexical_util::error::Error;
 use lexical_util::format::{JSON, NumberFormat, NumberFormatBuilder, STANDARD};
+use std::process::Abort;
 use std::test::Fail;
 
 // The flags of a format, in the order of the setters below.
@@ -121,13 +122,10 @@ fn ready_made_formats(rt: HostRuntime) {
     assert_eq!(rt; JSON, json.build_strict());
 }
 
+type Marks = (u8, Option<u8>, Option<u8>, Option<u8>);
+
 // `STANDARD` with this radix, separator, prefix and suffix.
-fn marked(
-    radix: u8,
-    separator: Option<u8>,
-    prefix: Option<u8>,
-    suffix: Option<u8>,
-) -> NumberFormatBuilder {
+fn marked((radix, separator, prefix, suffix): Marks) -> NumberFormatBuilder {
     NumberFormatBuilder::new()
         .mantissa_radix(radix)
         .digit_separator(separator)
@@ -135,128 +133,135 @@ fn marked(
         .base_suffix(suffix)
 }
 
+// The first rule that the builder's format breaks.
+fn builder_breaks(rt: &impl Abort, builder: NumberFormatBuilder, want: Option<Error>) {
+    let format = builder.build_unchecked();
+    assert_eq!(rt; format.error(), want, "{builder:?}");
+    assert_eq!(rt; format.is_valid(), want.is_none(), "{builder:?}");
+    assert_eq!(rt; builder.is_valid(), want.is_none(), "{builder:?}");
+}
+
+fn breaks(rt: &impl Abort, marks: Marks, want: Option<Error>) {
+    builder_breaks(rt, marked(marks), want);
+}
+
+fn breaks_with_literals(rt: &impl Abort, marks: Marks, want: Option<Error>) {
+    builder_breaks(rt, marked(marks).literal_prefixes(true), want);
+}
+
+fn breaks_with_octal_zero(rt: &impl Abort, marks: Marks, want: Option<Error>) {
+    builder_breaks(rt, marked(marks).literal_octal_zero(true), want);
+}
+
+// Two marks in each of the three pairs that there are.
+fn pair_breaks(rt: &impl Abort, mark: u8, other: u8, want: Option<Error>) {
+    let (mark, other) = (Some(mark), Some(other));
+    breaks(rt, (10, mark, other, None), want);
+    breaks(rt, (10, mark, None, other), want);
+    breaks(rt, (10, None, mark, other), want);
+}
+
 #[test]
-fn first_broken_rule(rt: HostRuntime) -> Result<(), Fail> {
+fn the_radix_is_judged_first(rt: HostRuntime) {
     let radix = Some(Error::InvalidMantissaRadix);
+    breaks(&rt, (0, None, None, None), radix);
+    breaks(&rt, (1, None, None, None), radix);
+    breaks(&rt, (2, None, None, None), None);
+    breaks(&rt, (36, None, None, None), None);
+    breaks(&rt, (37, None, None, None), radix);
+    breaks(&rt, (1, Some(b'+'), None, None), radix);
+    breaks(&rt, (37, None, Some(b'+'), None), radix);
+    breaks(&rt, (0, None, None, Some(b'-')), radix);
+    breaks(&rt, (1, None, Some(b'x'), Some(b'X')), radix);
+}
+
+#[test]
+fn the_separator_is_judged_next(rt: HostRuntime) {
     let separator = Some(Error::InvalidDigitSeparator);
-    let prefix = Some(Error::InvalidBasePrefix);
-    let suffix = Some(Error::InvalidBaseSuffix);
-    let punctuation = Some(Error::InvalidPunctuation);
-    for (builder, want) in [
-        (marked(0, None, None, None), radix),
-        (marked(1, None, None, None), radix),
-        (marked(2, None, None, None), None),
-        (marked(36, None, None, None), None),
-        (marked(37, None, None, None), radix),
-        (marked(1, Some(b'+'), None, None), radix),
-        (marked(37, None, Some(b'+'), None), radix),
-        (marked(0, None, None, Some(b'-')), radix),
-        (marked(1, None, Some(b'x'), Some(b'X')), radix),
-        (marked(10, Some(128), None, None), separator),
-        (marked(10, Some(b'+'), None, None), separator),
-        (marked(10, Some(b'-'), None, None), separator),
-        (marked(10, Some(b'5'), None, None), separator),
-        (marked(16, Some(b'a'), None, None), separator),
-        (marked(16, Some(b'F'), None, None), separator),
-        (marked(16, Some(b'g'), None, None), None),
-        (marked(10, Some(b'+'), None, Some(b'-')), separator),
-        (marked(10, Some(b'+'), Some(b'0'), None), separator),
-        (marked(10, Some(b'5'), Some(b'x'), Some(b'X')), separator),
-        (marked(10, None, Some(b'0'), None), prefix),
-        (marked(10, None, Some(b'-'), Some(b'9')), prefix),
-        (marked(10, Some(b'x'), Some(b'0'), Some(b'X')), prefix),
-        (marked(10, None, None, Some(b'9')), suffix),
-        (marked(10, Some(b'_'), Some(b'_'), Some(b'9')), suffix),
-        (marked(10, Some(0), None, None), None),
-        (marked(10, Some(127), None, None), None),
-        (marked(10, Some(b'_'), Some(b'x'), Some(b'h')), None),
-    ] {
-        assert_eq!(rt; builder.build_unchecked().error(), want, "{builder:?}");
-        assert_eq!(rt;
-            builder.build_unchecked().is_valid(),
-            want.is_none(),
-            "{builder:?}"
-        );
-        assert_eq!(rt; builder.is_valid(), want.is_none(), "{builder:?}");
-    }
+    breaks(&rt, (10, Some(128), None, None), separator);
+    breaks(&rt, (10, Some(b'+'), None, None), separator);
+    breaks(&rt, (10, Some(b'-'), None, None), separator);
+    breaks(&rt, (10, Some(b'5'), None, None), separator);
+    breaks(&rt, (16, Some(b'a'), None, None), separator);
+    breaks(&rt, (16, Some(b'F'), None, None), separator);
+    breaks(&rt, (16, Some(b'g'), None, None), None);
+    breaks(&rt, (10, Some(b'+'), None, Some(b'-')), separator);
+    breaks(&rt, (10, Some(b'+'), Some(b'0'), None), separator);
+    breaks(&rt, (10, Some(b'5'), Some(b'x'), Some(b'X')), separator);
     let flag_alone = NumberFormatBuilder::new().integer_internal_digit_separator(true);
     assert!(rt; flag_alone.is_valid());
-
-    for (mark, other, want) in [
-        (b'x', b'x', punctuation),
-        (b'x', b'X', punctuation),
-        (b'X', b'x', punctuation),
-        (b'_', b'_', punctuation),
-        (b'x', b'y', None),
-        (b'[', b'{', None),
-        (b'_', 127, None),
-        (b'@', b'`', None),
-    ] {
-        let (mark, other) = (Some(mark), Some(other));
-        for builder in [
-            marked(10, mark, other, None),
-            marked(10, mark, None, other),
-            marked(10, None, mark, other),
-        ] {
-            assert_eq!(rt; builder.build_unchecked().error(), want, "{builder:?}");
-        }
-    }
-    Ok(())
 }
 
 #[test]
-fn literal_prefixes_beside_other_fields(rt: HostRuntime) -> Result<(), Fail> {
-    let literals = Some(Error::InvalidLiteralPrefixes);
-    for (builder, want) in [
-        (marked(10, None, None, None), None),
-        (marked(10, Some(b'_'), None, Some(b'u')), None),
-        (marked(10, Some(b'g'), None, Some(b'y')), None),
-        (marked(16, None, None, None), literals),
-        (marked(10, None, Some(b'd'), None), literals),
-        (marked(10, None, None, Some(b'f')), literals),
-        (marked(10, None, None, Some(b'F')), literals),
-        (marked(10, None, None, Some(b'X')), literals),
-        (marked(10, None, None, Some(b'o')), literals),
-        (marked(10, None, None, Some(b'O')), literals),
-        (marked(10, None, None, Some(b'b')), literals),
-        (marked(10, Some(b'a'), None, None), literals),
-        (marked(10, Some(b'X'), None, None), literals),
-        (
-            marked(10, None, Some(b'x'), Some(b'X')),
-            Some(Error::InvalidPunctuation),
-        ),
-        (
-            marked(37, None, Some(b'd'), None),
-            Some(Error::InvalidMantissaRadix),
-        ),
-    ] {
-        let builder = builder.literal_prefixes(true);
-        assert_eq!(rt; builder.build_unchecked().error(), want, "{builder:?}");
-        assert_eq!(rt; builder.is_valid(), want.is_none(), "{builder:?}");
-    }
-    Ok(())
+fn prefix_and_suffix_are_judged_then(rt: HostRuntime) {
+    let prefix = Some(Error::InvalidBasePrefix);
+    let suffix = Some(Error::InvalidBaseSuffix);
+    breaks(&rt, (10, None, Some(b'0'), None), prefix);
+    breaks(&rt, (10, None, Some(b'-'), Some(b'9')), prefix);
+    breaks(&rt, (10, Some(b'x'), Some(b'0'), Some(b'X')), prefix);
+    breaks(&rt, (10, None, None, Some(b'9')), suffix);
+    breaks(&rt, (10, Some(b'_'), Some(b'_'), Some(b'9')), suffix);
+    breaks(&rt, (10, Some(0), None, None), None);
+    breaks(&rt, (10, Some(127), None, None), None);
+    breaks(&rt, (10, Some(b'_'), Some(b'x'), Some(b'h')), None);
 }
 
 #[test]
-fn octal_zeros_beside_other_fields(rt: HostRuntime) -> Result<(), Fail> {
+fn no_two_marks_are_alike(rt: HostRuntime) {
+    let punctuation = Some(Error::InvalidPunctuation);
+    pair_breaks(&rt, b'x', b'x', punctuation);
+    pair_breaks(&rt, b'x', b'X', punctuation);
+    pair_breaks(&rt, b'X', b'x', punctuation);
+    pair_breaks(&rt, b'_', b'_', punctuation);
+    pair_breaks(&rt, b'x', b'y', None);
+    pair_breaks(&rt, b'[', b'{', None);
+    pair_breaks(&rt, b'_', 127, None);
+    pair_breaks(&rt, b'@', b'`', None);
+}
+
+#[test]
+fn literal_prefixes_beside_other_fields(rt: HostRuntime) {
     let literals = Some(Error::InvalidLiteralPrefixes);
-    for (builder, want) in [
-        (marked(10, None, None, None), None),
-        (marked(10, Some(b'a'), Some(b'x'), Some(b'o')), None),
-        (marked(8, None, None, None), literals),
-        (marked(16, None, None, None), literals),
-        (
-            marked(16, None, Some(b'x'), Some(b'X')),
-            Some(Error::InvalidPunctuation),
-        ),
-        (
-            marked(37, None, Some(b'd'), None),
-            Some(Error::InvalidMantissaRadix),
-        ),
-    ] {
-        let builder = builder.literal_octal_zero(true);
-        assert_eq!(rt; builder.build_unchecked().error(), want, "{builder:?}");
-        assert_eq!(rt; builder.is_valid(), want.is_none(), "{builder:?}");
-    }
-    Ok(())
+    breaks_with_literals(&rt, (10, None, None, None), None);
+    breaks_with_literals(&rt, (10, Some(b'_'), None, Some(b'u')), None);
+    breaks_with_literals(&rt, (10, Some(b'g'), None, Some(b'y')), None);
+    breaks_with_literals(&rt, (16, None, None, None), literals);
+    breaks_with_literals(&rt, (10, None, Some(b'd'), None), literals);
+    breaks_with_literals(&rt, (10, None, None, Some(b'f')), literals);
+    breaks_with_literals(&rt, (10, None, None, Some(b'F')), literals);
+    breaks_with_literals(&rt, (10, None, None, Some(b'X')), literals);
+    breaks_with_literals(&rt, (10, None, None, Some(b'o')), literals);
+    breaks_with_literals(&rt, (10, None, None, Some(b'O')), literals);
+    breaks_with_literals(&rt, (10, None, None, Some(b'b')), literals);
+    breaks_with_literals(&rt, (10, Some(b'a'), None, None), literals);
+    breaks_with_literals(&rt, (10, Some(b'X'), None, None), literals);
+    breaks_with_literals(
+        &rt,
+        (10, None, Some(b'x'), Some(b'X')),
+        Some(Error::InvalidPunctuation),
+    );
+    breaks_with_literals(
+        &rt,
+        (37, None, Some(b'd'), None),
+        Some(Error::InvalidMantissaRadix),
+    );
+}
+
+#[test]
+fn octal_zeros_beside_other_fields(rt: HostRuntime) {
+    let literals = Some(Error::InvalidLiteralPrefixes);
+    breaks_with_octal_zero(&rt, (10, None, None, None), None);
+    breaks_with_octal_zero(&rt, (10, Some(b'a'), Some(b'x'), Some(b'o')), None);
+    breaks_with_octal_zero(&rt, (8, None, None, None), literals);
+    breaks_with_octal_zero(&rt, (16, None, None, None), literals);
+    breaks_with_octal_zero(
+        &rt,
+        (16, None, Some(b'x'), Some(b'X')),
+        Some(Error::InvalidPunctuation),
+    );
+    breaks_with_octal_zero(
+        &rt,
+        (37, None, Some(b'd'), None),
+        Some(Error::InvalidMantissaRadix),
+    );
 }
