@@ -196,8 +196,6 @@ class Edit:
         texts = {file: read(os.path.join(folder, file)) for file in self.files}
         for file, text in self.applied(texts).items():
             self.compare(file, texts[file], text)
-        # Whether it changes more than functions, which can change what stands anywhere.
-        self.shifts = bool(self.others or self.theorems) or any(name.isupper() for name in self.names())
 
     def applied(self, texts):
         """The texts of its files with the edit. Each `old` stands there once."""
@@ -238,6 +236,11 @@ class Edit:
     def shows_beside_items(self):
         """Whether it may be refused elsewhere than at its items, so that the whole crate has to be checked."""
         return bool(self.others or self.theorems or self.lemmas)
+
+    def shifts(self):
+        """Whether it changes more than functions, which can change what stands anywhere. A constant does, unless the
+        functions that speak of it stand in its place."""
+        return self.shows_beside_items() or any(name.isupper() for name in self.names())
 
     def names(self):
         return {path.rsplit("::", 1)[-1] for path in self.items}
@@ -318,6 +321,12 @@ def lemmas_on(folder, name):
     return [os.path.relpath(it, folder) for it in files if re.search(rf"\b{name}\b", read(it))]
 
 
+def answers_of(edit, folder):
+    """The files of the answers that the functions of an edit have."""
+    files = ["/".join(["proofs", *path.split("::"), "Answers.antt"]) for path in edit.items]
+    return [it for it in files if os.path.isfile(os.path.join(folder, it))]
+
+
 def called_by(edit, calls):
     """The names that an edit's items call, by their own bodies and by what the edit brings in."""
     found = edit.brought & set(calls)
@@ -338,7 +347,7 @@ def batches_of(edits, calls, most):
     """The edits in batches that are checked at once, and alone those that can't share a check."""
     batches = []
     for edit in sorted(edits, key=lambda it: (-len(called_by(it, calls)), it.name)):
-        fits = (it for it in batches if len(it) < most and not it[0].shifts and not edit.shifts
+        fits = (it for it in batches if len(it) < most and not it[0].shifts() and not edit.shifts()
                 and all(are_apart(edit, other, calls) for other in it))
         batch = next(fits, None)
         if batch is None:
