@@ -140,21 +140,6 @@ def is_by_values(where):
     return UNTRUE in where.partition("; ")[0]
 
 
-def by_search(edit, check, as_it_is):
-    """What two checks without the answers of an edit's functions say of it, one with the edit and one of the code as it
-    is: (function and goals, None) where a goal is open or false that isn't so without the edit, (None, why not) where
-    search closes every goal, and (None, None) where the same goals are open in both."""
-    told = [(path, check.functions[path]) for path in edit.items if path in check.functions]
-    for path, it in told:
-        before = as_it_is.functions[path].goals() if path in as_it_is.functions else []
-        more = [goal for goal in it.goals() if goal not in before]
-        if more:
-            return f"{path}: {', '.join(more)}", None
-    if told and all(it.status == "proved" for _, it in told):
-        return None, "search proves it where it has no answers"
-    return None, None
-
-
 def judged(edit, check):
     """What a check says of an edit, as (function and goals, None) where it is refused, else (None, why not)."""
     if check.unread:

@@ -321,12 +321,6 @@ def lemmas_on(folder, name):
     return [os.path.relpath(it, folder) for it in files if re.search(rf"\b{name}\b", read(it))]
 
 
-def answers_of(edit, folder):
-    """The files of the answers that the functions of an edit have."""
-    files = ["/".join(["proofs", *path.split("::"), "Answers.antt"]) for path in edit.items]
-    return [it for it in files if os.path.isfile(os.path.join(folder, it))]
-
-
 def called_by(edit, calls):
     """The names that an edit's items call, by their own bodies and by what the edit brings in."""
     found = edit.brought & set(calls)

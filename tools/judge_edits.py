@@ -1,7 +1,7 @@
 #!/usr/bin/env python3
 """Tries the must-fail edits, many in one check, and holds each to the function that it changes.
 
-usage: tools/judge_edits.py [--jobs N] [--crate NAME].. [--only EDIT..] [--most N] [--by-search] [--log FILE] [--said TO]
+usage: tools/judge_edits.py [--jobs N] [--crate NAME].. [--only EDIT..] [--most N] [--log FILE] [--said FOLDER]
 
 An edit is refused where the prover, given the edited code, has a goal of the edited function that it can't close: a
 clause, a condition of a call, a bound, an invariant or a measure. A check that fails for a name, a type or an import
@@ -11,7 +11,6 @@ says nothing of the contract. edit_files.py says what a batch is, and check_outp
 --crate      this crate alone, also several times
 --only       these edits alone
 --most N     at most so many edits in a batch
---by-search  tries what only answers refuse once more, without these answers; the gate doesn't
 --log        a line for each edit into this file, in place of standard output
 --said       keeps what each check said in this folder
 """
@@ -159,15 +158,11 @@ class Room:
                    for part in PARTS)
 
     def write(self, texts):
-        """Changes these files alone: those of the check before are as they were again. A file of no text is removed."""
+        """Changes these files alone: those of the check before are as they were again."""
         for file, text in {**self.changed, **texts}.items():
             path = os.path.join(self.folder, file)
             if file not in self.changed:
                 self.changed[file] = edit_files.read(path)
-            if text is None:
-                with contextlib.suppress(FileNotFoundError):
-                    os.remove(path)
-                continue
             with open(path, "w", encoding="utf-8") as it:
                 it.write(text)
         for file in set(self.changed) - set(texts):
@@ -219,8 +214,6 @@ class Judge:
             except edit_files.BadEdit as why:
                 self.bad[name] = str(why)
         self.rooms, self.made, self.checks, self.lock = queue.Queue(), [], 0, threading.Lock()
-        # What is said without answers of these functions as they are.
-        self.without_answers = {}
 
     def run(self, temporary):
         """Judges all edits. It answers how many are refused, and how many aren't."""
@@ -229,16 +222,13 @@ class Judge:
         if self.edits:
             self.temporary, self.first = temporary, self.first_room(temporary)
             self.kept = self.first.kept()
-            batches = edit_files.batches_of(self.edits, self.calls, self.options.most)
+            batches = edit_files.batches_of(self.edits, edit_files.calls_of(self.folder), self.options.most)
             self.jobs = min(self.options.jobs or jobs_for_memory(), len(batches))
             self.progress(f"{len(self.edits)} edits in {len(batches)} batches, {self.jobs} at once")
             with concurrent.futures.ThreadPoolExecutor(self.jobs) as pool:
                 again = [edit for left in pool.map(self.judge, batches) for edit in left]
                 for _ in pool.map(self.judge_alone, again):
                     pass
-                if self.options.by_search:
-                    for _ in pool.map(self.judge_by_search, self.batches_by_answers()):
-                        pass
             self.close_rooms()
         refused = {name: where for name, (where, _) in self.told.items() if where}
         by_values = sum(check_output.is_by_values(where) for where in refused.values())
@@ -248,11 +238,6 @@ class Judge:
                       + ", ".join(by_answers))
         return len(refused), len(self.edits) + len(self.bad) - len(refused)
 
-    def batches_by_answers(self):
-        """The edits that only answers refuse, in batches."""
-        found = [it for it in self.edits if check_output.is_by_answers(self.told[it.name][0] or "")]
-        return edit_files.batches_of(found, self.calls, self.options.most)
-
     def first_room(self, temporary):
         """Checks the crate as it is, and settles what the edits' functions are called there."""
         first = Room.of(self.root, self.name, os.path.join(temporary, self.name, "0"))
@@ -260,7 +245,6 @@ class Judge:
             check, said = first.check({}, jobs=1 if self.first_slot else None)
         if not check.is_proved():
             raise NotProved(f"{self.name} is not proved without an edit:\n{said[-2000:]}")
-        self.calls = edit_files.calls_of(self.folder)
         for edit in self.edits:
             edit.items = [edit_files.as_told(path, check.functions) for path in edit.items]
             self.settle_constants(edit, check)
@@ -320,27 +304,13 @@ class Judge:
     def judge_alone(self, edit):
         self.note(edit, *check_output.judged(edit, self.checked([edit])))
 
-    def judge_by_search(self, batch):
-        """Tries a batch without the answers of its functions, beside the code as it is without them."""
-        none = dict.fromkeys(file for edit in batch for file in edit_files.answers_of(edit, self.folder))
-        paths = frozenset(path for edit in batch for path in edit.items)
-        if paths not in self.without_answers:
-            self.without_answers[paths] = self.checked(batch, none)
-        check = self.checked(batch, {**edit_files.applied(batch, self.folder), **none})
-        for edit in batch:
-            where, why = check_output.by_search(edit, check, self.without_answers[paths])
-            if where or why:
-                self.note(edit, where, why)
-
-    def checked(self, batch, texts=None):
-        """What a check says of a batch, or of these texts in its place."""
-        texts = edit_files.applied(batch, self.folder) if texts is None else texts
+    def checked(self, batch):
         paths = sorted({path for it in batch for path in it.items}) if not batch[0].shows_beside_items() else []
         with self.slot():
             start, room = time.time(), self.room()
             before = room.seconds
             try:
-                check, said = room.check(texts, paths)
+                check, said = room.check(edit_files.applied(batch, self.folder), paths)
             finally:
                 room.restore(self.first)
                 self.rooms.put(room)
@@ -379,7 +349,6 @@ def options_of(words):
     parser.add_argument("--crate", action="append")
     parser.add_argument("--only", nargs="+", default=[])
     parser.add_argument("--most", type=int, default=20)
-    parser.add_argument("--by-search", action="store_true")
     parser.add_argument("--log")
     parser.add_argument("--said")
     parser.add_argument("--root", default=ROOT)

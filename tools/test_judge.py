@@ -390,28 +390,6 @@ class Judged(unittest.TestCase):
         self.assertFalse(self.is_refused("", theorems=[own]))
 
 
-class BySearch(unittest.TestCase):
-    """What is said of an edit of `m::f` without its answers, beside the code as it is."""
-
-    def said(self, edited, as_it_is):
-        edit = types.SimpleNamespace(items=["m::f"])
-        checks = [check_output.Check(1, f"{it}\nonly=1 proved=0\n") for it in (edited, as_it_is)]
-        return check_output.by_search(edit, *checks)
-
-    def test_a_goal_more(self):
-        both = open_goal("returns") + no_proof("m::f", "returns")
-        self.assertEqual(self.said(both, "fn toy::m::f: proved"), ("m::f: returns", None))
-        self.assertEqual(self.said(open_goal("bound") + both, both), ("m::f: bound", None))
-
-    def test_the_same_goals(self):
-        both = open_goal("returns") + no_proof("m::f", "returns")
-        self.assertEqual(self.said(both, both), (None, None))
-
-    def test_no_goal(self):
-        both = open_goal("returns") + no_proof("m::f", "returns")
-        self.assertIn("search proves it", self.said("fn toy::m::f: proved", both)[1])
-
-
 # What a stand-in for the prover refuses: the function, and the text that is wrong in it.
 WRONG = {"greater": "if a < b {", "near": "a + 60", "next": "a + most", "after": "next(a) + 2"}
 
@@ -499,29 +477,6 @@ class Batches(unittest.TestCase):
         with mock.patch.object(judge_edits.Room, "restore", lambda room, like: None):
             with self.assertRaisesRegex(SystemExit, "isn't as it was before its edits"):
                 self.judged("the_less")
-
-
-    def judged_without_answers(self, said):
-        """What the judge says of an edit that an answer refuses, where a check without that answer says this."""
-        def answers_alone(room, texts, paths=(), jobs=1):
-            room.write(texts)
-            is_edited = "next(a) + 2" in edit_files.read(os.path.join(room.folder, "src", "lib.rt"))
-            has_answer = os.path.isfile(os.path.join(room.folder, "proofs", "after", "Answers.antt"))
-            if has_answer and not is_edited:
-                return check_output.Check(0, "fn toy::after: proved\nlogic=proved\n"), ""
-            unfit = refused_answer("the two types differ").replace("m/f", "after") + "fn toy::after: not proved\n"
-            as_it_is = open_goal("returns") + no_proof("after", "returns")
-            told = (unfit if has_answer else said if is_edited else as_it_is) + "only=1 proved=0\n"
-            return check_output.Check(1, told), told
-
-        return self.judged("value_changed", "--by-search", check=answers_alone)[1]["toy/value_changed"]
-
-    def test_an_edit_that_only_an_answer_refuses(self):
-        said = open_goal("overflow_add-result") + no_proof("after", "overflow_add-result")
-        self.assertEqual(self.judged_without_answers(said), "refused at after: overflow_add-result")
-        self.assertIn("NOT REFUSED: search proves it", self.judged_without_answers("fn toy::after: proved\n"))
-        same = open_goal("returns") + no_proof("after", "returns")
-        self.assertIn("(its answer doesn't fit)", self.judged_without_answers(same))
 
 
 class Whole(unittest.TestCase):
