@@ -1,8 +1,9 @@
 """Must-fail edits: reading them, the functions that they edit, and which of them can be tried in one check.
 
-An edit is a text file of lines `file: PATH`, `old: TEXT` and `new: TEXT`. Each TEXT is one line, and an `old` stands
-once in its file, as the pairs above it have left it. The functions and constants that an edit changes or brings are
-its own: it is held to these. In `proofs/` an edit can make a theorem say something false, and is held to that theorem.
+An edit is a text file of lines `file: PATH`, `old: TEXT` and `new: TEXT`; any other, as `shown by: INPUT`, is for
+readers. Each TEXT is one line, and an `old` stands once in its file, as the pairs above it have left it. The functions
+and constants that an edit changes or brings are its own: it is held to these. In `proofs/` an edit can make a theorem
+say something false, and is held to that theorem.
 """
 import collections
 import glob
