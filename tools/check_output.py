@@ -3,7 +3,8 @@
 What counts, as seen in what rt prints:
 
 - `note: src/FILE.rt:LINE:COLUMN: it is not proved that .. (`GOAL`)` stands before the line `fn PATH: ..` of its
-  function, once for each goal that search left open. This is a refusal.
+  function, once for each goal that search left open. This is a refusal. Where the line goes on with "the facts known
+  there allow values at which this goal is false", the prover has computed them.
 - `./proofs/PATH/Answers.antt:LINE:COLUMN: error: `GOAL`: ..` stands at the head of the output where a hand-written
   answer is refused. It is a refusal where the answer's type or a tactic in it fails ("the two types differ", "the
   goal does not follow"), since the goal is there and says something else than the answer shows. It is none where a
@@ -20,7 +21,8 @@ What counts, as seen in what rt prints:
 """
 import re
 
-OPEN = re.compile(r"note: (src/\S+?):(\d+):\d+: it is not proved that .*?\(`([^`]+)`\)(?:;|$)")
+OPEN = re.compile(r"note: src/\S+?:\d+:\d+: it is not proved that .*?\(`([^`]+)`\)(?:;(.*)|$)")
+FALSE = "allow values at which this goal is false"
 FUNCTION = re.compile(r"fn (\w+)::(\S+): (proved|not proved|no proof|could not tell|no holes)(.*)")
 REFUSED = re.compile(r"(?:\./)?proofs/(\S+)/(Answers|Invariants|Proof)\.antt:\d+:\d+: error: (?:`([^`]+)`: )?(.*)")
 LOST = re.compile(r"record `[^`]*`(?: has no field| \(nearest)|has no `|has no field|is not in scope|module `"
@@ -31,8 +33,8 @@ LEMMA = re.compile(r"(?:\./)?(proofs/\S+\.antt):\d+:\d+: error: `([^`]+)`: (.*)"
 WAITING = re.compile(r"\d+ declarations? that depends? on `[^`]+`, which was (?:rejected|not admitted), .*?: (.*)")
 UNREAD = re.compile(r"(?:\./)?((?:src|specs)/\S+?):(\d+):\d+: error(?:\[[\w-]+\])?: .*")
 MISSING = re.compile(r"has no function `([^`]+)`")
-# What stands behind a goal that search didn't try, since it has an answer.
-UNFIT = " (its answer doesn't fit)"
+# What stands behind a goal that search didn't try, since it has an answer, and behind one that isn't true.
+UNFIT, UNTRUE = " (its answer doesn't fit)", " (false at some values)"
 CAUSE = re.compile(r"it calls .*?not proved|it passes .*?not proved")
 
 
@@ -41,7 +43,7 @@ class Told:
 
     def __init__(self):
         self.status, self.rest = "", ""
-        self.open, self.unfit, self.lost, self.why_unfit = [], [], [], ""
+        self.open, self.false, self.unfit, self.lost, self.why_unfit = [], [], [], [], ""
 
     def answers(self, file, goal, why):
         """Notes that an answer was refused: it says something else than its goal, or names what is gone. An invariant
@@ -59,7 +61,8 @@ class Told:
         """The goals at which the function is refused, none where names are lost."""
         if self.lost or self.status == "proved":
             return []
-        return self.open + [goal + UNFIT for goal in self.unfit if goal not in self.open]
+        told = [goal + UNTRUE * (goal in self.false) for goal in self.open]
+        return told + [goal + UNFIT for goal in self.unfit if goal not in self.open]
 
     def refusal(self):
         """The goals at which it is refused, and where answers alone refuse it, what is said of the first of them."""
@@ -95,14 +98,15 @@ class Check:
         self.reaches_end = bool(re.search(r"^(?:logic=|only=)", said, re.M))
 
     def read(self, line, above, refused):
-        """Reads a line; `above` are the open goals that were told since the last function's line."""
+        """Reads a line; `above` are the open goals that were told since the last function's line, and what of each."""
         opened, function, answer = OPEN.match(line), FUNCTION.match(line), REFUSED.match(line)
         if opened:
-            return above + [opened[3]]
+            return above + [(opened[1], opened[2] or "")]
         if function:
             told = self.functions.setdefault(function[2], Told())
             told.status, told.rest = function[3], function[4].lstrip(":; ")
-            told.open = above
+            told.open = [goal for goal, _ in above]
+            told.false = [goal for goal, said in above if FALSE in said]
             return []
         if answer:
             refused.append((answer[1].replace("/", "::"), answer[2], answer[3], answer[4]))
@@ -129,6 +133,11 @@ def is_by_answers(where):
     """Whether each goal at which an edit is refused has an answer that doesn't fit, so that search tried none."""
     goals = where.partition("; ")[0]
     return goals.endswith(UNFIT) and goals.count(UNFIT) == goals.count(", ") + 1
+
+
+def is_by_values(where):
+    """Whether a goal at which an edit is refused is false at values that the prover has computed."""
+    return UNTRUE in where.partition("; ")[0]
 
 
 def judged(edit, check):

@@ -1,8 +1,9 @@
 """Must-fail edits: reading them, the functions that they edit, and which of them can be tried in one check.
 
-An edit is a text file of lines `file: PATH`, `old: TEXT` and `new: TEXT`. Each TEXT is one line, and an `old` stands
-once in its file, as the pairs above it have left it. The functions and constants that an edit changes or brings are
-its own: it is held to these. In `proofs/` an edit can make a theorem say something false, and is held to that theorem.
+An edit is a text file of lines `file: PATH`, `old: TEXT` and `new: TEXT`; any other, as `shown by: INPUT`, is for
+readers. Each TEXT is one line, and an `old` stands once in its file, as the pairs above it have left it. The functions
+and constants that an edit changes or brings are its own: it is held to these. In `proofs/` an edit can make a theorem
+say something false, and is held to that theorem.
 """
 import collections
 import glob
@@ -196,8 +197,6 @@ class Edit:
         texts = {file: read(os.path.join(folder, file)) for file in self.files}
         for file, text in self.applied(texts).items():
             self.compare(file, texts[file], text)
-        # Whether it changes more than functions, which can change what stands anywhere.
-        self.shifts = bool(self.others or self.theorems) or any(name.isupper() for name in self.names())
 
     def applied(self, texts):
         """The texts of its files with the edit. Each `old` stands there once."""
@@ -238,6 +237,11 @@ class Edit:
     def shows_beside_items(self):
         """Whether it may be refused elsewhere than at its items, so that the whole crate has to be checked."""
         return bool(self.others or self.theorems or self.lemmas)
+
+    def shifts(self):
+        """Whether it changes more than functions, which can change what stands anywhere. A constant does, unless the
+        functions that speak of it stand in its place."""
+        return self.shows_beside_items() or any(name.isupper() for name in self.names())
 
     def names(self):
         return {path.rsplit("::", 1)[-1] for path in self.items}
@@ -338,7 +342,7 @@ def batches_of(edits, calls, most):
     """The edits in batches that are checked at once, and alone those that can't share a check."""
     batches = []
     for edit in sorted(edits, key=lambda it: (-len(called_by(it, calls)), it.name)):
-        fits = (it for it in batches if len(it) < most and not it[0].shifts and not edit.shifts
+        fits = (it for it in batches if len(it) < most and not it[0].shifts() and not edit.shifts()
                 and all(are_apart(edit, other, calls) for other in it))
         batch = next(fits, None)
         if batch is None:

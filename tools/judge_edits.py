@@ -230,10 +230,12 @@ class Judge:
                 for _ in pool.map(self.judge_alone, again):
                     pass
             self.close_rooms()
-        refused = [where for where, why in self.told.values() if why is None]
-        by_answers = sum(check_output.is_by_answers(where) for where in refused)
-        self.progress(f"{by_answers} of {len(refused)} refused edits only by answers that don't fit: see that each is a "
-                      "mistake, and not another form")
+        refused = {name: where for name, (where, _) in self.told.items() if where}
+        by_values = sum(check_output.is_by_values(where) for where in refused.values())
+        by_answers = [name for name, where in refused.items() if check_output.is_by_answers(where)]
+        self.progress(f"{by_values} of {len(refused)} refused edits at a goal that is false at values which the prover "
+                      f"has found, {len(by_answers)} only by answers that don't fit" + ": " * bool(by_answers)
+                      + ", ".join(by_answers))
         return len(refused), len(self.edits) + len(self.bad) - len(refused)
 
     def first_room(self, temporary):

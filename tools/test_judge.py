@@ -75,6 +75,13 @@ three : 1 + 2 ≡ 3
 three = refl
 """
 
+WITH_CONSTANT = """const STEP: u8 = 2;
+
+fn up(a: u8) -> u8 { a.wrapping_add(STEP) }
+
+fn down(a: u8) -> u8 { a.wrapping_sub(1) }
+"""
+
 # Each edit: its old and new text, and whether it is refused.
 EDITS = {
     "the_less": ("if a > b {", "if a < b {", True),
@@ -237,6 +244,36 @@ class Texts(unittest.TestCase):
         self.assertEqual(len(edit_files.batches_of(edits, edit_files.calls_of(self.folder), 20)), 2)
 
 
+class Constants(unittest.TestCase):
+    """How edits of constants are tried."""
+
+    def settled(self, root, facts):
+        """Three edits, of which one changes a constant."""
+        folder, found = os.path.join(root, "crates", "toy"), []
+        write(os.path.join(folder, "src", "lib.rt"), WITH_CONSTANT)
+        write(os.path.join(folder, "proofs", "Facts.antt"), facts)
+        for name, old, new in ("step", "u8 = 2", "u8 = 3"), ("up", "wrapping_add", "wrapping_sub"), ("down", "1", "2"):
+            path = os.path.join(folder, "must-fail", f"{name}.edit")
+            write(path, f"file: src/lib.rt\nold: {old}\nnew: {new}\n")
+            found.append(edit_files.Edit(path, folder))
+            judge = types.SimpleNamespace(folder=folder)
+            judge_edits.Judge.settle_constants(judge, found[-1], types.SimpleNamespace(functions=["up", "down"]))
+        batches = edit_files.batches_of(found, edit_files.calls_of(folder), 20)
+        return found[0], sorted(sorted(it.name for it in batch) for batch in batches)
+
+    def test_functions_stand_for_a_constant(self):
+        with tempfile.TemporaryDirectory(prefix="test-judge-") as root:
+            edit, batches = self.settled(root, "")
+            self.assertEqual((edit.items, edit.lemmas), (["up"], []))
+            self.assertEqual(batches, [["down", "step"], ["up"]])
+
+    def test_a_constant_that_lemmas_name_is_tried_alone(self):
+        with tempfile.TemporaryDirectory(prefix="test-judge-") as root:
+            edit, batches = self.settled(root, "two : STEP ≡ 2\ntwo = refl\n")
+            self.assertEqual(edit.lemmas, ["proofs/Facts.antt"])
+            self.assertEqual(batches, [["down", "up"], ["step"]])
+
+
 def open_goal(goal, what="what the function ensures holds when it returns"):
     return f"note: src/m.rt:7:5: it is not proved that {what} (`{goal}`); `search` gave up at one of its limits\n"
 
@@ -271,6 +308,14 @@ class Outputs(unittest.TestCase):
     def test_an_answer_that_does_not_fit(self):
         said = refused_answer("as printed, the two types differ only where one has `1`") + "fn toy::m::f: not proved"
         self.assertEqual(self.told(said).goals(), ["returns (its answer doesn't fit)"])
+
+    def test_a_goal_that_is_false(self):
+        said = open_goal("returns").replace("`search` gave up at one of its limits",
+                                            "the facts known there allow values at which this goal is false")
+        told = self.told(open_goal("low") + said + no_proof("m::f", "returns"))
+        self.assertEqual(told.goals(), ["low", "returns (false at some values)"])
+        self.assertTrue(check_output.is_by_values(f"m::f: {told.refusal()}"))
+        self.assertFalse(check_output.is_by_values("m::f: low"))
 
     def test_a_refusal_by_answers_alone(self):
         unfit = check_output.UNFIT
