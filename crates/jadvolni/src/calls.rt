@@ -8,8 +8,9 @@ ghost use Rattle.jadvolni.specs.Effect.{complete_call, complete_call_under, part
 use crate::format::FormatFields;
 use crate::outcome::{Outcome, UNKNOWN_FIELD};
 use crate::slot::Slot;
+use lexical_parse_integer::algorithm::value_if_short;
 use lexical_parse_integer::{
-    FromLexical, FromLexicalWithOptions, NumberFormatBuilder, Options, Result, options,
+    FromLexical, FromLexicalWithOptions, NumberFormatBuilder, Options, Result, format, options,
 };
 use lexical_util::num::Integer;
 
@@ -46,13 +47,25 @@ fn give_front<T: Integer, S: Slot<T>>(answer: Result<(T, usize)>, value: &mut S)
     }
 }
 
-/// The whole text, under the standard format.
+// The whole text, under the standard format, by one call for what isn't short.
+#[inline(never)]
+fn complete_any<T: FromLexical, S: Slot<T>>(text: &[u8], value: &mut S) -> Outcome
+    ensures { effect result (S.number value.new)
+        ≡ complete_call T.TYPE text.now (S.number value.old) }
+{
+    give(T::from_lexical(text), text.len(), value)
+}
+
+/// The whole text, under the standard format. A short one is read in place, so that an exported call keeps nothing.
 #[inline(always)]
 pub fn complete<T: FromLexical, S: Slot<T>>(text: &[u8], value: &mut S) -> Outcome
     ensures { effect result (S.number value.new)
         ≡ complete_call T.TYPE text.now (S.number value.old) }
 {
-    give(T::from_lexical(text), text.len(), value)
+    match value_if_short::<T>(text, &format::STANDARD) {
+        Some(number) => give(Ok(number), text.len(), value),
+        None => complete_any::<T, S>(text, value),
+    }
 }
 
 /// The text's front, under the standard format.

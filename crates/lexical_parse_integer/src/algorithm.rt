@@ -24,6 +24,7 @@ use crate::algorithm::head::{is_prefix_alone, read_head};
 use crate::algorithm::marked::{front_if_marked, value_if_marked};
 use crate::algorithm::numeral::read_digits;
 pub use crate::algorithm::plain::fields::{field_in_front, is_separated};
+pub use crate::algorithm::plain::value_if_short;
 use crate::algorithm::plain::{answer_in_radix, front_if_plain, value_if_plain};
 use crate::algorithm::zeros::read_first;
 use crate::cursor::Cursor;

@@ -13,6 +13,15 @@ use lexical_util::num::Integer;
 use lexical_util::options::ParseOptions;
 use lexical_util::result::Result;
 
+// The integer of a text that is not digits alone. In a function of its own the answer's room is cleared for such texts
+// only.
+#[inline(always)]
+fn complete_otherwise<T: Integer>(bytes: &[u8]) -> Result<T>
+    ensures { view_of T.number result ≡ complete standard T.TYPE bytes.now }
+{
+    standard_over_cursor::<T>(bytes)
+}
+
 /// An integer type that is read from decimal bytes.
 pub trait FromLexical: Integer {
     /// The integer that the whole text stands for: an optional sign, and at least one digit.
@@ -26,7 +35,7 @@ pub trait FromLexical: Integer {
     {
         match value_if_plain::<Self>(bytes, &format::STANDARD) {
             Some(value) => Ok(value),
-            None => standard_over_cursor::<Self>(bytes),
+            None => complete_otherwise::<Self>(bytes),
         }
     }
 

@@ -2,13 +2,13 @@
 use Rattle.std.proofs.Common.{◌≡◌, ℕ, zero, suc, ◌+◌, ◌-◌, ◌*◌, ◌/◌, ◌%◌, ◌^◌, ◌<◌, ◌≤◌, List, [], ◌∷◌, length, get_or, take, sym, ap, ◌∙◌, refl, subst, arith, bit_and, Option, Some, None}
 use Rattle.std.specs.Prelude.{slice_range, IfSome}
 use Rattle.std.specs.List.{AllByRecursion}
-use Rattle.std.proofs.lemmas.Nat.{and_mask}
+use Rattle.std.proofs.lemmas.Nat.{and_block, and_mask}
 use Rattle.std.proofs.Math.Nat.{pow-suc, pow-zero}
 use Rattle.std.proofs.lemmas.List.{get_or-take, length-take-le}
 use Rattle.lexical_parse_integer.specs.Plain.{WritesDecimal, bytes_number, with_more}
 use Rattle.lexical_parse_integer.specs.Words.{AreDigits, word_bytes, word_value}
 use Rattle.lexical_parse_integer.proofs.words.AsciiDigits.{AreAsciiDigits, IsAsciiDigit, ascii_from_digits, digits_from_ascii}
-use Rattle.lexical_parse_integer.proofs.plain.WordsOfDigits.{all_bytes, all_taken, bytes_again, holds_digits, padded, padded_value, raised_none}
+use Rattle.lexical_parse_integer.proofs.plain.WordsOfDigits.{all_bytes, all_taken, bytes_again, bytes_small, holds_digits, padded, padded_length, padded_value, raised_none}
 
 -- the number of a word's bytes is the word
 pub word_again : (n word : ℕ) → word < 256 ^ n → bytes_number (word_bytes n word) ≡ word
@@ -77,88 +77,130 @@ shifted k word low high small digits =
       small = holds.small;
     }
 
--- ---- four to eight bytes
+-- ---- four bytes
 
--- the first four bytes and the last four in one word: where its bytes are digits, all are
-pub whole_digits : (text : List ℕ) (first last : ℕ) → 4 ≤ length text → length text ≤ 8 → ((k : ℕ) → get_or text k 0 < 256) →
+-- neighbours are joined in pairs, and the pairs as one number
+joined : (a b c d : ℕ) → IsAsciiDigit 10 a → IsAsciiDigit 10 b → IsAsciiDigit 10 c → IsAsciiDigit 10 d →
+    bit_and ((bytes_number (a ∷ b ∷ c ∷ d ∷ []) - 808464432) * 2561 % 4294967296 / 2 ^ 8) 16711935 * 6553601 % 4294967296 / 2 ^ 16 ≡ word_value 10 (a ∷ b ∷ c ∷ d ∷ [])
+joined a b c d ia ib ic id =
+    let front : ℕ = (a - 48) * 10 + (b - 48) in
+    let middle : ℕ = (b - 48) * 10 + (c - 48) in
+    let back : ℕ = (c - 48) * 10 + (d - 48) in
+    let lanes : (bytes_number (a ∷ b ∷ c ∷ d ∷ []) - 808464432) * 2561 % 4294967296 / 2 ^ 8 ≡ back * 65536 + (front + 256 * middle) = omega (arith, ia.0, ia.1, ib.0, ib.1, ic.0, ic.1, id.0, id.1) in
+    let parted : bit_and (back * 65536 + (front + 256 * middle)) 16711935 ≡ bit_and back 255 * 65536 + bit_and (front + 256 * middle) 255 = and_block 16 back 255 (front + 256 * middle) 255 (omega (arith, ia.0, ia.1, ib.0, ib.1, ic.0, ic.1)) (omega arith) in
+    let high = and_mask back 8 in
+    let low = and_mask (front + 256 * middle) 8 in
+    let pairs : bit_and ((bytes_number (a ∷ b ∷ c ∷ d ∷ []) - 808464432) * 2561 % 4294967296 / 2 ^ 8) 16711935 ≡ back * 65536 + front = ap (λ (x : ℕ). bit_and x 16711935) lanes ∙ parted ∙ omega (arith, high, low, ia.0, ia.1, ib.0, ib.1, ic.0, ic.1, id.0, id.1) in
+    ap (λ (x : ℕ). x * 6553601 % 4294967296 / 2 ^ 16) pairs ∙ omega (arith, ia.0, ia.1, ib.0, ib.1, ic.0, ic.1, id.0, id.1)
+
+-- the same of a word
+pub joined_word : (word : ℕ) → word < 4294967296 → AreDigits 10 (word_bytes 4 word) → bit_and ((word - 808464432) * 2561 % 4294967296 / 2 ^ 8) 16711935 * 6553601 % 4294967296 / 2 ^ 16 ≡ word_value 10 (word_bytes 4 word)
+joined_word word small digits =
+    let ascii = ascii_from_digits 10 (word_bytes 4 word) (omega arith) digits in
+    let again : bytes_number (word_bytes 4 word) ≡ word = word_again 4 word small in
+    ap (λ (w : ℕ). bit_and ((w - 808464432) * 2561 % 4294967296 / 2 ^ 8) 16711935 * 6553601 % 4294967296 / 2 ^ 16) (sym again)
+    ∙ joined _ _ _ _ ascii.0 ascii.1.0 ascii.1.1.0 ascii.1.1.1.0
+
+-- ---- five to eight bytes
+
+half_bytes : (word : ℕ) (bytes : List ℕ) → AllByRecursion (λ byte. byte < 256) bytes → length bytes ≡ 4 → word ≡ bytes_number bytes → word_bytes 4 word ≡ bytes
+half_bytes word bytes below size is = ap (word_bytes 4) is ∙ ap (λ n. word_bytes n (bytes_number bytes)) (sym size) ∙ bytes_again bytes below
+
+-- the bytes of a word of four, where it is digits
+half_digits : (word : ℕ) (bytes : List ℕ) → AllByRecursion (λ byte. byte < 256) bytes → length bytes ≡ 4 → word ≡ bytes_number bytes → AreDigits 10 (word_bytes 4 word) → AreAsciiDigits 10 bytes
+half_digits word bytes below size is digits =
+    ascii_from_digits 10 bytes (omega arith) (subst (λ (bs : List ℕ). AreDigits 10 bs) (half_bytes word bytes below size is) digits)
+
+-- where the first four bytes and the last four are digits, all are
+pub whole_digits : (text : List ℕ) (first last : ℕ) → 4 < length text → length text ≤ 8 → ((k : ℕ) → get_or text k 0 < 256) →
     first ≡ bytes_number (slice_range text 0 4) → last ≡ bytes_number (slice_range text (length text - 4) (length text - 4 + 4)) →
-    AreDigits 10 (word_bytes 8 (last * 4294967296 % 18446744073709551616 + first)) → AreAsciiDigits 10 text
-whole_digits [] first last low high below is_first is_last digits = absurd (omega arith)
-whole_digits (a ∷ []) first last low high below is_first is_last digits = absurd (omega arith)
-whole_digits (a ∷ b ∷ []) first last low high below is_first is_last digits = absurd (omega arith)
-whole_digits (a ∷ b ∷ c ∷ []) first last low high below is_first is_last digits = absurd (omega arith)
-whole_digits (a ∷ b ∷ c ∷ d ∷ []) first last low high below is_first is_last digits =
-    let same : last * 4294967296 % 18446744073709551616 + first ≡ bytes_number (a ∷ b ∷ c ∷ d ∷ a ∷ b ∷ c ∷ d ∷ []) = omega (arith, is_first, is_last, below 0, below 1, below 2, below 3) in
-    let again : word_bytes 8 (last * 4294967296 % 18446744073709551616 + first) ≡ a ∷ b ∷ c ∷ d ∷ a ∷ b ∷ c ∷ d ∷ [] = ap (word_bytes 8) same ∙ bytes_again (a ∷ b ∷ c ∷ d ∷ a ∷ b ∷ c ∷ d ∷ []) (below 0, (below 1, (below 2, (below 3, (below 0, (below 1, (below 2, (below 3, tt)))))))) in
-    let d = ascii_from_digits 10 (a ∷ b ∷ c ∷ d ∷ a ∷ b ∷ c ∷ d ∷ []) (omega arith) (subst (λ (bs : List ℕ). AreDigits 10 bs) again digits) in
-    (d.0, (d.1.0, (d.1.1.0, (d.1.1.1.0, tt))))
-whole_digits (a ∷ b ∷ c ∷ d ∷ e ∷ []) first last low high below is_first is_last digits =
-    let same : last * 4294967296 % 18446744073709551616 + first ≡ bytes_number (a ∷ b ∷ c ∷ d ∷ b ∷ c ∷ d ∷ e ∷ []) = omega (arith, is_first, is_last, below 0, below 1, below 2, below 3, below 4) in
-    let again : word_bytes 8 (last * 4294967296 % 18446744073709551616 + first) ≡ a ∷ b ∷ c ∷ d ∷ b ∷ c ∷ d ∷ e ∷ [] = ap (word_bytes 8) same ∙ bytes_again (a ∷ b ∷ c ∷ d ∷ b ∷ c ∷ d ∷ e ∷ []) (below 0, (below 1, (below 2, (below 3, (below 1, (below 2, (below 3, (below 4, tt)))))))) in
-    let d = ascii_from_digits 10 (a ∷ b ∷ c ∷ d ∷ b ∷ c ∷ d ∷ e ∷ []) (omega arith) (subst (λ (bs : List ℕ). AreDigits 10 bs) again digits) in
-    (d.0, (d.1.0, (d.1.1.0, (d.1.1.1.0, (d.1.1.1.1.1.1.1.0, tt)))))
-whole_digits (a ∷ b ∷ c ∷ d ∷ e ∷ f ∷ []) first last low high below is_first is_last digits =
-    let same : last * 4294967296 % 18446744073709551616 + first ≡ bytes_number (a ∷ b ∷ c ∷ d ∷ c ∷ d ∷ e ∷ f ∷ []) = omega (arith, is_first, is_last, below 0, below 1, below 2, below 3, below 4, below 5) in
-    let again : word_bytes 8 (last * 4294967296 % 18446744073709551616 + first) ≡ a ∷ b ∷ c ∷ d ∷ c ∷ d ∷ e ∷ f ∷ [] = ap (word_bytes 8) same ∙ bytes_again (a ∷ b ∷ c ∷ d ∷ c ∷ d ∷ e ∷ f ∷ []) (below 0, (below 1, (below 2, (below 3, (below 2, (below 3, (below 4, (below 5, tt)))))))) in
-    let d = ascii_from_digits 10 (a ∷ b ∷ c ∷ d ∷ c ∷ d ∷ e ∷ f ∷ []) (omega arith) (subst (λ (bs : List ℕ). AreDigits 10 bs) again digits) in
-    (d.0, (d.1.0, (d.1.1.0, (d.1.1.1.0, (d.1.1.1.1.1.1.0, (d.1.1.1.1.1.1.1.0, tt))))))
-whole_digits (a ∷ b ∷ c ∷ d ∷ e ∷ f ∷ g ∷ []) first last low high below is_first is_last digits =
-    let same : last * 4294967296 % 18446744073709551616 + first ≡ bytes_number (a ∷ b ∷ c ∷ d ∷ d ∷ e ∷ f ∷ g ∷ []) = omega (arith, is_first, is_last, below 0, below 1, below 2, below 3, below 4, below 5, below 6) in
-    let again : word_bytes 8 (last * 4294967296 % 18446744073709551616 + first) ≡ a ∷ b ∷ c ∷ d ∷ d ∷ e ∷ f ∷ g ∷ [] = ap (word_bytes 8) same ∙ bytes_again (a ∷ b ∷ c ∷ d ∷ d ∷ e ∷ f ∷ g ∷ []) (below 0, (below 1, (below 2, (below 3, (below 3, (below 4, (below 5, (below 6, tt)))))))) in
-    let d = ascii_from_digits 10 (a ∷ b ∷ c ∷ d ∷ d ∷ e ∷ f ∷ g ∷ []) (omega arith) (subst (λ (bs : List ℕ). AreDigits 10 bs) again digits) in
-    (d.0, (d.1.0, (d.1.1.0, (d.1.1.1.0, (d.1.1.1.1.1.0, (d.1.1.1.1.1.1.0, (d.1.1.1.1.1.1.1.0, tt)))))))
-whole_digits (a ∷ b ∷ c ∷ d ∷ e ∷ f ∷ g ∷ h ∷ []) first last low high below is_first is_last digits =
-    let same : last * 4294967296 % 18446744073709551616 + first ≡ bytes_number (a ∷ b ∷ c ∷ d ∷ e ∷ f ∷ g ∷ h ∷ []) = omega (arith, is_first, is_last, below 0, below 1, below 2, below 3, below 4, below 5, below 6, below 7) in
-    let again : word_bytes 8 (last * 4294967296 % 18446744073709551616 + first) ≡ a ∷ b ∷ c ∷ d ∷ e ∷ f ∷ g ∷ h ∷ [] = ap (word_bytes 8) same ∙ bytes_again (a ∷ b ∷ c ∷ d ∷ e ∷ f ∷ g ∷ h ∷ []) (below 0, (below 1, (below 2, (below 3, (below 4, (below 5, (below 6, (below 7, tt)))))))) in
-    let d = ascii_from_digits 10 (a ∷ b ∷ c ∷ d ∷ e ∷ f ∷ g ∷ h ∷ []) (omega arith) (subst (λ (bs : List ℕ). AreDigits 10 bs) again digits) in
-    (d.0, (d.1.0, (d.1.1.0, (d.1.1.1.0, (d.1.1.1.1.0, (d.1.1.1.1.1.0, (d.1.1.1.1.1.1.0, (d.1.1.1.1.1.1.1.0, tt))))))))
-whole_digits (a ∷ b ∷ c ∷ d ∷ e ∷ f ∷ g ∷ h ∷ i ∷ rest) first last low high below is_first is_last digits = absurd (omega arith)
+    AreDigits 10 (word_bytes 4 first) → AreDigits 10 (word_bytes 4 last) → AreAsciiDigits 10 text
+whole_digits [] first last low high below is_first is_last front back = absurd (omega arith)
+whole_digits (a ∷ []) first last low high below is_first is_last front back = absurd (omega arith)
+whole_digits (a ∷ b ∷ []) first last low high below is_first is_last front back = absurd (omega arith)
+whole_digits (a ∷ b ∷ c ∷ []) first last low high below is_first is_last front back = absurd (omega arith)
+whole_digits (a ∷ b ∷ c ∷ d ∷ []) first last low high below is_first is_last front back = absurd (omega arith)
+whole_digits (a ∷ b ∷ c ∷ d ∷ e ∷ []) first last low high below is_first is_last front back =
+    let fs = half_digits first (a ∷ b ∷ c ∷ d ∷ []) (below 0, (below 1, (below 2, (below 3, tt)))) refl is_first front in
+    let ls = half_digits last (b ∷ c ∷ d ∷ e ∷ []) (below 1, (below 2, (below 3, (below 4, tt)))) refl is_last back in
+    (fs.0, (fs.1.0, (fs.1.1.0, (fs.1.1.1.0, (ls.1.1.1.0, tt)))))
+whole_digits (a ∷ b ∷ c ∷ d ∷ e ∷ f ∷ []) first last low high below is_first is_last front back =
+    let fs = half_digits first (a ∷ b ∷ c ∷ d ∷ []) (below 0, (below 1, (below 2, (below 3, tt)))) refl is_first front in
+    let ls = half_digits last (c ∷ d ∷ e ∷ f ∷ []) (below 2, (below 3, (below 4, (below 5, tt)))) refl is_last back in
+    (fs.0, (fs.1.0, (fs.1.1.0, (fs.1.1.1.0, (ls.1.1.0, (ls.1.1.1.0, tt))))))
+whole_digits (a ∷ b ∷ c ∷ d ∷ e ∷ f ∷ g ∷ []) first last low high below is_first is_last front back =
+    let fs = half_digits first (a ∷ b ∷ c ∷ d ∷ []) (below 0, (below 1, (below 2, (below 3, tt)))) refl is_first front in
+    let ls = half_digits last (d ∷ e ∷ f ∷ g ∷ []) (below 3, (below 4, (below 5, (below 6, tt)))) refl is_last back in
+    (fs.0, (fs.1.0, (fs.1.1.0, (fs.1.1.1.0, (ls.1.0, (ls.1.1.0, (ls.1.1.1.0, tt)))))))
+whole_digits (a ∷ b ∷ c ∷ d ∷ e ∷ f ∷ g ∷ h ∷ []) first last low high below is_first is_last front back =
+    let fs = half_digits first (a ∷ b ∷ c ∷ d ∷ []) (below 0, (below 1, (below 2, (below 3, tt)))) refl is_first front in
+    let ls = half_digits last (e ∷ f ∷ g ∷ h ∷ []) (below 4, (below 5, (below 6, (below 7, tt)))) refl is_last back in
+    (fs.0, (fs.1.0, (fs.1.1.0, (fs.1.1.1.0, (ls.0, (ls.1.0, (ls.1.1.0, (ls.1.1.1.0, tt))))))))
+whole_digits (a ∷ b ∷ c ∷ d ∷ e ∷ f ∷ g ∷ h ∷ i ∷ rest) first last low high below is_first is_last front back = absurd (omega arith)
 
--- those digits behind zeros
-filled_word : (text : List ℕ) (first last part : ℕ) → 4 ≤ length text → length text ≤ 8 → AreAsciiDigits 10 text →
-    first ≡ bytes_number (slice_range text 0 4) → last ≡ bytes_number (slice_range text (length text - 4) (length text - 4 + 4)) →
-    part ≡ (first - 808464432) * 2 ^ (64 - 8 * length text) % 18446744073709551616 % 4294967296 →
-    last * 4294967296 % 18446744073709551616 + part + 808464432 ≡ bytes_number (padded (8 - length text) (with_more 0 text))
-filled_word [] first last part low high ascii is_first is_last is_part = absurd (omega arith)
-filled_word (a ∷ []) first last part low high ascii is_first is_last is_part = absurd (omega arith)
-filled_word (a ∷ b ∷ []) first last part low high ascii is_first is_last is_part = absurd (omega arith)
-filled_word (a ∷ b ∷ c ∷ []) first last part low high ascii is_first is_last is_part = absurd (omega arith)
-filled_word (a ∷ b ∷ c ∷ d ∷ []) first last part low high ascii is_first is_last is_part = omega (arith, is_first, is_last, is_part, ascii.0.0, ascii.0.1, ascii.1.0.0, ascii.1.0.1, ascii.1.1.0.0, ascii.1.1.0.1, ascii.1.1.1.0.0, ascii.1.1.1.0.1)
-filled_word (a ∷ b ∷ c ∷ d ∷ e ∷ []) first last part low high ascii is_first is_last is_part = omega (arith, is_first, is_last, is_part, ascii.0.0, ascii.0.1, ascii.1.0.0, ascii.1.0.1, ascii.1.1.0.0, ascii.1.1.0.1, ascii.1.1.1.0.0, ascii.1.1.1.0.1, ascii.1.1.1.1.0.0, ascii.1.1.1.1.0.1)
-filled_word (a ∷ b ∷ c ∷ d ∷ e ∷ f ∷ []) first last part low high ascii is_first is_last is_part = omega (arith, is_first, is_last, is_part, ascii.0.0, ascii.0.1, ascii.1.0.0, ascii.1.0.1, ascii.1.1.0.0, ascii.1.1.0.1, ascii.1.1.1.0.0, ascii.1.1.1.0.1, ascii.1.1.1.1.0.0, ascii.1.1.1.1.0.1, ascii.1.1.1.1.1.0.0, ascii.1.1.1.1.1.0.1)
-filled_word (a ∷ b ∷ c ∷ d ∷ e ∷ f ∷ g ∷ []) first last part low high ascii is_first is_last is_part = omega (arith, is_first, is_last, is_part, ascii.0.0, ascii.0.1, ascii.1.0.0, ascii.1.0.1, ascii.1.1.0.0, ascii.1.1.0.1, ascii.1.1.1.0.0, ascii.1.1.1.0.1, ascii.1.1.1.1.0.0, ascii.1.1.1.1.0.1, ascii.1.1.1.1.1.0.0, ascii.1.1.1.1.1.0.1, ascii.1.1.1.1.1.1.0.0, ascii.1.1.1.1.1.1.0.1)
-filled_word (a ∷ b ∷ c ∷ d ∷ e ∷ f ∷ g ∷ h ∷ []) first last part low high ascii is_first is_last is_part = omega (arith, is_first, is_last, is_part, ascii.0.0, ascii.0.1, ascii.1.0.0, ascii.1.0.1, ascii.1.1.0.0, ascii.1.1.0.1, ascii.1.1.1.0.0, ascii.1.1.1.0.1, ascii.1.1.1.1.0.0, ascii.1.1.1.1.0.1, ascii.1.1.1.1.1.0.0, ascii.1.1.1.1.1.0.1, ascii.1.1.1.1.1.1.0.0, ascii.1.1.1.1.1.1.0.1, ascii.1.1.1.1.1.1.1.0.0, ascii.1.1.1.1.1.1.1.0.1)
-filled_word (a ∷ b ∷ c ∷ d ∷ e ∷ f ∷ g ∷ h ∷ i ∷ rest) first last part low high ascii is_first is_last is_part = absurd (omega arith)
+-- the first four bytes, of which those that are among the last four are shifted out
+front_word : (text : List ℕ) (first : ℕ) → 4 < length text → length text ≤ 8 → AreAsciiDigits 10 text → first ≡ bytes_number (slice_range text 0 4) →
+    (first - 808464432) * 2 ^ (64 - 8 * length text) % 4294967296 + 808464432 ≡ bytes_number (padded (8 - length text) (take (length text - 4) text))
+front_word [] first low high ascii is = absurd (omega arith)
+front_word (a ∷ []) first low high ascii is = absurd (omega arith)
+front_word (a ∷ b ∷ []) first low high ascii is = absurd (omega arith)
+front_word (a ∷ b ∷ c ∷ []) first low high ascii is = absurd (omega arith)
+front_word (a ∷ b ∷ c ∷ d ∷ []) first low high ascii is = absurd (omega arith)
+front_word (a ∷ b ∷ c ∷ d ∷ e ∷ []) first low high ascii is = omega (arith, is, ascii.0.0, ascii.0.1, ascii.1.0.0, ascii.1.0.1, ascii.1.1.0.0, ascii.1.1.0.1, ascii.1.1.1.0.0, ascii.1.1.1.0.1)
+front_word (a ∷ b ∷ c ∷ d ∷ e ∷ f ∷ []) first low high ascii is = omega (arith, is, ascii.0.0, ascii.0.1, ascii.1.0.0, ascii.1.0.1, ascii.1.1.0.0, ascii.1.1.0.1, ascii.1.1.1.0.0, ascii.1.1.1.0.1)
+front_word (a ∷ b ∷ c ∷ d ∷ e ∷ f ∷ g ∷ []) first low high ascii is = omega (arith, is, ascii.0.0, ascii.0.1, ascii.1.0.0, ascii.1.0.1, ascii.1.1.0.0, ascii.1.1.0.1, ascii.1.1.1.0.0, ascii.1.1.1.0.1)
+front_word (a ∷ b ∷ c ∷ d ∷ e ∷ f ∷ g ∷ h ∷ []) first low high ascii is = omega (arith, is, ascii.0.0, ascii.0.1, ascii.1.0.0, ascii.1.0.1, ascii.1.1.0.0, ascii.1.1.0.1, ascii.1.1.1.0.0, ascii.1.1.1.0.1)
+front_word (a ∷ b ∷ c ∷ d ∷ e ∷ f ∷ g ∷ h ∷ i ∷ rest) first low high ascii is = absurd (omega arith)
 
--- What the word of four to eight digits behind zeros holds.
-pub record HoldsText (text : List ℕ) (word : ℕ) : Type 0 where
-  pub small : word < 18446744073709551616
-  pub digits : AreDigits 10 (word_bytes 8 word)
-  pub worth : word_value 10 (word_bytes 8 word) ≡ word_value 10 text
+-- What the word of the first digits behind zeros holds.
+pub record HoldsFront (text : List ℕ) (word : ℕ) : Type 0 where
+  pub small : word < 4294967296
+  pub digits : AreDigits 10 (word_bytes 4 word)
+  pub worth : word_value 10 (word_bytes 4 word) ≡ word_value 10 (take (length text - 4) text)
 
-pub holds_text : (text : List ℕ) (first last : ℕ) → 4 ≤ length text → length text ≤ 8 → AreAsciiDigits 10 text →
-    first ≡ bytes_number (slice_range text 0 4) → last ≡ bytes_number (slice_range text (length text - 4) (length text - 4 + 4)) →
-    HoldsText text (last * 4294967296 % 18446744073709551616 + bit_and ((first - 808464432) * 2 ^ (64 - 8 * length text) % 18446744073709551616) 4294967295 + 808464432)
-holds_text text first last low high ascii is_first is_last =
-    let all = ascii_bytes text ascii in
-    let word = filled_word text first last _ low high ascii is_first is_last (and_mask ((first - 808464432) * 2 ^ (64 - 8 * length text) % 18446744073709551616) 32) in
-    let holds = holds_digits (8 - length text) 0 text _ (omega arith) all (first_small text ascii (omega arith)) word in
-    let bytes = holds.bytes ∙ ap (λ (cs : List ℕ). padded (8 - length text) cs) (raised_none text) in
+pub holds_front : (text : List ℕ) (first : ℕ) → 4 < length text → length text ≤ 8 → AreAsciiDigits 10 text → first ≡ bytes_number (slice_range text 0 4) →
+    HoldsFront text ((first - 808464432) * 2 ^ (64 - 8 * length text) % 4294967296 + 808464432)
+holds_front text first low high ascii is =
+    let front : List ℕ = take (length text - 4) text in
+    let taken = padded_ascii (8 - length text) front (taken_ascii (length text - 4) text ascii) in
+    let size : length (padded (8 - length text) front) ≡ 4 = let e = length-take-le (length text - 4) text (omega arith) in let f = padded_length (8 - length text) front in omega arith in
+    let word = front_word text first low high ascii is in
+    let bytes = half_bytes _ (padded (8 - length text) front) (ascii_bytes (padded (8 - length text) front) taken) size word in
+    let small = bytes_small (padded (8 - length text) front) (ascii_bytes (padded (8 - length text) front) taken) in
+    let power : 256 ^ length (padded (8 - length text) front) ≡ 4294967296 = ap (λ n. 256 ^ n) size in
     record {
-      small = holds.small;
-      digits = subst (λ (cs : List ℕ). AreDigits 10 cs) (sym bytes) (digits_from_ascii 10 (padded (8 - length text) text) (omega arith) (padded_ascii (8 - length text) text ascii));
-      worth = ap (word_value 10) bytes ∙ padded_value (8 - length text) text;
+      small = omega arith;
+      digits = subst (λ (bs : List ℕ). AreDigits 10 bs) (sym bytes) (digits_from_ascii 10 (padded (8 - length text) front) (omega arith) taken);
+      worth = ap (word_value 10) bytes ∙ padded_value (8 - length text) front;
     }
-  where
-    first_small : (text : List ℕ) → AreAsciiDigits 10 text → 4 ≤ length text → get_or text 0 0 + 0 < 256
-    first_small [] ascii low = absurd (omega arith)
-    first_small (b ∷ bs) ascii low = let high = ascii.0.1 in omega arith
 
 -- digits write the number that they are worth
 pub writes_text : (text : List ℕ) (number : ℕ) → AreDigits 10 text → number ≡ word_value 10 text → WritesDecimal 0 text number
 writes_text text number digits worth =
     let same = raised_none text in
     record { digits = subst (λ (bs : List ℕ). AreDigits 10 bs) (sym same) digits; worth = worth ∙ ap (word_value 10) (sym same) }
+
+-- the number of the first digits and that of the last four
+pub halves_write : (text : List ℕ) (last front back : ℕ) → 4 < length text → length text ≤ 8 → AreAsciiDigits 10 text →
+    last ≡ bytes_number (slice_range text (length text - 4) (length text - 4 + 4)) → front ≡ word_value 10 (take (length text - 4) text) → back ≡ word_value 10 (word_bytes 4 last) → WritesDecimal 0 text (front * 10000 + back)
+halves_write [] last front back low high ascii is is_front is_back = absurd (omega arith)
+halves_write (a ∷ []) last front back low high ascii is is_front is_back = absurd (omega arith)
+halves_write (a ∷ b ∷ []) last front back low high ascii is is_front is_back = absurd (omega arith)
+halves_write (a ∷ b ∷ c ∷ []) last front back low high ascii is is_front is_back = absurd (omega arith)
+halves_write (a ∷ b ∷ c ∷ d ∷ []) last front back low high ascii is is_front is_back = absurd (omega arith)
+halves_write (a ∷ b ∷ c ∷ d ∷ e ∷ []) last front back low high ascii is is_front is_back =
+    let value : back ≡ word_value 10 (b ∷ c ∷ d ∷ e ∷ []) = is_back ∙ ap (word_value 10) (half_bytes last (b ∷ c ∷ d ∷ e ∷ []) (ascii_bytes (b ∷ c ∷ d ∷ e ∷ []) ascii.1) refl is) in
+    writes_text (a ∷ b ∷ c ∷ d ∷ e ∷ []) (front * 10000 + back) (digits_from_ascii 10 (a ∷ b ∷ c ∷ d ∷ e ∷ []) (omega arith) ascii) (omega (arith, value, is_front, ascii.0.0, ascii.0.1, ascii.1.0.0, ascii.1.0.1, ascii.1.1.0.0, ascii.1.1.0.1, ascii.1.1.1.0.0, ascii.1.1.1.0.1, ascii.1.1.1.1.0.0, ascii.1.1.1.1.0.1))
+halves_write (a ∷ b ∷ c ∷ d ∷ e ∷ f ∷ []) last front back low high ascii is is_front is_back =
+    let value : back ≡ word_value 10 (c ∷ d ∷ e ∷ f ∷ []) = is_back ∙ ap (word_value 10) (half_bytes last (c ∷ d ∷ e ∷ f ∷ []) (ascii_bytes (c ∷ d ∷ e ∷ f ∷ []) ascii.1.1) refl is) in
+    writes_text (a ∷ b ∷ c ∷ d ∷ e ∷ f ∷ []) (front * 10000 + back) (digits_from_ascii 10 (a ∷ b ∷ c ∷ d ∷ e ∷ f ∷ []) (omega arith) ascii) (omega (arith, value, is_front, ascii.0.0, ascii.0.1, ascii.1.0.0, ascii.1.0.1, ascii.1.1.0.0, ascii.1.1.0.1, ascii.1.1.1.0.0, ascii.1.1.1.0.1, ascii.1.1.1.1.0.0, ascii.1.1.1.1.0.1, ascii.1.1.1.1.1.0.0, ascii.1.1.1.1.1.0.1))
+halves_write (a ∷ b ∷ c ∷ d ∷ e ∷ f ∷ g ∷ []) last front back low high ascii is is_front is_back =
+    let value : back ≡ word_value 10 (d ∷ e ∷ f ∷ g ∷ []) = is_back ∙ ap (word_value 10) (half_bytes last (d ∷ e ∷ f ∷ g ∷ []) (ascii_bytes (d ∷ e ∷ f ∷ g ∷ []) ascii.1.1.1) refl is) in
+    writes_text (a ∷ b ∷ c ∷ d ∷ e ∷ f ∷ g ∷ []) (front * 10000 + back) (digits_from_ascii 10 (a ∷ b ∷ c ∷ d ∷ e ∷ f ∷ g ∷ []) (omega arith) ascii) (omega (arith, value, is_front, ascii.0.0, ascii.0.1, ascii.1.0.0, ascii.1.0.1, ascii.1.1.0.0, ascii.1.1.0.1, ascii.1.1.1.0.0, ascii.1.1.1.0.1, ascii.1.1.1.1.0.0, ascii.1.1.1.1.0.1, ascii.1.1.1.1.1.0.0, ascii.1.1.1.1.1.0.1, ascii.1.1.1.1.1.1.0.0, ascii.1.1.1.1.1.1.0.1))
+halves_write (a ∷ b ∷ c ∷ d ∷ e ∷ f ∷ g ∷ h ∷ []) last front back low high ascii is is_front is_back =
+    let value : back ≡ word_value 10 (e ∷ f ∷ g ∷ h ∷ []) = is_back ∙ ap (word_value 10) (half_bytes last (e ∷ f ∷ g ∷ h ∷ []) (ascii_bytes (e ∷ f ∷ g ∷ h ∷ []) ascii.1.1.1.1) refl is) in
+    writes_text (a ∷ b ∷ c ∷ d ∷ e ∷ f ∷ g ∷ h ∷ []) (front * 10000 + back) (digits_from_ascii 10 (a ∷ b ∷ c ∷ d ∷ e ∷ f ∷ g ∷ h ∷ []) (omega arith) ascii) (omega (arith, value, is_front, ascii.0.0, ascii.0.1, ascii.1.0.0, ascii.1.0.1, ascii.1.1.0.0, ascii.1.1.0.1, ascii.1.1.1.0.0, ascii.1.1.1.0.1, ascii.1.1.1.1.0.0, ascii.1.1.1.1.0.1, ascii.1.1.1.1.1.0.0, ascii.1.1.1.1.1.0.1, ascii.1.1.1.1.1.1.0.0, ascii.1.1.1.1.1.1.0.1, ascii.1.1.1.1.1.1.1.0.0, ascii.1.1.1.1.1.1.1.0.1))
+halves_write (a ∷ b ∷ c ∷ d ∷ e ∷ f ∷ g ∷ h ∷ i ∷ rest) last front back low high ascii is is_front is_back = absurd (omega arith)
 
 -- ---- nine to sixteen bytes
 
@@ -178,11 +220,3 @@ front_writes k first text (Some p) few many below is digits worth =
     take_twice (suc j) zero bs few = absurd (omega arith)
     take_twice (suc j) (suc k) [] few = refl
     take_twice (suc j) (suc k) (b ∷ bs) few = ap (λ (rest : List ℕ). b ∷ rest) (take_twice j k bs (omega arith))
-
--- a word has room for both halves
-pub halves_fit : (text : List ℕ) (first last : ℕ) → 4 ≤ length text → ((k : ℕ) → get_or text k 0 < 256) → first ≡ bytes_number (slice_range text 0 4) → last * 4294967296 % 18446744073709551616 + first < 18446744073709551616
-halves_fit [] first last low below is = absurd (omega arith)
-halves_fit (a ∷ []) first last low below is = absurd (omega arith)
-halves_fit (a ∷ b ∷ []) first last low below is = absurd (omega arith)
-halves_fit (a ∷ b ∷ c ∷ []) first last low below is = absurd (omega arith)
-halves_fit (a ∷ b ∷ c ∷ d ∷ rest) first last low below is = omega (arith, is, below 0, below 1, below 2, below 3)

@@ -2,10 +2,11 @@
 ghost use Rattle.std.specs.Prelude.{◌≡◌};
 ghost use Rattle.lexical_parse_integer.specs.Answer.{with_place, view_of};
 ghost use Rattle.lexical_parse_integer.specs.Grammar.{complete_if_valid, partial_if_valid};
+ghost use Rattle.lexical_parse_integer.specs.Plain.{IsPlain};
 
 use crate::algorithm::marked::lone_mark::fault_of;
 use crate::algorithm::marked::value_if_beside_mark;
-use crate::algorithm::plain::{front_if_plain, value_if_plain};
+use crate::algorithm::plain::{front_if_plain, is_plain, value_if_short, value_of_plain};
 use crate::algorithm::{complete_with_marks, partial_with_marks};
 use crate::api::{FromLexical, FromLexicalWithOptions};
 use crate::options::Options;
@@ -13,19 +14,48 @@ use lexical_util::format::NumberFormat;
 use lexical_util::num::Integer;
 use lexical_util::result::Result;
 
-// The complete answer under a format that may be invalid.
+// The complete answer under a format that may be invalid. A short decimal text is read in place, and every other text by
+// one call, so that nothing is kept for after it.
 #[inline(always)]
 fn complete<T: Integer>(bytes: &[u8], format: &NumberFormat, options: &Options) -> Result<T>
     ensures { view_of T.number result ≡ complete_if_valid format.now T.TYPE bytes.now }
 {
-    match value_if_plain::<T>(bytes, format) {
+    match value_if_short::<T>(bytes, format) {
         Some(value) => Ok(value),
-        None => complete_beside_marks::<T>(bytes, format, options),
+        None => complete_out_of_line::<T>(bytes, format, options),
+    }
+}
+
+// The same by a call for formats without marks, or one for those with.
+#[inline(always)]
+fn complete_out_of_line<T: Integer>(
+    bytes: &[u8],
+    format: &NumberFormat,
+    options: &Options,
+) -> Result<T>
+    ensures { view_of T.number result ≡ complete_if_valid format.now T.TYPE bytes.now }
+{
+    if is_plain(format) {
+        complete_plain::<T>(bytes, format, options)
+    } else {
+        complete_beside_marks::<T>(bytes, format, options)
+    }
+}
+
+// The same under a format without marks.
+#[inline(never)]
+fn complete_plain<T: Integer>(bytes: &[u8], format: &NumberFormat, options: &Options) -> Result<T>
+    requires { IsPlain format.now }
+    ensures { view_of T.number result ≡ complete_if_valid format.now T.TYPE bytes.now }
+{
+    match value_of_plain::<T>(bytes, format) {
+        Some(value) => Ok(value),
+        None => complete_if_valid::<T>(bytes, format, options),
     }
 }
 
 // The same for a text under a format with marks, or for any that is left.
-#[inline(always)]
+#[inline(never)]
 fn complete_beside_marks<T: Integer>(
     bytes: &[u8],
     format: &NumberFormat,

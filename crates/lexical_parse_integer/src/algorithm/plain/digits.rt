@@ -1,10 +1,10 @@
 // The numbers that decimal digits write: a few by bytes, more by words of eight bytes. Digits 0 fill up a word that the
 // text doesn't, and no branch hangs on a digit.
-ghost use Rattle.std.specs.Prelude.{◌≡◌, ◌+◌, ◌*◌, ◌<◌, ◌≤◌, ◌^◌, ◌%◌, IfSome, length, slice_range, take};
+ghost use Rattle.std.specs.Prelude.{◌≡◌, ◌+◌, ◌-◌, ◌*◌, ◌/◌, ◌<◌, ◌≤◌, ◌^◌, ◌%◌, ◌∷◌, [], IfSome, get_or, length, slice_range, take};
 ghost use Rattle.lexical_parse_integer.specs.Plain.{WritesDecimal, bytes_number};
 ghost use Rattle.lexical_parse_integer.specs.Words.{AreDigits, word_bytes, word_value};
 
-use crate::algorithm::words::{is_8digits, parse_8digits};
+use crate::algorithm::words::{is_4digits, is_8digits, parse_8digits};
 
 // Eight digits 0.
 pub(super) const ZEROS: u64 = 0x3030_3030_3030_3030;
@@ -30,17 +30,17 @@ pub(super) fn first_word(text: &[u8]) -> u64
         return word_at(text, 0);
     }
     let shift = 64 - 8 * n as u32;
-    half_at(text, 0) + ((half_at(text, n - 4) >> shift) << 32)
+    half_at(text, 0) as u64 + ((half_at(text, n - 4) as u64 >> shift) << 32)
 }
 
 // Four bytes of a text.
 #[inline(always)]
-fn half_at(text: &[u8], at: usize) -> u64
+fn half_at(text: &[u8], at: usize) -> u32
     requires { at + 4 ≤ length text.now }
     ensures { result ≡ bytes_number (slice_range text.now at (at + 4)) }
 {
     let t = &text[at..at + 4];
-    u32::from_le_bytes([t[0], t[1], t[2], t[3]]) as u64
+    u32::from_le_bytes([t[0], t[1], t[2], t[3]])
 }
 
 // The digits 0 that fill a word below a shift.
@@ -110,51 +110,87 @@ fn numbers_of_words(first: u64, count: usize, last: u64) -> Option<(u32, u32)>
     }
 }
 
-// What the first and the middle one of up to three digits are worth. The last is worth 1, and one that is the last too
-// is worth nothing more.
-static FIRST: [u32; 4] = [0, 0, 10, 100];
+// What the digits of a text of up to four bytes are worth, by the length of the text and in the lanes of `spread`. A
+// product with these adds up the lanes, the first lane by the highest weight, in its highest lane.
+static WEIGHTS: [u64; 5] = [
+    0,
+    0x0000_0000_0000_0001,
+    0x000a_0000_0000_0001,
+    0x0064_0000_000a_0001,
+    0x03e8_0064_000a_0001,
+];
 
-static MIDDLE: [u32; 4] = [0, 0, 0, 10];
-
-// The number of one to three digits, with no branch for their count.
+// The bytes of a text of up to four, each in sixteen bits behind a digit 0. Where there are fewer, some stand twice.
 #[inline(always)]
-pub(super) fn number_to_3(text: &[u8]) -> Option<u32>
+fn spread(text: &[u8]) -> u64
     requires some { 1 ≤ length text.now }
-    requires few { length text.now ≤ 3 }
-    ensures writes { IfSome result (λ number. WritesDecimal 0 text.now number) }
-    ensures small { IfSome result (λ number. number < 1000) }
+    requires few { length text.now ≤ 4 }
+    ensures { result ≡ bytes_number (get_or text.now 0 0 ∷ 48
+        ∷ get_or text.now (length text.now / 4) 0 ∷ 48
+        ∷ get_or text.now (length text.now / 2) 0 ∷ 48
+        ∷ get_or text.now (length text.now - 1) 0 ∷ 48 ∷ []) }
 {
     let n = text.len();
-    let last = text[n - 1].wrapping_sub(b'0');
-    let middle = text[n / 2].wrapping_sub(b'0');
-    let first = text[0].wrapping_sub(b'0');
-    if (first < 10) & (middle < 10) & (last < 10) {
-        Some(first as u32 * FIRST[n] + middle as u32 * MIDDLE[n] + last as u32)
-    } else {
-        None
-    }
+    u64::from_le_bytes([
+        text[0],
+        b'0',
+        text[n / 4],
+        b'0',
+        text[n / 2],
+        b'0',
+        text[n - 1],
+        b'0',
+    ])
 }
 
-// The number of four to eight digits: the first four and the last four, which overlap.
+// The number of one to four digits, with no branch for their count.
+#[inline(always)]
+pub(super) fn number_to_4(text: &[u8]) -> Option<u32>
+    requires some { 1 ≤ length text.now }
+    requires few { length text.now ≤ 4 }
+    ensures writes { IfSome result (λ number. WritesDecimal 0 text.now number) }
+    ensures small { IfSome result (λ number. number < 65536) }
+{
+    let word = spread(text);
+    if !is_8digits(word, 10) {
+        return None;
+    }
+    Some(((word - ZEROS).wrapping_mul(WEIGHTS[text.len()]) >> 48) as u32)
+}
+
+// The number that four bytes write, of which it is known that they are digits: neighbours are joined in pairs, and the
+// pairs by a product that adds them up in its high half.
+#[inline(always)]
+fn number_of_4digits(word: u32) -> u32
+    requires { AreDigits 10 (word_bytes 4 word) }
+    ensures value { result ≡ word_value 10 (word_bytes 4 word) }
+    ensures small { result < 10000 }
+{
+    let joined = (word - 0x3030_3030).wrapping_mul(10 * 0x100 + 1);
+    let pairs = (joined >> 8) & 0x00ff_00ff;
+    pairs.wrapping_mul(100 * 0x1_0000 + 1) >> 16
+}
+
+// The number of five to eight digits: the first four and the last four, which overlap.
 //
 // The last ones are loaded first, here and below. Else the compiler takes the first byte of both ranges before it knows
 // the range, and loads the others one by one.
 #[inline(always)]
 pub(super) fn number_to_8(text: &[u8]) -> Option<u32>
-    requires some { 4 ≤ length text.now }
+    requires some { 4 < length text.now }
     requires few { length text.now ≤ 8 }
     ensures writes { IfSome result (λ number. WritesDecimal 0 text.now number) }
     ensures small { IfSome result (λ number. number < 100000000) }
 {
     let n = text.len();
-    let last = half_at(text, n - 4) << 32;
+    let last = half_at(text, n - 4);
     let first = half_at(text, 0);
-    if !is_8digits(last + first, 10) {
+    if !(is_4digits(first, 10) & is_4digits(last, 10)) {
         return None;
     }
     let shift = 64 - 8 * n as u32;
-    let front = ((first - 0x3030_3030) << shift) & 0xffff_ffff;
-    Some(number_of_digits(last + front + 0x3030_3030))
+    let front = number_of_4digits(((first - 0x3030_3030) << shift) + 0x3030_3030);
+    Some(front * 10000 + number_of_4digits(last))
 }
 
 // The numbers of the last eight of nine to sixteen digits, and of those before: of the first eight bytes, those that

@@ -6,7 +6,7 @@ ghost use Rattle.lexical_parse_integer.specs.Plain.{WritesValue};
 ghost use Rattle.lexical_parse_integer.specs.Value.{with_sign};
 
 use crate::algorithm::plain::digits::{
-    number_to_3, number_to_8, numbers_to_16, numbers_to_24, numbers_to_40,
+    number_to_4, number_to_8, numbers_to_16, numbers_to_24, numbers_to_40,
 };
 use lexical_util::num::Integer;
 
@@ -139,8 +139,8 @@ pub(super) fn value_of<T: Integer>(digits: &[u8], negative: bool) -> Option<T>
     ensures { IfSome result (λ value. WritesValue T.TYPE 0 negative digits.now (T.number value)) }
 {
     let n = digits.len();
-    if n <= 3 {
-        return value_to_8::<T>(number_to_3(digits)?, negative);
+    if n <= 4 {
+        return value_to_8::<T>(number_to_4(digits)?, negative);
     }
     if n <= 8 {
         return value_to_8::<T>(number_to_8(digits)?, negative);

@@ -1,25 +1,30 @@
 use Rattle.std.proofs.Common.{arith, ◌∙◌}
-use Rattle.lexical_parse_integer.proofs.words.AsciiDigits.{digits_from_ascii}
-use Rattle.lexical_parse_integer.proofs.plain.ShiftedWords.{halves_fit, holds_text, whole_digits, writes_text}
+use Rattle.std.proofs.lemmas.Bool.{and_parts}
+use Rattle.lexical_parse_integer.proofs.plain.ShiftedWords.{halves_write, holds_front, whole_digits}
 use Rattle.lexical_parse_integer.proofs.algorithm.plain.digits.number_to_8.Goals as goal
 
-pub overflow_add-last : goal.overflow_add-last
-overflow_add-last c = record { fits = halves_fit c.args.text.now c.half_at-first.result c.half_at-last.result c.requires.some (λ k. let f = c.type_inv.text k in omega arith) c.half_at-first.ensures }
-
-pub overflow_add-last-3 : goal.overflow_add-last-3
-overflow_add-last-3 c =
-    let ascii = whole_digits c.args.text.now _ _ c.requires.some c.requires.few (λ k. let f = c.type_inv.text k in omega arith) c.half_at-first.ensures c.half_at-last.ensures (c.is_8digits.ensures.0 c.if-not-is_8digits.false) in
-    let holds = holds_text c.args.text.now _ _ c.requires.some c.requires.few ascii c.half_at-first.ensures c.half_at-last.ensures in
+pub overflow_add-first : goal.overflow_add-first
+overflow_add-first c =
+    let both = and_parts _ _ c.if-not-is_4digits.false in
+    let ascii = whole_digits c.args.text.now _ _ c.requires.some c.requires.few (λ k. let f = c.type_inv.text k in omega arith) c.half_at-first.ensures c.half_at-last.ensures (c.is_4digits.ensures.0 both.0) (c.is_4digits-2.ensures.0 both.1) in
+    let holds = holds_front c.args.text.now _ c.requires.some c.requires.few ascii c.half_at-first.ensures in
     record { fits = holds.small }
 
-pub number_of_digits-requires : goal.number_of_digits-requires
-number_of_digits-requires c =
-    let ascii = whole_digits c.args.text.now _ _ c.requires.some c.requires.few (λ k. let f = c.type_inv.text k in omega arith) c.half_at-first.ensures c.half_at-last.ensures (c.is_8digits.ensures.0 c.if-not-is_8digits.false) in
-    let holds = holds_text c.args.text.now _ _ c.requires.some c.requires.few ascii c.half_at-first.ensures c.half_at-last.ensures in
+pub number_of_4digits-front-requires : goal.number_of_4digits-front-requires
+number_of_4digits-front-requires c =
+    let both = and_parts _ _ c.if-not-is_4digits.false in
+    let ascii = whole_digits c.args.text.now _ _ c.requires.some c.requires.few (λ k. let f = c.type_inv.text k in omega arith) c.half_at-first.ensures c.half_at-last.ensures (c.is_4digits.ensures.0 both.0) (c.is_4digits-2.ensures.0 both.1) in
+    let holds = holds_front c.args.text.now _ c.requires.some c.requires.few ascii c.half_at-first.ensures in
     holds.digits
+
+pub number_of_4digits-requires : goal.number_of_4digits-requires
+number_of_4digits-requires c =
+    let both = and_parts _ _ c.if-not-is_4digits.false in
+    c.is_4digits-2.ensures.0 both.1
 
 pub returns-clause-writes : goal.returns-clause-writes
 returns-clause-writes c =
-    let ascii = whole_digits c.args.text.now _ _ c.requires.some c.requires.few (λ k. let f = c.type_inv.text k in omega arith) c.half_at-first.ensures c.half_at-last.ensures (c.is_8digits.ensures.0 c.if-not-is_8digits.false) in
-    let holds = holds_text c.args.text.now _ _ c.requires.some c.requires.few ascii c.half_at-first.ensures c.half_at-last.ensures in
-    writes_text c.args.text.now _ (digits_from_ascii 10 c.args.text.now (omega arith) ascii) (c.number_of_digits.ensures.value ∙ holds.worth)
+    let both = and_parts _ _ c.if-not-is_4digits.false in
+    let ascii = whole_digits c.args.text.now _ _ c.requires.some c.requires.few (λ k. let f = c.type_inv.text k in omega arith) c.half_at-first.ensures c.half_at-last.ensures (c.is_4digits.ensures.0 both.0) (c.is_4digits-2.ensures.0 both.1) in
+    let holds = holds_front c.args.text.now _ c.requires.some c.requires.few ascii c.half_at-first.ensures in
+    halves_write c.args.text.now _ _ _ c.requires.some c.requires.few ascii c.half_at-last.ensures (c.number_of_4digits-front.ensures.value ∙ holds.worth) c.number_of_4digits.ensures.value
