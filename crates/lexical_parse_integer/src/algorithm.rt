@@ -24,7 +24,9 @@ use crate::algorithm::head::{is_prefix_alone, read_head};
 use crate::algorithm::marked::{front_if_marked, value_if_marked};
 use crate::algorithm::numeral::read_digits;
 pub use crate::algorithm::plain::fields::{field_in_front, is_separated};
-use crate::algorithm::plain::{answer_by_front, front_if_plain, signed_front, value_if_plain};
+use crate::algorithm::plain::{
+    answer_by_front, answer_by_words, front_if_plain, signed_front, value_if_plain,
+};
 use crate::algorithm::zeros::read_first;
 use crate::cursor::Cursor;
 use crate::options::{self, Options};
@@ -204,19 +206,29 @@ fn complete_over_cursor<T: Integer>(
     algorithm_complete_on::<T>(&mut Cursor::new(bytes, format), options)
 }
 
-// The same under the standard format, whose fields the compiler then folds into the code: a plus, and a byte that is no
-// digit, are found by words, and the rest over a cursor.
+// The same under the standard format, whose fields the compiler then folds into the code. A plus before up to seven
+// digits, and a byte after them, are found by a word: that part needs few registers, and stands alone for it.
 #[inline(never)]
 pub(crate) fn standard_over_cursor<T: Integer>(bytes: &[u8]) -> Result<T>
     ensures { view_of T.number result ≡ complete standard T.TYPE bytes.now }
 {
-    match answer_by_front::<T>(bytes) {
+    match answer_by_front::<T>(bytes, true) {
+        Some(answer) => answer,
+        None => standard_behind_word::<T>(bytes),
+    }
+}
+
+// What is left: by more words, or over a cursor.
+#[inline(never)]
+fn standard_behind_word<T: Integer>(bytes: &[u8]) -> Result<T>
+    ensures { view_of T.number result ≡ complete standard T.TYPE bytes.now }
+{
+    match answer_by_words::<T>(bytes) {
         Some(answer) => answer,
         None => standard_from_cursor::<T>(bytes),
     }
 }
 
-// What is left, out of line, so that the way by words keeps its values in registers.
 #[inline(never)]
 fn standard_from_cursor<T: Integer>(bytes: &[u8]) -> Result<T>
     ensures { view_of T.number result ≡ complete standard T.TYPE bytes.now }
@@ -292,7 +304,7 @@ fn partial_over_cursor<T: Integer>(
 pub(crate) fn standard_partial_over_cursor<T: Integer>(bytes: &[u8]) -> Result<(T, usize)>
     ensures { view_of (with_place T.number) result ≡ partial standard T.TYPE bytes.now }
 {
-    match signed_front::<T>(bytes) {
+    match signed_front::<T>(bytes, false) {
         Some(found) => Ok(found),
         None => standard_partial_from_cursor::<T>(bytes),
     }
