@@ -1,7 +1,7 @@
 // The decimal digits that a text begins with, and how many they are.
 //
-// Up to seven are found in the text's first word, with no branch for a digit: the bytes behind them are shifted out. How
-// many they are is a guess by the bits of the word; what is answered was tested.
+// They are found by words of eight bytes, with no branch for a digit: the lowest bit that a test of the word sets says
+// where they end, and the bytes behind them are shifted out.
 ghost use Rattle.std.specs.Prelude.{◌≡◌, ◌+◌, ◌%◌, ◌<◌, ◌≤◌, IfSome, IsTrue, get_or, length, slice_range, take};
 ghost use Rattle.lexical_parse_integer.specs.Plain.{WritesFirst, WritesValue, bytes_number};
 ghost use Rattle.lexical_parse_integer.specs.Words.{AreDigits, word_bytes, word_value};
