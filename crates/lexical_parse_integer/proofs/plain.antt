@@ -6,4 +6,5 @@ pub mod FieldsInFront
 pub mod FrontsByTable
 pub mod LongNumbers
 pub mod ShiftedWords
+pub mod WordsInFront
 pub mod WordsOfDigits

@@ -1,5 +1,5 @@
 -- Digits of any radix at the front of a text, behind an optional sign, read one byte after another.
-use Rattle.std.proofs.Common.{slice_get, ◌≡◌, ℕ, zero, suc, ◌+◌, ◌^◌, ◌<◌, ◌≤◌, Bool, true, false, ◌&&◌, not, List, [], ◌∷◌, length, get_or, map, take, refl, sym, ap, ◌∙◌, subst, arith, Ok, Err}
+use Rattle.std.proofs.Common.{slice_get, ◌≡◌, ℕ, zero, suc, ◌+◌, ◌-◌, ◌^◌, ◌<◌, ◌≤◌, Bool, true, false, ◌&&◌, not, List, [], ◌∷◌, length, get_or, map, take, refl, sym, ap, ◌∙◌, subst, arith, pos, Ok, Err}
 use Rattle.std.specs.Prelude.{◌==◌, ◌||◌, is_some, slice_range, ℤ, neg_ℤ, if◌then◌else◌, IsNone}
 use Rattle.std.proofs.Math.Seq.{take-length}
 use Rattle.std.proofs.lemmas.Bool.{and_parts, eqb-true, le-ltb, lt-ltb}
@@ -12,9 +12,12 @@ use Rattle.lexical_util.specs.Number.{IntegerType, IsNumber, is_number}
 use Rattle.lexical_parse_integer.specs.Grammar.{complete, partial}
 use Rattle.lexical_parse_integer.specs.Head.{sign}
 use Rattle.lexical_parse_integer.specs.Laws.{completion_of}
-use Rattle.lexical_parse_integer.specs.Plain.{BeginsInRadix, IsPlain, WritesFront, keeps_zero_rule}
+use Rattle.lexical_parse_integer.specs.Plain.{BeginsInRadix, BeginsWith, IsPlain, WritesFront, keeps_zero_rule}
 use Rattle.lexical_parse_integer.specs.Value.{positional_value, with_sign}
-use Rattle.lexical_parse_integer.proofs.plain.DigitsAlone.{behind_first, from_front, sign_of_digit_under, sign_of_minus_under}
+use Rattle.lexical_parse_integer.specs.Words.{AreDigits, word_value}
+use Rattle.lexical_parse_integer.proofs.words.AsciiDigits.{ascii_from_digits}
+use Rattle.lexical_parse_integer.proofs.plain.WordsOfDigits.{digits_below, raised_none}
+use Rattle.lexical_parse_integer.proofs.plain.DigitsAlone.{behind_first, from_front, have_digits, sign_of_digit_under, sign_of_minus_under}
 use Rattle.lexical_parse_integer.proofs.plain.DigitsByTable.{rule_in}
 use Rattle.lexical_parse_integer.proofs.plain.DigitsInFront.{StandsFrom, values_in_front}
 use Rattle.lexical_parse_integer.proofs.theorems.CompleteByPartial.{complete_is_completion}
@@ -100,6 +103,38 @@ signed_front_read f t r (b ∷ rest) false false start value count plain same ra
     let told : BeginsInRadix f t r false (b ∷ rest) value count = subst (λ (ds : List ℕ). BeginsInRadix f t r false ds value count) (from_front (b ∷ rest) start at) begins in
     behind_sign f t r (b ∷ rest) (b ∷ rest) (false, 0) value count plain same radix (sign_of_front f t r b rest value count plain told) (λ k. ap (slice_get (b ∷ rest)) (omega arith)) (omega arith) told
     ∙ ap (λ (k : ℕ). Ok (value, k + count)) (sym at)
+
+-- decimal digits by words
+ten_in_radix : (f : Format) (t : IntegerType) (negative : Bool) (digits : List ℕ) (value : ℤ) (count : ℕ) → BeginsWith f t negative digits value count → BeginsInRadix f t 10 negative digits value count
+ten_in_radix f t negative digits value count b =
+    let w = b.stands in
+    let bytes : List ℕ = take count digits in
+    let same = raised_none bytes in
+    let digits_are : AreDigits 10 bytes = subst (λ (bs : List ℕ). AreDigits 10 bs) same w.writes.digits in
+    let worth : w.number ≡ word_value 10 bytes = w.writes.worth ∙ ap (word_value 10) same in
+    record {
+      some = b.some;
+      within = b.within;
+      stops = b.stops;
+      rule = b.rule;
+      stands = record {
+        size = pos w.number;
+        writes = record {
+          values = map (λ byte. byte - 48) bytes;
+          digits = ap (map (λ byte. digit byte 10)) (take-length bytes) ∙ have_digits 10 bytes (omega arith) (ascii_from_digits 10 bytes (omega arith) digits_are);
+          worth = ap pos worth;
+          below = digits_below bytes (word_value 10 bytes) digits_are refl;
+        };
+        worth = w.worth;
+        fits = subst (λ (z : ℤ). is_number t z ≡ true) (sym w.worth) w.fits;
+      };
+    }
+
+pub signed_words_read : (f : Format) (t : IntegerType) (text : List ℕ) (negative plus : Bool) (start : ℕ) (value : ℤ) (count : ℕ) → IsPlain f → f.mantissa_radix ≡ 10 → 0 < length text →
+    negative ≡ (t.is_signed && (get_or text 0 0 == 45)) → plus ≡ (not f.no_positive_mantissa_sign && (get_or text 0 0 == 43)) → start ≡ bool_byte (negative || plus) →
+    BeginsWith f t negative (slice_range text start (length text)) value count → partial f t text ≡ Ok (value, start + count)
+signed_words_read f t text negative plus start value count plain ten some is_minus is_plus at begins =
+    signed_front_read f t 10 text negative plus start value count plain ten (record { low = omega arith; high = omega arith }) some is_minus is_plus at (ten_in_radix f t negative (slice_range text start (length text)) value count begins)
 
 -- ---- the whole text
 

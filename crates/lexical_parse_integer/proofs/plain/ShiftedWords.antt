@@ -46,11 +46,11 @@ taken_ascii zero bs all = tt
 taken_ascii (suc k) [] all = tt
 taken_ascii (suc k) (b ∷ bs) all = (all.0, taken_ascii k bs all.1)
 
-padded_ascii : (count : ℕ) (bs : List ℕ) → AreAsciiDigits 10 bs → AreAsciiDigits 10 (padded count bs)
+pub padded_ascii : (count : ℕ) (bs : List ℕ) → AreAsciiDigits 10 bs → AreAsciiDigits 10 (padded count bs)
 padded_ascii zero bs all = all
 padded_ascii (suc count) bs all = ((omega arith, omega arith), padded_ascii count bs all)
 
-ascii_bytes : (bs : List ℕ) → AreAsciiDigits 10 bs → AllByRecursion (λ byte. byte < 256) bs
+pub ascii_bytes : (bs : List ℕ) → AreAsciiDigits 10 bs → AllByRecursion (λ byte. byte < 256) bs
 ascii_bytes [] all = tt
 ascii_bytes (b ∷ bs) all = let high = all.0.1 in (omega arith, ascii_bytes bs all.1)
 

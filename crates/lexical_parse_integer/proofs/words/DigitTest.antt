@@ -58,14 +58,14 @@ abbrev pub lowered_word : ℕ → ℕ → ℕ
 lowered_word count word = word + (256 ^ count - repetition_of 48 count)
 
 -- a byte is a digit where neither sum sets the highest bit of its byte
-digit_from_low : (radix count word : ℕ) → radix ≤ 10 →
+pub digit_from_low : (radix count word : ℕ) → radix ≤ 10 →
     raised_word radix (suc count) word % 256 < 128 → lowered_word (suc count) word % 256 < 128 → IsAsciiDigit radix (word % 256)
 digit_from_low radix count word r p q =
     let e = pow-suc 256 count in
     let l = repetition_of-lt 48 count (omega arith) in
     (omega arith, omega arith)
 
-low_from_digit : (radix count word : ℕ) → radix ≤ 10 → IsAsciiDigit radix (word % 256) →
+pub low_from_digit : (radix count word : ℕ) → radix ≤ 10 → IsAsciiDigit radix (word % 256) →
     (raised_word radix (suc count) word % 256 < 128) × (lowered_word (suc count) word % 256 < 128)
 low_from_digit radix count word r d =
     let e = pow-suc 256 count in
@@ -73,11 +73,11 @@ low_from_digit radix count word r d =
     (omega arith, omega arith)
 
 -- and then nothing carries or borrows
-raised_rest : (radix count word : ℕ) → radix ≤ 10 → IsAsciiDigit radix (word % 256) →
+pub raised_rest : (radix count word : ℕ) → radix ≤ 10 → IsAsciiDigit radix (word % 256) →
     raised_word radix (suc count) word / 256 ≡ raised_word radix count (word / 256)
 raised_rest radix count word r d = omega arith
 
-lowered_rest : (radix count word : ℕ) → radix ≤ 10 → IsAsciiDigit radix (word % 256) →
+pub lowered_rest : (radix count word : ℕ) → radix ≤ 10 → IsAsciiDigit radix (word % 256) →
     lowered_word (suc count) word / 256 ≡ lowered_word count (word / 256)
 lowered_rest radix count word r d =
     let e = pow-suc 256 count in

@@ -54,7 +54,7 @@ pub(super) fn zeros_below(shift: u32) -> u64
 
 // The number that a word writes, of which it is known that it is eight digits.
 #[inline(always)]
-fn number_of_digits(word: u64) -> u32
+pub(super) fn number_of_digits(word: u64) -> u32
     requires { AreDigits 10 (word_bytes 8 word) }
     ensures value { result ≡ word_value 10 (word_bytes 8 word) }
     ensures small { result < 100000000 }

@@ -1,50 +1,104 @@
 // The decimal digits that a text begins with, and how many they are.
 //
-// Up to seven are found in the text's first word, with no branch for a digit: the bytes behind them are shifted out. How
-// many they are is a guess by the bits of the word; what is answered was tested.
-ghost use Rattle.std.specs.Prelude.{◌≡◌, ◌+◌, ◌%◌, ◌<◌, ◌≤◌, IfSome, IsTrue, get_or, length, take};
-ghost use Rattle.lexical_parse_integer.specs.Plain.{WritesDecimal, WritesValue};
+// They are found by words of eight bytes, with no branch for a digit: the lowest bit that a test of the word sets says
+// where they end, and the bytes behind them are shifted out.
+ghost use Rattle.std.specs.Prelude.{◌≡◌, ◌+◌, ◌%◌, ◌<◌, ◌≤◌, IfSome, IsTrue, get_or, length, slice_range, take};
+ghost use Rattle.lexical_parse_integer.specs.Plain.{WritesFirst, WritesValue, bytes_number};
+ghost use Rattle.lexical_parse_integer.specs.Words.{AreDigits, word_bytes, word_value};
 
-use crate::algorithm::plain::digits::{ZEROS, first_word, number_of_word, zeros_below};
+use crate::algorithm::plain::digits::{ZEROS, first_word, number_of_digits, word_at};
 use crate::algorithm::plain::values::{value_of, value_of_long};
 use lexical_util::num::Integer;
 
-// How many of the lowest bytes of a word seem to be digits.
+// How many digits a word begins with: the lowest byte comes first. Carries and borrows run upwards alone, so that the
+// lowest bit that is set tells of the first byte that is no digit.
 #[inline(always)]
 fn digits_ahead(word: u64) -> u32
-    ensures { result ≤ 8 }
+    ensures few { result ≤ 8 }
+    ensures digits { AreDigits 10 (take result (word_bytes 8 word)) }
+    ensures stops { result < 8
+        → 10 ≤ (get_or (word_bytes 8 word) result 0 + 208) % 256 }
 {
     let stops = word.wrapping_add(0x4646_4646_4646_4646) | word.wrapping_sub(ZEROS);
     (stops & 0x8080_8080_8080_8080).trailing_zeros() / 8
 }
 
-// The number of one to seven digits at the front of a text, behind which no digit stands, and how many they are.
+// The number that the first digits of a word write, so many: what stands after them is shifted out, and digits 0 come
+// in front. One shift of a whole word isn't allowed, so that there are two.
 #[inline(always)]
-pub(super) fn number_in_front(text: &[u8]) -> Option<(u32, usize)>
-    requires { 4 ≤ length text.now }
-    ensures some { IfSome result (λ found. 1 ≤ found.1) }
-    ensures few { IfSome result (λ found. found.1 < 8) }
-    ensures within { IfSome result (λ found. found.1 ≤ length text.now) }
-    ensures writes { IfSome result (λ found. WritesDecimal 0 (take found.1 text.now) found.0) }
-    ensures small { IfSome result (λ found. found.0 < 100000000) }
-    ensures stops { IfSome result (λ found. found.1 < length text.now
-        → 10 ≤ (get_or text.now found.1 0 + 208) % 256) }
+fn number_of_front(word: u64, count: u32) -> u32
+    requires few { count ≤ 8 }
+    requires digits { AreDigits 10 (take count (word_bytes 8 word)) }
+    ensures value { result ≡ word_value 10 (take count (word_bytes 8 word)) }
+    ensures small { result < 100000000 }
 {
-    let word = first_word(text);
+    let half = 32 - 4 * count;
+    let digits = word.wrapping_sub(ZEROS) << half << half;
+    number_of_digits(digits + ZEROS)
+}
+
+// The number of the digits that a text begins with, and how many they are, where its first eight bytes are this word.
+#[inline(always)]
+fn front_in_word(text: &[u8], word: u64) -> (u32, usize)
+    requires { word ≡ bytes_number (take 8 text.now) }
+    ensures front { WritesFirst text.now result.0 result.1 }
+    ensures small { result.0 < 100000000 }
+{
     let count = digits_ahead(word);
-    let at = count as usize;
-    if count == 0 || count > 7 || at > text.len() {
-        return None;
+    (number_of_front(word, count), count as usize)
+}
+
+// One to three bytes of a text, with no branch for their count: one that is read twice is put twice to one place.
+#[inline(always)]
+fn short_word(text: &[u8]) -> u64
+    requires some { 1 ≤ length text.now }
+    requires few { length text.now ≤ 3 }
+    ensures { result ≡ bytes_number (take 8 text.now) }
+{
+    let n = text.len();
+    let middle = (text[n / 2] as u64) << (8 * (n / 2) as u32);
+    let last = (text[n - 1] as u64) << (8 * (n - 1) as u32);
+    text[0] as u64 | middle | last
+}
+
+// The number of the digits among the first eight bytes of a text, and how many they are.
+#[inline(always)]
+pub(super) fn number_in_front(text: &[u8]) -> (u32, usize)
+    requires { 1 ≤ length text.now }
+    ensures front { WritesFirst text.now result.0 result.1 }
+    ensures small { result.0 < 100000000 }
+{
+    if text.len() >= 4 {
+        front_in_word(text, first_word(text))
+    } else {
+        front_in_word(text, short_word(text))
     }
-    if at < text.len() && text[at].wrapping_sub(b'0') < 10 {
-        return None;
+}
+
+// Eight bytes of a text from a place on that has eight before it. Bytes 0 stand behind the text.
+#[inline(always)]
+fn next_word(text: &[u8], at: usize) -> u64
+    requires behind { 8 ≤ at }
+    requires within { at < length text.now }
+    ensures { result ≡ bytes_number (take 8 (slice_range text.now at (length text.now))) }
+{
+    let n = text.len();
+    let rest = n - at;
+    if rest >= 8 {
+        return word_at(text, at);
     }
-    let shift = 64 - 8 * count;
-    let first = word << shift;
-    match number_of_word(first + zeros_below(shift)) {
-        Some(number) => Some((number, at)),
-        None => None,
-    }
+    word_at(text, n - 8) >> (64 - 8 * rest as u32)
+}
+
+// The number of the digits among the eight bytes from such a place on, and how many they are.
+#[inline(always)]
+pub(super) fn number_behind(text: &[u8], at: usize) -> (u32, usize)
+    requires behind { 8 ≤ at }
+    requires within { at < length text.now }
+    ensures front { WritesFirst (slice_range text.now at (length text.now)) result.0 result.1 }
+    ensures small { result.0 < 100000000 }
+{
+    front_in_word(&text[at..], next_word(text, at))
 }
 
 // How many of the first twenty-four bytes of a text seem to be digits, where eight do at least: a guess by its words.

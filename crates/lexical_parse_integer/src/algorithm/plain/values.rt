@@ -12,7 +12,7 @@ use lexical_util::num::Integer;
 
 // How many numbers from 0 up a type has.
 #[inline(always)]
-fn limit<T: Integer>() -> u64
+pub(super) fn limit<T: Integer>() -> u64
     requires { T.TYPE.bits ≤ 32 }
     ensures { result ≡ number_limit T.TYPE }
 {
