@@ -68,6 +68,10 @@ head_signed f t text h is minus = by_sign (sign f t text) refl is
         let negative : s.0 ≡ true = sym (by_prefix s (prefix_radix f text s.1)) ∙ ap (λ (g : Head). g.is_minus) same ∙ minus in
         sign_minus f t text s.1 (here ∙ ap (λ (b : Bool). Ok (b, s.1)) negative)
 
+-- the same of the sign
+pub signed_minus : (f : Format) (t : IntegerType) (text : List ℕ) (s : Bool × ℕ) → sign f t text ≡ Ok s → s.0 ≡ true → t.is_signed ≡ true
+signed_minus f t text s signed minus = sign_minus f t text s.1 (signed ∙ ap (λ (b : Bool). Ok (b, s.1)) minus)
+
 -- the head by its parts
 pub head_marked : (f : Format) (t : IntegerType) (text : List ℕ) (s : Bool × ℕ) (r : ℕ) → sign f t text ≡ Ok s → Some r ≡ prefix_radix f text s.1 → head_of f t text ≡ Ok (record { is_minus = s.0; is_marked = true; start = s.1 + 2; radix = r })
 unfolding head_of
@@ -316,6 +320,22 @@ row_read f t text h end value valid head some within reached rule all worth =
     let size : h.start + (end - h.start) ≡ end = omega arith in
     let count : length (slice_range text h.start end) ≡ end - h.start = subst (λ (k : ℕ). length (slice_range text h.start k) ≡ end - h.start) size (length-ahead text h.start (end - h.start) (omega arith)) in
     region_read f t text h end value valid head some within reached rule (row_grouped f h.radix (slice_range text h.start end) (omega arith) all) worth
+
+-- the same up to the text's end, behind a prefix
+pub prefixed_read : (f : Format) (t : IntegerType) (text : List ℕ) (s : Bool × ℕ) (r : ℕ) (value : ℤ) → IsNone (fault f) → sign f t text ≡ Ok s → Some r ≡ prefix_radix f text s.1 → s.1 + 2 < length text →
+    AreDigitsOnly r (slice_range text (s.1 + 2) (length text)) → AreWorth t r s.0 (slice_range text (s.1 + 2) (length text)) value → complete f t text ≡ Ok value
+prefixed_read f t text s r value valid signed here some all worth =
+    row_read f t text _ (length text) value valid (head_marked f t text s r signed here) some (omega arith) (no_suffix_past f text) refl all worth
+
+no_octal_zero : (f : Format) (text : List ℕ) (place : ℕ) → f.literal_octal_zero ≡ false → false ≡ octal_zero_at f text place
+unfolding octal_zero_at
+no_octal_zero f text place off = rw off refl
+
+-- the same without a prefix, and without octal zeros
+pub bare_read : (f : Format) (t : IntegerType) (text : List ℕ) (s : Bool × ℕ) (r : ℕ) (value : ℤ) → IsNone (fault f) → f.literal_octal_zero ≡ false → sign f t text ≡ Ok s → None ≡ prefix_radix f text s.1 → s.1 < length text → r ≡ f.mantissa_radix →
+    keeps_zero_rule f (slice_range text s.1 (length text)) ≡ true → AreDigitsOnly r (slice_range text s.1 (length text)) → AreWorth t r s.0 (slice_range text s.1 (length text)) value → complete f t text ≡ Ok value
+bare_read f t text s r value valid off signed none some same rule all worth =
+    row_read f t text _ (length text) value valid (head_bare f t text s false r signed none (no_octal_zero f text s.1 off) same) some (omega arith) (no_suffix_past f text) rule all worth
 
 -- the same in radix 10
 pub decimal_read : (f : Format) (t : IntegerType) (text : List ℕ) (h : Head) (end : ℕ) (value : ℤ) → IsNone (fault f) → head_of f t text ≡ Ok h → h.start < end → end ≤ length text → stop_after f text end ≡ length text →

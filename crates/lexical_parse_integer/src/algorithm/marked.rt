@@ -13,11 +13,13 @@ ghost use Rattle.lexical_parse_integer.specs.Plain.{StandsFor, keeps_zero_rule};
 ghost use Rattle.lexical_parse_integer.specs.Runs.{are_same};
 
 pub(crate) mod lone_mark;
+mod prefixed;
 mod separated;
 mod threes;
 
 use crate::affixes::{octal_zero_at, prefix_radix, suffix_at};
-use crate::algorithm::marked::lone_mark::{is_valid_in_row, is_valid_with_separator};
+use crate::algorithm::marked::lone_mark::is_valid_with_separator;
+use crate::algorithm::marked::prefixed::{value_if_behind_prefix, value_if_literal};
 use crate::algorithm::marked::separated::{value_of_decimal_groups, value_of_groups};
 use crate::algorithm::marked::threes::{value_of_few, value_of_threes};
 use crate::algorithm::plain::fronts::value_of_digits;
@@ -273,17 +275,6 @@ fn value_of_short_row<T: Integer>(digits: &[u8], radix: u32, negative: bool) -> 
     None
 }
 
-// The value of the whole text, where that is few digits alone behind sign and prefix.
-#[inline(always)]
-fn value_if_one_row<T: Integer>(bytes: &[u8], format: &NumberFormat) -> Option<T>
-    requires valid { IsNone (fault format.now) }
-    ensures { IfSome result (λ value. complete format.now T.TYPE bytes.now ≡ Ok (T.number value)) }
-{
-    let region = region_of::<T>(bytes, format)?;
-    let digits = &bytes[region.front.start..region.end];
-    value_of_short_row::<T>(digits, region.front.radix, region.front.is_minus)
-}
-
 // The value of the whole text, where that is decimal digits with a separator before each three.
 #[inline(always)]
 fn value_if_threes<T: Integer>(bytes: &[u8], format: &NumberFormat, separator: u8) -> Option<T>
@@ -303,22 +294,9 @@ fn value_if_threes<T: Integer>(bytes: &[u8], format: &NumberFormat, separator: u
     value_of_threes::<T>(digits, format, separator, region.front.is_minus)
 }
 
-// The value of the whole text under a format that may be invalid, where it has a prefix alone or literal prefixes.
+// The value of the whole text under a format that may be invalid, where it has a separator alone.
 //
-// It stays out of line, as the next, so that all that it needs stays in registers.
-#[inline(never)]
-fn value_if_behind_prefix<T: Integer>(bytes: &[u8], format: &NumberFormat) -> Option<T>
-    ensures valid { IfSome result (λ value. IsNone (fault format.now)) }
-    ensures answer { IfSome result
-        (λ value. complete format.now T.TYPE bytes.now ≡ Ok (T.number value)) }
-{
-    if !is_valid_in_row(format) {
-        return None;
-    }
-    value_if_one_row::<T>(bytes, format)
-}
-
-// The same, where the format has a separator alone.
+// It stays out of line, as the value behind a prefix, so that all that it needs stays in registers.
 #[inline(never)]
 fn value_if_between_separators<T: Integer>(
     bytes: &[u8],
@@ -345,7 +323,8 @@ pub(crate) fn value_if_beside_mark<T: Integer>(bytes: &[u8], format: &NumberForm
 {
     match format.digit_separator() {
         Some(separator) => value_if_between_separators::<T>(bytes, format, separator),
-        None => value_if_behind_prefix::<T>(bytes, format),
+        None if format.has_base_prefix() => value_if_behind_prefix::<T>(bytes, format),
+        None => value_if_literal::<T>(bytes, format),
     }
 }
 

@@ -7,16 +7,16 @@ use lexical_util::digit::char_to_digit;
 use lexical_util::error::Error;
 use lexical_util::format::NumberFormat;
 
-// Whether a byte may be a mark.
+// Whether a byte may be a mark. Most marks are letters, and so digits of greater radixes.
 #[inline(always)]
 fn is_fit(byte: u8, radix: u32) -> bool
     requires radix { IsRadix radix }
     ensures { IsTrue result → is_unfit_byte radix byte ≡ false }
 {
-    if byte >= 128 || byte == b'+' || byte == b'-' {
-        return false;
+    match char_to_digit(byte, 36) {
+        Some(digit) => digit >= radix,
+        None => byte < 128 && byte != b'+' && byte != b'-',
     }
-    char_to_digit(byte, radix).is_none()
 }
 
 // Whether a mark that stands alone is fit, in a radix and beside no literal prefixes.
@@ -52,21 +52,43 @@ pub(super) fn is_valid_with_separator(format: &NumberFormat, separator: u8) -> b
     is_fit(separator, 10)
 }
 
-// Whether a format is valid that has a prefix alone, or literal prefixes alone.
+// Whether a format has a suffix or octal zeros: one test of both.
 #[inline(always)]
-pub(super) fn is_valid_in_row(format: &NumberFormat) -> bool
-    ensures { IsTrue result → fault format.now ≡ None }
+fn has_suffix_or_octal_zeros(format: &NumberFormat) -> bool
+    ensures suffix { result ≡ false → format.now.base_suffix ≡ None }
+    ensures octal_zeros { result ≡ false → format.now.literal_octal_zero ≡ false }
 {
-    if format.base_suffix().is_some() || format.literal_octal_zero() {
-        return false;
-    }
-    if format.digit_separator().is_some() {
+    format.base_suffix().is_some() | format.literal_octal_zero()
+}
+
+// Whether a format without a separator is valid that has a prefix, and no other mark.
+#[inline(always)]
+pub(super) fn is_valid_with_prefix(format: &NumberFormat) -> bool
+    requires separator { format.now.digit_separator ≡ None }
+    ensures valid { IsTrue result → fault format.now ≡ None }
+    ensures octal_zeros { IsTrue result → format.now.literal_octal_zero ≡ false }
+{
+    if has_suffix_or_octal_zeros(format) {
         return false;
     }
     match format.base_prefix() {
-        Some(mark) => is_fit_alone(format, mark),
-        None => format.literal_prefixes() && format.mantissa_radix() == 10,
+        Some(prefix) => is_fit_alone(format, prefix),
+        None => false,
     }
+}
+
+// The same of a format without a prefix that has literal prefixes, and no other mark.
+#[inline(always)]
+pub(super) fn is_valid_with_literals(format: &NumberFormat) -> bool
+    requires separator { format.now.digit_separator ≡ None }
+    requires prefix { format.now.base_prefix ≡ None }
+    ensures valid { IsTrue result → fault format.now ≡ None }
+    ensures octal_zeros { IsTrue result → format.now.literal_octal_zero ≡ false }
+{
+    if has_suffix_or_octal_zeros(format) {
+        return false;
+    }
+    format.literal_prefixes() && format.mantissa_radix() == 10
 }
 
 // Whether a format is valid that has a prefix alone, a separator alone, literal prefixes alone, or no mark.
@@ -74,7 +96,7 @@ pub(super) fn is_valid_in_row(format: &NumberFormat) -> bool
 fn is_valid_with_lone_mark(format: &NumberFormat) -> bool
     ensures { IsTrue result → fault format.now ≡ None }
 {
-    if format.base_suffix().is_some() | format.literal_octal_zero() {
+    if has_suffix_or_octal_zeros(format) {
         return false;
     }
     match (format.digit_separator(), format.base_prefix()) {
