@@ -304,9 +304,7 @@ fn value_if_threes<T: Integer>(bytes: &[u8], format: &NumberFormat, separator: u
 }
 
 // The value of the whole text under a format that may be invalid, where it has a prefix alone or literal prefixes.
-//
-// It stays out of line, as the next, so that all that it needs stays in registers.
-#[inline(never)]
+#[inline(always)]
 fn value_if_behind_prefix<T: Integer>(bytes: &[u8], format: &NumberFormat) -> Option<T>
     ensures valid { IfSome result (λ value. IsNone (fault format.now)) }
     ensures answer { IfSome result
@@ -319,7 +317,7 @@ fn value_if_behind_prefix<T: Integer>(bytes: &[u8], format: &NumberFormat) -> Op
 }
 
 // The same, where the format has a separator alone.
-#[inline(never)]
+#[inline(always)]
 fn value_if_between_separators<T: Integer>(
     bytes: &[u8],
     format: &NumberFormat,
