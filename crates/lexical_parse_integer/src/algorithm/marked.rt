@@ -295,9 +295,7 @@ fn value_if_threes<T: Integer>(bytes: &[u8], format: &NumberFormat, separator: u
 }
 
 // The value of the whole text under a format that may be invalid, where it has a separator alone.
-//
-// It stays out of line, as the value behind a prefix, so that all that it needs stays in registers.
-#[inline(never)]
+#[inline(always)]
 fn value_if_between_separators<T: Integer>(
     bytes: &[u8],
     format: &NumberFormat,
