@@ -2,6 +2,7 @@
 use lexical_parse_integer::cursor::Cursor;
 use lexical_parse_integer::format::STANDARD;
 use lexical_parse_integer::{NumberFormat, NumberFormatBuilder};
+use std::process::Abort;
 
 /// A sign, a prefix, digits with separators between them, and a suffix.
 pub fn with_all_parts() -> NumberFormat {
@@ -34,26 +35,31 @@ fn a_new_cursor_shows_its_text(rt: HostRuntime) {
     assert!(rt; Cursor::new(b"", &STANDARD).is_contiguous());
 }
 
+// A cursor is in this state.
+fn stands(rt: &impl Abort, c: &Cursor<'_>, want: (usize, usize, usize, bool)) {
+    assert_eq!(rt; state(c), want);
+}
+
 #[test]
 fn a_cursor_reads_part_by_part(rt: HostRuntime) {
     let format = with_all_parts();
     assert!(rt; format.is_valid());
     let mut c = Cursor::new(b"+0x1_23h.", &format);
     c.step_sign();
-    assert_eq!(rt; state(&c), (1, 1, 0, false));
+    stands(&rt, &c, (1, 1, 0, false));
     assert!(rt; c.read_prefix());
-    assert_eq!(rt; state(&c), (3, 3, 0, false));
+    stands(&rt, &c, (3, 3, 0, false));
     assert_eq!(rt; c.next_digit(), Some(1));
-    assert_eq!(rt; state(&c), (4, 3, 1, false));
+    stands(&rt, &c, (4, 3, 1, false));
     assert_eq!(rt; c.first(), Some(b'_'));
     assert_eq!(rt; c.next_digit(), Some(2));
-    assert_eq!(rt; state(&c), (6, 3, 2, false));
+    stands(&rt, &c, (6, 3, 2, false));
     assert!(rt; !c.read_suffix());
     assert_eq!(rt; c.next_digit(), Some(3));
     assert_eq!(rt; c.next_digit(), None);
-    assert_eq!(rt; state(&c), (7, 3, 3, false));
+    stands(&rt, &c, (7, 3, 3, false));
     assert!(rt; c.read_suffix());
-    assert_eq!(rt; state(&c), (8, 3, 3, true));
+    stands(&rt, &c, (8, 3, 3, true));
     assert_eq!(rt; c.first(), Some(b'.'));
 }
 

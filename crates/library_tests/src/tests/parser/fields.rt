@@ -2,6 +2,7 @@
 use lexical_parse_integer::NumberFormatBuilder;
 use lexical_parse_integer::algorithm::{field_in_front, is_separated};
 use lexical_parse_integer::format::{JSON, NumberFormat, STANDARD};
+use std::process::Abort;
 
 // The first field between these separators, where it may be read so.
 fn front(text: &[u8], separator: u8, format: &NumberFormat) -> Option<(i16, usize)> {
@@ -11,31 +12,49 @@ fn front(text: &[u8], separator: u8, format: &NumberFormat) -> Option<(i16, usiz
     field_in_front::<i16>(text, separator, format)
 }
 
+// What is read so of a text with a separator.
+fn begins_with(
+    rt: &impl Abort,
+    (text, separator): (&[u8], u8),
+    format: &NumberFormat,
+    want: Option<(i16, usize)>,
+) {
+    let found = front(text, separator, format);
+    assert_eq!(rt; found, want, "{}", text.escape_ascii());
+}
+
+fn separates(rt: &impl Abort, byte: u8, format: &NumberFormat, want: bool) {
+    assert_eq!(rt; is_separated(format, byte), want, "byte {byte}");
+}
+
 #[test]
 fn first_fields(rt: HostRuntime) {
-    assert_eq!(rt; front(b"12,345,x,67", b',', &STANDARD), Some((12, 2)));
-    assert_eq!(rt; front(b"-32767\n1234", b'\n', &STANDARD), Some((-32767, 6)));
-    assert_eq!(rt; front(b"0;;;;;;;;;;", b';', &JSON), Some((0, 1)));
-    assert_eq!(rt; front(b"01;;;;;;;;;", b';', &JSON), None);
-    assert_eq!(rt; front(b"32768,5,6,7", b',', &STANDARD), None);
-    assert_eq!(rt; front(b"12 ,345,x,6", b',', &STANDARD), None);
-    assert_eq!(rt; front(b",1,2,3,4,5,", b',', &STANDARD), None);
-    assert_eq!(rt; front(b"12", b',', &STANDARD), None);
-    assert_eq!(rt; front(b"", b',', &STANDARD), None);
+    begins_with(&rt, (b"12,345,x,67", b','), &STANDARD, Some((12, 2)));
+    begins_with(&rt, (b"-32767\n1234", b'\n'), &STANDARD, Some((-32767, 6)));
+    begins_with(&rt, (b"0;;;;;;;;;;", b';'), &JSON, Some((0, 1)));
+    begins_with(&rt, (b"01;;;;;;;;;", b';'), &JSON, None);
+    begins_with(&rt, (b"32768,5,6,7", b','), &STANDARD, None);
+    begins_with(&rt, (b"12 ,345,x,6", b','), &STANDARD, None);
+    begins_with(&rt, (b",1,2,3,4,5,", b','), &STANDARD, None);
+    begins_with(&rt, (b"12", b','), &STANDARD, None);
+    begins_with(&rt, (b"", b','), &STANDARD, None);
 }
 
 #[test]
 fn separators(rt: HostRuntime) {
-    assert!(rt; is_separated(&STANDARD, b'x') && is_separated(&JSON, 255));
-    assert!(rt; is_separated(&STANDARD, b'+') && is_separated(&STANDARD, 0));
-    assert!(rt; !is_separated(&STANDARD, b'0') && !is_separated(&STANDARD, b'9'));
-    assert!(rt; !is_separated(&STANDARD, b'-'));
+    separates(&rt, b'x', &STANDARD, true);
+    separates(&rt, 255, &JSON, true);
+    separates(&rt, b'+', &STANDARD, true);
+    separates(&rt, 0, &STANDARD, true);
+    separates(&rt, b'0', &STANDARD, false);
+    separates(&rt, b'9', &STANDARD, false);
+    separates(&rt, b'-', &STANDARD, false);
     let hexadecimal = NumberFormatBuilder::new()
         .mantissa_radix(16)
         .build_unchecked();
-    assert!(rt; !is_separated(&hexadecimal, b','));
+    separates(&rt, b',', &hexadecimal, false);
     let grouped = NumberFormatBuilder::new()
         .digit_separator(Some(b'_'))
         .build_unchecked();
-    assert!(rt; !is_separated(&grouped, b','));
+    separates(&rt, b',', &grouped, false);
 }
