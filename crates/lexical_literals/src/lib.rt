@@ -91,7 +91,8 @@ fn number(text: &[u8], format: &NumberFormat, decimal: bool) -> (Kind, usize)
     marked_number(text, format)
 }
 
-// The same for any number.
+// The same for any number: out of line, so that what calls `next` has it in place.
+#[inline(never)]
 fn marked_number(text: &[u8], format: &NumberFormat) -> (Kind, usize)
     requires valid { IsNone (fault format.now) }
     ensures { result ≡ number_of format.now text.now }
@@ -202,6 +203,7 @@ impl<'a> Iterator for Tokens<'a> {
     ghost remaining = { item_count (λ left. left) };
 
     /// The next token, and `None` where only skipped bytes are left, now and at each later call.
+    #[inline(always)]
     fn next(&mut self) -> Option<Token<'a>> {
         // The law by which a number isn't empty, and `length` is within the text.
         front_end();

@@ -98,14 +98,19 @@ fn has_no_sign<T: Integer>(bytes: &[u8], format: &NumberFormat) -> bool
     first >= b'0' && !format.required_mantissa_sign()
 }
 
-// Whether a text begins with a byte that is no zero, and so with no prefix.
-#[inline(always)]
-#[tactic(auto, unfolding(crate::specs::Affixes::prefix_radix, crate::specs::Runs::are_same))]
-fn has_no_zero(bytes: &[u8], format: &NumberFormat) -> bool
-    requires { 0 < length bytes.now }
-    ensures { IsTrue result → None ≡ prefix_radix format.now bytes.now 0 }
+// The value of the whole text, where a prefix begins it: out of line, so that the reader of decimal texts is small.
+#[inline(never)]
+fn value_behind_literal_prefix<T: Integer>(
+    bytes: &[u8],
+    format: &NumberFormat,
+    radix: u32,
+) -> Option<T>
+    requires valid { IsNone (fault format.now) }
+    requires sign { sign format.now T.TYPE bytes.now ≡ Ok (false, 0) }
+    requires prefix { Some radix ≡ prefix_radix format.now bytes.now 0 }
+    ensures { IfSome result (λ value. complete format.now T.TYPE bytes.now ≡ Ok (T.number value)) }
 {
-    bytes[0] != b'0'
+    value_behind_prefix::<T>(bytes, format, (false, 0), radix)
 }
 
 // The value of the whole text under a format that may be invalid, where it has a prefix and no other mark.
@@ -127,8 +132,7 @@ pub(super) fn value_if_behind_prefix<T: Integer>(bytes: &[u8], format: &NumberFo
     value_with_sign::<T>(bytes, format)
 }
 
-// The same, where it has literal prefixes and no other mark. What begins with another digit than 0 is decimal, and
-// mostly the whole text is.
+// The same, where it has literal prefixes and no other mark.
 #[inline(never)]
 pub(super) fn value_if_literal<T: Integer>(bytes: &[u8], format: &NumberFormat) -> Option<T>
     requires separator { format.now.digit_separator ≡ None }
@@ -140,8 +144,11 @@ pub(super) fn value_if_literal<T: Integer>(bytes: &[u8], format: &NumberFormat) 
     if bytes.is_empty() || !is_valid_with_literals(format) {
         return None;
     }
-    if has_no_sign::<T>(bytes, format) && has_no_zero(bytes, format) {
-        return value_without_prefix::<T>(bytes, format, (false, 0));
+    if !has_no_sign::<T>(bytes, format) {
+        return value_with_sign::<T>(bytes, format);
     }
-    value_with_sign::<T>(bytes, format)
+    match prefix_radix(bytes, format, 0) {
+        Some(radix) => value_behind_literal_prefix::<T>(bytes, format, radix),
+        None => value_without_prefix::<T>(bytes, format, (false, 0)),
+    }
 }

@@ -1,0 +1,175 @@
+#!/usr/bin/env python3
+"""Measures the tokens of a source: `lexical_literals::Tokens` beside a lexer written by hand.
+
+    bench/tokens.py [--bytes N] [--rounds N] [--seed N]
+
+A source has 10,000,000 bytes. The two take turns in one run, and have to find the same tokens before any time counts; of
+each the least time counts. Where callgrind is installed, instructions are counted too, on a shorter source. It needs the
+toolchain and rustc. It writes a table of docs/SPEED.md, and prints it. The gate runs none of this.
+"""
+from __future__ import annotations
+
+import argparse
+import datetime
+import os
+import random
+import re
+import shutil
+import subprocess
+import sys
+
+import build
+
+PAGE = os.path.join(build.TOP, "docs", "SPEED.md")
+MEASURED = re.compile(r"(<!-- measured: bench/tokens.py writes this -->\n)(?s:.*?)(<!-- end of what was measured -->)")
+CRATES = ("lexical_util", "lexical_parse_integer", "lexical_literals")
+COUNTED = 100_000
+PEERS = ("a lexer by hand", "ours")
+
+CALLERS = """// Loops over the tokens of a source, for a driver in Rust.
+#![tactic(auto)]
+
+use lexical_literals::{Kind, Tokens};
+
+/// What the tokens add up to, so that no part of one can be left out.
+#[unsafe(no_mangle)]
+pub extern "C" fn ours_tokens(source: &[u8]) -> u64 {
+    let mut sum = 0u64;
+    for token in Tokens::new(source) {
+        let worth = match token.kind {
+            Kind::Number(value) => (value % 0x1_0000_0000_0000_0000) as u64,
+            Kind::Word => 1,
+            Kind::Byte => 2,
+            Kind::Fault(_) => 3,
+        };
+        let places = token.start.wrapping_add(token.stop).wrapping_add(token.text.len());
+        sum = sum.wrapping_mul(31).wrapping_add(worth).wrapping_add(places as u64);
+    }
+    sum
+}
+
+/// How many tokens there are.
+#[unsafe(no_mangle)]
+pub extern "C" fn ours_count(source: &[u8]) -> usize {
+    Tokens::new(source).count()
+}
+"""
+
+WORDS = "if else while return total count index value next size left right buffer_length is_valid x i n".split()
+
+
+def decimal(random_: random.Random) -> str:
+    return str(random_.randrange(10 ** random_.choice((1, 1, 2, 2, 3, 4, 6, 9, 18))))
+
+
+# What a source has, by how many of ten operands are so.
+OPERANDS = {
+    "mixed": [(5, lambda random_: random_.choice(WORDS)), (3, decimal), (1, lambda random_: f"0x{random_.randrange(2 ** 32):X}"),
+              (1, lambda random_: f"{random_.randrange(10 ** 6):_}")],
+    "decimal numbers": [(10, decimal)],
+    "hexadecimal numbers": [(10, lambda random_: f"0x{random_.randrange(2 ** random_.randint(4, 64)):x}")],
+    "grouped numbers": [(5, lambda random_: f"{random_.randrange(10 ** 4, 10 ** 9):_}"),
+                        (5, lambda random_: f"0x{random_.randrange(2 ** 16, 2 ** 32):_x}")],
+    "words": [(10, lambda random_: random_.choice(WORDS))],
+}
+
+
+def source(kind: str, size: int, seed: int) -> bytes:
+    """Lines such as `total = 12 + (0x1F * left);`."""
+    random_ = random.Random(seed)
+    weights, makers = zip(*OPERANDS[kind])
+    lines: list[str] = []
+    held = 0
+    while held < size:
+        one, two, three = (maker(random_) for maker in random_.choices(makers, weights, k=3))
+        line = f"    {random_.choice(WORDS)} = {one} {random_.choice('+-*/')} ({two}, {three});\n"
+        lines.append(line)
+        held += len(line)
+    return "".join(lines).encode()[:size]
+
+
+def driver() -> str:
+    """The driver's path, over the measured library, proved in a tree of its own."""
+    room = os.path.join(build.room(), "tokens")
+    folder = os.path.join(room, "crates", "bench_tokens")
+    os.makedirs(os.path.join(folder, "src"), exist_ok=True)
+    for crate in CRATES:
+        build.copy(os.path.join(build.TOP, "crates", crate), os.path.join(room, "crates", crate))
+    build.write(os.path.join(room, "crates.txt"), "lexical_util:\nlexical_parse_integer: lexical_util\n"
+                "lexical_literals: lexical_util lexical_parse_integer\n"
+                "bench_tokens staticlib: lexical_util lexical_parse_integer lexical_literals\n")
+    build.write(os.path.join(folder, "src", "lib.rt"), CALLERS)
+    build.run([os.environ.get("RT", "rt"), "lib"], folder)
+    peer = os.path.join(room, "tokens_rs")
+    build.run(["rustc", "--edition=2024", "-O", "-Ctarget-cpu=x86-64-v2", "-L", os.path.join(folder, "out"),
+               "-lstatic=bench_tokens", os.path.join(build.HERE, "driver", "tokens.rs"), "-o", peer], room)
+    return peer
+
+
+def instructions(peer: str, path: str, name: str) -> int:
+    """How many instructions a run has that goes over the source once."""
+    ran = subprocess.run(["valgrind", "--tool=callgrind", "--callgrind-out-file=/dev/null", peer, path, "once", name],
+                         capture_output=True, text=True)
+    found = re.search(r"Collected : (\d+)", ran.stderr)
+    if not found:
+        sys.exit(f"bench: callgrind counted nothing: {ran.stderr.strip()[-300:]}")
+    return int(found[1])
+
+
+def told(peer: str, path: str, rounds: int) -> dict[str, float]:
+    """What the driver prints."""
+    said = subprocess.run([peer, path, str(rounds)], capture_output=True, text=True, check=True).stdout
+    return {name: float(found) for name, found in (line.split("\t") for line in said.splitlines())}
+
+
+def measured(peer: str, kind: str, asked: argparse.Namespace) -> str:
+    """A line of the table."""
+    path = os.path.join(build.room(), "tokens", "source")
+    with open(path, "wb") as file:
+        file.write(source(kind, asked.bytes, asked.seed))
+    found = told(peer, path, asked.rounds)
+    hand, ours = (found[name] for name in PEERS)
+    counts = "–"
+    if shutil.which("valgrind"):
+        with open(path, "wb") as file:
+            file.write(source(kind, COUNTED, asked.seed))
+        tokens = told(peer, path, 1)["tokens"]
+        none = instructions(peer, path, "none")
+        counts = " / ".join(f"{(instructions(peer, path, name) - none) / tokens:.0f}" for name in PEERS)
+    os.remove(path)
+    return f"| {kind} | {hand:.1f} | {ours / hand:.2f} | {counts} |"
+
+
+def write(lines: list[str], asked: argparse.Namespace, load: float) -> None:
+    """Writes the table of docs/SPEED.md."""
+    said = [f"Measured on {datetime.date.today().isoformat()}: {os.cpu_count()} processors, load {load:.1f} at the start; "
+            f"{asked.bytes} bytes, seed {asked.seed}, {asked.rounds} rounds.", "",
+            "A source is lines such as `total = 12 + (0x1F, left);`. In the table a lexer by hand takes 1, for each token.", "",
+            "| operands | a lexer by hand, ns | ours | instructions: by hand / ours |", "|---|---|---|---|", *lines, ""]
+    with open(PAGE, encoding="utf-8") as file:
+        page = file.read()
+    with open(PAGE, "w", encoding="utf-8") as file:
+        file.write(MEASURED.sub(lambda found: found[1] + "\n".join(said) + "\n" + found[2], page))
+
+
+def main() -> int:
+    parser = argparse.ArgumentParser(description=__doc__, formatter_class=argparse.RawDescriptionHelpFormatter)
+    parser.add_argument("--bytes", type=int, default=10_000_000, help="how long a source is")
+    parser.add_argument("--rounds", type=int, default=25, help="how often each source is read")
+    parser.add_argument("--seed", type=int, default=1, help="what the sources come from")
+    asked = parser.parse_args()
+    lacking = [name for name in (os.environ.get("RT", "rt"), "rustc") if not shutil.which(name)]
+    if lacking:
+        sys.exit(f"bench: it needs {', '.join(lacking)}")
+    load = os.getloadavg()[0]
+    peer = driver()
+    lines = []
+    for kind in OPERANDS:
+        lines.append(measured(peer, kind, asked))
+        print(lines[-1], flush=True)
+    write(lines, asked, load)
+    return 0
+
+
+if __name__ == "__main__":
+    sys.exit(main())
