@@ -5,5 +5,6 @@ pub mod DigitsInFront
 pub mod FieldsInFront
 pub mod FrontsByTable
 pub mod LongNumbers
+pub mod Nibbles
 pub mod ShiftedWords
 pub mod WordsOfDigits
