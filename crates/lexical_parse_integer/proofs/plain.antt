@@ -5,6 +5,7 @@ pub mod DigitsInFront
 pub mod FieldsInFront
 pub mod FrontsByTable
 pub mod LongNumbers
+pub mod Nibbles
 pub mod ShiftedWords
 pub mod WordsInFront
 pub mod WordsOfDigits

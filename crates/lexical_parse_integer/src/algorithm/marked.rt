@@ -24,6 +24,7 @@ use crate::algorithm::marked::separated::{value_of_decimal_groups, value_of_grou
 use crate::algorithm::marked::threes::{value_of_few, value_of_threes};
 use crate::algorithm::plain::fronts::value_of_digits;
 use crate::algorithm::plain::keeps_zero_rule;
+use crate::algorithm::plain::nibbles::value_of_nibbles;
 use crate::algorithm::plain::table::value_by_table;
 use lexical_util::digit::char_to_digit;
 use lexical_util::format::NumberFormat;
@@ -110,14 +111,15 @@ fn end_before_suffix(bytes: &[u8], format: &NumberFormat) -> usize
     }
 }
 
-// The value of hexadecimal digits alone, behind a minus where that is negative. Out of line its loop keeps all that it
-// needs in registers.
+// The value of hexadecimal digits alone, behind a minus where that is negative. Out of line it keeps all that it needs in
+// registers.
 #[inline(never)]
 fn value_of_hexadecimal<T: Integer>(digits: &[u8], negative: bool) -> Option<T>
+    requires some { 1 ≤ length digits.now }
     requires minus { IsTrue negative → IsTrue T.TYPE.is_signed }
     ensures { IfSome result (λ value. StandsFor T.TYPE 16 negative digits.now (T.number value)) }
 {
-    value_by_table::<T>(digits, 16, negative)
+    value_of_nibbles::<T>(digits, negative)
 }
 
 // The value of digits of the radix alone.
@@ -270,7 +272,7 @@ fn value_of_short_row<T: Integer>(digits: &[u8], radix: u32, negative: bool) -> 
         return value_of_few::<T>(digits, negative);
     }
     if radix == 16 {
-        return value_by_table::<T>(digits, 16, negative);
+        return value_of_nibbles::<T>(digits, negative);
     }
     None
 }
