@@ -3,11 +3,11 @@
 
     bench/program.py [--lines N] [--rounds N] [--seed N]
 
-The lines are `c u64 TEXT`. The programs are driver/program.rs, once with `writeln!` and once with digits of its own. All take
-turns, read the lines from a file, and write to /dev/null; of each the least processor time counts, of the user and of the
-system together. All have to answer alike before their time counts. Callgrind counts instructions, where it is there. It needs
-the toolchain and `rustc`, writes bench/program.tsv and a table of docs/SPEED.md, and prints what it sees. The gate runs none
-of this.
+The lines are `c u64 TEXT`. The programs are driver/program.rs, once with `writeln!` and once with digits of its own.
+All take turns, read the lines from a file, and write to /dev/null; of each the least processor time counts, of the user
+and of the system together. All have to answer alike before their time counts. Callgrind counts instructions, where it
+is there. It needs the toolchain and `rustc`, writes bench/program.tsv and a table of docs/SPEED.md, and prints what it
+sees. The gate runs none of this.
 """
 from __future__ import annotations
 
@@ -40,8 +40,10 @@ def programs(folder: str) -> Programs:
     """The programs by their names, ours first."""
     subprocess.run(["make", "-s", "lexint"], cwd=TOP, check=True, stdout=subprocess.DEVNULL)
     peer = os.path.join(folder, "program")
-    subprocess.run(["rustc", "-O", "-Ctarget-cpu=x86-64-v2", os.path.join(HERE, "driver", "program.rs"), "-o", peer], check=True)
-    return {OURS: [os.path.join(TOP, "crates", "lexint", "out", "lexint")], "writeln!": [peer, "writeln"], "own digits": [peer, "digits"]}
+    source = os.path.join(HERE, "driver", "program.rs")
+    subprocess.run(["rustc", "-O", "-Ctarget-cpu=x86-64-v2", source, "-o", peer], check=True)
+    ours = os.path.join(TOP, "crates", "lexint", "out", "lexint")
+    return {OURS: [ours], "writeln!": [peer, "writeln"], "own digits": [peer, "digits"]}
 
 
 def processor_time(words: list[str], path: str) -> float:
@@ -102,9 +104,11 @@ def write(rows: list[str], asked: argparse.Namespace, load: float) -> None:
     """Writes bench/program.tsv and the table of docs/SPEED.md."""
     on = (f"{datetime.date.today().isoformat()}: {os.cpu_count()} processors, load {load:.1f} at the start; "
           f"{asked.lines} lines, seed {asked.seed}, {asked.rounds} rounds.")
-    head = ["lines", "lexint, s", "to writeln!", "to own digits", "instructions to writeln!", "instructions to own digits"]
+    head = ["lines", "lexint, s", "to writeln!", "to own digits", "instructions to writeln!",
+            "instructions to own digits"]
     with open(os.path.join(HERE, "program.tsv"), "w", encoding="utf-8") as file:
-        file.write("\n".join([f"# The program, measured by bench/program.py on {on}", "\t".join(head), *rows]) + "\n")
+        first = f"# The program, measured by bench/program.py on {on}"
+        file.write("\n".join([first, "\t".join(head), *rows]) + "\n")
     with open(PAGE, encoding="utf-8") as file:
         page = file.read()
     table = ["| " + " | ".join(head) + " |", "|---" * len(head) + "|",

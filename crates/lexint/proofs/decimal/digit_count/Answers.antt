@@ -1,4 +1,4 @@
-use Rattle.std.proofs.Common.{◌∙◌, suc, sym, ap, arith}
+use Rattle.std.proofs.Common.{arith}
 use Rattle.lexint.proofs.DecimalSteps.{digits_between}
 use Rattle.lexint.proofs.decimal.digit_count.Goals as goal
 
