@@ -96,3 +96,4 @@ bench: | toolchain ## measures the parsers beside others, and writes bench/resul
 	@RT=$(RT) bench/run.py $(BENCH)
 	@RT=$(RT) bench/columns.py
 	@RT=$(RT) bench/tokens.py
+	@RT=$(RT) bench/program.py

@@ -1,4 +1,5 @@
 -- The lemmas of the proofs, a file for each subject.
+pub mod CommandLines
 pub mod LineSteps
 pub mod DecimalSteps
 pub mod Pieces

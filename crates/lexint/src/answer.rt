@@ -1,7 +1,7 @@
 //! One line's answer.
 
 ghost use Rattle.std.specs.Prelude.{◌≡◌, ◌∷◌, [], Some, ◌++◌, codes, OnOk, OnErr, IsOkUnless, option_map};
-ghost use Rattle.lexical_util.specs.Ascii.{line_feed};
+ghost use Rattle.lexical_util.specs.Ascii.{line_feed, minus};
 ghost use Rattle.lexical_util.specs.Faults.{place_of};
 ghost use Rattle.lexint.specs.Command.{view_of_command};
 ghost use Rattle.lexint.specs.Gather.{GainsFront, Gathers};
@@ -11,12 +11,12 @@ ghost use Rattle.lexint.specs.Output.{answer_of, command_answer, command_effect,
 mod tokens;
 
 use crate::answer::tokens::put_tokens;
-use crate::batch::{Batch, put};
+use crate::batch::{Batch, put, put_decimal};
 use crate::command::Command;
 use crate::fault::RunError;
 use crate::number::Number;
+use crate::parse;
 use crate::settings::Settings;
-use crate::{decimal, parse};
 use lexical_parse_integer::{Error, Result as Parse};
 use std::io::Write;
 
@@ -210,22 +210,22 @@ fn put_signed<W: Write>(value: &Number, batch: &mut Batch, out: &mut W) -> Resul
         (batch.old ++ signed_text value.now) }
     ensures fault { IsOkUnless result RunError.Write }
 {
-    let mut digits = [0u8; decimal::MOST];
-    let start = decimal::write_number(value, &mut digits);
-    put(&digits[start..], batch, out)
+    if value.is_negative() {
+        return put_negative(value.size(), batch, out);
+    }
+    put_decimal(value.size(), batch, out)
 }
 
-// The digits of a number from 0 up.
-fn put_decimal<W: Write>(number: u128, batch: &mut Batch, out: &mut W) -> Result<(), RunError>
+// The digits of a number below 0, of which the size is told, after a minus.
+fn put_negative<W: Write>(size: u128, batch: &mut Batch, out: &mut W) -> Result<(), RunError>
     ensures ok { OnOk result (Gathers (W.contents out.old) batch.old (W.contents out.new) batch.new
-        (decimal_text number)) }
+        (minus ∷ decimal_text size)) }
     ensures front { GainsFront (W.contents out.old) (W.contents out.new)
-        (batch.old ++ decimal_text number) }
+        (batch.old ++ (minus ∷ decimal_text size)) }
     ensures fault { IsOkUnless result RunError.Write }
 {
-    let mut digits = [0u8; decimal::MOST];
-    let start = decimal::write_decimal(number, &mut digits);
-    put(&digits[start..], batch, out)
+    put(b"-", batch, out)?;
+    put_decimal(size, batch, out)
 }
 
 // The name of a fault, which is that of its variant.

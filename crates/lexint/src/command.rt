@@ -1,7 +1,7 @@
 //! What a line asks for.
 
-ghost use Rattle.std.specs.Prelude.{◌≡◌, ◌<◌, length, IfSome, option_map, position};
-ghost use Rattle.lexint.specs.Command.{change_named, command_in, is_space, parts, view_of_command, type_named, type_and_text};
+ghost use Rattle.std.specs.Prelude.{◌≡◌, ◌<◌, codes, length, IfSome, Some, option_map, position};
+ghost use Rattle.lexint.specs.Command.{change_named, command_in, command_of, is_space, parts, view_of_command, type_named, type_and_text};
 
 use crate::field::{Change, Field};
 
@@ -65,21 +65,18 @@ impl<'a> Command<'a> {
     pub fn of(line: &'a [u8]) -> Option<Command<'a>>
         ensures { option_map view_of_command result ≡ command_in line.now }
     {
-        if line == b"r".as_slice() {
-            return Some(Command::Reset);
-        }
-        let (letter, text) = parts(line)?;
-        match letter {
-            b"c" => {
+        match line {
+            [b'c', b' ', text @ ..] => {
                 let (name, text) = type_and_text(text)?;
                 Some(Command::Complete(name, text))
             }
-            b"p" => {
+            [b'p', b' ', text @ ..] => {
                 let (name, text) = type_and_text(text)?;
                 Some(Command::Partial(name, text))
             }
-            b"t" => Some(Command::Tokens(text)),
-            b"f" => Some(Command::Change(change(text)?)),
+            [b't', b' ', text @ ..] => Some(Command::Tokens(text)),
+            [b'f', b' ', text @ ..] => change_command(text),
+            b"r" => Some(Command::Reset),
             _ => None,
         }
     }
@@ -104,11 +101,47 @@ fn space_in(text: &[u8]) -> Option<usize>
 }
 
 // The integer type that a text names, and what comes after the name and a space.
+#[inline(always)]
 fn type_and_text(text: &[u8]) -> Option<(TypeName, &[u8])>
+    ensures { option_map (λ found. (found.0, found.1.now)) result ≡ type_and_text text.now }
+{
+    match short_type_and_text(text) {
+        Some(found) => Some(found),
+        None => any_type_and_text(text),
+    }
+}
+
+// The same where the name has three bytes, as half of them have: the space is at a known place.
+#[inline(always)]
+fn short_type_and_text(text: &[u8]) -> Option<(TypeName, &[u8])>
+    ensures { IfSome result (λ found.
+        type_and_text text.now ≡ Some (found.0, found.1.now)) }
+{
+    match text {
+        [b'u', b'1', b'6', b' ', rest @ ..] => Some((TypeName::U16, rest)),
+        [b'u', b'3', b'2', b' ', rest @ ..] => Some((TypeName::U32, rest)),
+        [b'u', b'6', b'4', b' ', rest @ ..] => Some((TypeName::U64, rest)),
+        [b'i', b'1', b'6', b' ', rest @ ..] => Some((TypeName::I16, rest)),
+        [b'i', b'3', b'2', b' ', rest @ ..] => Some((TypeName::I32, rest)),
+        [b'i', b'6', b'4', b' ', rest @ ..] => Some((TypeName::I64, rest)),
+        _ => None,
+    }
+}
+
+// The same for a name of any length. It stays out of line, so that the names above are tested in place.
+#[inline(never)]
+fn any_type_and_text(text: &[u8]) -> Option<(TypeName, &[u8])>
     ensures { option_map (λ found. (found.0, found.1.now)) result ≡ type_and_text text.now }
 {
     let (name, text) = parts(text)?;
     Some((TypeName::of_name(name)?, text))
+}
+
+// What `f`, a space and the text ask for.
+fn change_command<'a>(text: &[u8]) -> Option<Command<'a>>
+    ensures { option_map view_of_command result ≡ command_of (codes "f", text.now) }
+{
+    Some(Command::Change(change(text)?))
 }
 
 // The change that the text asks for: a field's name, a space, and its new value.

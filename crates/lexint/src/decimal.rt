@@ -1,10 +1,8 @@
-//! Numbers as text, in a fixed array.
+//! Numbers as text, in an array of the caller.
 
-ghost use Rattle.std.specs.Prelude.{◌≡◌, ◌≤◌, ◌<◌, ◌+◌, ◌-◌, ◌/◌, ◌%◌, ◌^◌, ◌∷◌, ◌++◌, drop, take};
+ghost use Rattle.std.specs.Prelude.{◌≡◌, ◌≤◌, ◌<◌, ◌+◌, ◌-◌, ◌/◌, ◌%◌, ◌^◌, ◌∷◌, ◌++◌, drop, length, take};
 ghost use Rattle.lexical_util.specs.Ascii.{digit_zero};
-ghost use Rattle.lexint.specs.Decimal.{decimal_text, signed_text};
-
-use crate::number::Number;
+ghost use Rattle.lexint.specs.Decimal.{decimal_text};
 
 /// The room that the longest text takes.
 pub const MOST: usize = 40;
@@ -24,17 +22,31 @@ pub fn write_decimal(n: u128, place: &mut [u8; MOST]) -> usize
         place[start] = b'0' + (rest % 10) as u8;
         rest /= 10;
     }
-    write_front(rest as u64, place, start)
+    write_before(rest as u64, place, start)
 }
 
-// Writes the digits before a place, two digits a division, and answers where they start.
+/// How many digits a number has.
 #[inline(always)]
-fn write_front(n: u64, place: &mut [u8; MOST], end: usize) -> usize
-    requires low { 2 ≤ end }
-    requires high { end ≤ 40 }
-    requires room { n < 10 ^ (end - 1) }
+pub fn digit_count(n: u64) -> usize
+    ensures size { result ≡ length (decimal_text n) }
+    ensures some { 1 ≤ result }
+    ensures most { result ≤ 20 }
+    ensures room { n < 10 ^ result }
+{
+    if n == 0 {
+        return 1;
+    }
+    n.ilog10() as usize + 1
+}
+
+/// Writes the digits before a place, two digits a division, and answers where they start.
+#[inline(always)]
+pub fn write_before(n: u64, place: &mut [u8], end: usize) -> usize
+    requires some { 1 ≤ end }
+    requires high { end ≤ length place.old }
+    requires room { n < 10 ^ end }
+    ensures size { length place.new ≡ length place.old }
     ensures within { result ≤ end }
-    ensures room { 1 ≤ result }
     ensures written { drop result place.new ≡ decimal_text n ++ drop end place.old }
     ensures kept { take result place.new ≡ take result place.old }
 {
@@ -56,28 +68,15 @@ fn write_front(n: u64, place: &mut [u8; MOST], end: usize) -> usize
 
 // Writes two digits in front of a place.
 #[inline(always)]
-fn put_pair(pair: u8, place: &mut [u8; MOST], end: usize)
+fn put_pair(pair: u8, place: &mut [u8], end: usize)
     requires small { pair < 100 }
     requires low { 2 ≤ end }
-    requires high { end ≤ 40 }
+    requires high { end ≤ length place.old }
+    ensures size { length place.new ≡ length place.old }
     ensures written { drop (end - 2) place.new
         ≡ (digit_zero + pair / 10) ∷ (digit_zero + pair % 10) ∷ drop end place.old }
     ensures kept { take (end - 2) place.new ≡ take (end - 2) place.old }
 {
     place[end - 1] = b'0' + pair % 10;
     place[end - 2] = b'0' + pair / 10;
-}
-
-/// Writes the digits of a number, after a `-` where it is negative.
-pub fn write_number(number: &Number, place: &mut [u8; MOST]) -> usize
-    ensures within { result ≤ 40 }
-    ensures written { drop result place.new ≡ signed_text number.now }
-    ensures kept { take result place.new ≡ take result place.old }
-{
-    let start = write_decimal(number.size(), place);
-    if !number.is_negative() {
-        return start;
-    }
-    place[start - 1] = b'-';
-    start - 1
 }

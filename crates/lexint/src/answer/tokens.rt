@@ -6,8 +6,8 @@ ghost use Rattle.lexint.specs.Decimal.{decimal_text};
 ghost use Rattle.lexint.specs.Output.{kind_text, token_text, tokens_text};
 ghost use Rattle.lexical_literals.specs.Tokens.{view_of_token, tokens};
 
-use crate::answer::{put_decimal, put_fault, put_place};
-use crate::batch::{Batch, put};
+use crate::answer::{put_fault, put_place};
+use crate::batch::{Batch, put, put_decimal};
 use crate::fault::RunError;
 use crate::literals::{Kind, Token, Tokens};
 use std::io::Write;

@@ -1,10 +1,9 @@
 // The parts below the lines: numbers and batches.
 
 use super::devices::{BlockWriter, Refusal};
-use crate::batch::{Batch, SIZE, put, send};
-use crate::decimal::{MOST, write_decimal, write_number};
+use crate::batch::{Batch, SIZE, put, put_decimal, send};
+use crate::decimal::{MOST, write_decimal};
 use crate::fault::RunError;
-use crate::number::Number;
 use crate::program::run;
 use std::io::ErrorKind;
 
@@ -70,15 +69,29 @@ fn writes_numbers_of_each_length(rt: HostRuntime) {
 }
 
 #[test]
-fn writes_signs(rt: HostRuntime) {
-    let mut place = [0u8; MOST];
-    let start = write_number(&Number::from(i128::MIN), &mut place);
-    assert_eq!(rt;
-        &place[start..],
-        "-170141183460469231731687303715884105728".as_bytes()
-    );
-    let start = write_number(&Number::from(-1i128), &mut place);
-    assert_eq!(rt; &place[start..], "-1".as_bytes());
-    let start = write_number(&Number::from(0i128), &mut place);
-    assert_eq!(rt; &place[start..], "0".as_bytes());
+fn numbers_fill_the_batch_to_its_end(rt: HostRuntime) -> Result<(), RunError> {
+    for room in 0..40 {
+        for number in [
+            0,
+            9,
+            10,
+            12_345,
+            u64::MAX as u128,
+            u64::MAX as u128 + 1,
+            u128::MAX,
+        ] {
+            let mut out = Vec::new(rt.alloc());
+            let mut batch = Batch::new();
+            let text = [b'x'; SIZE];
+            put(&text[room..], &mut batch, &mut out)?;
+            put_decimal(number, &mut batch, &mut out)?;
+            send(&mut batch, &mut out)?;
+            let mut place = [0u8; MOST];
+            let start = write_decimal(number, &mut place);
+            assert_eq!(rt; out.len(), SIZE - room + (MOST - start), "{room} {number}");
+            assert!(rt; out.starts_with(&text[room..]), "{room} {number}");
+            assert!(rt; out.ends_with(&place[start..]), "{room} {number}");
+        }
+    }
+    Ok(())
 }

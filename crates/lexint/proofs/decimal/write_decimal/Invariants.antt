@@ -1,4 +1,4 @@
-use Rattle.std.proofs.Common.{◌≡◌, ◌≤◌, ◌<◌, ◌^◌, ◌-◌, ◌++◌, drop, length, take}
+use Rattle.std.proofs.Common.{◌≡◌, ◌≤◌, ◌<◌, ◌^◌, ◌++◌, drop, length, take}
 use Rattle.lexint.specs.Decimal.{decimal_text}
 use Rattle.lexint.proofs.decimal.write_decimal.Given as goal
 
@@ -6,9 +6,9 @@ use Rattle.lexint.proofs.decimal.write_decimal.Given as goal
 abbrev pub invariant-loop-rest : goal.invariant-loop-rest
 invariant-loop-rest l = record {
   within : l.start ≤ 40;
-  some : 2 ≤ l.start;
+  some : 1 ≤ l.start;
   size : length l.place ≡ 40;
-  room : l.rest < 10 ^ (l.start - 1);
+  room : l.rest < 10 ^ l.start;
   written : decimal_text l.n ≡ decimal_text l.rest ++ drop l.start l.place;
   kept : take l.start l.place ≡ take l.start l.initial.place;
 }

@@ -1,7 +1,7 @@
 use Rattle.std.proofs.Common.{◌-◌, arith, rules}
 use Rattle.std.proofs.lemmas.List.{take-set}
 use Rattle.lexint.proofs.DecimalSteps.{kept_less, decimal_last, decimal_pair, decimal_pair_last, room_pair}
-use Rattle.lexint.proofs.decimal.write_front.Goals as goal
+use Rattle.lexint.proofs.decimal.write_before.Goals as goal
 
 pub loop-rest-preserved : goal.loop-rest-preserved
 loop-rest-preserved c =

@@ -1,14 +1,14 @@
-use Rattle.std.proofs.Common.{◌≡◌, ◌≤◌, ◌<◌, ◌^◌, ◌-◌, ◌++◌, drop, length, take}
+use Rattle.std.proofs.Common.{◌≡◌, ◌≤◌, ◌<◌, ◌^◌, ◌++◌, drop, length, take}
 use Rattle.lexint.specs.Decimal.{decimal_text}
-use Rattle.lexint.proofs.decimal.write_front.Given as goal
+use Rattle.lexint.proofs.decimal.write_before.Given as goal
 
 -- the digits written so far end the text, and there is room for the others
 abbrev pub invariant-loop-rest : goal.invariant-loop-rest
 invariant-loop-rest l = record {
   within : l.start ≤ l.end;
-  some : 2 ≤ l.start;
-  size : length l.place ≡ 40;
-  room : l.rest < 10 ^ (l.start - 1);
+  some : 1 ≤ l.start;
+  size : length l.place ≡ length l.initial.place;
+  room : l.rest < 10 ^ l.start;
   written : decimal_text l.n ++ drop l.end l.initial.place ≡ decimal_text l.rest ++ drop l.start l.place;
   kept : take l.start l.place ≡ take l.start l.initial.place;
 }

@@ -1,0 +1,139 @@
+#!/usr/bin/env python3
+"""Measures the program lexint beside Rust programs that answer the same lines.
+
+    bench/program.py [--lines N] [--rounds N] [--seed N]
+
+The lines are `c u64 TEXT`. The programs are driver/program.rs, once with `writeln!` and once with digits of its own.
+All take turns, read the lines from a file, and write to /dev/null; of each the least processor time counts, of the user
+and of the system together. All have to answer alike before their time counts. Callgrind counts instructions, where it
+is there. It needs the toolchain and `rustc`, writes bench/program.tsv and a table of docs/SPEED.md, and prints what it
+sees. The gate runs none of this.
+"""
+from __future__ import annotations
+
+import argparse
+import datetime
+import os
+import random
+import re
+import resource
+import shutil
+import subprocess
+import sys
+import tempfile
+
+from columns import SETS
+
+HERE = os.path.dirname(os.path.abspath(__file__))
+TOP = os.path.dirname(HERE)
+PAGE = os.path.join(TOP, "docs", "SPEED.md")
+MEASURED = re.compile(r"(<!-- measured: bench/program.py writes this -->\n)(?s:.*?)(<!-- end of what was measured -->)")
+SHOWN = ("realistic", "1 to 3 digits", "19 digits")
+OURS = "lexint"
+# So many lines are counted by callgrind.
+COUNTED = 100_000
+
+Programs = dict[str, list[str]]
+
+
+def programs(folder: str) -> Programs:
+    """The programs by their names, ours first."""
+    subprocess.run(["make", "-s", "lexint"], cwd=TOP, check=True, stdout=subprocess.DEVNULL)
+    peer = os.path.join(folder, "program")
+    source = os.path.join(HERE, "driver", "program.rs")
+    subprocess.run(["rustc", "-O", "-Ctarget-cpu=x86-64-v2", source, "-o", peer], check=True)
+    ours = os.path.join(TOP, "crates", "lexint", "out", "lexint")
+    return {OURS: [ours], "writeln!": [peer, "writeln"], "own digits": [peer, "digits"]}
+
+
+def processor_time(words: list[str], path: str) -> float:
+    """The seconds that a run over a file takes of a processor."""
+    before = resource.getrusage(resource.RUSAGE_CHILDREN)
+    with open(path, "rb") as lines:
+        subprocess.run(words, stdin=lines, stdout=subprocess.DEVNULL, check=True)
+    after = resource.getrusage(resource.RUSAGE_CHILDREN)
+    return after.ru_utime - before.ru_utime + after.ru_stime - before.ru_stime
+
+
+def instructions(words: list[str], path: str, folder: str) -> int | None:
+    """The instructions of a run over a file, where callgrind is there."""
+    if not shutil.which("valgrind"):
+        return None
+    kept = os.path.join(folder, "callgrind.out")
+    with open(path, "rb") as lines:
+        said = subprocess.run(["valgrind", "--tool=callgrind", f"--callgrind-out-file={kept}", *words], stdin=lines,
+                              stdout=subprocess.DEVNULL, stderr=subprocess.PIPE, text=True, check=True).stderr
+    return int(re.search(r"Collected : (\d+)", said)[1])
+
+
+def write_lines(path: str, name: str, count: int, seed: int) -> None:
+    """So many lines of a set."""
+    random_ = random.Random(seed)
+    with open(path, "w", encoding="ascii") as file:
+        file.writelines(f"c u64 {SETS[name](random_)}\n" for _ in range(count))
+
+
+def check_answers(found: Programs, path: str) -> None:
+    """Ends this program where two answer otherwise."""
+    answers = set()
+    for words in found.values():
+        with open(path, "rb") as lines:
+            answers.add(subprocess.run(words, stdin=lines, capture_output=True, check=True).stdout)
+    if len(answers) != 1:
+        sys.exit("bench: the programs answer otherwise")
+
+
+def row(found: Programs, name: str, folder: str, asked: argparse.Namespace) -> str:
+    """A line of the table: seconds of ours, and what ours takes where a peer takes 1."""
+    path, few = os.path.join(folder, "lines"), os.path.join(folder, "few")
+    write_lines(path, name, asked.lines, asked.seed)
+    write_lines(few, name, COUNTED, asked.seed)
+    check_answers(found, few)
+    least = dict.fromkeys(found, float("inf"))
+    for _ in range(asked.rounds):
+        for peer, words in found.items():
+            least[peer] = min(least[peer], processor_time(words, path))
+    counts = {peer: instructions(words, few, folder) for peer, words in found.items()}
+    peers = [peer for peer in found if peer != OURS]
+    cells = [name, f"{least[OURS]:.3f}", *(f"{least[OURS] / least[peer]:.2f}" for peer in peers)]
+    cells += [f"{counts[OURS] / counts[peer]:.2f}" if counts[OURS] else "" for peer in peers]
+    return "\t".join(cells)
+
+
+def write(rows: list[str], asked: argparse.Namespace, load: float) -> None:
+    """Writes bench/program.tsv and the table of docs/SPEED.md."""
+    on = (f"{datetime.date.today().isoformat()}: {os.cpu_count()} processors, load {load:.1f} at the start; "
+          f"{asked.lines} lines, seed {asked.seed}, {asked.rounds} rounds.")
+    head = ["lines", "lexint, s", "to writeln!", "to own digits", "instructions to writeln!",
+            "instructions to own digits"]
+    with open(os.path.join(HERE, "program.tsv"), "w", encoding="utf-8") as file:
+        first = f"# The program, measured by bench/program.py on {on}"
+        file.write("\n".join([first, "\t".join(head), *rows]) + "\n")
+    with open(PAGE, encoding="utf-8") as file:
+        page = file.read()
+    table = ["| " + " | ".join(head) + " |", "|---" * len(head) + "|",
+             *("| " + " | ".join(one.split("\t")) + " |" for one in rows)]
+    said = [f"Measured on {on}", "", *table, ""]
+    with open(PAGE, "w", encoding="utf-8") as file:
+        file.write(MEASURED.sub(lambda seen: seen[1] + "\n".join(said) + "\n" + seen[2], page))
+
+
+def main() -> int:
+    parser = argparse.ArgumentParser(description=__doc__, formatter_class=argparse.RawDescriptionHelpFormatter)
+    parser.add_argument("--lines", type=int, default=2_000_000, help="how many lines each program reads")
+    parser.add_argument("--rounds", type=int, default=15, help="how often each program runs")
+    parser.add_argument("--seed", type=int, default=1, help="what the numbers come from")
+    asked = parser.parse_args()
+    load = os.getloadavg()[0]
+    rows = []
+    with tempfile.TemporaryDirectory() as folder:
+        found = programs(folder)
+        for name in SHOWN:
+            rows.append(row(found, name, folder, asked))
+            print(rows[-1], flush=True)
+    write(rows, asked, load)
+    return 0
+
+
+if __name__ == "__main__":
+    sys.exit(main())
