@@ -50,7 +50,7 @@ fn complete_plain<T: Integer>(bytes: &[u8], format: &NumberFormat, options: &Opt
 {
     match value_of_plain::<T>(bytes, format) {
         Some(value) => Ok(value),
-        None => complete_if_valid::<T>(bytes, format, options),
+        None => complete_otherwise::<T>(bytes, format, options),
     }
 }
 
@@ -65,11 +65,23 @@ fn complete_beside_marks<T: Integer>(
 {
     match value_if_beside_mark::<T>(bytes, format) {
         Some(value) => Ok(value),
-        None => complete_if_valid::<T>(bytes, format, options),
+        None => complete_otherwise::<T>(bytes, format, options),
     }
 }
 
-// The same for every text: one call, out of line, for all that is left.
+// The same for every text. In a function of its own the answer's room is cleared for what is left only.
+#[inline(always)]
+fn complete_otherwise<T: Integer>(
+    bytes: &[u8],
+    format: &NumberFormat,
+    options: &Options,
+) -> Result<T>
+    ensures { view_of T.number result ≡ complete_if_valid format.now T.TYPE bytes.now }
+{
+    complete_if_valid::<T>(bytes, format, options)
+}
+
+// The same in one call, out of line.
 #[inline(never)]
 fn complete_if_valid<T: Integer>(
     bytes: &[u8],
