@@ -25,9 +25,7 @@ use crate::algorithm::marked::{front_if_marked, value_if_marked};
 use crate::algorithm::numeral::read_digits;
 pub use crate::algorithm::plain::fields::{field_in_front, is_separated};
 pub use crate::algorithm::plain::value_if_short;
-use crate::algorithm::plain::{
-    answer_by_front, answer_by_words, front_if_plain, signed_front, value_if_plain,
-};
+use crate::algorithm::plain::{answer_in_radix, front_if_plain, signed_front, value_if_plain};
 use crate::algorithm::zeros::read_first;
 use crate::cursor::Cursor;
 use crate::options::{self, Options};
@@ -207,35 +205,18 @@ fn complete_over_cursor<T: Integer>(
     algorithm_complete_on::<T>(&mut Cursor::new(bytes, format), options)
 }
 
-// The same under the standard format, whose fields the compiler then folds into the code. A plus before up to seven
-// digits, and a byte after them, are found by a word: that part needs few registers, and stands alone for it.
+// The same under the standard format, whose fields the compiler then folds into the code.
 #[inline(never)]
 pub(crate) fn standard_over_cursor<T: Integer>(bytes: &[u8]) -> Result<T>
     ensures { view_of T.number result ≡ complete standard T.TYPE bytes.now }
 {
-    match answer_by_front::<T>(bytes, true) {
+    match answer_in_radix::<T>(bytes, &format::STANDARD, 10) {
         Some(answer) => answer,
-        None => standard_behind_word::<T>(bytes),
+        None => {
+            let mut c = Cursor::new(bytes, &format::STANDARD);
+            algorithm_complete_on::<T>(&mut c, &options::STANDARD)
+        }
     }
-}
-
-// What is left: by more words, or over a cursor.
-#[inline(never)]
-fn standard_behind_word<T: Integer>(bytes: &[u8]) -> Result<T>
-    ensures { view_of T.number result ≡ complete standard T.TYPE bytes.now }
-{
-    match answer_by_words::<T>(bytes) {
-        Some(answer) => answer,
-        None => standard_from_cursor::<T>(bytes),
-    }
-}
-
-#[inline(never)]
-fn standard_from_cursor<T: Integer>(bytes: &[u8]) -> Result<T>
-    ensures { view_of T.number result ≡ complete standard T.TYPE bytes.now }
-{
-    let mut c = Cursor::new(bytes, &format::STANDARD);
-    algorithm_complete_on::<T>(&mut c, &options::STANDARD)
 }
 
 /// The integer that the front of the text stands for under a valid format, and the place at which reading stops.
@@ -305,7 +286,7 @@ fn partial_over_cursor<T: Integer>(
 pub(crate) fn standard_partial_over_cursor<T: Integer>(bytes: &[u8]) -> Result<(T, usize)>
     ensures { view_of (with_place T.number) result ≡ partial standard T.TYPE bytes.now }
 {
-    match signed_front::<T>(bytes, false) {
+    match signed_front::<T>(bytes) {
         Some(found) => Ok(found),
         None => standard_partial_from_cursor::<T>(bytes),
     }

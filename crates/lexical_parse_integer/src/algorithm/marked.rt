@@ -13,13 +13,12 @@ ghost use Rattle.lexical_parse_integer.specs.Plain.{StandsFor, keeps_zero_rule};
 ghost use Rattle.lexical_parse_integer.specs.Runs.{are_same};
 
 pub(crate) mod lone_mark;
-mod prefixed;
+pub(crate) mod prefixed;
 mod separated;
 mod threes;
 
 use crate::affixes::{octal_zero_at, prefix_radix, suffix_at};
 use crate::algorithm::marked::lone_mark::is_valid_with_separator;
-use crate::algorithm::marked::prefixed::{value_if_behind_prefix, value_if_literal};
 use crate::algorithm::marked::separated::{value_of_decimal_groups, value_of_groups};
 use crate::algorithm::marked::threes::{value_of_few, value_of_threes};
 use crate::algorithm::plain::fronts::value_of_digits;
@@ -298,7 +297,7 @@ fn value_if_threes<T: Integer>(bytes: &[u8], format: &NumberFormat, separator: u
 
 // The value of the whole text under a format that may be invalid, where it has a separator alone.
 #[inline(always)]
-fn value_if_between_separators<T: Integer>(
+pub(crate) fn value_if_between_separators<T: Integer>(
     bytes: &[u8],
     format: &NumberFormat,
     separator: u8,
@@ -312,20 +311,6 @@ fn value_if_between_separators<T: Integer>(
         return None;
     }
     value_if_threes::<T>(bytes, format, separator)
-}
-
-// The same, where the format has one mark.
-#[inline(always)]
-pub(crate) fn value_if_beside_mark<T: Integer>(bytes: &[u8], format: &NumberFormat) -> Option<T>
-    ensures valid { IfSome result (λ value. IsNone (fault format.now)) }
-    ensures answer { IfSome result
-        (λ value. complete format.now T.TYPE bytes.now ≡ Ok (T.number value)) }
-{
-    match format.digit_separator() {
-        Some(separator) => value_if_between_separators::<T>(bytes, format, separator),
-        None if format.has_base_prefix() => value_if_behind_prefix::<T>(bytes, format),
-        None => value_if_literal::<T>(bytes, format),
-    }
 }
 
 // ---- the front of a text

@@ -1,12 +1,15 @@
 // Every integer type, read from bytes.
-ghost use Rattle.std.specs.Prelude.{◌≡◌};
+ghost use Rattle.std.specs.Prelude.{◌≡◌, None, Some};
 ghost use Rattle.lexical_parse_integer.specs.Answer.{with_place, view_of};
 ghost use Rattle.lexical_parse_integer.specs.Grammar.{complete_if_valid, partial_if_valid};
 ghost use Rattle.lexical_parse_integer.specs.Plain.{IsPlain};
 
 use crate::algorithm::marked::lone_mark::fault_of;
-use crate::algorithm::marked::value_if_beside_mark;
-use crate::algorithm::plain::{front_if_plain, is_plain, value_if_short, value_of_plain};
+use crate::algorithm::marked::prefixed::{value_if_behind_prefix, value_if_literal};
+use crate::algorithm::marked::value_if_between_separators;
+use crate::algorithm::plain::{
+    front_if_plain, hexadecimal, is_plain, value_if_short, value_of_plain,
+};
 use crate::algorithm::{complete_with_marks, partial_with_marks};
 use crate::api::{FromLexical, FromLexicalWithOptions};
 use crate::options::Options;
@@ -26,7 +29,7 @@ fn complete<T: Integer>(bytes: &[u8], format: &NumberFormat, options: &Options) 
     }
 }
 
-// The same by a call for formats without marks, or one for those with.
+// The same by a call for each kind of format. What that call needs stands in it.
 #[inline(always)]
 fn complete_out_of_line<T: Integer>(
     bytes: &[u8],
@@ -35,11 +38,13 @@ fn complete_out_of_line<T: Integer>(
 ) -> Result<T>
     ensures { view_of T.number result ≡ complete_if_valid format.now T.TYPE bytes.now }
 {
-    if is_plain(format) {
-        complete_plain::<T>(bytes, format, options)
-    } else {
-        complete_beside_marks::<T>(bytes, format, options)
+    if !is_plain(format) {
+        return complete_beside_marks::<T>(bytes, format, options);
     }
+    if format.mantissa_radix() == 16 {
+        return complete_hexadecimal::<T>(bytes, format, options);
+    }
+    complete_plain::<T>(bytes, format, options)
 }
 
 // The same under a format without marks.
@@ -54,8 +59,25 @@ fn complete_plain<T: Integer>(bytes: &[u8], format: &NumberFormat, options: &Opt
     }
 }
 
-// The same for a text under a format with marks, or for any that is left.
+// The same in radix 16.
 #[inline(never)]
+fn complete_hexadecimal<T: Integer>(
+    bytes: &[u8],
+    format: &NumberFormat,
+    options: &Options,
+) -> Result<T>
+    requires plain { IsPlain format.now }
+    requires hexadecimal { format.now.mantissa_radix ≡ 16 }
+    ensures { view_of T.number result ≡ complete_if_valid format.now T.TYPE bytes.now }
+{
+    match hexadecimal::<T>(bytes, format) {
+        Some(value) => Ok(value),
+        None => complete_otherwise::<T>(bytes, format, options),
+    }
+}
+
+// The same for a text under a format with marks, or for any that is left.
+#[inline(always)]
 fn complete_beside_marks<T: Integer>(
     bytes: &[u8],
     format: &NumberFormat,
@@ -63,7 +85,58 @@ fn complete_beside_marks<T: Integer>(
 ) -> Result<T>
     ensures { view_of T.number result ≡ complete_if_valid format.now T.TYPE bytes.now }
 {
-    match value_if_beside_mark::<T>(bytes, format) {
+    match format.digit_separator() {
+        Some(separator) => { complete_between_separators::<T>(bytes, format, options, separator) }
+        None if format.has_base_prefix() => complete_behind_prefix::<T>(bytes, format, options),
+        None => complete_with_literals::<T>(bytes, format, options),
+    }
+}
+
+// The same under a format with a separator.
+#[inline(never)]
+fn complete_between_separators<T: Integer>(
+    bytes: &[u8],
+    format: &NumberFormat,
+    options: &Options,
+    separator: u8,
+) -> Result<T>
+    requires { format.now.digit_separator ≡ Some separator }
+    ensures { view_of T.number result ≡ complete_if_valid format.now T.TYPE bytes.now }
+{
+    match value_if_between_separators::<T>(bytes, format, separator) {
+        Some(value) => Ok(value),
+        None => complete_otherwise::<T>(bytes, format, options),
+    }
+}
+
+// The same under a format with a prefix.
+#[inline(never)]
+fn complete_behind_prefix<T: Integer>(
+    bytes: &[u8],
+    format: &NumberFormat,
+    options: &Options,
+) -> Result<T>
+    requires { format.now.digit_separator ≡ None }
+    ensures { view_of T.number result ≡ complete_if_valid format.now T.TYPE bytes.now }
+{
+    match value_if_behind_prefix::<T>(bytes, format) {
+        Some(value) => Ok(value),
+        None => complete_otherwise::<T>(bytes, format, options),
+    }
+}
+
+// The same under a format with neither, which may have literal prefixes.
+#[inline(never)]
+fn complete_with_literals<T: Integer>(
+    bytes: &[u8],
+    format: &NumberFormat,
+    options: &Options,
+) -> Result<T>
+    requires separator { format.now.digit_separator ≡ None }
+    requires prefix { format.now.base_prefix ≡ None }
+    ensures { view_of T.number result ≡ complete_if_valid format.now T.TYPE bytes.now }
+{
+    match value_if_literal::<T>(bytes, format) {
         Some(value) => Ok(value),
         None => complete_otherwise::<T>(bytes, format, options),
     }

@@ -114,10 +114,8 @@ fn value_behind_literal_prefix<T: Integer>(
 }
 
 // The value of the whole text under a format that may be invalid, where it has a prefix and no other mark.
-//
-// It stays out of line, as the next, so that all that it needs stays in registers.
-#[inline(never)]
-pub(super) fn value_if_behind_prefix<T: Integer>(bytes: &[u8], format: &NumberFormat) -> Option<T>
+#[inline(always)]
+pub(crate) fn value_if_behind_prefix<T: Integer>(bytes: &[u8], format: &NumberFormat) -> Option<T>
     requires separator { format.now.digit_separator ≡ None }
     ensures valid { IfSome result (λ value. IsNone (fault format.now)) }
     ensures answer { IfSome result
@@ -133,8 +131,8 @@ pub(super) fn value_if_behind_prefix<T: Integer>(bytes: &[u8], format: &NumberFo
 }
 
 // The same, where it has literal prefixes and no other mark.
-#[inline(never)]
-pub(super) fn value_if_literal<T: Integer>(bytes: &[u8], format: &NumberFormat) -> Option<T>
+#[inline(always)]
+pub(crate) fn value_if_literal<T: Integer>(bytes: &[u8], format: &NumberFormat) -> Option<T>
     requires separator { format.now.digit_separator ≡ None }
     requires prefix { format.now.base_prefix ≡ None }
     ensures valid { IfSome result (λ value. IsNone (fault format.now)) }
