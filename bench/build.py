@@ -13,6 +13,20 @@ import callers
 HERE = os.path.dirname(os.path.abspath(__file__))
 TOP = os.path.dirname(HERE)
 CRATES = ("lexical_util", "lexical_parse_integer")
+# The programs that the build needs.
+NEEDED = (os.environ.get("RT", "rt"), "cargo", "make", "cc", "c++", "ar")
+# How many drivers are linked, each with its code sixteen bytes further on: where a loop stands moves its time.
+PLACES = 4
+# What stands before all other code. The linker would leave out what nothing names.
+BEFORE_ALL = """std::arch::global_asm!(".text", ".p2align 4", ".globl before_all", "before_all: .skip SIZE, 0xcc", "ret");
+
+unsafe extern "C" {
+    fn before_all();
+}
+
+#[used]
+static BEFORE_ALL: unsafe extern "C" fn() = before_all;
+"""
 # lexical-core, where it is there to be compiled, and where it isn't.
 WITH_LEXICAL = """[dependencies]
 lexical-core = { version = "*", default-features = false, features = ["std"], optional = true }
@@ -48,11 +62,6 @@ def run(words: list[str], folder: str, **more: str) -> None:
     """Runs a command, and ends this program where it fails."""
     if subprocess.run(words, cwd=folder, env={**os.environ, **more}).returncode:
         sys.exit(f"bench: {' '.join(words)} failed")
-
-
-def missing() -> list[str]:
-    """The programs that a measurement needs and that aren't there."""
-    return [name for name in (os.environ.get("RT", "rt"), "cargo", "make", "cc", "c++", "ar") if not shutil.which(name)]
 
 
 def room() -> str:
@@ -94,8 +103,15 @@ def write(path: str, text: str) -> None:
         file.write(text)
 
 
-def driver() -> tuple[str, list[str]]:
-    """(the driver's path, what could not be measured and why)."""
+def linked(at: str, place: int, words: list[str], flags: str) -> str:
+    """The driver whose code stands so many times sixteen bytes further on."""
+    write(os.path.join(at, "src", "place.rs"), BEFORE_ALL.replace("SIZE", str(16 * place)))
+    run(words, at, RUSTFLAGS=flags)
+    return shutil.copy(os.path.join(at, "target", "release", "driver"), os.path.join(at, f"driver-{place}"))
+
+
+def drivers() -> tuple[list[str], list[str]]:
+    """(the drivers' paths, what could not be measured and why)."""
     at = os.path.join(room(), "driver")
     os.makedirs(os.path.join(at, "src"), exist_ok=True)
     library_for_c(at)
@@ -111,6 +127,5 @@ def driver() -> tuple[str, list[str]]:
     write(os.path.join(at, ".cargo", "config.toml"), CONFIG.format(registry=REGISTRY) if has_lexical else "")
     words = ["cargo", "build", "--release", "--offline", "--quiet", *(["--features", "lexical-core"] if has_lexical else [])]
     flags = f"-C target-cpu=x86-64-v2 -L native={at} -l static=bench_calls -l static=peers -l static=jadvolni -l stdc++"
-    run(words, at, RUSTFLAGS=flags)
     left_out = [] if has_lexical else [f"lexical-core: {REGISTRY} has none (Debian's librust-lexical-core-dev)"]
-    return os.path.join(at, "target", "release", "driver"), left_out
+    return [linked(at, place, words, flags) for place in range(PLACES)], left_out

@@ -11,22 +11,19 @@ what it sees. The gate runs none of this.
 """
 from __future__ import annotations
 
-import argparse
-import datetime
 import os
 import random
-import re
 import shutil
 import subprocess
 import sys
 import tempfile
 import time
 
+import page
+
 HERE = os.path.dirname(os.path.abspath(__file__))
 TOP = os.path.dirname(HERE)
 PYTHON = os.path.join(TOP, "bindings", "python")
-PAGE = os.path.join(TOP, "docs", "SPEED.md")
-MEASURED = re.compile(r"(<!-- measured: bench/columns.py writes this -->\n)(?s:.*?)(<!-- end of what was measured -->)")
 FLAGS = ["-std=c++17", "-O3", "-march=x86-64-v2", f"-I{os.path.join(TOP, 'include')}"]
 
 
@@ -132,47 +129,37 @@ def lines_of(seen: Seen) -> list[str]:
 def table(seen: Seen) -> list[str]:
     """The same as a table: what a reader takes where from_chars takes 1."""
     peers = [peer for peer in next(iter(seen.values())) if peer != "from_chars"]
-    lines = ["| numbers | from_chars, ns | " + " | ".join(peers) + " |", "|---" * (len(peers) + 2) + "|"]
-    for name, found in seen.items():
-        cells = [f"{found[peer] / found['from_chars']:.2f}" for peer in peers]
-        lines.append(f"| {name} | {found['from_chars']:.1f} | " + " | ".join(cells) + " |")
-    return lines
+    rows = [[name, f"{found['from_chars']:.1f}", *(f"{found[peer] / found['from_chars']:.2f}" for peer in peers)]
+            for name, found in seen.items()]
+    return page.table(["numbers", "from_chars, ns", *peers], rows)
 
 
-def write(seen: Seen, asked: argparse.Namespace, load: float) -> None:
+def write(seen: Seen, asked: page.Asked) -> None:
     """Writes bench/columns.tsv and the table of docs/SPEED.md."""
-    on = (f"{datetime.date.today().isoformat()}: {os.cpu_count()} processors, load {load:.1f} at the start; "
-          f"{asked.numbers} numbers, seed {asked.seed}, {asked.rounds} rounds.")
+    on = asked.measured_on()
     has_numpy = any("NumPy: loadtxt" in found for found in seen.values())
     left_out = [] if has_numpy else ["Not measured: NumPy, which is not installed."]
     head = [f"# Columns, measured by make bench on {on}", *(f"# {one}" for one in left_out),
             "\t".join(("numbers", "reader", "ns a number", "to from_chars"))]
     with open(os.path.join(HERE, "columns.tsv"), "w", encoding="utf-8") as file:
         file.write("\n".join([*head, *lines_of(seen)]) + "\n")
-    with open(PAGE, encoding="utf-8") as file:
-        page = file.read()
     said = [f"Measured on {on}", *left_out, "", "The numbers are of `u64`, with a line feed after each. In the table a loop of "
             "`from_chars` takes 1. [columns.tsv](../bench/columns.tsv) has the nanoseconds.", "", *table(seen), ""]
-    with open(PAGE, "w", encoding="utf-8") as file:
-        file.write(MEASURED.sub(lambda found: found[1] + "\n".join(said) + "\n" + found[2], page))
+    page.write("bench/columns.py", said)
 
 
 def main() -> int:
-    parser = argparse.ArgumentParser(description=__doc__, formatter_class=argparse.RawDescriptionHelpFormatter)
-    parser.add_argument("--numbers", type=int, default=1_000_000, help="how many numbers a column has")
-    parser.add_argument("--rounds", type=int, default=25, help="how often each column is read")
-    parser.add_argument("--seed", type=int, default=1, help="what the numbers come from")
-    asked = parser.parse_args()
-    load = os.getloadavg()[0]
+    asked = page.asked(__doc__, "numbers", size=1_000_000, rounds=25)
+    page.need("make", "cc", "c++")
     seen: Seen = {}
     with tempfile.TemporaryDirectory() as folder:
         drivers, jadvolni = built(folder), binding(folder)
         for name, number in SETS.items():
             random_ = random.Random(asked.seed)
-            numbers = [number(random_) for _ in range(asked.numbers)]
+            numbers = [number(random_) for _ in range(asked.size)]
             seen[name] = measured(drivers, jadvolni, numbers, asked.rounds)
             print("\n".join(lines_of({name: seen[name]})), flush=True)
-    write(seen, asked, load)
+    write(seen, asked)
     return 0
 
 

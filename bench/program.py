@@ -11,8 +11,6 @@ sees. The gate runs none of this.
 """
 from __future__ import annotations
 
-import argparse
-import datetime
 import os
 import random
 import re
@@ -22,12 +20,11 @@ import subprocess
 import sys
 import tempfile
 
+import page
 from columns import SETS
 
 HERE = os.path.dirname(os.path.abspath(__file__))
 TOP = os.path.dirname(HERE)
-PAGE = os.path.join(TOP, "docs", "SPEED.md")
-MEASURED = re.compile(r"(<!-- measured: bench/program.py writes this -->\n)(?s:.*?)(<!-- end of what was measured -->)")
 SHOWN = ("realistic", "1 to 3 digits", "19 digits")
 OURS = "lexint"
 # So many lines are counted by callgrind.
@@ -83,10 +80,10 @@ def check_answers(found: Programs, path: str) -> None:
         sys.exit("bench: the programs answer otherwise")
 
 
-def row(found: Programs, name: str, folder: str, asked: argparse.Namespace) -> str:
+def row(found: Programs, name: str, folder: str, asked: page.Asked) -> str:
     """A line of the table: seconds of ours, and what ours takes where a peer takes 1."""
     path, few = os.path.join(folder, "lines"), os.path.join(folder, "few")
-    write_lines(path, name, asked.lines, asked.seed)
+    write_lines(path, name, asked.size, asked.seed)
     write_lines(few, name, COUNTED, asked.seed)
     check_answers(found, few)
     least = dict.fromkeys(found, float("inf"))
@@ -100,38 +97,28 @@ def row(found: Programs, name: str, folder: str, asked: argparse.Namespace) -> s
     return "\t".join(cells)
 
 
-def write(rows: list[str], asked: argparse.Namespace, load: float) -> None:
+def write(rows: list[str], asked: page.Asked) -> None:
     """Writes bench/program.tsv and the table of docs/SPEED.md."""
-    on = (f"{datetime.date.today().isoformat()}: {os.cpu_count()} processors, load {load:.1f} at the start; "
-          f"{asked.lines} lines, seed {asked.seed}, {asked.rounds} rounds.")
+    on = asked.measured_on()
     head = ["lines", "lexint, s", "to writeln!", "to own digits", "instructions to writeln!",
             "instructions to own digits"]
     with open(os.path.join(HERE, "program.tsv"), "w", encoding="utf-8") as file:
         first = f"# The program, measured by bench/program.py on {on}"
         file.write("\n".join([first, "\t".join(head), *rows]) + "\n")
-    with open(PAGE, encoding="utf-8") as file:
-        page = file.read()
-    table = ["| " + " | ".join(head) + " |", "|---" * len(head) + "|",
-             *("| " + " | ".join(one.split("\t")) + " |" for one in rows)]
-    said = [f"Measured on {on}", "", *table, ""]
-    with open(PAGE, "w", encoding="utf-8") as file:
-        file.write(MEASURED.sub(lambda seen: seen[1] + "\n".join(said) + "\n" + seen[2], page))
+    table = page.table(head, [one.split("\t") for one in rows])
+    page.write("bench/program.py", [f"Measured on {on}", "", *table, ""])
 
 
 def main() -> int:
-    parser = argparse.ArgumentParser(description=__doc__, formatter_class=argparse.RawDescriptionHelpFormatter)
-    parser.add_argument("--lines", type=int, default=2_000_000, help="how many lines each program reads")
-    parser.add_argument("--rounds", type=int, default=15, help="how often each program runs")
-    parser.add_argument("--seed", type=int, default=1, help="what the numbers come from")
-    asked = parser.parse_args()
-    load = os.getloadavg()[0]
+    asked = page.asked(__doc__, "lines", size=2_000_000, rounds=15)
+    page.need("make", "rustc")
     rows = []
     with tempfile.TemporaryDirectory() as folder:
         found = programs(folder)
         for name in SHOWN:
             rows.append(row(found, name, folder, asked))
             print(rows[-1], flush=True)
-    write(rows, asked, load)
+    write(rows, asked)
     return 0
 
 

@@ -3,13 +3,12 @@ from __future__ import annotations
 
 import argparse
 import os
-import re
 from dataclasses import dataclass
 from xml.sax.saxutils import escape
 
+import page
+
 HERE = os.path.dirname(os.path.abspath(__file__))
-PAGE = os.path.join(os.path.dirname(HERE), "docs", "SPEED.md")
-MEASURED = re.compile(r"(<!-- measured: make bench writes this -->\n)(?s:.*?)(<!-- end of what was measured -->)")
 OURS = ("ours", "ours, constant", "C call")
 PEERS = (*OURS, "from_chars", "strtoull", "lexical-core")
 COLOURS = {"ours": "#1f6f5c", "ours, constant": "#7fb8a8", "C call": "#4f9a86", "from_chars": "#c77d2e",
@@ -50,14 +49,14 @@ def table(seen: Seen) -> str:
     peers = peers_of(seen)
     head = ["texts", "std, ns", *peers, "ours, 60,000 texts", "from_chars, 60,000 texts"]
     head += ["instructions: std / ours / from_chars"] if seen.counts else []
-    lines = ["| " + " | ".join(head) + " |", "|---" * len(head) + "|"]
+    rows = []
     for name, row in seen.small.items():
         cells = [name, shown(row["std"], 1), *(shown(ratio(seen.small, name, peer)) for peer in peers)]
         cells += [shown(ratio(seen.large, name, peer)) for peer in ("ours", "from_chars")]
         if seen.counts:
             cells.append(" / ".join(shown(seen.counts[name].get(peer), 0) or "–" for peer in ("std", "ours", "from_chars")))
-        lines.append("| " + " | ".join(cells) + " |")
-    return "\n".join(lines)
+        rows.append(cells)
+    return "\n".join(page.table(head, rows))
 
 
 def numbers(seen: Seen) -> str:
@@ -111,13 +110,12 @@ def picture(seen: Seen) -> str:
         *legend, *lines, *body, "</svg>", ""])
 
 
-def page(seen: Seen, text: str) -> str:
-    """docs/SPEED.md with what was measured."""
+def part(seen: Seen) -> list[str]:
+    """What docs/SPEED.md says of what was measured."""
     said = [f"Measured on {seen.date} by `make bench`: {seen.machine}. Seed {seen.asked.seed}, {seen.asked.rounds} rounds.", ""]
     said += [f"Not measured: {what}." for what in seen.left_out] + ([""] if seen.left_out else [])
-    said += ["![What each takes, where std takes 1](../bench/results.svg)", "", table(seen), "", slower(seen), "",
-             cost_of_call(seen), ""]
-    return MEASURED.sub(lambda found: found[1] + "\n".join(said) + "\n" + found[2], text)
+    return said + ["![What each takes, where std takes 1](../bench/results.svg)", "", table(seen), "", slower(seen), "",
+                   cost_of_call(seen), ""]
 
 
 def slower(seen: Seen) -> str:
@@ -148,7 +146,4 @@ def write_all(seen: Seen) -> None:
     for name, text in (("results.tsv", numbers(seen)), ("results.svg", picture(seen))):
         with open(os.path.join(HERE, name), "w", encoding="utf-8") as file:
             file.write(text)
-    with open(PAGE, encoding="utf-8") as file:
-        text = file.read()
-    with open(PAGE, "w", encoding="utf-8") as file:
-        file.write(page(seen, text))
+    page.write("make bench", part(seen))

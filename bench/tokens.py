@@ -9,8 +9,6 @@ toolchain and rustc. It writes a table of docs/SPEED.md, and prints it. The gate
 """
 from __future__ import annotations
 
-import argparse
-import datetime
 import os
 import random
 import re
@@ -19,9 +17,8 @@ import subprocess
 import sys
 
 import build
+import page
 
-PAGE = os.path.join(build.TOP, "docs", "SPEED.md")
-MEASURED = re.compile(r"(<!-- measured: bench/tokens.py writes this -->\n)(?s:.*?)(<!-- end of what was measured -->)")
 CRATES = ("lexical_util", "lexical_parse_integer", "lexical_literals")
 COUNTED = 100_000
 PEERS = ("a lexer by hand", "ours")
@@ -122,11 +119,11 @@ def told(peer: str, path: str, rounds: int) -> dict[str, float]:
     return {name: float(found) for name, found in (line.split("\t") for line in said.splitlines())}
 
 
-def measured(peer: str, kind: str, asked: argparse.Namespace) -> str:
-    """A line of the table."""
+def measured(peer: str, kind: str, asked: page.Asked) -> list[str]:
+    """A row of the table."""
     path = os.path.join(build.room(), "tokens", "source")
     with open(path, "wb") as file:
-        file.write(source(kind, asked.bytes, asked.seed))
+        file.write(source(kind, asked.size, asked.seed))
     found = told(peer, path, asked.rounds)
     hand, ours = (found[name] for name in PEERS)
     counts = "–"
@@ -137,37 +134,27 @@ def measured(peer: str, kind: str, asked: argparse.Namespace) -> str:
         none = instructions(peer, path, "none")
         counts = " / ".join(f"{(instructions(peer, path, name) - none) / tokens:.0f}" for name in PEERS)
     os.remove(path)
-    return f"| {kind} | {hand:.1f} | {ours / hand:.2f} | {counts} |"
+    return [kind, f"{hand:.1f}", f"{ours / hand:.2f}", counts]
 
 
-def write(lines: list[str], asked: argparse.Namespace, load: float) -> None:
+def write(rows: list[list[str]], asked: page.Asked) -> None:
     """Writes the table of docs/SPEED.md."""
-    said = [f"Measured on {datetime.date.today().isoformat()}: {os.cpu_count()} processors, load {load:.1f} at the start; "
-            f"{asked.bytes} bytes, seed {asked.seed}, {asked.rounds} rounds.", "",
-            "A source is lines such as `total = 12 + (0x1F, left);`. In the table a lexer by hand takes 1, for each token.", "",
-            "| operands | a lexer by hand, ns | ours | instructions: by hand / ours |", "|---|---|---|---|", *lines, ""]
-    with open(PAGE, encoding="utf-8") as file:
-        page = file.read()
-    with open(PAGE, "w", encoding="utf-8") as file:
-        file.write(MEASURED.sub(lambda found: found[1] + "\n".join(said) + "\n" + found[2], page))
+    table = page.table(["operands", "a lexer by hand, ns", "ours", "instructions: by hand / ours"], rows)
+    page.write("bench/tokens.py", [
+        f"Measured on {asked.measured_on()}", "",
+        "A source is lines such as `total = 12 + (0x1F, left);`. In the table a lexer by hand takes 1, for each token.", "",
+        *table, ""])
 
 
 def main() -> int:
-    parser = argparse.ArgumentParser(description=__doc__, formatter_class=argparse.RawDescriptionHelpFormatter)
-    parser.add_argument("--bytes", type=int, default=10_000_000, help="how long a source is")
-    parser.add_argument("--rounds", type=int, default=25, help="how often each source is read")
-    parser.add_argument("--seed", type=int, default=1, help="what the sources come from")
-    asked = parser.parse_args()
-    lacking = [name for name in (os.environ.get("RT", "rt"), "rustc") if not shutil.which(name)]
-    if lacking:
-        sys.exit(f"bench: it needs {', '.join(lacking)}")
-    load = os.getloadavg()[0]
+    asked = page.asked(__doc__, "bytes", size=10_000_000, rounds=25)
+    page.need(os.environ.get("RT", "rt"), "rustc")
     peer = driver()
-    lines = []
+    rows = []
     for kind in OPERANDS:
-        lines.append(measured(peer, kind, asked))
-        print(lines[-1], flush=True)
-    write(lines, asked, load)
+        rows.append(measured(peer, kind, asked))
+        print("\t".join(rows[-1]), flush=True)
+    write(rows, asked)
     return 0
 
 

@@ -107,15 +107,17 @@ def number_of(answer: str) -> int | None:
 # ---- compilers: a program with a text on each line, from which lines with faults are taken until there are none
 
 class Compiler:
-    """How a compiler is asked: the file, what stands around the lines, a line, the command, and what runs then."""
+    """How a compiler is asked: the file, what stands around the lines, a line, the command, what runs then, and what the
+    command needs besides itself."""
 
-    def __init__(self, file, before, line, after, compile_by, run_by):
+    def __init__(self, file, before, line, after, compile_by, run_by, needs=()):
         self.file, self.before, self.line, self.after = file, before, line, after
         self.compile_by, self.run_by = compile_by, run_by
+        self.programs = (compile_by[0], *needs)
         self.blank = "\n" * line.count("\n")
 
     def is_there(self) -> bool:
-        return shutil.which(self.compile_by[0]) is not None
+        return all(shutil.which(program) for program in self.programs)
 
     def ask(self, texts: list[str]) -> Answers:
         """Which texts are integers, and of which value."""
@@ -159,7 +161,7 @@ def c_compiler(command: list[str], file: str = "x.c") -> Compiler:
 
 
 RUSTC = Compiler("x.rs", 'fn p(at: u32, value: u128) { println!("{} {}", at, value); }\nfn main() {\n', "p({at}, {text});",
-                 "}\n", ["rustc", "--error-format=short", "--crate-name", "x", "x.rs"], ["./x"])
+                 "}\n", ["rustc", "--error-format=short", "--crate-name", "x", "x.rs"], ["./x"], needs=["cc"])
 GO = Compiler("x.go", 'package main\nimport "fmt"\nfunc p(at int, value uint64) { fmt.Println(at, value) }\nfunc main() {\n',
               "p({at}, 0 | ({text}))", "}\n", ["go", "build", "-gcflags=-e", "-o", "x", "x.go"], ["./x"])
 JAVAC = Compiler("X.java", 'class X {\nstatic void p(int at, long value) { System.out.println(at + " " + value); }\n'

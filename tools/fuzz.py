@@ -239,13 +239,13 @@ def tell(found: Difference, lines: List[bytes], comparison: Comparison) -> None:
 
 
 def compiled_driver(folder: str) -> Optional[str]:
-    """The driver of from_str_radix, compiled into the folder; None where there is no rustc."""
-    rustc = shutil.which("rustc")
-    if rustc is None:
-        print("fuzz: there is no rustc, so from_str_radix is left out")
+    """The driver of from_str_radix, compiled into the folder; None where there is no rustc, or no cc, by which that links."""
+    lacking = [name for name in ("rustc", "cc") if shutil.which(name) is None]
+    if lacking:
+        print(f"fuzz: there is no {lacking[0]}, so from_str_radix is left out")
         return None
     driver = os.path.join(folder, "from_str_radix")
-    subprocess.run([rustc, "-O", "-o", driver, DRIVER], check=True)
+    subprocess.run(["rustc", "-O", "-o", driver, DRIVER], check=True)
     return driver
 
 

@@ -226,9 +226,12 @@ class Judge:
             self.jobs = min(self.options.jobs or jobs_for_memory(), len(batches))
             self.progress(f"{len(self.edits)} edits in {len(batches)} batches, {self.jobs} at once")
             with concurrent.futures.ThreadPoolExecutor(self.jobs) as pool:
-                again = [edit for left in pool.map(self.judge, batches) for edit in left]
-                for _ in pool.map(self.judge_alone, again):
-                    pass
+                running, again = [pool.submit(self.judge, batch) for batch in batches], []
+                # What is to be tried alone waits for a free job, and not for the last batch.
+                for batch in concurrent.futures.as_completed(running):
+                    again += [pool.submit(self.judge_alone, edit) for edit in batch.result()]
+                for alone in again:
+                    alone.result()
             self.close_rooms()
         refused = {name: where for name, (where, _) in self.told.items() if where}
         by_values = sum(check_output.is_by_values(where) for where in refused.values())

@@ -8,11 +8,14 @@ MANDIR ?= $(PREFIX)/share/man
 VERSION := $(shell sed -n 's/.*JADVOLNI_VERSION_STRING "\(.*\)"/\1/p' include/jadvolni.h)
 SOVERSION := 0
 LIBRARIES := build/libjadvolni.a build/libjadvolni.so
+# The shared library, where there is a compiler that links it.
+SHARED := $(if $(shell command -v $(CC) 2>/dev/null),build/libjadvolni.so)
 LIBRARY_SOURCES := $(shell find crates/jadvolni crates/lexical_fields crates/lexical_parse_integer crates/lexical_util -name out -prune -o -type f \( -name '*.rt' -o -name '*.antt' \) -print) crates.txt
 
 .PHONY: lib install-lib uninstall-lib test-c check-c
 
-lib: $(LIBRARIES) ## proves and builds the library for C, as build/libjadvolni.a and build/libjadvolni.so
+lib: build/libjadvolni.a $(SHARED) ## proves and builds the library for C, as build/libjadvolni.a and build/libjadvolni.so
+	$(if $(SHARED),,@echo "there is no $(CC): build/libjadvolni.so, the shared library, is left out")
 
 build/libjadvolni.a: $(LIBRARY_SOURCES)
 	@mkdir -p build
@@ -21,6 +24,7 @@ build/libjadvolni.a: $(LIBRARY_SOURCES)
 
 # It needs no other library, not even that of C: -nostdlib leaves it out, and -z defs fails if anything is missing.
 build/libjadvolni.so: build/libjadvolni.a
+	@command -v $(CC) >/dev/null || { echo "there is no $(CC) to link build/libjadvolni.so with" >&2; exit 1; }
 	@$(CC) -shared -nostdlib -o $@ -Wl,-soname,libjadvolni.so.$(SOVERSION) \
 	    -Wl,-z,defs,-z,relro,-z,now,-z,noexecstack -Wl,--whole-archive $< -Wl,--no-whole-archive
 
@@ -49,7 +53,7 @@ uninstall-lib: ## takes the library away
 	rm -rf $(DESTDIR)$(LIBDIR)/cmake/jadvolni
 
 # Without a compiler of C there is no shared library; check_c.py says what it skips then.
-test-c: build/libjadvolni.a $(if $(shell command -v $(CC) 2>/dev/null),build/libjadvolni.so) ## runs the callers in C, C++, Rust and Python; a part of the gate
+test-c: build/libjadvolni.a $(SHARED) ## runs the callers in C, C++, Rust and Python; a part of the gate
 	@python3 tools/check_c.py
 
 # What the random run asks for: the seed that a run before has printed, and how many parses and formats.

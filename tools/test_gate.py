@@ -1,5 +1,5 @@
 #!/usr/bin/env python3
-"""Tests of gate.py and of build.py: what makes the gate fail, and what a build says.
+"""Tests of gate.py, build.py and lib.mk: what makes the gate fail, and what a build says.
 
 usage: tools/test_gate.py
 
@@ -9,6 +9,7 @@ of two crates that is written into a temporary folder.
 import contextlib
 import io
 import os
+import subprocess
 import sys
 import tempfile
 import threading
@@ -250,6 +251,33 @@ class BuildTests(unittest.TestCase):
         with mock.patch.dict(os.environ, RT="/nowhere/rt"), contextlib.redirect_stderr(told):
             self.assertEqual(build.main(["--toolchain"]), 1)
         self.assertIn("there is no `/nowhere/rt` on the PATH", told.getvalue())
+
+
+class LibraryTests(unittest.TestCase):
+    """What make says of the library for C where there is no compiler of C."""
+
+    def setUp(self):
+        self.room = tempfile.TemporaryDirectory(prefix="test-library-")
+        self.addCleanup(self.room.cleanup)
+        os.makedirs(os.path.join(self.room.name, "build"))
+        with open(os.path.join(self.room.name, "build", "libjadvolni.a"), "w", encoding="utf-8"):
+            pass
+
+    def made(self, target):
+        """How make ends over a static library that is there."""
+        rules = os.path.join(os.path.dirname(os.path.abspath(__file__)), "lib.mk")
+        return subprocess.run(["make", "-s", "-f", rules, "-o", "build/libjadvolni.a", "CC=/nowhere/cc", target],
+                              cwd=self.room.name, capture_output=True, text=True)
+
+    def test_the_shared_library_is_left_out(self):
+        made = self.made("lib")
+        self.assertEqual(made.returncode, 0, made.stderr)
+        self.assertEqual(made.stdout, "there is no /nowhere/cc: build/libjadvolni.so, the shared library, is left out\n")
+
+    def test_what_needs_the_shared_library_says_why_it_fails(self):
+        made = self.made("build/libjadvolni.so")
+        self.assertEqual(made.returncode, 2)
+        self.assertIn("there is no /nowhere/cc to link build/libjadvolni.so with", made.stderr)
 
 
 if __name__ == "__main__":

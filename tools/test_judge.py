@@ -9,6 +9,7 @@ a temporary folder and have its edits judged, which takes about a dozen small ch
 import os
 import sys
 import tempfile
+import threading
 import types
 import unittest
 from unittest import mock
@@ -414,13 +415,14 @@ def stand_in(room, texts, paths=(), jobs=1):
 class Batches(unittest.TestCase):
     """How the judge goes through a crate's edits, with a stand-in for the prover."""
 
-    def judged(self, *names, check=stand_in):
+    def judged(self, *names, check=stand_in, most=30):
         """The judge's status, and what it said of each edit."""
         with tempfile.TemporaryDirectory(prefix="test-judge-") as root:
             write(os.path.join(toy(root), judge_edits.KEPT, "kept"), "proved")
             log = os.path.join(root, "log")
             with mock.patch.object(judge_edits.Room, "check", check):
-                status = judge_edits.main(["--root", root, "--jobs", "2", "--log", log, "--only", *names])
+                status = judge_edits.main(["--root", root, "--jobs", "2", "--most", str(most), "--log", log,
+                                           "--only", *names])
             return status, dict(line.split(": ", 1) for line in edit_files.read(log).splitlines())
 
     def test_each_edit_is_told_of(self):
@@ -430,6 +432,19 @@ class Batches(unittest.TestCase):
     def test_what_a_batch_does_not_refuse_is_tried_alone(self):
         status, said = self.judged("the_less", "no_room")
         self.assertEqual((status, said["toy/no_room"]), (0, "refused at near: returns"))
+
+    def test_what_is_tried_alone_does_not_wait_for_the_last_batch(self):
+        tried_alone, in_time = threading.Event(), []
+
+        def waits(room, texts, paths=(), jobs=1):
+            if list(paths) == ["greater"]:
+                in_time.append(tried_alone.wait(20))
+            if list(paths) == ["near"]:
+                tried_alone.set()
+            return stand_in(room, texts, paths, jobs)
+
+        status, said = self.judged("value_changed", "no_room", "the_less", check=waits, most=2)
+        self.assertEqual((status, len(said), in_time), (0, 3, [True]))
 
     def test_one_edit_that_is_not_refused(self):
         status, said = self.judged("the_less", "no_room", "said_otherwise")

@@ -7,6 +7,7 @@
 //! A time is the least of all rounds. Each round runs every peer of a set once, so that a change of the machine's speed
 //! meets all of them.
 mod peers;
+mod place; // written by build.py
 mod sets;
 mod texts;
 

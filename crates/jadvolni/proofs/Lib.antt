@@ -1,3 +1,4 @@
 -- The proofs beside the functions, a file for each idea.
 pub mod ColumnArrays
 pub mod ColumnRows
+pub mod ZeroBytes

@@ -1,9 +1,11 @@
 //! The four calls of every type, which the exports of that type make.
 
-ghost use Rattle.std.specs.Prelude.{◌≡◌};
+ghost use Rattle.std.specs.Prelude.{◌≡◌, IsTrue};
 ghost use Rattle.lexical_parse_integer.specs.Answer.{with_place, view_of};
+ghost use Rattle.lexical_util.specs.Format.{standard};
 ghost use Rattle.jadvolni.specs.Effect.{effect, complete_effect, partial_effect};
 ghost use Rattle.jadvolni.specs.Effect.{complete_call, complete_call_under, partial_call, partial_call_under};
+ghost use Rattle.jadvolni.specs.FormatFields.{are_known, format_of};
 
 use crate::format::FormatFields;
 use crate::outcome::{Outcome, UNKNOWN_FIELD};
@@ -101,6 +103,24 @@ fn complete_under_any<T: FromLexicalWithOptions<Options = Options>, S: Slot<T>>(
     give(answer, text.len(), value)
 }
 
+// The whole text, under a format that is standard but for its radix.
+#[inline(never)]
+fn complete_in_radix<T: FromLexicalWithOptions<Options = Options>, S: Slot<T>>(
+    text: &[u8],
+    fields: &FormatFields,
+    value: &mut S,
+) -> Outcome
+    requires known { IsTrue (are_known fields.now) }
+    requires format { format_of fields.now
+        ≡ record standard { mantissa_radix = fields.now.mantissa_radix } }
+    ensures { effect result (S.number value.new)
+        ≡ complete_call_under fields.now T.TYPE text.now (S.number value.old) }
+{
+    let format = NumberFormatBuilder::from_radix(fields.mantissa_radix);
+    let answer = T::from_lexical_with_options(text, &format, &options::STANDARD);
+    give(answer, text.len(), value)
+}
+
 /// The whole text, under a format that may be invalid.
 #[inline(always)]
 pub fn complete_under<T: FromLexicalWithOptions<Options = Options>, S: Slot<T>>(
@@ -114,9 +134,10 @@ pub fn complete_under<T: FromLexicalWithOptions<Options = Options>, S: Slot<T>>(
     if !fields.differ_in_radix_alone() {
         return complete_under_any::<T, S>(text, fields, value);
     }
-    let format = NumberFormatBuilder::from_radix(fields.mantissa_radix);
-    let answer = T::from_lexical_with_options(text, &format, &options::STANDARD);
-    give(answer, text.len(), value)
+    if fields.mantissa_radix == 10 {
+        return complete::<T, S>(text, value);
+    }
+    complete_in_radix::<T, S>(text, fields, value)
 }
 
 // The text's front, under a format that is made field by field.

@@ -1,9 +1,9 @@
 //! Formats as C writes them, and what is wrong with one.
 
-ghost use Rattle.std.specs.Prelude.{◌≡◌, IsTrue};
+ghost use Rattle.std.specs.Prelude.{◌≡◌, ◌↔◌, ◌&&◌, ◌∷◌, [], IsTrue};
 ghost use Rattle.lexical_util.specs.Format.{standard};
 ghost use Rattle.jadvolni.specs.Effect.{format_status};
-ghost use Rattle.jadvolni.specs.FormatFields.{are_known, flag, format_of, punctuation};
+ghost use Rattle.jadvolni.specs.FormatFields.{are_known, are_zeros, flag, format_of, punctuation};
 
 use crate::outcome::{UNKNOWN_FIELD, status_of};
 use lexical_parse_integer::{NumberFormat, NumberFormatBuilder};
@@ -60,6 +60,78 @@ fn punctuation(byte: u8, is_nul: u8) -> Option<u8>
     }
 }
 
+// Whether a digit is required, and the fields before that one ask for nothing but a radix: the first eight bytes.
+#[inline(always)]
+#[tactic(auto, using(crate::proofs::ZeroBytes::radix_and_flag))]
+fn asks_for_digits(fields: &FormatFields) -> bool
+    ensures { result ≡ (flag fields.now.required_mantissa_digits && are_zeros (
+        fields.now.digit_separator ∷ fields.now.base_prefix ∷ fields.now.base_suffix
+        ∷ fields.now.case_sensitive_base_prefix ∷ fields.now.case_sensitive_base_suffix
+        ∷ fields.now.required_integer_digits ∷ [])) }
+{
+    let word = u64::from_le_bytes([
+        fields.mantissa_radix,
+        fields.digit_separator,
+        fields.base_prefix,
+        fields.base_suffix,
+        fields.case_sensitive_base_prefix,
+        fields.case_sensitive_base_suffix,
+        fields.required_integer_digits,
+        fields.required_mantissa_digits,
+    ]);
+    let radix = fields.mantissa_radix as u64;
+    let required = fields.required_mantissa_digits as u64;
+    required != 0 && word == radix + required * 0x100_0000_0000_0000
+}
+
+// Whether nothing is asked for of signs, zeros and separators: the next eight bytes.
+#[inline(always)]
+#[tactic(auto, using(crate::proofs::ZeroBytes::word_of_zeros))]
+fn asks_for_no_signs(fields: &FormatFields) -> bool
+    ensures { result ≡ are_zeros (
+        fields.now.no_positive_mantissa_sign ∷ fields.now.required_mantissa_sign
+        ∷ fields.now.no_integer_leading_zeros ∷ fields.now.integer_leading_digit_separator
+        ∷ fields.now.integer_internal_digit_separator
+        ∷ fields.now.integer_trailing_digit_separator
+        ∷ fields.now.integer_consecutive_digit_separator
+        ∷ fields.now.integer_prefix_digit_separator ∷ []) }
+{
+    let word = u64::from_le_bytes([
+        fields.no_positive_mantissa_sign,
+        fields.required_mantissa_sign,
+        fields.no_integer_leading_zeros,
+        fields.integer_leading_digit_separator,
+        fields.integer_internal_digit_separator,
+        fields.integer_trailing_digit_separator,
+        fields.integer_consecutive_digit_separator,
+        fields.integer_prefix_digit_separator,
+    ]);
+    word == 0
+}
+
+// Whether no literal prefix and no byte 0 is asked for, and nothing that is unknown: the last eight bytes.
+#[inline(always)]
+#[tactic(auto, using(crate::proofs::ZeroBytes::word_of_zeros))]
+fn asks_for_no_literals(fields: &FormatFields) -> bool
+    ensures { result ≡ (are_zeros (
+        fields.now.literal_prefixes ∷ fields.now.literal_octal_zero
+        ∷ fields.now.digit_separator_is_nul ∷ fields.now.base_prefix_is_nul
+        ∷ fields.now.base_suffix_is_nul ∷ fields.now.reserved)) }
+{
+    let [first, second, third] = fields.reserved;
+    let word = u64::from_le_bytes([
+        fields.literal_prefixes,
+        fields.literal_octal_zero,
+        fields.digit_separator_is_nul,
+        fields.base_prefix_is_nul,
+        fields.base_suffix_is_nul,
+        first,
+        second,
+        third,
+    ]);
+    word == 0
+}
+
 impl FormatFields {
     /// Whether the bytes that are kept for later versions are 0.
     #[inline(always)]
@@ -72,33 +144,13 @@ impl FormatFields {
 
     /// Whether all fields but the radix are those of the standard format.
     ///
-    /// The fields are asked in their order, without a branch, so that one load has many of them.
+    /// The fields are asked in their order, as three words of eight bytes.
     #[inline(always)]
     pub fn differ_in_radix_alone(&self) -> bool
-        ensures known { IsTrue result → IsTrue (are_known self.now) }
-        ensures format { IsTrue result
-            → format_of self.now ≡ record standard { mantissa_radix = self.now.mantissa_radix } }
+        ensures { IsTrue result ↔ (IsTrue (are_known self.now)
+            × (format_of self.now ≡ record standard { mantissa_radix = self.now.mantissa_radix })) }
     {
-        let front = flag(self.digit_separator)
-            | flag(self.base_prefix)
-            | flag(self.base_suffix)
-            | flag(self.case_sensitive_base_prefix)
-            | flag(self.case_sensitive_base_suffix)
-            | flag(self.required_integer_digits);
-        let rest = flag(self.no_positive_mantissa_sign)
-            | flag(self.required_mantissa_sign)
-            | flag(self.no_integer_leading_zeros)
-            | flag(self.integer_leading_digit_separator)
-            | flag(self.integer_internal_digit_separator)
-            | flag(self.integer_trailing_digit_separator)
-            | flag(self.integer_consecutive_digit_separator)
-            | flag(self.integer_prefix_digit_separator)
-            | flag(self.literal_prefixes)
-            | flag(self.literal_octal_zero)
-            | flag(self.digit_separator_is_nul)
-            | flag(self.base_prefix_is_nul)
-            | flag(self.base_suffix_is_nul);
-        flag(self.required_mantissa_digits) & !(front | rest) & self.are_known()
+        asks_for_digits(self) && asks_for_no_signs(self) && asks_for_no_literals(self)
     }
 
     /// The format that the fields stand for, which may be invalid.

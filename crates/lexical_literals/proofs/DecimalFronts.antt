@@ -103,7 +103,7 @@ unmapped g (Some x) e = cc
 greater_type : (n : ℕ) → not (nat_lt n (2 ^ 128)) ≡ true → not (nat_lt n (2 ^ 64)) ≡ true
 greater_type n out = grind (arith, nat_tests)
 
-no_range : (x : Numeral) → range_fault (integer_type 64 false) false x ≡ None → range_fault (integer_type 128 false) false x ≡ None
+pub no_range : (x : Numeral) → range_fault (integer_type 64 false) false x ≡ None → range_fault (integer_type 128 false) false x ≡ None
 unfolding range_fault
 no_range x none =
     let found = unmapped (λ index. range_error false (slice_index x.places index)) _ none in

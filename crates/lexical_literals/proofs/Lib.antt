@@ -3,4 +3,5 @@ pub mod DecimalFronts
 pub mod TokenLists
 pub mod TokenRows
 pub mod TokenSteps
+pub mod WiderType
 pub mod WordBytes

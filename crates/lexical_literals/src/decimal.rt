@@ -25,6 +25,13 @@ pub(crate) fn is_decimal(format: &NumberFormat) -> bool
         && format.base_suffix().is_none()
 }
 
+// Whether more than a digit seems to follow the first byte, as the letter of a prefix does: a guess, by which such a number
+// is read once.
+#[inline(always)]
+pub(crate) fn seems_marked(text: &[u8]) -> bool {
+    text.len() >= 2 && text[1] > b'9'
+}
+
 // Whether the byte is the format's separator.
 #[inline(always)]
 fn is_separator(byte: u8, format: &NumberFormat) -> bool

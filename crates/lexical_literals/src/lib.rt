@@ -23,7 +23,7 @@ ghost use Rattle.lexical_literals.specs.Decimal.{IsDecimal};
 ghost use Rattle.lexical_literals.specs.Tokens.{FollowInTurn, FollowUnder, IsPartOf, TokenView, front_of, literals, number_of, view_of_token, tokens, tokens_from, tokens_if_valid};
 
 use bytes::{is_word_byte, skipped_length, word_length};
-use decimal::{decimal_front, is_decimal};
+use decimal::{decimal_front, is_decimal, seems_marked};
 use lexical_parse_integer::laws::grammar::front_end;
 use lexical_parse_integer::parse::ParseInteger;
 use lexical_parse_integer::{Error, NumberFormat, NumberFormatBuilder, Result, options};
@@ -83,7 +83,7 @@ fn number(text: &[u8], format: &NumberFormat, decimal: bool) -> (Kind, usize)
     requires decimal { IsTrue decimal → IsDecimal format.now }
     ensures { result ≡ number_of format.now text.now }
 {
-    if decimal {
+    if decimal && !seems_marked(text) {
         if let Some((value, length)) = decimal_front(text, format) {
             return (Kind::Number(value), length);
         }
@@ -91,9 +91,21 @@ fn number(text: &[u8], format: &NumberFormat, decimal: bool) -> (Kind, usize)
     marked_number(text, format)
 }
 
-// The same for any number: out of line, so that what calls `next` has it in place.
+// The same for any number: out of line, so that what calls `next` has it in place. Most fit into 64 bits, and are read so.
 #[inline(never)]
 fn marked_number(text: &[u8], format: &NumberFormat) -> (Kind, usize)
+    requires valid { IsNone (fault format.now) }
+    ensures { result ≡ number_of format.now text.now }
+{
+    match u64::parse_partial(text, format, &options::STANDARD) {
+        Ok((value, length)) => (Kind::Number(value as u128), length),
+        Err(_) => wide_number(text, format),
+    }
+}
+
+// The same for a number of more bits, and for a fault.
+#[inline(never)]
+fn wide_number(text: &[u8], format: &NumberFormat) -> (Kind, usize)
     requires valid { IsNone (fault format.now) }
     ensures { result ≡ number_of format.now text.now }
 {

@@ -70,7 +70,7 @@ slice_get_there (b ∷ bs) (suc k) low = slice_get_there bs k (omega arith)
 abbrev pub StandsFrom : ℕ → List ℕ → List ℕ → Type 0
 StandsFrom start text digits = (k : ℕ) → slice_get text (start + k) ≡ slice_get digits k
 
-at_front : (r : ℕ) (text digits ds : List ℕ) (start n k : ℕ) → StandsFrom start text digits → HaveDigits r (take n digits) ds → k < length ds → k < n → digit_at r text (start + k) ≡ Some (get_or ds k 0)
+pub at_front : (r : ℕ) (text digits ds : List ℕ) (start n k : ℕ) → StandsFrom start text digits → HaveDigits r (take n digits) ds → k < length ds → k < n → digit_at r text (start + k) ≡ Some (get_or ds k 0)
 unfolding digit_at
 at_front r text digits ds start n k on all l low = ap (option_and_then (λ byte. digit byte r)) (on k ∙ sym (slice_get-take n k digits low)) ∙ digit_there r (take n digits) ds k all l
 
@@ -78,7 +78,7 @@ at_stop : (r : ℕ) (text digits : List ℕ) (start n : ℕ) → StandsFrom star
 unfolding digit_at
 at_stop r text digits start n on low none = ap (λ (o : Option ℕ). is_some (option_and_then (λ byte. digit byte r) o)) (on n ∙ slice_get_there digits n low) ∙ none
 
-front_between : (r : ℕ) (text digits ds : List ℕ) (start n : ℕ) → StandsFrom start text digits → HaveDigits r (take n digits) ds → length ds ≡ n → HoldsBetween (has_digit r text) start (start + n)
+pub front_between : (r : ℕ) (text digits ds : List ℕ) (start n : ℕ) → StandsFrom start text digits → HaveDigits r (take n digits) ds → length ds ≡ n → HoldsBetween (has_digit r text) start (start + n)
 front_between r text digits ds start n on all size j low high =
     let place : start + (j - start) ≡ j = omega arith in
     subst (λ (p : ℕ). has_digit r text p ≡ true) place (ap is_some (at_front r text digits ds start n (j - start) on all (omega arith) (omega arith)))

@@ -2,17 +2,18 @@
 use Rattle.std.proofs.Common.{slice_get, ◌≡◌, ℕ, zero, suc, ◌+◌, ◌-◌, ◌^◌, ◌<◌, ◌≤◌, Bool, true, false, ◌&&◌, not, List, [], ◌∷◌, length, get_or, map, take, refl, sym, ap, ◌∙◌, subst, arith, pos, Ok, Err}
 use Rattle.std.specs.Prelude.{◌==◌, ◌||◌, is_some, slice_range, ℤ, neg_ℤ, if◌then◌else◌, IsNone}
 use Rattle.std.proofs.Math.Seq.{take-length}
+use Rattle.std.proofs.Math.Bool.{and-false}
 use Rattle.std.proofs.lemmas.Bool.{and_parts, eqb-true, le-ltb, lt-ltb}
 use Rattle.std.proofs.lemmas.List.{length-take-le}
 use mir.Val.{bool_byte}
 use Rattle.lexical_util.specs.declared.error.Error.TheVariants.{InvalidDigit}
 use Rattle.lexical_util.specs.Digit.{IsRadix, digit}
-use Rattle.lexical_util.specs.Format.{Format}
+use Rattle.lexical_util.specs.Format.{Format, standard}
 use Rattle.lexical_util.specs.Number.{IntegerType, IsNumber, is_number}
 use Rattle.lexical_parse_integer.specs.Grammar.{complete, partial}
 use Rattle.lexical_parse_integer.specs.Head.{sign}
 use Rattle.lexical_parse_integer.specs.Laws.{completion_of}
-use Rattle.lexical_parse_integer.specs.Plain.{BeginsInRadix, BeginsWith, IsPlain, WritesFront, keeps_zero_rule}
+use Rattle.lexical_parse_integer.specs.Plain.{BeginsInRadix, BeginsWith, IsPlain, WritesFront, WritesValue, keeps_zero_rule}
 use Rattle.lexical_parse_integer.specs.Value.{positional_value, with_sign}
 use Rattle.lexical_parse_integer.specs.Words.{AreDigits, word_value}
 use Rattle.lexical_parse_integer.proofs.words.AsciiDigits.{ascii_from_digits}
@@ -75,7 +76,7 @@ behind_sign f t r text digits s value count plain same radix sign_is on size b =
     values_in_front f t text digits w.values s count plain (omega arith) sign_is on size here b.some b.within stops (rule_in f r bytes w.values all b.rule) (ap (is_number t) value_is ∙ b.stands.fits)
     ∙ ap (λ (z : ℤ). Ok (z, s.1 + count)) value_is
 
-from_second : (b : ℕ) (rest : List ℕ) → StandsFrom 1 (b ∷ rest) rest
+pub from_second : (b : ℕ) (rest : List ℕ) → StandsFrom 1 (b ∷ rest) rest
 from_second b rest k = ap (slice_get (b ∷ rest)) (let e : 1 + k ≡ suc k = omega arith in e)
 
 -- digits at the front, behind a minus, a plus or nothing
@@ -149,3 +150,20 @@ pub none_after : (f : Format) (t : IntegerType) (text : List ℕ) (value : ℤ) 
 none_after f t text value place is all =
     let test = le-ltb place (length text) all in
     complete_is_completion f t text ∙ ap (completion_of (length text)) is ∙ (rw test refl)
+
+-- digits behind a plus that stand for a number are read as that
+pub plus_read : (t : IntegerType) (text : List ℕ) (value : ℤ) → 1 < length text → get_or text 0 0 ≡ 43 → WritesValue t 0 false (slice_range text 1 (length text)) value → complete standard t text ≡ Ok value
+plus_read t [] value some is_plus w = absurd (omega arith)
+plus_read t (b ∷ rest) value some is_plus w =
+    let same : slice_range (b ∷ rest) 1 (length (b ∷ rest)) ≡ rest = behind_first b rest 1 refl in
+    let more : 0 < length rest = omega arith in
+    let minus : false ≡ (t.is_signed && (b == 45)) = rw (is_plus, and-false t.is_signed) refl in
+    let plus : true ≡ (not standard.no_positive_mantissa_sign && (b == 43)) = rw is_plus refl in
+    let begins : BeginsWith standard t false (slice_range (b ∷ rest) 1 (length (b ∷ rest))) value (length rest) = rw same (record {
+      some = omega arith;
+      within = omega arith;
+      stops = λ l. absurd (omega (arith, l));
+      rule = refl;
+      stands = subst (λ (bytes : List ℕ). WritesValue t 0 false bytes value) (same ∙ sym (take-length rest)) w;
+    }) in
+    none_after standard t (b ∷ rest) value (1 + length rest) (signed_words_read standard t (b ∷ rest) false true 1 value (length rest) (record { no_separator = refl; no_prefix = refl; no_suffix = refl; no_literals = refl; no_octal_zeros = refl; no_sign = refl }) refl (omega arith) minus plus refl begins) (omega arith)

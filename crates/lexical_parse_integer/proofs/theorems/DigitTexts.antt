@@ -33,10 +33,10 @@ abbrev pub rest_value : ℕ → List ℕ → ℕ → ℕ
 rest_value r text start = positional_value r (row r text start (length text - start))
 
 -- the complete answer by the head and the numeral
-abbrev complete_by : Format → IntegerType → List ℕ → Head → Numeral → Result ℤ Error
+abbrev pub complete_by : Format → IntegerType → List ℕ → Head → Numeral → Result ℤ Error
 complete_by f t text h x = first_fault_or (common_faults f t text h x ++ complete_faults f text x) (numeral_value h.is_minus x)
 
-complete_row : (f : Format) (t : IntegerType) (text : List ℕ) (h : Head) (count : ℕ) → f.digit_separator ≡ None → head_of f t text ≡ Ok h → h.start ≤ length text → EndsRow h.radix text h.start (h.start + count) →
+pub complete_row : (f : Format) (t : IntegerType) (text : List ℕ) (h : Head) (count : ℕ) → f.digit_separator ≡ None → head_of f t text ≡ Ok h → h.start ≤ length text → EndsRow h.radix text h.start (h.start + count) →
     complete f t text ≡ complete_by f t text h (row_numeral f text h.start h.radix count)
 unfolding complete
 complete_row f t text h count none head low ends = rw (head, numeral_in_a_row f text h.start h.radix count none low ends) refl

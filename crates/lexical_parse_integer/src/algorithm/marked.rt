@@ -271,7 +271,7 @@ fn value_of_short_row<T: Integer>(digits: &[u8], radix: u32, negative: bool) -> 
         return value_of_few::<T>(digits, negative);
     }
     if radix == 16 {
-        return value_of_nibbles::<T>(digits, negative);
+        return value_of_hexadecimal::<T>(digits, negative);
     }
     None
 }
@@ -296,7 +296,7 @@ fn value_if_threes<T: Integer>(bytes: &[u8], format: &NumberFormat, separator: u
 }
 
 // The value of the whole text under a format that may be invalid, where it has a separator alone.
-#[inline(always)]
+#[inline(never)]
 pub(crate) fn value_if_between_separators<T: Integer>(
     bytes: &[u8],
     format: &NumberFormat,

@@ -1,14 +1,14 @@
 // Every integer type, read from bytes.
-ghost use Rattle.std.specs.Prelude.{◌≡◌, None, Some};
+ghost use Rattle.std.specs.Prelude.{◌≡◌, IfSome, IsNone, Ok};
+ghost use Rattle.lexical_util.specs.Validity.{fault};
 ghost use Rattle.lexical_parse_integer.specs.Answer.{with_place, view_of};
-ghost use Rattle.lexical_parse_integer.specs.Grammar.{complete_if_valid, partial_if_valid};
-ghost use Rattle.lexical_parse_integer.specs.Plain.{IsPlain};
+ghost use Rattle.lexical_parse_integer.specs.Grammar.{complete, complete_if_valid, partial_if_valid};
 
 use crate::algorithm::marked::lone_mark::fault_of;
 use crate::algorithm::marked::prefixed::{value_if_behind_prefix, value_if_literal};
 use crate::algorithm::marked::value_if_between_separators;
 use crate::algorithm::plain::{
-    front_if_plain, hexadecimal, is_plain, value_if_short, value_of_plain,
+    front_if_plain, hexadecimal_out_of_line, is_plain, value_if_short, value_out_of_line,
 };
 use crate::algorithm::{complete_with_marks, partial_with_marks};
 use crate::api::{FromLexical, FromLexicalWithOptions};
@@ -17,144 +17,60 @@ use lexical_util::format::NumberFormat;
 use lexical_util::num::Integer;
 use lexical_util::result::Result;
 
-// The complete answer under a format that may be invalid. A short decimal text is read in place, and every other text by
-// one call, so that nothing is kept for after it.
+// The complete answer under a format that may be invalid. A short decimal text is read in place.
 #[inline(always)]
 fn complete<T: Integer>(bytes: &[u8], format: &NumberFormat, options: &Options) -> Result<T>
     ensures { view_of T.number result ≡ complete_if_valid format.now T.TYPE bytes.now }
 {
     match value_if_short::<T>(bytes, format) {
         Some(value) => Ok(value),
-        None => complete_out_of_line::<T>(bytes, format, options),
+        None => complete_by_kind::<T>(bytes, format, options),
     }
 }
 
-// The same by a call for each kind of format. What that call needs stands in it.
+// The same by the reader for the format's kind, and by one call for what that leaves.
 #[inline(always)]
-fn complete_out_of_line<T: Integer>(
-    bytes: &[u8],
-    format: &NumberFormat,
-    options: &Options,
-) -> Result<T>
+fn complete_by_kind<T: Integer>(bytes: &[u8], format: &NumberFormat, options: &Options) -> Result<T>
     ensures { view_of T.number result ≡ complete_if_valid format.now T.TYPE bytes.now }
+{
+    match value_by_kind::<T>(bytes, format) {
+        Some(value) => Ok(value),
+        None => complete_if_valid::<T>(bytes, format, options),
+    }
+}
+
+// The value of the whole text, by a reader for each kind of format. Each is a call that answers in registers: an answer
+// through memory makes the caller wait for it.
+#[inline(always)]
+fn value_by_kind<T: Integer>(bytes: &[u8], format: &NumberFormat) -> Option<T>
+    ensures valid { IfSome result (λ value. IsNone (fault format.now)) }
+    ensures answer { IfSome result
+        (λ value. complete format.now T.TYPE bytes.now ≡ Ok (T.number value)) }
 {
     if !is_plain(format) {
-        return complete_beside_marks::<T>(bytes, format, options);
+        return value_beside_marks::<T>(bytes, format);
     }
     if format.mantissa_radix() == 16 {
-        return complete_hexadecimal::<T>(bytes, format, options);
+        return hexadecimal_out_of_line::<T>(bytes, format);
     }
-    complete_plain::<T>(bytes, format, options)
+    value_out_of_line::<T>(bytes, format)
 }
 
-// The same under a format without marks.
-#[inline(never)]
-fn complete_plain<T: Integer>(bytes: &[u8], format: &NumberFormat, options: &Options) -> Result<T>
-    requires { IsPlain format.now }
-    ensures { view_of T.number result ≡ complete_if_valid format.now T.TYPE bytes.now }
-{
-    match value_of_plain::<T>(bytes, format) {
-        Some(value) => Ok(value),
-        None => complete_otherwise::<T>(bytes, format, options),
-    }
-}
-
-// The same in radix 16.
-#[inline(never)]
-fn complete_hexadecimal<T: Integer>(
-    bytes: &[u8],
-    format: &NumberFormat,
-    options: &Options,
-) -> Result<T>
-    requires plain { IsPlain format.now }
-    requires hexadecimal { format.now.mantissa_radix ≡ 16 }
-    ensures { view_of T.number result ≡ complete_if_valid format.now T.TYPE bytes.now }
-{
-    match hexadecimal::<T>(bytes, format) {
-        Some(value) => Ok(value),
-        None => complete_otherwise::<T>(bytes, format, options),
-    }
-}
-
-// The same for a text under a format with marks, or for any that is left.
+// The same under a format with marks.
 #[inline(always)]
-fn complete_beside_marks<T: Integer>(
-    bytes: &[u8],
-    format: &NumberFormat,
-    options: &Options,
-) -> Result<T>
-    ensures { view_of T.number result ≡ complete_if_valid format.now T.TYPE bytes.now }
+fn value_beside_marks<T: Integer>(bytes: &[u8], format: &NumberFormat) -> Option<T>
+    ensures valid { IfSome result (λ value. IsNone (fault format.now)) }
+    ensures answer { IfSome result
+        (λ value. complete format.now T.TYPE bytes.now ≡ Ok (T.number value)) }
 {
     match format.digit_separator() {
-        Some(separator) => { complete_between_separators::<T>(bytes, format, options, separator) }
-        None if format.has_base_prefix() => complete_behind_prefix::<T>(bytes, format, options),
-        None => complete_with_literals::<T>(bytes, format, options),
+        Some(separator) => value_if_between_separators::<T>(bytes, format, separator),
+        None if format.has_base_prefix() => value_if_behind_prefix::<T>(bytes, format),
+        None => value_if_literal::<T>(bytes, format),
     }
 }
 
-// The same under a format with a separator.
-#[inline(never)]
-fn complete_between_separators<T: Integer>(
-    bytes: &[u8],
-    format: &NumberFormat,
-    options: &Options,
-    separator: u8,
-) -> Result<T>
-    requires { format.now.digit_separator ≡ Some separator }
-    ensures { view_of T.number result ≡ complete_if_valid format.now T.TYPE bytes.now }
-{
-    match value_if_between_separators::<T>(bytes, format, separator) {
-        Some(value) => Ok(value),
-        None => complete_otherwise::<T>(bytes, format, options),
-    }
-}
-
-// The same under a format with a prefix.
-#[inline(never)]
-fn complete_behind_prefix<T: Integer>(
-    bytes: &[u8],
-    format: &NumberFormat,
-    options: &Options,
-) -> Result<T>
-    requires { format.now.digit_separator ≡ None }
-    ensures { view_of T.number result ≡ complete_if_valid format.now T.TYPE bytes.now }
-{
-    match value_if_behind_prefix::<T>(bytes, format) {
-        Some(value) => Ok(value),
-        None => complete_otherwise::<T>(bytes, format, options),
-    }
-}
-
-// The same under a format with neither, which may have literal prefixes.
-#[inline(never)]
-fn complete_with_literals<T: Integer>(
-    bytes: &[u8],
-    format: &NumberFormat,
-    options: &Options,
-) -> Result<T>
-    requires separator { format.now.digit_separator ≡ None }
-    requires prefix { format.now.base_prefix ≡ None }
-    ensures { view_of T.number result ≡ complete_if_valid format.now T.TYPE bytes.now }
-{
-    match value_if_literal::<T>(bytes, format) {
-        Some(value) => Ok(value),
-        None => complete_otherwise::<T>(bytes, format, options),
-    }
-}
-
-// The same for every text. In a function of its own the answer's room is cleared for what is left only.
-#[inline(always)]
-fn complete_otherwise<T: Integer>(
-    bytes: &[u8],
-    format: &NumberFormat,
-    options: &Options,
-) -> Result<T>
-    ensures { view_of T.number result ≡ complete_if_valid format.now T.TYPE bytes.now }
-{
-    complete_if_valid::<T>(bytes, format, options)
-}
-
-// The same in one call, out of line.
+// The complete answer in one call, out of line.
 #[inline(never)]
 fn complete_if_valid<T: Integer>(
     bytes: &[u8],

@@ -403,6 +403,37 @@ later_bytes_9 : complete standard i64 (codes "4062605721506720060000660000000600
 unfolding complete partial numeral_in head_of sign range_fault begin_of digit_at are_same separator_at flag_for run_passes is_in_numeral end_of digits_between matches is_affix literal_radix marked_radix octal_zero_at prefix_radix suffix_at numeral_stop
 later_bytes_9 = refl
 
+-- ---- numbers of more digits than the greatest, behind a sign and behind zeros
+
+further_digits_1 : complete standard i8 (codes "-1000") ≡ Err (Underflow 4)
+unfolding complete partial numeral_in head_of sign range_fault begin_of digit_at are_same separator_at flag_for run_passes is_in_numeral end_of digits_between matches is_affix literal_radix marked_radix octal_zero_at prefix_radix suffix_at numeral_stop
+further_digits_1 = refl
+
+further_digits_2 : complete standard u8 (codes "+256") ≡ Err (Overflow 3)
+unfolding complete partial numeral_in head_of sign range_fault begin_of digit_at are_same separator_at flag_for run_passes is_in_numeral end_of digits_between matches is_affix literal_radix marked_radix octal_zero_at prefix_radix suffix_at numeral_stop
+further_digits_2 = refl
+
+further_digits_3 : complete standard u16 (codes "100000") ≡ Err (Overflow 5)
+unfolding complete partial numeral_in head_of sign range_fault begin_of digit_at are_same separator_at flag_for run_passes is_in_numeral end_of digits_between matches is_affix literal_radix marked_radix octal_zero_at prefix_radix suffix_at numeral_stop
+further_digits_3 = refl
+
+further_digits_4 : complete standard u64 (codes "100000000000000000000") ≡ Err (Overflow 20)
+unfolding complete partial numeral_in head_of sign range_fault begin_of digit_at are_same separator_at flag_for run_passes is_in_numeral end_of digits_between matches is_affix literal_radix marked_radix octal_zero_at prefix_radix suffix_at numeral_stop
+further_digits_4 = refl
+
+-- -10^18 is an i64, and -10^19 isn't: 19 zeros behind the 1
+further_digits_5 : complete standard i64 (codes "-100000000000000000000") ≡ Err (Underflow 20)
+unfolding complete partial numeral_in head_of sign range_fault begin_of digit_at are_same separator_at flag_for run_passes is_in_numeral end_of digits_between matches is_affix literal_radix marked_radix octal_zero_at prefix_radix suffix_at numeral_stop
+further_digits_5 = refl
+
+further_digits_6 : complete standard u64 (codes "000018446744073709551615") ≡ Ok (pos 18446744073709551615)
+unfolding complete partial numeral_in head_of sign range_fault begin_of digit_at are_same separator_at flag_for run_passes is_in_numeral end_of digits_between matches is_affix literal_radix marked_radix octal_zero_at prefix_radix suffix_at numeral_stop
+further_digits_6 = refl
+
+further_digits_7 : complete standard u64 (codes "000018446744073709551616") ≡ Err (Overflow 23)
+unfolding complete partial numeral_in head_of sign range_fault begin_of digit_at are_same separator_at flag_for run_passes is_in_numeral end_of digits_between matches is_affix literal_radix marked_radix octal_zero_at prefix_radix suffix_at numeral_stop
+further_digits_7 = refl
+
 -- ---- each beginning of a text that leaves the type at its last byte
 
 beginnings_1 : complete standard i8 (codes "") ≡ Err (Empty 0)

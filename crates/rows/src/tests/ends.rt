@@ -265,6 +265,26 @@ fn later_bytes(rt: HostRuntime) {
     );
 }
 
+// Numbers of more digits than the greatest, behind a sign and behind zeros.
+#[test]
+fn further_digits(rt: HostRuntime) {
+    complete::<i8>(&rt, &[(b"-1000", Err(Error::Underflow(4)))]);
+    complete::<u8>(&rt, &[(b"+256", Err(Error::Overflow(3)))]);
+    complete::<u16>(&rt, &[(b"100000", Err(Error::Overflow(5)))]);
+    complete::<u64>(
+        &rt,
+        &[
+            (b"100000000000000000000", Err(Error::Overflow(20))),
+            (b"000018446744073709551615", Ok(18446744073709551615)),
+            (b"000018446744073709551616", Err(Error::Overflow(23))),
+        ],
+    );
+    complete::<i64>(
+        &rt,
+        &[(b"-100000000000000000000", Err(Error::Underflow(20)))],
+    );
+}
+
 // Each beginning of a text that leaves the type at its last byte.
 #[test]
 fn beginnings(rt: HostRuntime) {

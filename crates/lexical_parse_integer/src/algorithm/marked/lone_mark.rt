@@ -1,7 +1,9 @@
 // Formats with one mark at most, which little makes valid: so it is looked at first, and most of the rules needn't be.
 ghost use Rattle.std.specs.Prelude.{◌≡◌, IsTrue, None, Some, false, true};
+ghost use Rattle.lexical_util.specs.Ascii.{letter_x};
 ghost use Rattle.lexical_util.specs.Digit.{IsRadix};
 ghost use Rattle.lexical_util.specs.Validity.{fault, is_unfit_byte};
+ghost use Rattle.lexical_parse_integer.specs.Affixes.{marked_radix};
 
 use lexical_util::digit::char_to_digit;
 use lexical_util::error::Error;
@@ -77,13 +79,32 @@ pub(super) fn is_valid_with_prefix(format: &NumberFormat) -> bool
     }
 }
 
+// The same of hexadecimal digits behind `0x`, where no sign is asked for: what most formats with a prefix are.
+#[inline(always)]
+#[tactic(auto, unfolding(crate::specs::Affixes::marked_radix, crate::specs::Affixes::is_affix, crate::specs::Affixes::matches))]
+pub(super) fn is_hexadecimal_behind_x(format: &NumberFormat) -> bool
+    requires separator { format.now.digit_separator ≡ None }
+    ensures valid { IsTrue result → fault format.now ≡ None }
+    ensures marked { IsTrue result → marked_radix format.now (Some letter_x) ≡ Some 16 }
+{
+    if has_suffix_or_octal_zeros(format) | format.literal_prefixes() {
+        return false;
+    }
+    match format.base_prefix() {
+        Some(prefix) => prefix == b'x' && format.mantissa_radix() == 16,
+        None => false,
+    }
+}
+
 // The same of a format without a prefix that has literal prefixes, and no other mark.
 #[inline(always)]
+#[tactic(auto, unfolding(crate::specs::Affixes::marked_radix, crate::specs::Affixes::is_affix, crate::specs::Affixes::matches, crate::specs::Affixes::literal_radix))]
 pub(super) fn is_valid_with_literals(format: &NumberFormat) -> bool
     requires separator { format.now.digit_separator ≡ None }
     requires prefix { format.now.base_prefix ≡ None }
     ensures valid { IsTrue result → fault format.now ≡ None }
     ensures octal_zeros { IsTrue result → format.now.literal_octal_zero ≡ false }
+    ensures marked { IsTrue result → marked_radix format.now (Some letter_x) ≡ Some 16 }
 {
     if has_suffix_or_octal_zeros(format) {
         return false;

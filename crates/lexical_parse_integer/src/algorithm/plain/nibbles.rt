@@ -84,17 +84,14 @@ fn numbers_of_blocks(text: &[u8], size: usize) -> Option<(u32, u32)>
     }
 }
 
-// The number of one to eight digits.
+// The number of four to eight digits.
 #[inline(always)]
 fn number_to_8(text: &[u8]) -> Option<u32>
-    requires some { 1 ≤ length text.now }
+    requires some { 3 < length text.now }
     requires few { length text.now ≤ 8 }
     ensures { IfSome result
         (λ number. WritesFront 16 text.now (length text.now) (pos number)) }
 {
-    if text.len() <= 3 {
-        return number_to_3(text);
-    }
     match numbers_of_blocks(text, 4) {
         Some((high, low)) => Some(high * 0x1_0000 + low),
         None => None,
@@ -122,26 +119,20 @@ fn number_to_16<T: Integer>(text: &[u8], most: usize) -> Option<T>
     }
 }
 
-// The number of one to sixteen digits, where the type has room for them.
+// The value of the number that digits write, behind a minus where that is negative, where the type has room for them.
 #[inline(always)]
-fn number_of<T: Integer>(text: &[u8], most: usize) -> Option<T>
-    requires some { 1 ≤ length text.now }
-    requires few { length text.now ≤ 16 }
-    requires fits { length text.now ≤ most }
+fn value_of_number<T: Integer>(number: u32, digits: &[u8], most: usize, negative: bool) -> T
+    requires writes { WritesFront 16 digits.now (length digits.now) (pos number) }
+    requires fits { length digits.now ≤ most }
     requires room { HasRoom T.TYPE 16 most }
-    ensures { IfSome result
-        (λ value. WritesFront 16 text.now (length text.now) (T.number value)) }
+    requires minus { IsTrue negative → IsTrue T.TYPE.is_signed }
+    ensures { StandsFor T.TYPE 16 negative digits.now (T.number result) }
 {
-    if text.len() > 8 {
-        return number_to_16::<T>(text, most);
-    }
-    match number_to_8(text) {
-        Some(number) => Some(T::from_u32(number)),
-        None => None,
-    }
+    signed_value::<T>(T::from_u32(number), negative)
 }
 
-// The value of hexadecimal digits, behind a minus where that is negative.
+// The value of hexadecimal digits, behind a minus where that is negative. Each range of lengths ends on its own, so that
+// no test of one is made again for all.
 #[inline(always)]
 pub(in crate::algorithm) fn value_of_nibbles<T: Integer>(digits: &[u8], negative: bool) -> Option<T>
     requires some { 1 ≤ length digits.now }
@@ -155,7 +146,15 @@ pub(in crate::algorithm) fn value_of_nibbles<T: Integer>(digits: &[u8], negative
     if digits.len() > most {
         return None;
     }
-    match number_of::<T>(digits, most) {
+    if digits.len() <= 3 {
+        let number = number_to_3(digits)?;
+        return Some(value_of_number::<T>(number, digits, most, negative));
+    }
+    if digits.len() <= 8 {
+        let number = number_to_8(digits)?;
+        return Some(value_of_number::<T>(number, digits, most, negative));
+    }
+    match number_to_16::<T>(digits, most) {
         Some(value) => Some(signed_value::<T>(value, negative)),
         None => None,
     }

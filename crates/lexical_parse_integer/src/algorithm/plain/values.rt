@@ -29,7 +29,7 @@ pub(super) fn signed_value<T: Integer>(value: T, negative: bool) -> T
         ≡ (if negative then neg_ℤ (T.number value) else T.number value) }
     ensures fits { IsNumber T.TYPE (T.number result) }
 {
-    if negative {
+    if T::IS_SIGNED && negative {
         T::ZERO.mul_add(T::from_u32(1), value, true)
     } else {
         value
@@ -167,7 +167,7 @@ fn value_of_longest<T: Integer>(digits: &[u8], negative: bool) -> Option<T>
 }
 
 // The value of sixteen digits and more. It stays out of line, so that the parser of shorter texts is small enough to be
-// held in place.
+// held in place. More than twenty digits, of which the first isn't 0, are no number of 64 bits.
 #[inline(never)]
 pub(super) fn value_of_long<T: Integer>(digits: &[u8], negative: bool) -> Option<T>
     requires bits { 32 < T.TYPE.bits }
@@ -175,6 +175,9 @@ pub(super) fn value_of_long<T: Integer>(digits: &[u8], negative: bool) -> Option
     requires minus { IsTrue negative → IsTrue T.TYPE.is_signed }
     ensures { IfSome result (λ value. WritesValue T.TYPE 0 negative digits.now (T.number value)) }
 {
+    if T::BITS <= 64 && digits.len() > 20 && digits[0] != b'0' {
+        return None;
+    }
     if digits.len() > 24 {
         return value_of_longest::<T>(digits, negative);
     }

@@ -9,7 +9,7 @@ pub returns-then-radix-eq10-clause-worth : goal.returns-then-radix-eq10-clause-w
 returns-then-radix-eq10-clause-worth g c = if_found c.value_of_few.result (λ v w. words_worth _ c.args.radix _ c.args.digits.now _ c.if-radix-eq10.true w) c.value_of_few.ensures
 
 pub returns-then-radix-eq16-clause-digits : goal.returns-then-radix-eq16-clause-digits
-returns-then-radix-eq16-clause-digits g c = if_found c.value_of_nibbles.result (λ v s. table_only _ c.args.radix 16 _ c.args.digits.now _ c.if-radix-eq16.true s) c.value_of_nibbles.ensures
+returns-then-radix-eq16-clause-digits g c = if_found c.value_of_hexadecimal.result (λ v s. table_only _ c.args.radix 16 _ c.args.digits.now _ c.if-radix-eq16.true s) c.value_of_hexadecimal.ensures
 
 pub returns-then-radix-eq16-clause-worth : goal.returns-then-radix-eq16-clause-worth
-returns-then-radix-eq16-clause-worth g c = if_found c.value_of_nibbles.result (λ v s. table_worth _ c.args.radix 16 _ c.args.digits.now _ c.if-radix-eq16.true s) c.value_of_nibbles.ensures
+returns-then-radix-eq16-clause-worth g c = if_found c.value_of_hexadecimal.result (λ v s. table_worth _ c.args.radix 16 _ c.args.digits.now _ c.if-radix-eq16.true s) c.value_of_hexadecimal.ensures

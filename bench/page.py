@@ -1,0 +1,67 @@
+"""docs/SPEED.md, of which each script here writes a part, and what every script may be asked for."""
+from __future__ import annotations
+
+import argparse
+import datetime
+import os
+import re
+import shutil
+import sys
+from dataclasses import dataclass
+
+PAGE = os.path.join(os.path.dirname(os.path.dirname(os.path.abspath(__file__))), "docs", "SPEED.md")
+PART = r"(<!-- measured: {} writes this -->\n)(?s:.*?)(<!-- end of what was measured -->)"
+
+
+def need(*programs: str) -> None:
+    """Ends the script, with a sentence, where it needs a program that isn't there."""
+    lacking = [name for name in programs if not shutil.which(name)]
+    if lacking:
+        sys.exit(f"bench: it needs {', '.join(lacking)}")
+
+
+def options(about: str, rounds: int) -> argparse.ArgumentParser:
+    """The options that all scripts have: how often each reads, and what its texts come from."""
+    parser = argparse.ArgumentParser(description=about, formatter_class=argparse.RawDescriptionHelpFormatter)
+    parser.add_argument("--rounds", type=int, default=rounds, help="how often each text is read")
+    parser.add_argument("--seed", type=int, default=1, help="what the texts come from")
+    return parser
+
+
+@dataclass
+class Asked:
+    """What a script is asked to read, and how busy the machine was when it began."""
+
+    unit: str
+    size: int
+    rounds: int
+    seed: int
+    load: float
+
+    def measured_on(self) -> str:
+        """What a page says of this: the day, the machine and what was asked for."""
+        return (f"{datetime.date.today().isoformat()}: {os.cpu_count()} processors, load {self.load:.1f} at the start; "
+                f"{self.size} {self.unit}, seed {self.seed}, {self.rounds} rounds.")
+
+
+def asked(about: str, unit: str, size: int, rounds: int) -> Asked:
+    """What the command line asks of a script, which else reads so many bytes, lines or numbers so often."""
+    parser = options(about, rounds)
+    parser.add_argument(f"--{unit}", type=int, default=size, help=f"how many {unit} a text has")
+    found = parser.parse_args()
+    return Asked(unit, getattr(found, unit), found.rounds, found.seed, os.getloadavg()[0])
+
+
+def table(head: list[str], rows: list[list[str]]) -> list[str]:
+    """The lines of a table."""
+    head_line, *lines = [f"| {' | '.join(cells)} |" for cells in (head, *rows)]
+    return [head_line, "|---" * len(head) + "|", *lines]
+
+
+def write(script: str, lines: list[str]) -> None:
+    """Writes the part of a script, and leaves the others as they are."""
+    with open(PAGE, encoding="utf-8") as file:
+        text = file.read()
+    part = re.compile(PART.format(re.escape(script)))
+    with open(PAGE, "w", encoding="utf-8") as file:
+        file.write(part.sub(lambda found: found[1] + "\n".join(lines) + "\n" + found[2], text))
