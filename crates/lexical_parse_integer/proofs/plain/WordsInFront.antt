@@ -69,31 +69,31 @@ front_of_word text word number count below is few digits worth stops =
 -- ---- the digits in front, behind digits 0
 
 -- eight bytes, of which so many stay
-shifted_in : (k a b c d e f g h : ℕ) → k ≤ 8 → a < 256 → b < 256 → c < 256 → d < 256 → e < 256 → f < 256 → g < 256 → h < 256 → AreAsciiDigits 10 (take k (a ∷ b ∷ c ∷ d ∷ e ∷ f ∷ g ∷ h ∷ [])) →
-    (bytes_number (a ∷ b ∷ c ∷ d ∷ e ∷ f ∷ g ∷ h ∷ []) + 14974415777481871312) % 18446744073709551616 * 2 ^ (32 - 4 * k) % 18446744073709551616 * 2 ^ (32 - 4 * k) % 18446744073709551616 + 3472328296227680304
+shifted_in : (k a b c d e f g h : ℕ) → 1 ≤ k → k ≤ 8 → a < 256 → b < 256 → c < 256 → d < 256 → e < 256 → f < 256 → g < 256 → h < 256 → AreAsciiDigits 10 (take k (a ∷ b ∷ c ∷ d ∷ e ∷ f ∷ g ∷ h ∷ [])) →
+    (bytes_number (a ∷ b ∷ c ∷ d ∷ e ∷ f ∷ g ∷ h ∷ []) + 14974415777481871312) % 18446744073709551616 * 2 ^ (64 - 8 * k) % 18446744073709551616 + 3472328296227680304
     ≡ bytes_number (padded (8 - k) (with_more 0 (take k (a ∷ b ∷ c ∷ d ∷ e ∷ f ∷ g ∷ h ∷ []))))
-shifted_in zero a b c d e f g h few la lb lc ld le lf lg lh digits = omega arith
-shifted_in (suc zero) a b c d e f g h few la lb lc ld le lf lg lh digits = omega (arith, digits.0)
-shifted_in (suc (suc zero)) a b c d e f g h few la lb lc ld le lf lg lh digits = omega (arith, digits.0, digits.1.0)
-shifted_in (suc (suc (suc zero))) a b c d e f g h few la lb lc ld le lf lg lh digits = omega (arith, digits.0, digits.1.0, digits.1.1.0)
-shifted_in (suc (suc (suc (suc zero)))) a b c d e f g h few la lb lc ld le lf lg lh digits = omega (arith, digits.0, digits.1.0, digits.1.1.0, digits.1.1.1.0)
-shifted_in (suc (suc (suc (suc (suc zero))))) a b c d e f g h few la lb lc ld le lf lg lh digits = omega (arith, digits.0, digits.1.0, digits.1.1.0, digits.1.1.1.0, digits.1.1.1.1.0)
-shifted_in (suc (suc (suc (suc (suc (suc zero)))))) a b c d e f g h few la lb lc ld le lf lg lh digits = omega (arith, digits.0, digits.1.0, digits.1.1.0, digits.1.1.1.0, digits.1.1.1.1.0, digits.1.1.1.1.1.0)
-shifted_in (suc (suc (suc (suc (suc (suc (suc zero))))))) a b c d e f g h few la lb lc ld le lf lg lh digits = omega (arith, digits.0, digits.1.0, digits.1.1.0, digits.1.1.1.0, digits.1.1.1.1.0, digits.1.1.1.1.1.0, digits.1.1.1.1.1.1.0)
-shifted_in (suc (suc (suc (suc (suc (suc (suc (suc zero)))))))) a b c d e f g h few la lb lc ld le lf lg lh digits = omega (arith, digits.0, digits.1.0, digits.1.1.0, digits.1.1.1.0, digits.1.1.1.1.0, digits.1.1.1.1.1.0, digits.1.1.1.1.1.1.0, digits.1.1.1.1.1.1.1.0)
-shifted_in (suc (suc (suc (suc (suc (suc (suc (suc (suc k))))))))) a b c d e f g h few la lb lc ld le lf lg lh digits = absurd (omega arith)
+shifted_in zero a b c d e f g h some few la lb lc ld le lf lg lh digits = absurd (omega arith)
+shifted_in (suc zero) a b c d e f g h some few la lb lc ld le lf lg lh digits = omega (arith, digits.0)
+shifted_in (suc (suc zero)) a b c d e f g h some few la lb lc ld le lf lg lh digits = omega (arith, digits.0, digits.1.0)
+shifted_in (suc (suc (suc zero))) a b c d e f g h some few la lb lc ld le lf lg lh digits = omega (arith, digits.0, digits.1.0, digits.1.1.0)
+shifted_in (suc (suc (suc (suc zero)))) a b c d e f g h some few la lb lc ld le lf lg lh digits = omega (arith, digits.0, digits.1.0, digits.1.1.0, digits.1.1.1.0)
+shifted_in (suc (suc (suc (suc (suc zero))))) a b c d e f g h some few la lb lc ld le lf lg lh digits = omega (arith, digits.0, digits.1.0, digits.1.1.0, digits.1.1.1.0, digits.1.1.1.1.0)
+shifted_in (suc (suc (suc (suc (suc (suc zero)))))) a b c d e f g h some few la lb lc ld le lf lg lh digits = omega (arith, digits.0, digits.1.0, digits.1.1.0, digits.1.1.1.0, digits.1.1.1.1.0, digits.1.1.1.1.1.0)
+shifted_in (suc (suc (suc (suc (suc (suc (suc zero))))))) a b c d e f g h some few la lb lc ld le lf lg lh digits = omega (arith, digits.0, digits.1.0, digits.1.1.0, digits.1.1.1.0, digits.1.1.1.1.0, digits.1.1.1.1.1.0, digits.1.1.1.1.1.1.0)
+shifted_in (suc (suc (suc (suc (suc (suc (suc (suc zero)))))))) a b c d e f g h some few la lb lc ld le lf lg lh digits = omega (arith, digits.0, digits.1.0, digits.1.1.0, digits.1.1.1.0, digits.1.1.1.1.0, digits.1.1.1.1.1.0, digits.1.1.1.1.1.1.0, digits.1.1.1.1.1.1.1.0)
+shifted_in (suc (suc (suc (suc (suc (suc (suc (suc (suc k))))))))) a b c d e f g h some few la lb lc ld le lf lg lh digits = absurd (omega arith)
 
 -- the same of a word
-pub shifted_front : (k word : ℕ) → k ≤ 8 → word < 18446744073709551616 → AreDigits 10 (take k (word_bytes 8 word)) →
-    IsShifted k word ((word + 14974415777481871312) % 18446744073709551616 * 2 ^ (32 - 4 * k) % 18446744073709551616 * 2 ^ (32 - 4 * k) % 18446744073709551616 + 3472328296227680304)
-shifted_front k word few small digits =
+pub shifted_front : (k word : ℕ) → 1 ≤ k → k ≤ 8 → word < 18446744073709551616 → AreDigits 10 (take k (word_bytes 8 word)) →
+    IsShifted k word ((word + 14974415777481871312) % 18446744073709551616 * 2 ^ (64 - 8 * k) % 18446744073709551616 + 3472328296227680304)
+shifted_front k word some few small digits =
     let bs : List ℕ = word_bytes 8 word in
     let taken = ascii_from_digits 10 (take k bs) (omega arith) digits in
     let again : bytes_number bs ≡ word = word_again 8 word small in
     let size : length (take k bs) ≡ k = length-take-le k bs few in
-    let is : (word + 14974415777481871312) % 18446744073709551616 * 2 ^ (32 - 4 * k) % 18446744073709551616 * 2 ^ (32 - 4 * k) % 18446744073709551616 + 3472328296227680304 ≡ bytes_number (padded (8 - k) (with_more 0 (take k bs))) =
-    ap (λ (w : ℕ). (w + 14974415777481871312) % 18446744073709551616 * 2 ^ (32 - 4 * k) % 18446744073709551616 * 2 ^ (32 - 4 * k) % 18446744073709551616 + 3472328296227680304) (sym again)
-    ∙ shifted_in k _ _ _ _ _ _ _ _ few (omega arith) (omega arith) (omega arith) (omega arith) (omega arith) (omega arith) (omega arith) (omega arith) taken in
+    let is : (word + 14974415777481871312) % 18446744073709551616 * 2 ^ (64 - 8 * k) % 18446744073709551616 + 3472328296227680304 ≡ bytes_number (padded (8 - k) (with_more 0 (take k bs))) =
+    ap (λ (w : ℕ). (w + 14974415777481871312) % 18446744073709551616 * 2 ^ (64 - 8 * k) % 18446744073709551616 + 3472328296227680304) (sym again)
+    ∙ shifted_in k _ _ _ _ _ _ _ _ some few (omega arith) (omega arith) (omega arith) (omega arith) (omega arith) (omega arith) (omega arith) (omega arith) taken in
     let holds = holds_digits (8 - k) 0 (take k bs) _ (omega arith) (ascii_bytes (take k bs) taken) (first_small (take k bs) taken) is in
     let bytes = holds.bytes ∙ ap (λ (cs : List ℕ). padded (8 - k) cs) (raised_none (take k bs)) in
     record {

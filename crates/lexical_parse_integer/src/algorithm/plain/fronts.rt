@@ -24,20 +24,22 @@ fn digits_ahead(word: u64) -> u32
 }
 
 // The number that the first digits of a word write, so many: what stands after them is shifted out, and digits 0 come
-// in front. One shift of a whole word isn't allowed, so that there are two.
+// in front.
 #[inline(always)]
 fn number_of_front(word: u64, count: u32) -> u32
+    requires some { 1 ≤ count }
     requires few { count ≤ 8 }
     requires digits { AreDigits 10 (take count (word_bytes 8 word)) }
     ensures value { result ≡ word_value 10 (take count (word_bytes 8 word)) }
     ensures small { result < 100000000 }
 {
-    let half = 32 - 4 * count;
-    let digits = word.wrapping_sub(ZEROS) << half << half;
+    let shift = 64 - 8 * count;
+    let digits = word.wrapping_sub(ZEROS) << shift;
     number_of_digits(digits + ZEROS)
 }
 
 // The number of the digits that a text begins with, and how many they are, where its first eight bytes are this word.
+// None are left out first: a whole word can't be shifted out.
 #[inline(always)]
 fn front_in_word(text: &[u8], word: u64) -> (u32, usize)
     requires { word ≡ bytes_number (take 8 text.now) }
@@ -45,6 +47,9 @@ fn front_in_word(text: &[u8], word: u64) -> (u32, usize)
     ensures small { result.0 < 100000000 }
 {
     let count = digits_ahead(word);
+    if count == 0 {
+        return (0, 0);
+    }
     (number_of_front(word, count), count as usize)
 }
 
