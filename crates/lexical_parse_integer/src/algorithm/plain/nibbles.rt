@@ -63,6 +63,21 @@ fn number_to_3(text: &[u8]) -> Option<u32>
     }
 }
 
+// The number of four digits: one block, of which none is read twice.
+#[inline(always)]
+fn number_of_4(text: &[u8]) -> Option<u32>
+    requires few { length text.now ≤ 8 }
+    ensures { IfSome result
+        (λ number. WritesFront 16 text.now (length text.now) (pos number)) }
+{
+    let number = number_or_more(text);
+    if number < LIMIT {
+        Some(number as u32)
+    } else {
+        None
+    }
+}
+
 // The numbers of the last digits, so many, and of those before, which are no more: of the first so many, those that are
 // among the last too are shifted out.
 #[inline(always)]
@@ -148,6 +163,10 @@ pub(in crate::algorithm) fn value_of_nibbles<T: Integer>(digits: &[u8], negative
     }
     if digits.len() <= 3 {
         let number = number_to_3(digits)?;
+        return Some(value_of_number::<T>(number, digits, most, negative));
+    }
+    if digits.len() == 4 {
+        let number = number_of_4(digits)?;
         return Some(value_of_number::<T>(number, digits, most, negative));
     }
     if digits.len() <= 8 {
