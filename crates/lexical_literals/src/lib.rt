@@ -86,8 +86,9 @@ fn number(text: &[u8], format: &NumberFormat, decimal: bool) -> (Kind, usize)
     ensures { result ≡ number_of format.now text.now }
 {
     if decimal && !seems_marked(text) {
-        if let Some((value, length)) = decimal_front(text, format) {
-            return (Kind::Number(value), length);
+        let (value, count) = decimal_front(text, format);
+        if count > 0 {
+            return (Kind::Number(value as u128), count);
         }
     }
     let (value, length) = marked_number(text, format);
