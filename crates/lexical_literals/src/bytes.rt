@@ -3,20 +3,12 @@ ghost use Rattle.std.specs.Prelude.{◌≡◌, ◌≤◌, length};
 ghost use Rattle.std.specs.List.{prefix_len};
 ghost use Rattle.lexical_literals.specs.Tokens.{is_skipped, is_word_byte, word_length};
 
-// Whether a byte is skipped between tokens.
-#[inline(always)]
-fn is_skipped(byte: u8) -> bool
-    ensures { result ≡ is_skipped byte }
-{
-    matches!(byte, b'\t' | b'\n' | b'\r' | b' ')
-}
-
-// 1 for each byte of a word, and 0 for any other.
+// 1 for each byte of a word, 2 for each that is skipped between tokens, and 0 for any other: one table for the two tests.
 #[rattlefmt::skip]
-static WORD_BYTES: [u8; 256] = [
+static KINDS: [u8; 256] = [
+    0, 0, 0, 0, 0, 0, 0, 0, 0, 2, 2, 0, 0, 2, 0, 0, // tab, line feed, carriage return
     0, 0, 0, 0, 0, 0, 0, 0, 0, 0, 0, 0, 0, 0, 0, 0,
-    0, 0, 0, 0, 0, 0, 0, 0, 0, 0, 0, 0, 0, 0, 0, 0,
-    0, 0, 0, 0, 0, 0, 0, 0, 0, 0, 0, 0, 0, 0, 0, 0,
+    2, 0, 0, 0, 0, 0, 0, 0, 0, 0, 0, 0, 0, 0, 0, 0, // space
     1, 1, 1, 1, 1, 1, 1, 1, 1, 1, 0, 0, 0, 0, 0, 0, // 0 to 9
     0, 1, 1, 1, 1, 1, 1, 1, 1, 1, 1, 1, 1, 1, 1, 1, // A to O
     1, 1, 1, 1, 1, 1, 1, 1, 1, 1, 1, 0, 0, 0, 0, 1, // P to Z, _
@@ -32,13 +24,22 @@ static WORD_BYTES: [u8; 256] = [
     0, 0, 0, 0, 0, 0, 0, 0, 0, 0, 0, 0, 0, 0, 0, 0,
 ];
 
+// Whether a byte is skipped between tokens.
+#[inline(always)]
+#[tactic(auto, using(crate::proofs::ByteKinds::skipped_by_table))]
+fn is_skipped(byte: u8) -> bool
+    ensures { result ≡ is_skipped byte }
+{
+    KINDS[byte as usize] == 2
+}
+
 // Whether a byte is one of a word.
 #[inline(always)]
-#[tactic(auto, using(crate::proofs::WordBytes::word_by_table))]
+#[tactic(auto, using(crate::proofs::ByteKinds::word_by_table))]
 pub(crate) fn is_word_byte(byte: u8) -> bool
     ensures { result ≡ is_word_byte byte }
 {
-    WORD_BYTES[byte as usize] == 1
+    KINDS[byte as usize] == 1
 }
 
 // How many bytes are skipped in front of a token.

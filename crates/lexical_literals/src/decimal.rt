@@ -1,8 +1,8 @@
 // Decimal digits alone: what most numbers of a source are. They are read as the standard format reads them, which is soon
 // done, where the format can have no other answer.
 //
-// Only what is sure is answered. `None` says nothing: what is left is read under the format.
-ghost use Rattle.std.specs.Prelude.{◌≡◌, ◌<◌, IfSome, IsTrue, Ok, Some, false, is_some, length, pos, slice_index, true};
+// Only what is sure is answered: what is left is read under the format.
+ghost use Rattle.std.specs.Prelude.{◌≡◌, ◌<◌, IsTrue, Ok, Some, false, is_some, length, pos, slice_index, true};
 ghost use Rattle.lexical_util.specs.Digit.{digit};
 ghost use Rattle.lexical_util.specs.Number.{integer_type};
 ghost use Rattle.lexical_parse_integer.specs.Grammar.{partial};
@@ -25,11 +25,14 @@ pub(crate) fn is_decimal(format: &NumberFormat) -> bool
         && format.base_suffix().is_none()
 }
 
-// Whether more than a digit seems to follow the first byte, as the letter of a prefix does: a guess, by which such a number
-// is read once.
+// Whether more than digits seems to follow, as the letter of a prefix does, or a separator behind at most three digits: a
+// guess, by which such a number is read once.
 #[inline(always)]
 pub(crate) fn seems_marked(text: &[u8]) -> bool {
-    text.len() >= 2 && text[1] > b'9'
+    if text.len() < 4 {
+        return text.len() >= 2 && text[1] > b'9';
+    }
+    (text[1] > b'9') | (text[2] == b'_') | (text[3] == b'_')
 }
 
 // Whether the byte is the format's separator.
@@ -58,22 +61,23 @@ fn stand_alone(text: &[u8], count: usize, format: &NumberFormat) -> bool
     !is_word_byte(byte) && !is_separator(byte, format)
 }
 
-// The number of the decimal digits that a text begins with, and how many they are.
-#[inline(always)]
-pub(crate) fn decimal_front(text: &[u8], format: &NumberFormat) -> Option<(u128, usize)>
+// The number of the decimal digits that a text begins with, and how many they are, or 0 where that isn't sure: out of line,
+// so that the two come in registers.
+#[inline(never)]
+pub(crate) fn decimal_front(text: &[u8], format: &NumberFormat) -> (u64, usize)
     requires first { is_some (digit (slice_index text.now 0) 10) ≡ true }
     requires decimal { IsDecimal format.now }
-    ensures { IfSome result (λ found.
-        partial format.now (integer_type 128 false) text.now ≡ Ok (pos found.0, found.1)) }
+    ensures { 0 < result.1
+        → partial format.now (integer_type 128 false) text.now ≡ Ok (pos result.0, result.1) }
 {
     match u64::from_lexical_partial(text) {
         Ok((value, count)) => {
             if stand_alone(text, count, format) {
-                Some((value as u128, count))
+                (value, count)
             } else {
-                None
+                (0, 0)
             }
         }
-        Err(_) => None,
+        Err(_) => (0, 0),
     }
 }

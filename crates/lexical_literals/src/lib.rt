@@ -15,10 +15,12 @@
 mod bytes;
 mod decimal;
 
-ghost use Rattle.std.specs.Prelude.{◌≡◌, ◌+◌, ◌<◌, ◌≤◌, ◌^◌, List, All, IfOk, IsNone, IsTrue, is_some, length, slice_index, true};
+ghost use Rattle.std.specs.Prelude.{◌≡◌, ◌+◌, ◌<◌, ◌≤◌, ◌^◌, List, All, IfOk, IsNone, IsTrue, Ok, false, is_some, length, pos, slice_index, true};
 ghost use Rattle.std.specs.Iterator.{YieldsFirstBy, item_count};
 ghost use Rattle.lexical_util.specs.Digit.{digit};
+ghost use Rattle.lexical_util.specs.Number.{integer_type};
 ghost use Rattle.lexical_util.specs.Validity.{fault};
+ghost use Rattle.lexical_parse_integer.specs.Grammar.{partial};
 ghost use Rattle.lexical_literals.specs.Decimal.{IsDecimal};
 ghost use Rattle.lexical_literals.specs.Tokens.{FollowInTurn, FollowUnder, IsPartOf, TokenView, front_of, literals, number_of, view_of_token, tokens, tokens_from, tokens_if_valid};
 
@@ -84,22 +86,29 @@ fn number(text: &[u8], format: &NumberFormat, decimal: bool) -> (Kind, usize)
     ensures { result ≡ number_of format.now text.now }
 {
     if decimal && !seems_marked(text) {
-        if let Some((value, length)) = decimal_front(text, format) {
-            return (Kind::Number(value), length);
+        let (value, count) = decimal_front(text, format);
+        if count > 0 {
+            return (Kind::Number(value as u128), count);
         }
     }
-    marked_number(text, format)
+    let (value, length) = marked_number(text, format);
+    if length > 0 {
+        return (Kind::Number(value as u128), length);
+    }
+    wide_number(text, format)
 }
 
-// The same for any number: out of line, so that what calls `next` has it in place. Most fit into 64 bits, and are read so.
+// The same for any number of 64 bits, as most are, and 0 bytes where that isn't sure: out of line, so that what calls
+// `next` has it in place, and in two registers.
 #[inline(never)]
-fn marked_number(text: &[u8], format: &NumberFormat) -> (Kind, usize)
+fn marked_number(text: &[u8], format: &NumberFormat) -> (u64, usize)
     requires valid { IsNone (fault format.now) }
-    ensures { result ≡ number_of format.now text.now }
+    ensures { 0 < result.1
+        → partial format.now (integer_type 64 false) text.now ≡ Ok (pos result.0, result.1) }
 {
     match u64::parse_partial(text, format, &options::STANDARD) {
-        Ok((value, length)) => (Kind::Number(value as u128), length),
-        Err(_) => wide_number(text, format),
+        Ok(found) => found,
+        Err(_) => (0, 0),
     }
 }
 

@@ -1,9 +1,10 @@
 -- Numerals under formats with marks: the digits of a region, with separators between them, and what they are worth.
-use Rattle.std.specs.Prelude.{◌≡◌, ◌+◌, ◌-◌, ◌<◌, ℕ, ℤ, Bool, true, false, if◌then◌else◌, List, length, get_or, filter_map, is_some, Some}
+use Rattle.std.specs.Prelude.{◌≡◌, ◌+◌, ◌-◌, ◌<◌, ◌≤◌, ℕ, ℤ, Bool, true, false, if◌then◌else◌, List, length, get_or, take, filter_map, is_some, Some}
 use Rattle.lexical_util.specs.Digit.{digit}
 use Rattle.lexical_util.specs.Format.{Format}
 use Rattle.lexical_util.specs.Number.{IntegerType, IsNumber}
 use Rattle.lexical_parse_integer.specs.Affixes.{suffix_at}
+use Rattle.lexical_parse_integer.specs.Runs.{are_same}
 use Rattle.lexical_parse_integer.specs.Value.{positional_value, with_sign}
 
 -- whether the byte at a place is a digit of the radix
@@ -38,6 +39,17 @@ pub record AreWorth (type : IntegerType) (radix : ℕ) (negative : Bool) (bytes 
     (value : ℤ) : Type 0 where
   pub worth : value ≡ with_sign negative (positional_value radix (digits_among radix bytes))
   pub fits : IsNumber type value
+
+-- So many bytes at the front of a text are grouped, their digits stand for a number of a type, and neither a digit nor a
+-- separator stands behind them.
+pub record BeginsGrouped (format : Format) (type : IntegerType) (radix : ℕ) (negative : Bool)
+    (text : List ℕ) (value : ℤ) (count : ℕ) : Type 0 where
+  pub within : count ≤ length text
+  pub no_digit : count < length text → is_digit_in radix text count ≡ false
+  pub no_separator : count < length text
+      → are_same format.digit_separator (Some (get_or text count 0)) ≡ false
+  pub grouped : AreGrouped format radix (take count text)
+  pub worth : AreWorth type radix negative (take count text) value
 
 -- where reading stops, where a numeral with a digit ends at a place: after the suffix there, or at the end
 abbrev pub stop_after : Format → List ℕ → ℕ → ℕ

@@ -21,6 +21,7 @@ mod words;
 mod zeros;
 
 use crate::algorithm::head::{is_prefix_alone, read_head};
+use crate::algorithm::marked::grouped::front_in_groups;
 use crate::algorithm::marked::{front_if_marked, value_if_marked};
 use crate::algorithm::numeral::read_digits;
 pub use crate::algorithm::plain::fields::{field_in_front, is_separated};
@@ -237,8 +238,25 @@ pub fn algorithm_partial<T: Integer>(
 {
     match front_if_plain::<T>(bytes, format) {
         Some(found) => Ok(found),
-        None => partial_out_of_line::<T>(bytes, format, options),
+        None => partial_beside_marks::<T>(bytes, format, options),
     }
+}
+
+// Under a format with marks digits with separators between them are read first, by a call that answers in registers.
+#[inline(always)]
+pub(crate) fn partial_beside_marks<T: Integer>(
+    bytes: &[u8],
+    format: &NumberFormat,
+    options: &Options,
+) -> Result<(T, usize)>
+    requires valid { IsNone (fault format.now) }
+    ensures { view_of (with_place T.number) result ≡ partial format.now T.TYPE bytes.now }
+{
+    let found = front_in_groups::<T>(bytes, format);
+    if found.1 > 0 {
+        return Ok(found);
+    }
+    partial_out_of_line::<T>(bytes, format, options)
 }
 
 // The same three for the partial parser.

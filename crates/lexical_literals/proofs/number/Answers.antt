@@ -1,7 +1,12 @@
 use Rattle.std.proofs.Common.{ap, sym}
 use Rattle.lexical_literals.specs.Tokens.{number_by, number_of}
+use Rattle.lexical_literals.proofs.WiderType.{wider_read}
 use Rattle.lexical_literals.proofs.number.Goals as goal
 
-pub returns-in-Some : goal.returns-in-Some
+pub returns-then-count-gt0 : goal.returns-then-count-gt0
 unfolding number_of
-returns-in-Some c = sym (ap (number_by c.args.text.now) c.in-Some.ensures)
+returns-then-count-gt0 c = sym (ap (number_by c.args.text.now) (c.decimal_front-value.ensures c.if-count-gt0.true))
+
+pub returns-then-length-gt0 : goal.returns-then-length-gt0
+unfolding number_of
+returns-then-length-gt0 c = ap (number_by c.args.text.now) (wider_read c.args.format.now c.args.text.now _ _ (sym (c.marked_number-value.ensures c.if-length-gt0.true)))

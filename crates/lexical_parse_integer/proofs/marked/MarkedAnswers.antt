@@ -1,11 +1,11 @@
 -- What the parsers answer where a numeral of digits, with separators between them, stands behind sign and prefix.
-use Rattle.std.proofs.Common.{◌≡◌, ℕ, ◌+◌, ◌-◌, ◌<◌, ◌≤◌, Bool, true, false, not, ◌&&◌, ◌||◌, cond, List, [], ◌∷◌, ◌++◌, length, get_or, refl, sym, ap, ◌∙◌, subst, arith, Option, Some, None, IsNone, is_some, Ok, Err, Result}
+use Rattle.std.proofs.Common.{◌≡◌, ℕ, ◌+◌, ◌-◌, ◌<◌, ◌≤◌, Bool, true, false, not, ◌&&◌, ◌||◌, cond, List, [], ◌∷◌, ◌++◌, drop, length, get_or, take, refl, sym, ap, ◌∙◌, subst, arith, Option, Some, None, IsNone, is_some, Ok, Err, Result}
 use Rattle.std.specs.Prelude.{◌==◌, nat_le, nat_lt, slice_index, slice_range, ℤ, IfSome}
 use Rattle.std.specs.Option.{unwrap_or}
 use Rattle.std.proofs.Math.Bool.{and-false}
 use Rattle.std.proofs.lemmas.Bool.{eqb-true, false≢true, le-ltb, lt-ltb, ne_eqb}
 use Rattle.std.proofs.lemmas.Bool.Decides.{nat_tests}
-use Rattle.std.proofs.lemmas.List.{length-map, take_all}
+use Rattle.std.proofs.lemmas.List.{length-drop, length-map, take_all}
 use Rattle.std.proofs.lemmas.Option.{slice_get_past}
 use Rattle.lexical_util.specs.declared.error.Error.{Error}
 use Rattle.lexical_util.specs.declared.error.Error.TheVariants.{InvalidLeadingZeros}
@@ -16,7 +16,7 @@ use Rattle.lexical_util.specs.Validity.{fault}
 use Rattle.lexical_parse_integer.specs.Affixes.{is_affix, numeral_stop, octal_zero_at, prefix_radix, suffix_at}
 use Rattle.lexical_parse_integer.specs.Grammar.{common_faults, complete, complete_faults, fault_if, first_fault_or, partial, prefix_fault, range_fault, zero_fault}
 use Rattle.lexical_parse_integer.specs.Head.{Head, head_after, head_behind, head_of, sign}
-use Rattle.lexical_parse_integer.specs.Marked.{AreDigitsOnly, AreGrouped, AreWorth, digits_among, is_digit_in, stop_after}
+use Rattle.lexical_parse_integer.specs.Marked.{AreDigitsOnly, AreGrouped, AreWorth, BeginsGrouped, digits_among, is_digit_in, stop_after}
 use Rattle.lexical_parse_integer.specs.Numeral.{Numeral, digit_count, numeral_in, numeral_value}
 use Rattle.lexical_parse_integer.specs.Plain.{keeps_zero_rule}
 use Rattle.lexical_parse_integer.specs.Runs.{are_same, digit_at, digits_between, end_of, is_in_numeral, places, separator_at}
@@ -365,3 +365,15 @@ front_read f t text h count stop value valid head low within no_digit no_separat
     (λ l. none_from (digit_at h.radix text (h.start + length bytes)) (ap is_some (digit_there h.radix text rest h.start count (h.start + length bytes) rest_stands (omega arith) (omega arith)) ∙ no_digit (omega arith)))
     (λ l. separator_there f text rest h.start count (h.start + length bytes) rest_stands (omega arith) (omega arith) ∙ no_separator (omega arith))
     ∙ ap (λ (k : ℕ). Ok (value, k)) (ap (stop_after f text) place ∙ sym stop_is)
+
+-- the same by one fact of the bytes behind the head
+pub groups_read : (f : Format) (t : IntegerType) (text : List ℕ) (h : Head) (count stop : ℕ) (value : ℤ) → IsNone (fault f) → head_of f t text ≡ Ok h → h.start ≤ length text → BeginsGrouped f t h.radix h.is_minus (slice_range text h.start (length text)) value count →
+    (h.is_marked || keeps_zero_rule f (slice_range text h.start (h.start + count))) ≡ true → stop ≡ stop_after f text (h.start + count) → partial f t text ≡ Ok (value, stop)
+groups_read f t text h count stop value valid head low g rule stop_is =
+    let rest : List ℕ = drop h.start text in
+    let left : length rest ≡ length text - h.start = length-drop h.start text in
+    let all : take (length text - h.start) rest ≡ rest = take_all (length text - h.start) rest (omega arith) in
+    let size : h.start + count - h.start ≡ count = omega arith in
+    let same : take count (slice_range text h.start (length text)) ≡ slice_range text h.start (h.start + count) = ap (take count) all ∙ ap (λ n. take n rest) (sym size) in
+    front_read f t text h count stop value valid head low g.within g.no_digit g.no_separator rule
+    (subst (λ (bs : List ℕ). AreGrouped f h.radix bs) same g.grouped) (subst (λ (bs : List ℕ). AreWorth t h.radix h.is_minus bs value) same g.worth) stop_is

@@ -12,6 +12,7 @@ ghost use Rattle.lexical_parse_integer.specs.Marked.{AreDigitsOnly, AreGrouped, 
 ghost use Rattle.lexical_parse_integer.specs.Plain.{StandsFor, keeps_zero_rule};
 ghost use Rattle.lexical_parse_integer.specs.Runs.{are_same};
 
+pub(crate) mod grouped;
 pub(crate) mod lone_mark;
 pub(crate) mod prefixed;
 mod separated;

@@ -11,7 +11,7 @@ use crate::algorithm::marked::value_if_between_separators;
 use crate::algorithm::plain::{
     front_if_plain, hexadecimal, is_plain, value_if_short, value_of_plain,
 };
-use crate::algorithm::{complete_with_marks, partial_with_marks};
+use crate::algorithm::{complete_with_marks, partial_beside_marks};
 use crate::api::{FromLexical, FromLexicalWithOptions};
 use crate::options::Options;
 use lexical_util::format::NumberFormat;
@@ -147,7 +147,7 @@ fn partial_if_valid<T: Integer>(
 {
     match fault_of(format) {
         Some(broken) => Err(broken),
-        None => partial_with_marks::<T>(bytes, format, options),
+        None => partial_beside_marks::<T>(bytes, format, options),
     }
 }
 

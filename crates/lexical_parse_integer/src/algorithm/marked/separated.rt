@@ -10,7 +10,7 @@ use lexical_util::num::Integer;
 
 // The value with one digit more, where the type has it.
 #[inline(always)]
-fn with_digit<T: Integer>(value: T, digit: u32, radix: u32, negative: bool) -> Option<T>
+pub(super) fn with_digit<T: Integer>(value: T, digit: u32, radix: u32, negative: bool) -> Option<T>
     requires radix { IsRadix radix }
     requires digit { digit < radix }
     requires sign { HasSign negative (T.number value) }
