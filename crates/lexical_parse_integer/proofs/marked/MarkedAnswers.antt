@@ -337,13 +337,11 @@ pub bare_read : (f : Format) (t : IntegerType) (text : List ℕ) (s : Bool × �
 bare_read f t text s r value valid off signed none some same rule all worth =
     row_read f t text _ (length text) value valid (head_bare f t text s false r signed none (no_octal_zero f text s.1 off) same) some (omega arith) (no_suffix_past f text) rule all worth
 
--- the same in radix 10
-pub decimal_read : (f : Format) (t : IntegerType) (text : List ℕ) (h : Head) (end : ℕ) (value : ℤ) → IsNone (fault f) → head_of f t text ≡ Ok h → h.start < end → end ≤ length text → stop_after f text end ≡ length text →
-    (h.is_marked || keeps_zero_rule f (slice_range text h.start end)) ≡ true → h.radix ≡ 10 → AreGrouped f 10 (slice_range text h.start end) → AreWorth t 10 h.is_minus (slice_range text h.start end) value → complete f t text ≡ Ok value
-decimal_read f t text h end value valid head some within reached rule ten grouped worth =
-    region_read f t text h end value valid head some within reached rule
-    (subst (λ (r : ℕ). AreGrouped f r (slice_range text h.start end)) (sym ten) grouped)
-    (subst (λ (r : ℕ). AreWorth t r h.is_minus (slice_range text h.start end) value) (sym ten) worth)
+-- the same in radix 10, where separators stand between the digits
+pub bare_groups_read : (f : Format) (t : IntegerType) (text : List ℕ) (s : Bool × ℕ) (value : ℤ) → IsNone (fault f) → f.mantissa_radix ≡ 10 → f.literal_octal_zero ≡ false → sign f t text ≡ Ok s → None ≡ prefix_radix f text s.1 → s.1 < length text →
+    keeps_zero_rule f (slice_range text s.1 (length text)) ≡ true → AreGrouped f 10 (slice_range text s.1 (length text)) → AreWorth t 10 s.0 (slice_range text s.1 (length text)) value → complete f t text ≡ Ok value
+bare_groups_read f t text s value valid ten off signed none some rule grouped worth =
+    region_read f t text _ (length text) value valid (head_bare f t text s false 10 signed none (no_octal_zero f text s.1 off) (sym ten)) some (omega arith) (no_suffix_past f text) rule grouped worth
 
 -- the same at the front of a text, where neither a digit nor a separator follows so many bytes
 pub front_read : (f : Format) (t : IntegerType) (text : List ℕ) (h : Head) (count stop : ℕ) (value : ℤ) → IsNone (fault f) → head_of f t text ≡ Ok h → h.start ≤ length text → count ≤ length (slice_range text h.start (length text)) →

@@ -2,7 +2,6 @@
 use Rattle.std.proofs.Common.{◌≡◌, ℕ, ◌+◌, ◌-◌, ◌*◌, ◌<◌, ◌≤◌, Bool, true, List, [], ◌∷◌, ◌++◌, length, get_or, take, refl, sym, ap, ◌∙◌, subst, arith, Some, None, is_some}
 use Rattle.std.specs.Prelude.{ℤ, pos}
 use Rattle.std.proofs.lemmas.Bool.{false≢true}
-use Rattle.std.proofs.lemmas.Bool.Decides.{nat_tests}
 use Rattle.std.proofs.lemmas.List.{get_or-take, length-take-le}
 use Rattle.lexical_util.specs.Digit.{digit}
 use Rattle.lexical_util.specs.Format.{Format}
@@ -11,10 +10,6 @@ use Rattle.lexical_parse_integer.specs.Marked.{AreDigitsOnly, AreGrouped, AreWor
 use Rattle.lexical_parse_integer.specs.Value.{positional_value, with_sign}
 use Rattle.lexical_parse_integer.proofs.grammar.FrontValues.{positional_value-push, with_sign-step}
 use Rattle.lexical_parse_integer.proofs.marked.PartedFronts.{IsParted, digit_parted, more_among, parted_grouped, separator_parted}
-
--- a decimal digit is small
-pub digit_small : (byte d : ℕ) → digit byte 10 ≡ Some d → d < 10
-digit_small byte d is = grind (arith, nat_tests)
 
 -- digits alone
 pub row_parted : (r separator : ℕ) (many : Bool) (bytes : List ℕ) (k : ℕ) → 1 ≤ k → k ≤ length bytes → AreDigitsOnly r (take k bytes) → IsParted r separator many bytes k true

@@ -2,9 +2,10 @@
 //
 // As under formats without marks, only what is sure is answered: a numeral whose runs of separators all stand between
 // digits, where its type has the value. `None` says nothing: what is left goes over a cursor.
-ghost use Rattle.std.specs.Prelude.{◌≡◌, ◌+◌, ◌<◌, ◌≤◌, ◌||◌, IfSome, IsNone, IsTrue, Ok, Some, false, get_or, length, slice_range, true};
+ghost use Rattle.std.specs.Prelude.{◌≡◌, ◌+◌, ◌<◌, ◌≤◌, ◌||◌, IfSome, IsNone, IsTrue, None, Ok, Some, false, get_or, length, slice_range, true};
 ghost use Rattle.lexical_util.specs.Digit.{IsRadix};
 ghost use Rattle.lexical_util.specs.Validity.{fault};
+ghost use Rattle.lexical_parse_integer.specs.Affixes.{prefix_radix};
 ghost use Rattle.lexical_parse_integer.specs.Answer.{with_place};
 ghost use Rattle.lexical_parse_integer.specs.Grammar.{complete, partial};
 ghost use Rattle.lexical_parse_integer.specs.Head.{head_of, sign};
@@ -20,6 +21,7 @@ mod threes;
 
 use crate::affixes::{octal_zero_at, prefix_radix, suffix_at};
 use crate::algorithm::marked::lone_mark::is_valid_with_separator;
+use crate::algorithm::marked::prefixed::is_bare;
 use crate::algorithm::marked::separated::{value_of_decimal_groups, value_of_groups};
 use crate::algorithm::marked::threes::{value_of_few, value_of_threes};
 use crate::algorithm::plain::fronts::value_of_digits;
@@ -277,23 +279,53 @@ fn value_of_short_row<T: Integer>(digits: &[u8], radix: u32, negative: bool) -> 
     None
 }
 
-// The value of the whole text, where that is decimal digits with a separator before each three.
+// The value of the whole text behind its sign, where that is decimal digits with a separator before each three.
 #[inline(always)]
-fn value_if_threes<T: Integer>(bytes: &[u8], format: &NumberFormat, separator: u8) -> Option<T>
+fn value_of_threes_behind_sign<T: Integer>(
+    bytes: &[u8],
+    format: &NumberFormat,
+    separator: u8,
+    signed: (bool, usize),
+) -> Option<T>
     requires valid { IsNone (fault format.now) }
+    requires decimal { format.now.mantissa_radix ≡ 10 }
+    requires octal_zeros { format.now.literal_octal_zero ≡ false }
+    requires separator { format.now.digit_separator ≡ Some separator }
+    requires internal { format.now.integer_internal_digit_separator ≡ true }
+    requires sign { sign format.now T.TYPE bytes.now ≡ Ok signed }
+    requires prefix { None ≡ prefix_radix format.now bytes.now signed.1 }
+    ensures { IfSome result (λ value. complete format.now T.TYPE bytes.now ≡ Ok (T.number value)) }
+{
+    if T::BITS < 32 || bytes.len() <= signed.1 {
+        return None;
+    }
+    let digits = &bytes[signed.1..];
+    if !keeps_zero_rule(format, digits) {
+        return None;
+    }
+    value_of_threes::<T>(digits, format, separator, signed.0)
+}
+
+// The same where the sign is still to be read: out of line, for texts that aren't as most are.
+#[inline(never)]
+fn value_of_threes_with_sign<T: Integer>(
+    bytes: &[u8],
+    format: &NumberFormat,
+    separator: u8,
+) -> Option<T>
+    requires some { 0 < length bytes.now }
+    requires valid { IsNone (fault format.now) }
+    requires decimal { format.now.mantissa_radix ≡ 10 }
+    requires octal_zeros { format.now.literal_octal_zero ≡ false }
     requires separator { format.now.digit_separator ≡ Some separator }
     requires internal { format.now.integer_internal_digit_separator ≡ true }
     ensures { IfSome result (λ value. complete format.now T.TYPE bytes.now ≡ Ok (T.number value)) }
 {
-    if T::BITS < 32 {
-        return None;
+    let signed = sign_at_front::<T>(bytes, format)?;
+    match prefix_radix(bytes, format, signed.1) {
+        Some(_) => None,
+        None => value_of_threes_behind_sign::<T>(bytes, format, separator, signed),
     }
-    let region = region_of::<T>(bytes, format)?;
-    if region.front.radix != 10 {
-        return None;
-    }
-    let digits = &bytes[region.front.start..region.end];
-    value_of_threes::<T>(digits, format, separator, region.front.is_minus)
 }
 
 // The value of the whole text under a format that may be invalid, where it has a separator alone.
@@ -308,10 +340,13 @@ pub(crate) fn value_if_between_separators<T: Integer>(
     ensures answer { IfSome result
         (λ value. complete format.now T.TYPE bytes.now ≡ Ok (T.number value)) }
 {
-    if !is_valid_with_separator(format, separator) {
+    if bytes.is_empty() || !is_valid_with_separator(format, separator) {
         return None;
     }
-    value_if_threes::<T>(bytes, format, separator)
+    if is_bare::<T>(bytes, format) {
+        return value_of_threes_behind_sign::<T>(bytes, format, separator, (false, 0));
+    }
+    value_of_threes_with_sign::<T>(bytes, format, separator)
 }
 
 // ---- the front of a text

@@ -35,23 +35,48 @@ fn is_fit_alone(format: &NumberFormat, mark: u8) -> bool
     is_fit(mark, radix)
 }
 
+// Whether a format is decimal and has no mark but a separator, which may stand between digits: one test of all.
+#[inline(always)]
+fn is_decimal_with_separator(format: &NumberFormat) -> bool
+    ensures decimal { IsTrue result → format.now.mantissa_radix ≡ 10 }
+    ensures internal { IsTrue result → format.now.integer_internal_digit_separator ≡ true }
+    ensures suffix { IsTrue result → format.now.base_suffix ≡ None }
+    ensures prefix { IsTrue result → format.now.base_prefix ≡ None }
+    ensures plain { IsTrue result → format.now.literal_prefixes ≡ false }
+    ensures octal_zeros { IsTrue result → format.now.literal_octal_zero ≡ false }
+{
+    !(format.base_suffix().is_some()
+        | format.literal_octal_zero()
+        | format.base_prefix().is_some()
+        | format.literal_prefixes()
+        | (format.mantissa_radix() != 10)
+        | !format.integer_internal_digit_separator())
+}
+
+// The same beside decimal digits, with no look into a table.
+#[inline(always)]
+fn is_fit_beside_decimals(byte: u8) -> bool
+    ensures { IsTrue result → is_unfit_byte 10 byte ≡ false }
+{
+    if byte > b'9' {
+        return byte < 128;
+    }
+    byte < b'0' && byte != b'+' && byte != b'-'
+}
+
 // Whether a decimal format is valid that has this separator alone, which may stand between digits.
 #[inline(always)]
 pub(super) fn is_valid_with_separator(format: &NumberFormat, separator: u8) -> bool
     requires { format.now.digit_separator ≡ Some separator }
     ensures valid { IsTrue result → fault format.now ≡ None }
+    ensures decimal { IsTrue result → format.now.mantissa_radix ≡ 10 }
     ensures internal { IsTrue result → format.now.integer_internal_digit_separator ≡ true }
+    ensures octal_zeros { IsTrue result → format.now.literal_octal_zero ≡ false }
 {
-    if format.base_suffix().is_some() || format.literal_octal_zero() {
+    if !is_decimal_with_separator(format) {
         return false;
     }
-    if format.base_prefix().is_some() || format.literal_prefixes() {
-        return false;
-    }
-    if format.mantissa_radix() != 10 || !format.integer_internal_digit_separator() {
-        return false;
-    }
-    is_fit(separator, 10)
+    is_fit_beside_decimals(separator)
 }
 
 // Whether a format has a suffix or octal zeros: one test of both.

@@ -118,7 +118,7 @@ fn is_behind_x<T: Integer>(bytes: &[u8], format: &NumberFormat) -> bool
 // Whether a text begins with no sign and no prefix, and needs no sign: a sign is less than the digit 0.
 #[inline(always)]
 #[tactic(auto, unfolding(crate::specs::Head::sign, crate::specs::Affixes::prefix_radix, crate::specs::Runs::are_same))]
-fn is_bare<T: Integer>(bytes: &[u8], format: &NumberFormat) -> bool
+pub(super) fn is_bare<T: Integer>(bytes: &[u8], format: &NumberFormat) -> bool
     requires { 0 < length bytes.now }
     ensures sign { IsTrue result → sign format.now T.TYPE bytes.now ≡ Ok (false, 0) }
     ensures prefix { IsTrue result → None ≡ prefix_radix format.now bytes.now 0 }

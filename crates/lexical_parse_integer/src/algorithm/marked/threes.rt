@@ -1,12 +1,14 @@
 // Decimal digits with a separator before the last three of them, or before each three but the first digits.
-ghost use Rattle.std.specs.Prelude.{◌≡◌, ◌+◌, ◌*◌, ◌<◌, ◌≤◌, IfSome, IsTrue, None, Some, get_or, length, pos, true};
+ghost use Rattle.std.specs.Prelude.{◌≡◌, ◌+◌, ◌-◌, ◌*◌, ◌<◌, ◌≤◌, IfSome, IsTrue, None, Some, get_or, length, pos, true};
+ghost use Rattle.lexical_util.specs.Ascii.{digit_zero};
 ghost use Rattle.lexical_util.specs.Digit.{digit};
 ghost use Rattle.lexical_util.specs.Number.{HasSign, IsNumber, mul_add};
 ghost use Rattle.lexical_parse_integer.specs.Marked.{AreGrouped, AreWorth};
 ghost use Rattle.lexical_parse_integer.specs.Plain.{WritesValue};
 
+use crate::algorithm::plain::digits::number_of_4digits;
 use crate::algorithm::plain::fronts::value_of_digits;
-use lexical_util::digit::char_to_digit;
+use crate::algorithm::words::is_4digits;
 use lexical_util::format::NumberFormat;
 use lexical_util::num::Integer;
 
@@ -41,50 +43,60 @@ fn guess_of_first(bytes: &[u8], separator: u8) -> usize
     if few == 0 { n } else { few }
 }
 
-// The digit at a place.
+// The number of a separator and three digits in four bytes: with a digit 0 in the separator's stead they are digits of
+// one word.
 #[inline(always)]
-fn digit_at(bytes: &[u8], place: usize) -> Option<u32>
-    requires { place < length bytes.now }
-    ensures { result ≡ digit (get_or bytes.now place 0) 10 }
+fn number_of_three(separator: u8, first: u8, second: u8, third: u8) -> Option<u32>
+    ensures first { IfSome result (λ number. digit first 10 ≡ Some (first - digit_zero)) }
+    ensures second { IfSome result (λ number. digit second 10 ≡ Some (second - digit_zero)) }
+    ensures third { IfSome result (λ number. digit third 10 ≡ Some (third - digit_zero)) }
+    ensures value { IfSome result (λ number. number ≡ (first - digit_zero) * 100
+        + (second - digit_zero) * 10 + (third - digit_zero)) }
+    ensures small { IfSome result (λ number. number < 1000) }
 {
-    char_to_digit(bytes[place], 10)
-}
-
-// The three digits behind a separator at a place.
-#[inline(always)]
-fn three_at(bytes: &[u8], place: usize, separator: u8) -> Option<(u32, u32, u32)>
-    requires { place + 4 ≤ length bytes.now }
-    ensures parted { IfSome result (λ three. get_or bytes.now place 0 ≡ separator) }
-    ensures first { IfSome result
-        (λ three. digit (get_or bytes.now (place + 1) 0) 10 ≡ Some three.0) }
-    ensures second { IfSome result
-        (λ three. digit (get_or bytes.now (place + 2) 0) 10 ≡ Some three.1) }
-    ensures third { IfSome result
-        (λ three. digit (get_or bytes.now (place + 3) 0) 10 ≡ Some three.2) }
-{
-    if bytes[place] != separator {
+    let parted = u32::from_le_bytes([separator, first, second, third]);
+    let word = parted - separator as u32 + b'0' as u32;
+    if !is_4digits(word, 10) {
         return None;
     }
-    let first = digit_at(bytes, place + 1)?;
-    let second = digit_at(bytes, place + 2)?;
-    let third = digit_at(bytes, place + 3)?;
-    Some((first, second, third))
+    Some(number_of_4digits(word))
+}
+
+// The number of the three digits behind a separator at a place.
+#[inline(always)]
+fn three_at(bytes: &[u8], place: usize, separator: u8) -> Option<u32>
+    requires { place + 4 ≤ length bytes.now }
+    ensures parted { IfSome result (λ number. get_or bytes.now place 0 ≡ separator) }
+    ensures first { IfSome result (λ number. digit (get_or bytes.now (place + 1) 0) 10
+        ≡ Some (get_or bytes.now (place + 1) 0 - digit_zero)) }
+    ensures second { IfSome result (λ number. digit (get_or bytes.now (place + 2) 0) 10
+        ≡ Some (get_or bytes.now (place + 2) 0 - digit_zero)) }
+    ensures third { IfSome result (λ number. digit (get_or bytes.now (place + 3) 0) 10
+        ≡ Some (get_or bytes.now (place + 3) 0 - digit_zero)) }
+    ensures value { IfSome result (λ number. number
+        ≡ (get_or bytes.now (place + 1) 0 - digit_zero) * 100
+        + (get_or bytes.now (place + 2) 0 - digit_zero) * 10
+        + (get_or bytes.now (place + 3) 0 - digit_zero)) }
+    ensures small { IfSome result (λ number. number < 1000) }
+{
+    let t = &bytes[place..place + 4];
+    if t[0] != separator {
+        return None;
+    }
+    number_of_three(t[0], t[1], t[2], t[3])
 }
 
 // The value with three digits more, where the type has it.
 #[inline(always)]
-fn with_three<T: Integer>(value: T, three: (u32, u32, u32), negative: bool) -> Option<T>
+fn with_three<T: Integer>(value: T, three: u32, negative: bool) -> Option<T>
     requires bits { 32 ≤ T.TYPE.bits }
-    requires first { three.0 < 10 }
-    requires second { three.1 < 10 }
-    requires third { three.2 < 10 }
+    requires small { three < 1000 }
     requires sign { HasSign negative (T.number value) }
     ensures value { IfSome result (λ next. T.number next ≡ mul_add negative (T.number value)
-        (pos 1000) (pos (three.0 * 100 + three.1 * 10 + three.2))) }
+        (pos 1000) (pos three)) }
     ensures fits { IfSome result (λ next. IsNumber T.TYPE (T.number next)) }
 {
-    let number = three.0 * 100 + three.1 * 10 + three.2;
-    value.checked_mul_add(T::from_u32(1000), T::from_u32(number), negative)
+    value.checked_mul_add(T::from_u32(1000), T::from_u32(three), negative)
 }
 
 // The value of digits that stand so, behind a minus where that is negative.
@@ -105,6 +117,9 @@ pub(super) fn value_of_threes<T: Integer>(
     ensures worth { IfSome result
         (λ value. AreWorth T.TYPE 10 negative bytes.now (T.number value)) }
 {
+    if bytes.len() <= 4 {
+        return value_of_few::<T>(bytes, negative);
+    }
     let mut place = guess_of_first(bytes, separator);
     let mut value = value_of_few::<T>(&bytes[..place], negative)?;
     while place + 4 <= bytes.len() {

@@ -161,7 +161,7 @@ pub(super) fn number_to_4(text: &[u8]) -> Option<u32>
 // The number that four bytes write, of which it is known that they are digits: neighbours are joined in pairs, and the
 // pairs by a product that adds them up in its high half.
 #[inline(always)]
-fn number_of_4digits(word: u32) -> u32
+pub(in crate::algorithm) fn number_of_4digits(word: u32) -> u32
     requires { AreDigits 10 (word_bytes 4 word) }
     ensures value { result ≡ word_value 10 (word_bytes 4 word) }
     ensures small { result < 10000 }

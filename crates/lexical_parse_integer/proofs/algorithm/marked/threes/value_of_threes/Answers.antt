@@ -1,9 +1,19 @@
-use Rattle.std.proofs.Common.{◌+◌, ap, arith, get_or, refl, ◌∙◌}
+use Rattle.std.proofs.Common.{ℕ, ◌+◌, ap, arith, refl, ◌∙◌}
+use Rattle.std.specs.Prelude.{pos}
 use Rattle.lexical_util.specs.Digit.{digit}
+use Rattle.lexical_util.specs.Number.{mul_add}
 use Rattle.lexical_parse_integer.proofs.marked.DigitsAmong.{words_only, words_worth}
+use Rattle.lexical_parse_integer.proofs.marked.MarkedAnswers.{row_grouped}
 use Rattle.lexical_parse_integer.proofs.marked.PartedFronts.{worth_sign}
-use Rattle.lexical_parse_integer.proofs.marked.Threes.{digit_small, row_ends, row_parted, three_ends, three_parted, three_worth, threes_grouped}
+use Rattle.lexical_parse_integer.proofs.marked.Threes.{row_ends, row_parted, three_ends, three_parted, three_worth, threes_grouped}
+use Rattle.lexical_parse_integer.proofs.plain.DigitsAlone.{if_found}
 use Rattle.lexical_parse_integer.proofs.algorithm.marked.threes.value_of_threes.Goals as goal
+
+pub returns-then-bytes-le4-clause-grouped : goal.returns-then-bytes-le4-clause-grouped
+returns-then-bytes-le4-clause-grouped g c = if_found c.value_of_few.result (λ v w. row_grouped _ 10 _ c.requires.some (words_only _ 10 _ _ _ refl w)) c.value_of_few.ensures
+
+pub returns-then-bytes-le4-clause-worth : goal.returns-then-bytes-le4-clause-worth
+returns-then-bytes-le4-clause-worth g c = if_found c.value_of_few.result (λ v w. words_worth _ 10 _ _ _ refl w) c.value_of_few.ensures
 
 pub loop-place-init : goal.loop-place-init
 loop-place-init g c =
@@ -16,15 +26,6 @@ loop-place-init g c =
       worth = words_worth _ 10 _ _ _ refl c.in_ok-value.ensures;
     }
 
-pub with_three-requires-clause-first : goal.with_three-requires-clause-first
-with_three-requires-clause-first g c = digit_small (get_or c.args.bytes.now (c.loop-place.place + 1) 0) _ c.in-Some.ensures.first
-
-pub with_three-requires-clause-second : goal.with_three-requires-clause-second
-with_three-requires-clause-second g c = digit_small (get_or c.args.bytes.now (c.loop-place.place + 2) 0) _ c.in-Some.ensures.second
-
-pub with_three-requires-clause-third : goal.with_three-requires-clause-third
-with_three-requires-clause-third g c = digit_small (get_or c.args.bytes.now (c.loop-place.place + 3) 0) _ c.in-Some.ensures.third
-
 pub with_three-requires-clause-sign : goal.with_three-requires-clause-sign
 with_three-requires-clause-sign g c = worth_sign _ _ _ _ _ c.loop-place.invariant.worth
 
@@ -36,7 +37,7 @@ loop-place-preserved g c =
       within = c.loop-place-test.true;
       parted = three_parted _ _ _ c.args.bytes.now _ _ _ _ i.parted told.parted told.first told.second told.third;
       ends = three_ends _ c.args.bytes.now _ _ told.third;
-      worth = three_worth _ _ c.args.bytes.now _ _ _ _ _ _ i.worth c.loop-place-test.true (ap (λ b. digit b 10) told.parted ∙ c.requires.no_digit) told.first told.second told.third c.in-Some-with_three.ensures.value c.in-Some-with_three.ensures.fits;
+      worth = three_worth _ _ c.args.bytes.now _ _ _ _ _ _ i.worth c.loop-place-test.true (ap (λ b. digit b 10) told.parted ∙ c.requires.no_digit) told.first told.second told.third (c.in-Some-with_three.ensures.value ∙ ap (λ (n : ℕ). mul_add c.args.negative (g.T.Integer.number c.loop-place.value) (pos 1000) (pos n)) told.value) c.in-Some-with_three.ensures.fits;
     }
 
 pub returns-clause-grouped : goal.returns-clause-grouped
