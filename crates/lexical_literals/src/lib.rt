@@ -26,6 +26,7 @@ ghost use Rattle.lexical_literals.specs.Tokens.{FollowInTurn, FollowUnder, IsPar
 
 use bytes::{is_word_byte, skipped_length, word_length};
 use decimal::{decimal_front, is_decimal, seems_marked};
+use lexical_parse_integer::algorithm::algorithm_partial;
 use lexical_parse_integer::laws::grammar::front_end;
 use lexical_parse_integer::parse::ParseInteger;
 use lexical_parse_integer::{Error, NumberFormat, NumberFormatBuilder, Result, options};
@@ -99,14 +100,37 @@ fn number(text: &[u8], format: &NumberFormat, decimal: bool) -> (Kind, usize)
 }
 
 // The same for any number of 64 bits, as most are, and 0 bytes where that isn't sure: out of line, so that what calls
-// `next` has it in place, and in two registers.
+// `next` has it in place, and in two registers. Where there is a separator the compiler leaves out what reads digits alone.
 #[inline(never)]
 fn marked_number(text: &[u8], format: &NumberFormat) -> (u64, usize)
     requires valid { IsNone (fault format.now) }
     ensures { 0 < result.1
         → partial format.now (integer_type 64 false) text.now ≡ Ok (pos result.0, result.1) }
 {
-    match u64::parse_partial(text, format, &options::STANDARD) {
+    match format.digit_separator() {
+        Some(_) => short_number(text, format),
+        None => number_without_separator(text, format),
+    }
+}
+
+// The same where there is no separator, out of line again.
+#[inline(never)]
+fn number_without_separator(text: &[u8], format: &NumberFormat) -> (u64, usize)
+    requires valid { IsNone (fault format.now) }
+    ensures { 0 < result.1
+        → partial format.now (integer_type 64 false) text.now ≡ Ok (pos result.0, result.1) }
+{
+    short_number(text, format)
+}
+
+// The same in place.
+#[inline(always)]
+fn short_number(text: &[u8], format: &NumberFormat) -> (u64, usize)
+    requires valid { IsNone (fault format.now) }
+    ensures { 0 < result.1
+        → partial format.now (integer_type 64 false) text.now ≡ Ok (pos result.0, result.1) }
+{
+    match algorithm_partial::<u64>(text, format, &options::STANDARD) {
         Ok(found) => found,
         Err(_) => (0, 0),
     }
