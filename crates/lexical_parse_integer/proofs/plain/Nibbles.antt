@@ -175,6 +175,9 @@ written_small n k text few w =
 pub eight_fit : (high low : ℕ) (text : List ℕ) → length text ≤ 8 → WritesFront 16 text (length text) (pos (high * 65536 + low)) → high * 65536 + low < 4294967296
 eight_fit high low text few w = let small = written_small (high * 65536 + low) 8 text few w in omega arith
 
+pub four_fit : (high low : ℕ) (text : List ℕ) → length text ≤ 4 → WritesFront 16 text (length text) (pos (high * 256 + low)) → high * 256 + low < 4294967296
+four_fit high low text few w = let small = written_small (high * 256 + low) 4 text few w in omega arith
+
 -- ---- one to three bytes
 
 -- where a value is below the limit, the byte is a digit

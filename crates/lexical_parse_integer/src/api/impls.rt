@@ -3,13 +3,12 @@ ghost use Rattle.std.specs.Prelude.{◌≡◌, IfSome, IsNone, Ok};
 ghost use Rattle.lexical_util.specs.Validity.{fault};
 ghost use Rattle.lexical_parse_integer.specs.Answer.{with_place, view_of};
 ghost use Rattle.lexical_parse_integer.specs.Grammar.{complete, complete_if_valid, partial_if_valid};
-ghost use Rattle.lexical_parse_integer.specs.Plain.{IsPlain};
 
 use crate::algorithm::marked::lone_mark::fault_of;
 use crate::algorithm::marked::prefixed::{value_if_behind_prefix, value_if_literal};
 use crate::algorithm::marked::value_if_between_separators;
 use crate::algorithm::plain::{
-    front_if_plain, hexadecimal, is_plain, value_if_short, value_of_plain,
+    front_if_plain, hexadecimal_out_of_line, is_plain, value_if_short, value_out_of_line,
 };
 use crate::algorithm::{complete_with_marks, partial_beside_marks};
 use crate::api::{FromLexical, FromLexicalWithOptions};
@@ -18,8 +17,8 @@ use lexical_util::format::NumberFormat;
 use lexical_util::num::Integer;
 use lexical_util::result::Result;
 
-// A text and its format, lent together to the calls out of line. Lent one by one, both would have to be kept in
-// registers from one call to the next, and a short text would pay for these too.
+// A text and its format, put down for the call that reads what others leave. Else they would stay in registers over these
+// calls, and a short text, for which none is made, would save those registers too.
 #[derive(Clone, Copy)]
 struct Call<'a> {
     bytes: &'a [u8],
@@ -43,7 +42,7 @@ fn complete_by_kind<T: Integer>(bytes: &[u8], format: &NumberFormat, options: &O
     ensures { view_of T.number result ≡ complete_if_valid format.now T.TYPE bytes.now }
 {
     let call = Call { bytes, format };
-    match value_by_kind::<T>(&call) {
+    match value_by_kind::<T>(bytes, format) {
         Some(value) => Ok(value),
         None => complete_otherwise::<T>(&call, options),
     }
@@ -61,56 +60,32 @@ fn complete_otherwise<T: Integer>(call: &Call<'_>, options: &Options) -> Result<
 // The value of the whole text, by a reader for each kind of format. Each is a call that answers in registers: an answer
 // through memory makes the caller wait for it.
 #[inline(always)]
-fn value_by_kind<T: Integer>(call: &Call<'_>) -> Option<T>
-    ensures valid { IfSome result (λ value. IsNone (fault call.now.format.now)) }
+fn value_by_kind<T: Integer>(bytes: &[u8], format: &NumberFormat) -> Option<T>
+    ensures valid { IfSome result (λ value. IsNone (fault format.now)) }
     ensures answer { IfSome result
-        (λ value. complete call.now.format.now T.TYPE call.now.bytes.now ≡ Ok (T.number value)) }
+        (λ value. complete format.now T.TYPE bytes.now ≡ Ok (T.number value)) }
 {
-    if !is_plain(call.format) {
-        return value_beside_marks::<T>(call);
+    if !is_plain(format) {
+        return value_beside_marks::<T>(bytes, format);
     }
-    if call.format.mantissa_radix() == 16 {
-        return hexadecimal_without_marks::<T>(call);
+    if format.mantissa_radix() == 16 {
+        return hexadecimal_out_of_line::<T>(bytes, format);
     }
-    value_without_marks::<T>(call)
+    value_out_of_line::<T>(bytes, format)
 }
 
-// The same under a format with marks.
+// The same under a format with marks. It stays out of line, so that the test of all marks needn't keep which they are.
 #[inline(never)]
-fn value_beside_marks<T: Integer>(call: &Call<'_>) -> Option<T>
-    ensures valid { IfSome result (λ value. IsNone (fault call.now.format.now)) }
+fn value_beside_marks<T: Integer>(bytes: &[u8], format: &NumberFormat) -> Option<T>
+    ensures valid { IfSome result (λ value. IsNone (fault format.now)) }
     ensures answer { IfSome result
-        (λ value. complete call.now.format.now T.TYPE call.now.bytes.now ≡ Ok (T.number value)) }
+        (λ value. complete format.now T.TYPE bytes.now ≡ Ok (T.number value)) }
 {
-    let bytes = call.bytes;
-    let format = call.format;
     match format.digit_separator() {
         Some(separator) => value_if_between_separators::<T>(bytes, format, separator),
         None if format.has_base_prefix() => value_if_behind_prefix::<T>(bytes, format),
         None => value_if_literal::<T>(bytes, format),
     }
-}
-
-// The same under a format without marks whose radix is 16.
-#[inline(never)]
-fn hexadecimal_without_marks<T: Integer>(call: &Call<'_>) -> Option<T>
-    requires plain { IsPlain call.now.format.now }
-    requires hexadecimal { call.now.format.now.mantissa_radix ≡ 16 }
-    ensures { IfSome result
-        (λ value. complete call.now.format.now T.TYPE call.now.bytes.now ≡ Ok (T.number value)) }
-{
-    hexadecimal::<T>(call.bytes, call.format)
-}
-
-// The same under any format without marks.
-#[inline(never)]
-fn value_without_marks<T: Integer>(call: &Call<'_>) -> Option<T>
-    requires plain { IsPlain call.now.format.now }
-    ensures valid { IfSome result (λ value. IsNone (fault call.now.format.now)) }
-    ensures answer { IfSome result
-        (λ value. complete call.now.format.now T.TYPE call.now.bytes.now ≡ Ok (T.number value)) }
-{
-    value_of_plain::<T>(call.bytes, call.format)
 }
 
 // The complete answer in one call, out of line.

@@ -63,21 +63,6 @@ fn number_to_3(text: &[u8]) -> Option<u32>
     }
 }
 
-// The number of four digits: one block, of which none is read twice.
-#[inline(always)]
-fn number_of_4(text: &[u8]) -> Option<u32>
-    requires few { length text.now ≤ 8 }
-    ensures { IfSome result
-        (λ number. WritesFront 16 text.now (length text.now) (pos number)) }
-{
-    let number = number_or_more(text);
-    if number < LIMIT {
-        Some(number as u32)
-    } else {
-        None
-    }
-}
-
 // The numbers of the last digits, so many, and of those before, which are no more: of the first so many, those that are
 // among the last too are shifted out.
 #[inline(always)]
@@ -96,6 +81,20 @@ fn numbers_of_blocks(text: &[u8], size: usize) -> Option<(u32, u32)>
         Some(((first >> shift) as u32, last as u32))
     } else {
         None
+    }
+}
+
+// The number of four digits. Each is read once, which `number_to_8` would do twice.
+#[inline(always)]
+fn number_of_4(text: &[u8]) -> Option<u32>
+    requires some { 2 ≤ length text.now }
+    requires few { length text.now ≤ 4 }
+    ensures { IfSome result
+        (λ number. WritesFront 16 text.now (length text.now) (pos number)) }
+{
+    match numbers_of_blocks(text, 2) {
+        Some((high, low)) => Some(high * 0x100 + low),
+        None => None,
     }
 }
 
