@@ -35,8 +35,8 @@ SECONDS = 60
 
 RT = os.environ.get("RT", "rt")
 STEPS = "200000000"
-# The number of an allocation that no run comes to.
-NEVER = 1000
+# No run comes to so many allocations.
+MOST_ALLOCATIONS = 1000
 
 # fcntl names it from Python 3.10 on.
 F_SETPIPE_SZ = 1031
@@ -219,11 +219,9 @@ def failing_allocations():
     """Each allocation of the stored run fails in turn, and each of a run whose input's buffer grows several times."""
     runs = {"stored": STORED, "growing": (b"c u64 " + b"0" * 140_000 + b"7\n", b"ok 7\n")}
     inputs = {name: given for name, (given, _) in runs.items()}
-    for name, got in failing_allocation(NEVER, inputs).items():
-        expect(f"{name} with every allocation", got, (0, runs[name][1], b""))
     counts = {}
-    for number in range(1, NEVER):
-        # A run that has no allocation of this number ends well, and so it does with the next number.
+    for number in range(1, MOST_ALLOCATIONS):
+        # A run that has no allocation of this number ends well, and so it does with the next number. Then none has failed.
         for name, got in failing_allocation(number, inputs).items():
             if name not in counts and got[0] == 0:
                 counts[name] = number - 1

@@ -189,7 +189,7 @@ class Edit:
     name) of each theorem that it makes say something else."""
 
     def __init__(self, path, folder):
-        self.path, self.name = path, os.path.basename(path)[:-len(".edit")]
+        self.path, self.folder, self.name = path, folder, os.path.basename(path)[:-len(".edit")]
         self.pairs = pairs_of(read(path))
         self.files = sorted({file for file, _, _ in self.pairs})
         self.brought = {word for _, _, new in self.pairs for word in WORD.findall(new)}
@@ -242,6 +242,11 @@ class Edit:
         """Whether it changes more than functions, which can change what stands anywhere. A constant does, unless the
         functions that speak of it stand in its place."""
         return self.shows_beside_items() or any(name.isupper() for name in self.names())
+
+    def has_answers(self):
+        """Whether one of its items has answers in proofs/."""
+        files = (os.path.join(self.folder, "proofs", *path.split("::"), "Answers.antt") for path in self.items)
+        return any(map(os.path.isfile, files))
 
     def names(self):
         return {path.rsplit("::", 1)[-1] for path in self.items}
@@ -322,34 +327,38 @@ def lemmas_on(folder, name):
     return [os.path.relpath(it, folder) for it in files if re.search(rf"\b{name}\b", read(it))]
 
 
-def called_by(edit, calls):
-    """The names that an edit's items call, by their own bodies and by what the edit brings in."""
-    found = edit.brought & set(calls)
-    for name in edit.names():
-        found |= calls.get(name, set())
-    return found - edit.names()
+def waits_for(edit, calls):
+    """The names of functions whose proof the search for its goals waits for: what it calls, by its items' own bodies and
+    by what it brings in, where one of its items has answers. Elsewhere no search waits."""
+    if not edit.has_answers():
+        return set()
+    called = set().union(edit.brought & set(calls), *(calls.get(name, set()) for name in edit.names()))
+    return called - edit.names()
 
 
-def are_apart(one, other, calls):
-    """Whether two edits can stand in one check: of other items, none of which calls one of the other's. What a body
+def are_apart(one, other, waits):
+    """Whether two edits can stand in one check: of other items, of which none waits for one of the other's. What a body
     has to show hangs on itself and on the contracts of what it calls, so calls of calls don't count."""
     if set(one.items) & set(other.items) or set(one.lines) & set(other.lines):
         return False
-    return not called_by(one, calls) & other.names() and not called_by(other, calls) & one.names()
+    return not waits[one.name] & other.names() and not waits[other.name] & one.names()
 
 
 def batches_of(edits, calls, most):
-    """The edits in batches that are checked at once, and alone those that can't share a check."""
+    """The edits in batches that are checked at once, and alone those that can't share a check. First come those that
+    stand in the way of the most others."""
+    shared, alone = [it for it in edits if not it.shifts()], [[it] for it in edits if it.shifts()]
+    waits = {it.name: waits_for(it, calls) for it in shared}
+    in_the_way = {it.name: sum(not are_apart(it, other, waits) for other in shared) for it in shared}
     batches = []
-    for edit in sorted(edits, key=lambda it: (-len(called_by(it, calls)), it.name)):
-        fits = (it for it in batches if len(it) < most and not it[0].shifts() and not edit.shifts()
-                and all(are_apart(edit, other, calls) for other in it))
+    for edit in sorted(shared, key=lambda it: (-in_the_way[it.name], it.name)):
+        fits = (it for it in batches if len(it) < most and all(are_apart(edit, other, waits) for other in it))
         batch = next(fits, None)
         if batch is None:
             batches.append([edit])
         else:
             batch.append(edit)
-    return batches
+    return batches + alone
 
 
 def applied(batch, folder):

@@ -10,7 +10,7 @@ says nothing of the contract. edit_files.py says what a batch is, and check_outp
 --jobs N     so many checks at once; without it as many as there are processors and memory for
 --crate      this crate alone, also several times
 --only       these edits alone
---most N     at most so many edits in a batch, 30 unless it is given
+--most N     at most so many edits in a batch, 60 unless it is given
 --log        a line for each edit into this file, in place of standard output
 --said       keeps what each check said in this folder
 """
@@ -351,7 +351,7 @@ def options_of(words):
     parser.add_argument("--jobs", type=int)
     parser.add_argument("--crate", action="append")
     parser.add_argument("--only", nargs="+", default=[])
-    parser.add_argument("--most", type=int, default=30)
+    parser.add_argument("--most", type=int, default=60)
     parser.add_argument("--log")
     parser.add_argument("--said")
     parser.add_argument("--root", default=ROOT)

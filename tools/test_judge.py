@@ -50,6 +50,14 @@ pub fn after(a: u8) -> u8
     next(a) + 1
 }
 
+/// One less than `next` of a digit, which is the digit.
+pub fn below(a: u8) -> u8
+    requires { a < 10 }
+    ensures { result ≡ a }
+{
+    next(a) - 1
+}
+
 /// A number that has room above it.
 pub fn near(a: u8) -> u8
     requires { a < 200 }
@@ -87,6 +95,9 @@ fn down(a: u8) -> u8 { a.wrapping_sub(1) }
 EDITS = {
     "the_less": ("if a > b {", "if a < b {", True),
     "no_room": ("a + 50", "a + 60", True),
+    "callee_changed": ("    a + more", "    a + more + more", True),
+    "below_one": ("next(a) - 1", "next(a) + 1 - 1", True),
+    "below_otherwise": ("next(a) - 1", "next(a) + 1 - 2", False),
     "value_changed": ("next(a) + 1", "next(a) + 2", True),
     "said_otherwise": ("    let more = 1;", "    let more = 2 - 1;", False),
     "no_such_name": ("    a + more", "    a + most", False),
@@ -140,7 +151,7 @@ class Texts(unittest.TestCase):
 
     def test_items_and_their_clauses(self):
         items = edit_files.items_of("src/lib.rt", SOURCE)
-        self.assertEqual([it.path() for it in items], ["greater", "next", "after", "near"])
+        self.assertEqual([it.path() for it in items], ["greater", "next", "after", "below", "near"])
         clauses, body, _ = edit_files.parts_of("src/lib.rt", SOURCE)["greater"]
         self.assertEqual(clauses, ["ensureslow{a≤result}", "ensureshigh{b≤result}"])
         self.assertEqual(body, "{ifa>b{a}else{b}}")
@@ -217,7 +228,7 @@ class Texts(unittest.TestCase):
         self.assertEqual([a == b for a, b in zip(of, to)], [False, True, False])
 
     def test_a_text_that_does_not_stand_once(self):
-        with self.assertRaisesRegex(edit_files.BadEdit, "3 times"):
+        with self.assertRaisesRegex(edit_files.BadEdit, "4 times"):
             self.edit("not_once")
 
     def test_an_edit_of_a_proof(self):
@@ -231,18 +242,28 @@ class Texts(unittest.TestCase):
         with self.assertRaisesRegex(edit_files.BadEdit, "the contract of near"):
             self.edit("contract_changed")
 
-    def test_a_caller_and_its_callee_are_tried_apart(self):
-        calls = edit_files.calls_of(self.folder)
-        self.assertEqual(calls["after"], {"next"})
-        edits = [self.edit(name) for name in ("the_less", "said_otherwise", "value_changed", "no_room")]
-        batches = [[it.name for it in batch] for batch in edit_files.batches_of(edits, calls, 20)]
-        together = [batch for batch in batches if "said_otherwise" in batch and "value_changed" in batch]
-        self.assertEqual(together, [])
-        self.assertEqual(sorted(map(len, batches)), [1, 3])
+    def batches(self, *names):
+        edits = [self.edit(it) for it in names]
+        batches = edit_files.batches_of(edits, edit_files.calls_of(self.folder), 3)
+        return sorted(sorted(it.name for it in batch) for batch in batches)
+
+    def test_a_caller_that_has_answers_and_its_callee_are_tried_apart(self):
+        self.assertEqual(edit_files.calls_of(self.folder)["after"], {"next"})
+        self.assertEqual(self.batches("said_otherwise", "value_changed"), [["said_otherwise"], ["value_changed"]])
+
+    def test_a_caller_that_has_no_answers_and_its_callee_are_tried_at_once(self):
+        os.remove(os.path.join(self.folder, "proofs", "after", "Answers.antt"))
+        self.assertEqual(self.batches("said_otherwise", "value_changed"), [["said_otherwise", "value_changed"]])
 
     def test_two_edits_of_a_function_are_tried_apart(self):
-        edits = [self.edit("said_otherwise"), self.edit("no_such_name")]
-        self.assertEqual(len(edit_files.batches_of(edits, edit_files.calls_of(self.folder), 20)), 2)
+        self.assertEqual(self.batches("said_otherwise", "no_such_name"), [["no_such_name"], ["said_otherwise"]])
+
+    def test_an_edit_of_a_theorem_is_tried_alone(self):
+        self.assertEqual(self.batches("the_less", "false_fact", "no_room"), [["false_fact"], ["no_room", "the_less"]])
+
+    def test_no_batch_has_more_edits_than_it_may(self):
+        names = "the_less", "no_room", "value_changed", "below_one"
+        self.assertEqual(sorted(map(len, self.batches(*names))), [1, 3])
 
 
 class Constants(unittest.TestCase):
@@ -437,7 +458,7 @@ class Batches(unittest.TestCase):
         tried_alone, in_time = threading.Event(), []
 
         def waits(room, texts, paths=(), jobs=1):
-            if list(paths) == ["greater"]:
+            if list(paths) == ["after"]:
                 in_time.append(tried_alone.wait(20))
             if list(paths) == ["near"]:
                 tried_alone.set()
@@ -460,7 +481,7 @@ class Batches(unittest.TestCase):
     def test_an_edit_that_cannot_be_applied(self):
         status, said = self.judged("the_less", "not_once")
         self.assertEqual((status, len(said)), (1, 2))
-        self.assertIn("3 times", said["toy/not_once"])
+        self.assertIn("4 times", said["toy/not_once"])
 
     def test_no_edit_at_all(self):
         self.assertEqual(self.judged("no_such_edit"), (1, {}))
