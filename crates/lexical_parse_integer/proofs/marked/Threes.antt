@@ -1,13 +1,17 @@
 -- Three digits behind a separator, after digits that stand so already: for `value_of_threes`.
-use Rattle.std.proofs.Common.{◌≡◌, ℕ, ◌+◌, ◌-◌, ◌*◌, ◌<◌, ◌≤◌, Bool, true, List, [], ◌∷◌, ◌++◌, length, get_or, take, refl, sym, ap, ◌∙◌, subst, arith, Some, None, is_some}
-use Rattle.std.specs.Prelude.{ℤ, pos}
+use Rattle.std.proofs.Common.{◌≡◌, ℕ, ◌+◌, ◌-◌, ◌*◌, ◌<◌, ◌≤◌, Bool, true, List, [], ◌∷◌, ◌++◌, length, get_or, take, drop, refl, sym, ap, ◌∙◌, subst, arith, Some, None, is_some}
+use Rattle.std.specs.Prelude.{ℤ, pos, slice_range}
 use Rattle.std.proofs.lemmas.Bool.{false≢true}
-use Rattle.std.proofs.lemmas.List.{get_or-take, length-take-le}
+use Rattle.std.proofs.lemmas.List.{get_or-drop, get_or-take, length-take-le}
 use Rattle.lexical_util.specs.Digit.{digit}
 use Rattle.lexical_util.specs.Format.{Format}
 use Rattle.lexical_util.specs.Number.{IntegerType, IsNumber, mul_add}
 use Rattle.lexical_parse_integer.specs.Marked.{AreDigitsOnly, AreGrouped, AreWorth, digits_among, is_digit_in}
+use Rattle.lexical_parse_integer.specs.Plain.{bytes_number}
 use Rattle.lexical_parse_integer.specs.Value.{positional_value, with_sign}
+use Rattle.lexical_parse_integer.specs.Words.{AreDigits, word_bytes, word_value}
+use Rattle.lexical_parse_integer.proofs.plain.ShiftedWords.{half_bytes}
+use Rattle.lexical_parse_integer.proofs.words.AsciiDigits.{ascii_from_digits, digit_from}
 use Rattle.lexical_parse_integer.proofs.grammar.FrontValues.{positional_value-push, with_sign-step}
 use Rattle.lexical_parse_integer.proofs.marked.PartedFronts.{IsParted, digit_parted, more_among, parted_grouped, separator_parted}
 
@@ -35,6 +39,32 @@ three_parted r separator many bytes k a b c p parted first second third =
   where
     moved : (i j : ℕ) → i ≡ j → IsParted r separator many bytes i true → IsParted r separator many bytes j true
     moved i j same = subst (λ (n : ℕ). IsParted r separator many bytes n true) same
+
+-- the bytes of a slice of four
+pub in_four : (bytes : List ℕ) (place i : ℕ) → i < 4 → get_or (slice_range bytes place (place + 4)) i 0 ≡ get_or bytes (place + i) 0
+in_four bytes place i few = get_or-take (place + 4 - place) (drop place bytes) i 0 (omega arith) ∙ get_or-drop place bytes i 0
+
+-- What a word of a digit 0 and three bytes is, where it is digits.
+pub record IsThree (a b c word : ℕ) : Type 0 where
+  pub first : digit a 10 ≡ Some (a - 48)
+  pub second : digit b 10 ≡ Some (b - 48)
+  pub third : digit c 10 ≡ Some (c - 48)
+  pub value : word_value 10 (word_bytes 4 word) ≡ (a - 48) * 100 + (b - 48) * 10 + (c - 48)
+  pub small : word_value 10 (word_bytes 4 word) < 1000
+
+pub three_of_word : (a b c word : ℕ) → a < 256 → b < 256 → c < 256 → word ≡ 48 + 256 * (a + 256 * (b + 256 * c)) → AreDigits 10 (word_bytes 4 word) → IsThree a b c word
+three_of_word a b c word la lb lc is digits =
+    let sum : word ≡ bytes_number (48 ∷ a ∷ b ∷ c ∷ []) = is ∙ omega arith in
+    let bytes : word_bytes 4 word ≡ 48 ∷ a ∷ b ∷ c ∷ [] = half_bytes word (48 ∷ a ∷ b ∷ c ∷ []) (omega arith, (la, (lb, (lc, tt)))) refl sum in
+    let ascii = ascii_from_digits 10 (48 ∷ a ∷ b ∷ c ∷ []) (omega arith) (subst (λ (bs : List ℕ). AreDigits 10 bs) bytes digits) in
+    let value : word_value 10 (word_bytes 4 word) ≡ (a - 48) * 100 + (b - 48) * 10 + (c - 48) = ap (word_value 10) bytes ∙ omega arith in
+    record {
+      first = digit_from 10 a ascii.1.0 (omega arith);
+      second = digit_from 10 b ascii.1.1.0 (omega arith);
+      third = digit_from 10 c ascii.1.1.1.0 (omega arith);
+      value = value;
+      small = omega (arith, value, ascii.1.0.0, ascii.1.0.1, ascii.1.1.0.0, ascii.1.1.0.1, ascii.1.1.1.0.0, ascii.1.1.1.0.1);
+    }
 
 -- the digits among three bytes more
 digit_among : (r k d : ℕ) (bytes before : List ℕ) → k < length bytes → digit (get_or bytes k 0) r ≡ Some d → digits_among r (take k bytes) ≡ before → digits_among r (take (k + 1) bytes) ≡ before ++ d ∷ []

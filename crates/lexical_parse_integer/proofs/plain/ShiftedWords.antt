@@ -103,7 +103,7 @@ joined_word word small digits =
 
 -- ---- five to eight bytes
 
-half_bytes : (word : ℕ) (bytes : List ℕ) → AllByRecursion (λ byte. byte < 256) bytes → length bytes ≡ 4 → word ≡ bytes_number bytes → word_bytes 4 word ≡ bytes
+pub half_bytes : (word : ℕ) (bytes : List ℕ) → AllByRecursion (λ byte. byte < 256) bytes → length bytes ≡ 4 → word ≡ bytes_number bytes → word_bytes 4 word ≡ bytes
 half_bytes word bytes below size is = ap (word_bytes 4) is ∙ ap (λ n. word_bytes n (bytes_number bytes)) (sym size) ∙ bytes_again bytes below
 
 -- the bytes of a word of four, where it is digits
@@ -112,7 +112,7 @@ half_digits word bytes below size is digits =
     ascii_from_digits 10 bytes (omega arith) (subst (λ (bs : List ℕ). AreDigits 10 bs) (half_bytes word bytes below size is) digits)
 
 -- where the first four bytes and the last four are digits, all are
-pub whole_digits : (text : List ℕ) (first last : ℕ) → 4 < length text → length text ≤ 8 → ((k : ℕ) → get_or text k 0 < 256) →
+whole_digits : (text : List ℕ) (first last : ℕ) → 4 < length text → length text ≤ 8 → ((k : ℕ) → get_or text k 0 < 256) →
     first ≡ bytes_number (slice_range text 0 4) → last ≡ bytes_number (slice_range text (length text - 4) (length text - 4 + 4)) →
     AreDigits 10 (word_bytes 4 first) → AreDigits 10 (word_bytes 4 last) → AreAsciiDigits 10 text
 whole_digits [] first last low high below is_first is_last front back = absurd (omega arith)
@@ -138,41 +138,53 @@ whole_digits (a ∷ b ∷ c ∷ d ∷ e ∷ f ∷ g ∷ h ∷ []) first last low
     (fs.0, (fs.1.0, (fs.1.1.0, (fs.1.1.1.0, (ls.0, (ls.1.0, (ls.1.1.0, (ls.1.1.1.0, tt))))))))
 whole_digits (a ∷ b ∷ c ∷ d ∷ e ∷ f ∷ g ∷ h ∷ i ∷ rest) first last low high below is_first is_last front back = absurd (omega arith)
 
--- the first four bytes, of which those that are among the last four are shifted out
-front_word : (text : List ℕ) (first : ℕ) → 4 < length text → length text ≤ 8 → AreAsciiDigits 10 text → first ≡ bytes_number (slice_range text 0 4) →
-    (first - 808464432) * 2 ^ (64 - 8 * length text) % 4294967296 + 808464432 ≡ bytes_number (padded (8 - length text) (take (length text - 4) text))
-front_word [] first low high ascii is = absurd (omega arith)
-front_word (a ∷ []) first low high ascii is = absurd (omega arith)
-front_word (a ∷ b ∷ []) first low high ascii is = absurd (omega arith)
-front_word (a ∷ b ∷ c ∷ []) first low high ascii is = absurd (omega arith)
-front_word (a ∷ b ∷ c ∷ d ∷ []) first low high ascii is = absurd (omega arith)
-front_word (a ∷ b ∷ c ∷ d ∷ e ∷ []) first low high ascii is = omega (arith, is, ascii.0.0, ascii.0.1, ascii.1.0.0, ascii.1.0.1, ascii.1.1.0.0, ascii.1.1.0.1, ascii.1.1.1.0.0, ascii.1.1.1.0.1)
-front_word (a ∷ b ∷ c ∷ d ∷ e ∷ f ∷ []) first low high ascii is = omega (arith, is, ascii.0.0, ascii.0.1, ascii.1.0.0, ascii.1.0.1, ascii.1.1.0.0, ascii.1.1.0.1, ascii.1.1.1.0.0, ascii.1.1.1.0.1)
-front_word (a ∷ b ∷ c ∷ d ∷ e ∷ f ∷ g ∷ []) first low high ascii is = omega (arith, is, ascii.0.0, ascii.0.1, ascii.1.0.0, ascii.1.0.1, ascii.1.1.0.0, ascii.1.1.0.1, ascii.1.1.1.0.0, ascii.1.1.1.0.1)
-front_word (a ∷ b ∷ c ∷ d ∷ e ∷ f ∷ g ∷ h ∷ []) first low high ascii is = omega (arith, is, ascii.0.0, ascii.0.1, ascii.1.0.0, ascii.1.0.1, ascii.1.1.0.0, ascii.1.1.0.1, ascii.1.1.1.0.0, ascii.1.1.1.0.1)
-front_word (a ∷ b ∷ c ∷ d ∷ e ∷ f ∷ g ∷ h ∷ i ∷ rest) first low high ascii is = absurd (omega arith)
+-- four digits, of which so many stay, behind digits 0
+shifted_half : (k a b c d : ℕ) → 1 ≤ k → k ≤ 4 → IsAsciiDigit 10 a → IsAsciiDigit 10 b → IsAsciiDigit 10 c → IsAsciiDigit 10 d →
+    (bytes_number (a ∷ b ∷ c ∷ d ∷ []) - 808464432) * 2 ^ (32 - 8 * k) % 4294967296 + 808464432 ≡ bytes_number (padded (4 - k) (take k (a ∷ b ∷ c ∷ d ∷ [])))
+shifted_half zero a b c d low high ia ib ic id = absurd (omega arith)
+shifted_half (suc zero) a b c d low high ia ib ic id = omega (arith, ia.0, ia.1, ib.0, ib.1, ic.0, ic.1, id.0, id.1)
+shifted_half (suc (suc zero)) a b c d low high ia ib ic id = omega (arith, ia.0, ia.1, ib.0, ib.1, ic.0, ic.1, id.0, id.1)
+shifted_half (suc (suc (suc zero))) a b c d low high ia ib ic id = omega (arith, ia.0, ia.1, ib.0, ib.1, ic.0, ic.1, id.0, id.1)
+shifted_half (suc (suc (suc (suc zero)))) a b c d low high ia ib ic id = omega (arith, ia.0, ia.1, ib.0, ib.1, ic.0, ic.1, id.0, id.1)
+shifted_half (suc (suc (suc (suc (suc k))))) a b c d low high ia ib ic id = absurd (omega arith)
 
--- What the word of the first digits behind zeros holds.
-pub record HoldsFront (text : List ℕ) (word : ℕ) : Type 0 where
-  pub small : word < 4294967296
-  pub digits : AreDigits 10 (word_bytes 4 word)
-  pub worth : word_value 10 (word_bytes 4 word) ≡ word_value 10 (take (length text - 4) text)
+-- What a word of four is whose last digits are shifted out, so that so many stay.
+pub record HoldsFront (k word shifted : ℕ) : Type 0 where
+  pub small : shifted < 4294967296
+  pub digits : AreDigits 10 (word_bytes 4 shifted)
+  pub worth : word_value 10 (word_bytes 4 shifted) ≡ word_value 10 (take k (word_bytes 4 word))
 
-pub holds_front : (text : List ℕ) (first : ℕ) → 4 < length text → length text ≤ 8 → AreAsciiDigits 10 text → first ≡ bytes_number (slice_range text 0 4) →
-    HoldsFront text ((first - 808464432) * 2 ^ (64 - 8 * length text) % 4294967296 + 808464432)
-holds_front text first low high ascii is =
-    let front : List ℕ = take (length text - 4) text in
-    let taken = padded_ascii (8 - length text) front (taken_ascii (length text - 4) text ascii) in
-    let size : length (padded (8 - length text) front) ≡ 4 = let e = length-take-le (length text - 4) text (omega arith) in let f = padded_length (8 - length text) front in omega arith in
-    let word = front_word text first low high ascii is in
-    let bytes = half_bytes _ (padded (8 - length text) front) (ascii_bytes (padded (8 - length text) front) taken) size word in
-    let small = bytes_small (padded (8 - length text) front) (ascii_bytes (padded (8 - length text) front) taken) in
-    let power : 256 ^ length (padded (8 - length text) front) ≡ 4294967296 = ap (λ n. 256 ^ n) size in
+pub holds_front : (k word : ℕ) → 1 ≤ k → k ≤ 4 → word < 4294967296 → AreDigits 10 (word_bytes 4 word) → HoldsFront k word ((word - 808464432) * 2 ^ (32 - 8 * k) % 4294967296 + 808464432)
+holds_front k word low high less all =
+    let bs : List ℕ = word_bytes 4 word in
+    let ascii = ascii_from_digits 10 bs (omega arith) all in
+    let front : List ℕ = take k bs in
+    let taken = padded_ascii (4 - k) front (taken_ascii k bs ascii) in
+    let size : length (padded (4 - k) front) ≡ 4 = let e = length-take-le k bs high in let f = padded_length (4 - k) front in omega arith in
+    let again : bytes_number (word_bytes 4 word) ≡ word = word_again 4 word less in
+    let shifted_is : (word - 808464432) * 2 ^ (32 - 8 * k) % 4294967296 + 808464432 ≡ bytes_number (padded (4 - k) front) =
+    ap (λ (w : ℕ). (w - 808464432) * 2 ^ (32 - 8 * k) % 4294967296 + 808464432) (sym again) ∙ shifted_half k _ _ _ _ low high ascii.0 ascii.1.0 ascii.1.1.0 ascii.1.1.1.0 in
+    let bytes = half_bytes _ (padded (4 - k) front) (ascii_bytes (padded (4 - k) front) taken) size shifted_is in
+    let below = bytes_small (padded (4 - k) front) (ascii_bytes (padded (4 - k) front) taken) in
+    let power : 256 ^ length (padded (4 - k) front) ≡ 4294967296 = ap (λ n. 256 ^ n) size in
     record {
       small = omega arith;
-      digits = subst (λ (bs : List ℕ). AreDigits 10 bs) (sym bytes) (digits_from_ascii 10 (padded (8 - length text) front) (omega arith) taken);
-      worth = ap (word_value 10) bytes ∙ padded_value (8 - length text) front;
+      digits = subst (λ (cs : List ℕ). AreDigits 10 cs) (sym bytes) (digits_from_ascii 10 (padded (4 - k) front) (omega arith) taken);
+      worth = ap (word_value 10) bytes ∙ padded_value (4 - k) front;
     }
+
+take_twice : (j k : ℕ) (bs : List ℕ) → j ≤ k → take j (take k bs) ≡ take j bs
+take_twice zero k bs few = refl
+take_twice (suc j) zero bs few = absurd (omega arith)
+take_twice (suc j) (suc k) [] few = refl
+take_twice (suc j) (suc k) (b ∷ bs) few = ap (λ (rest : List ℕ). b ∷ rest) (take_twice j k bs (omega arith))
+
+-- the first digits of the first four bytes are those of the text
+front_value : (k first : ℕ) (text : List ℕ) → k ≤ 4 → 4 < length text → AreAsciiDigits 10 text → first ≡ bytes_number (slice_range text 0 4) → word_value 10 (take k (word_bytes 4 first)) ≡ word_value 10 (take k text)
+front_value k first text few many ascii is =
+    let size : length (take 4 text) ≡ 4 = length-take-le 4 text (omega arith) in
+    let bytes = half_bytes first (take 4 text) (ascii_bytes (take 4 text) (taken_ascii 4 text ascii)) size is in
+    ap (λ (bs : List ℕ). word_value 10 (take k bs)) bytes ∙ ap (word_value 10) (take_twice k 4 text few)
 
 -- digits write the number that they are worth
 pub writes_text : (text : List ℕ) (number : ℕ) → AreDigits 10 text → number ≡ word_value 10 text → WritesDecimal 0 text number
@@ -181,7 +193,7 @@ writes_text text number digits worth =
     record { digits = subst (λ (bs : List ℕ). AreDigits 10 bs) (sym same) digits; worth = worth ∙ ap (word_value 10) (sym same) }
 
 -- the number of the first digits and that of the last four
-pub halves_write : (text : List ℕ) (last front back : ℕ) → 4 < length text → length text ≤ 8 → AreAsciiDigits 10 text →
+halves_write : (text : List ℕ) (last front back : ℕ) → 4 < length text → length text ≤ 8 → AreAsciiDigits 10 text →
     last ≡ bytes_number (slice_range text (length text - 4) (length text - 4 + 4)) → front ≡ word_value 10 (take (length text - 4) text) → back ≡ word_value 10 (word_bytes 4 last) → WritesDecimal 0 text (front * 10000 + back)
 halves_write [] last front back low high ascii is is_front is_back = absurd (omega arith)
 halves_write (a ∷ []) last front back low high ascii is is_front is_back = absurd (omega arith)
@@ -202,6 +214,14 @@ halves_write (a ∷ b ∷ c ∷ d ∷ e ∷ f ∷ g ∷ h ∷ []) last front bac
     writes_text (a ∷ b ∷ c ∷ d ∷ e ∷ f ∷ g ∷ h ∷ []) (front * 10000 + back) (digits_from_ascii 10 (a ∷ b ∷ c ∷ d ∷ e ∷ f ∷ g ∷ h ∷ []) (omega arith) ascii) (omega (arith, value, is_front, ascii.0.0, ascii.0.1, ascii.1.0.0, ascii.1.0.1, ascii.1.1.0.0, ascii.1.1.0.1, ascii.1.1.1.0.0, ascii.1.1.1.0.1, ascii.1.1.1.1.0.0, ascii.1.1.1.1.0.1, ascii.1.1.1.1.1.0.0, ascii.1.1.1.1.1.0.1, ascii.1.1.1.1.1.1.0.0, ascii.1.1.1.1.1.1.0.1, ascii.1.1.1.1.1.1.1.0.0, ascii.1.1.1.1.1.1.1.0.1))
 halves_write (a ∷ b ∷ c ∷ d ∷ e ∷ f ∷ g ∷ h ∷ i ∷ rest) last front back low high ascii is is_front is_back = absurd (omega arith)
 
+-- the same of the halves' words
+pub text_written : (text : List ℕ) (first last front back : ℕ) → 4 < length text → length text ≤ 8 → ((k : ℕ) → get_or text k 0 < 256) →
+    first ≡ bytes_number (slice_range text 0 4) → last ≡ bytes_number (slice_range text (length text - 4) (length text - 4 + 4)) → AreDigits 10 (word_bytes 4 first) → AreDigits 10 (word_bytes 4 last) →
+    front ≡ word_value 10 (take (length text - 4) (word_bytes 4 first)) → back ≡ word_value 10 (word_bytes 4 last) → WritesDecimal 0 text (front * 10000 + back)
+text_written text first last front back low high below is_first is_last digits more is_front is_back =
+    let ascii = whole_digits text first last low high below is_first is_last digits more in
+    halves_write text last front back low high ascii is_last (is_front ∙ front_value (length text - 4) first text (omega arith) low ascii is_first) is_back
+
 -- ---- nine to sixteen bytes
 
 -- the first digits of the first eight bytes write the number of what stands before the last eight
@@ -214,9 +234,3 @@ front_writes k first text (Some p) few many below is digits worth =
     let front : take k (word_bytes 8 first) ≡ take k text = ap (λ (bs : List ℕ). take k bs) again ∙ take_twice k 8 text few in
     let ascii = taken_ascii k (word_bytes 8 first) (ascii_from_digits 10 (word_bytes 8 first) (omega arith) digits) in
     writes_text (take k text) p.0 (subst (λ (bs : List ℕ). AreDigits 10 bs) front (digits_from_ascii 10 (take k (word_bytes 8 first)) (omega arith) ascii)) (worth ∙ ap (word_value 10) front)
-  where
-    take_twice : (j k : ℕ) (bs : List ℕ) → j ≤ k → take j (take k bs) ≡ take j bs
-    take_twice zero k bs few = refl
-    take_twice (suc j) zero bs few = absurd (omega arith)
-    take_twice (suc j) (suc k) [] few = refl
-    take_twice (suc j) (suc k) (b ∷ bs) few = ap (λ (rest : List ℕ). b ∷ rest) (take_twice j k bs (omega arith))

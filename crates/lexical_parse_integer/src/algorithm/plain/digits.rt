@@ -171,6 +171,20 @@ pub(in crate::algorithm) fn number_of_4digits(word: u32) -> u32
     pairs.wrapping_mul(100 * 0x1_0000 + 1) >> 16
 }
 
+// The number that the first digits of a word of four write: the rest is shifted out.
+#[inline(always)]
+fn number_of_first_of_four(word: u32, count: usize) -> u32
+    requires some { 1 ≤ count }
+    requires few { count ≤ 4 }
+    requires digits { AreDigits 10 (word_bytes 4 word) }
+    ensures value { result ≡ word_value 10 (take count (word_bytes 4 word)) }
+    ensures small { result < 10000 }
+{
+    let shift = 32 - 8 * count as u32;
+    let first = (word - 0x3030_3030) << shift;
+    number_of_4digits(first + 0x3030_3030)
+}
+
 // The number of five to eight digits: the first four and the last four, which overlap.
 //
 // The last ones are loaded first, here and below. Else the compiler takes the first byte of both ranges before it knows
@@ -188,8 +202,7 @@ pub(super) fn number_to_8(text: &[u8]) -> Option<u32>
     if !(is_4digits(first, 10) & is_4digits(last, 10)) {
         return None;
     }
-    let shift = 64 - 8 * n as u32;
-    let front = number_of_4digits(((first - 0x3030_3030) << shift) + 0x3030_3030);
+    let front = number_of_first_of_four(first, n - 4);
     Some(front * 10000 + number_of_4digits(last))
 }
 

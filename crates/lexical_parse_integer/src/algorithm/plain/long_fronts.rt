@@ -6,7 +6,7 @@ ghost use Rattle.lexical_parse_integer.specs.Plain.{BeginsWith, WritesFirst};
 ghost use Rattle.lexical_parse_integer.specs.Value.{with_sign};
 
 use crate::algorithm::plain::fronts::{count_of_digits, number_behind, value_of_digits};
-use crate::algorithm::plain::values::{limit, signed_value, value_to_8};
+use crate::algorithm::plain::values::{joined, value_if_fits, value_of_two, value_to_8};
 use lexical_util::num::Integer;
 
 // 1, 10, 100 and so on.
@@ -23,29 +23,6 @@ fn power_of_ten(count: usize) -> u32
     POWERS_OF_TEN[count]
 }
 
-// The value of two parts of a number, where the type has it.
-#[inline(always)]
-fn value_of_two<T: Integer>(first: u32, second: u32, scale: u32, negative: bool) -> Option<T>
-    requires minus { IsTrue negative → IsTrue T.TYPE.is_signed }
-    requires first { first < 100000000 }
-    requires second { second < 100000000 }
-    requires some { 1 ≤ scale }
-    requires scale { scale < 100000000 }
-    ensures value { IfSome result
-        (λ value. T.number value ≡ with_sign negative (first * scale + second)) }
-    ensures fits { IfSome result (λ value. IsNumber T.TYPE (T.number value)) }
-{
-    if T::BITS <= 32 {
-        let number = first as u64 * scale as u64 + second as u64;
-        if number >= limit::<T>() {
-            return None;
-        }
-        return Some(signed_value::<T>(T::from_u32(number as u32), negative));
-    }
-    let value = T::from_u32(first).mul_add(T::from_u32(scale), T::from_u32(second), false);
-    Some(signed_value::<T>(value, negative))
-}
-
 // The value of three parts of a number, where the type has it.
 #[inline(always)]
 fn value_of_three<T: Integer>(parts: (u32, u32, u32), scale: u32, negative: bool) -> Option<T>
@@ -59,11 +36,8 @@ fn value_of_three<T: Integer>(parts: (u32, u32, u32), scale: u32, negative: bool
         ≡ with_sign negative ((parts.0 * 100000000 + parts.1) * scale + parts.2)) }
     ensures fits { IfSome result (λ value. IsNumber T.TYPE (T.number value)) }
 {
-    let front = T::from_u32(parts.0).mul_add(T::from_u32(100_000_000), T::from_u32(parts.1), false);
-    match front.checked_mul_add(T::from_u32(scale), T::from_u32(parts.2), false) {
-        Some(value) => Some(signed_value::<T>(value, negative)),
-        None => None,
-    }
+    let front = joined::<T>(parts.0, 100_000_000, parts.1);
+    value_if_fits::<T>(front, T::from_u32(scale), T::from_u32(parts.2), negative)
 }
 
 // ---- fronts

@@ -1,7 +1,8 @@
 // The values of decimal digits, where the type has them.
 ghost use Rattle.std.specs.Prelude.{◌≤ℤ◌, ◌∷◌, [], neg_ℤ, if◌then◌else◌, false, ◌≡◌, ◌+◌, ◌*◌, ◌<◌, ◌≤◌, IfSome, IsTrue, get_or, length, pos};
 ghost use Rattle.lexical_util.specs.Ascii.{minus};
-ghost use Rattle.lexical_util.specs.Number.{IsNumber, number_limit};
+ghost use Rattle.lexical_util.specs.Number.{IsNumber, mul_add, number_limit};
+ghost use Rattle.lexical_parse_integer.specs.Parts.{signed_sum};
 ghost use Rattle.lexical_parse_integer.specs.Plain.{WritesValue};
 ghost use Rattle.lexical_parse_integer.specs.Value.{with_sign};
 
@@ -52,25 +53,116 @@ pub(super) fn value_to_8<T: Integer>(number: u32, negative: bool) -> Option<T>
     Some(signed_value::<T>(T::from_u32(number), negative))
 }
 
-// The value of a number of nine to sixteen digits, where the type has it.
+// The value of a number, where a type of up to 32 bits has it.
 #[inline(always)]
-pub(super) fn value_to_16<T: Integer>(high: u32, low: u32, negative: bool) -> Option<T>
+fn value_within<T: Integer>(number: u64, negative: bool) -> Option<T>
+    requires bits { T.TYPE.bits ≤ 32 }
     requires minus { IsTrue negative → IsTrue T.TYPE.is_signed }
-    requires high { high < 100000000 }
-    requires low { low < 100000000 }
+    ensures value { IfSome result (λ value. T.number value ≡ with_sign negative number) }
+    ensures fits { IfSome result (λ value. IsNumber T.TYPE (T.number value)) }
+{
+    if number >= limit::<T>() {
+        return None;
+    }
+    Some(signed_value::<T>(T::from_u32(number as u32), negative))
+}
+
+// Two parts of a number joined.
+#[inline(always)]
+pub(super) fn joined<T: Integer>(high: u32, scale: u32, low: u32) -> T
+    requires bits { 32 < T.TYPE.bits }
+    requires high { high ≤ 100000000 }
+    requires some { 1 ≤ scale }
+    requires scale { scale ≤ 100000000 }
+    requires low { low ≤ 100000000 }
+    ensures value { T.number result ≡ pos (high * scale + low) }
+    ensures positive { pos 0 ≤ℤ T.number result }
+    ensures fits { IsNumber T.TYPE (T.number result) }
+{
+    T::from_u32(high).mul_add(T::from_u32(scale), T::from_u32(low), false)
+}
+
+// What the first of two parts of a number is scaled by, where the second has sixteen digits.
+#[inline(always)]
+fn scale_of_two<T: Integer>() -> T
+    requires bits { 32 < T.TYPE.bits }
+    ensures value { T.number result ≡ pos 10000000000000000 }
+    ensures some { pos 1 ≤ℤ T.number result }
+{
+    joined::<T>(100_000_000, 100_000_000, 0)
+}
+
+// Three parts of a number joined.
+#[inline(always)]
+fn number_of_three<T: Integer>(first: u32, second: u32, third: u32) -> T
+    requires bits { 64 < T.TYPE.bits }
+    requires first { first < 100000000 }
+    requires second { second < 100000000 }
+    requires third { third < 100000000 }
+    ensures value { T.number result
+        ≡ pos (first * 10000000000000000 + (second * 100000000 + third)) }
+    ensures positive { pos 0 ≤ℤ T.number result }
+    ensures fits { IsNumber T.TYPE (T.number result) }
+{
+    let high = T::from_u32(first);
+    let low = joined::<T>(second, 100_000_000, third);
+    high.mul_add(scale_of_two::<T>(), low, false)
+}
+
+// The value of two parts of a number, where the type has it.
+#[inline(always)]
+pub(super) fn value_of_two<T: Integer>(
+    first: u32,
+    second: u32,
+    scale: u32,
+    negative: bool,
+) -> Option<T>
+    requires minus { IsTrue negative → IsTrue T.TYPE.is_signed }
+    requires first { first < 100000000 }
+    requires second { second < 100000000 }
+    requires some { 1 ≤ scale }
+    requires scale { scale ≤ 100000000 }
     ensures value { IfSome result
-        (λ value. T.number value ≡ with_sign negative (high * 100000000 + low)) }
+        (λ value. T.number value ≡ with_sign negative (first * scale + second)) }
     ensures fits { IfSome result (λ value. IsNumber T.TYPE (T.number value)) }
 {
     if T::BITS <= 32 {
-        let number = high as u64 * 100_000_000 + low as u64;
-        if number >= limit::<T>() {
-            return None;
-        }
-        return Some(signed_value::<T>(T::from_u32(number as u32), negative));
+        return value_within::<T>(first as u64 * scale as u64 + second as u64, negative);
     }
-    let value = T::from_u32(high).mul_add(T::from_u32(100_000_000), T::from_u32(low), false);
-    Some(signed_value::<T>(value, negative))
+    Some(signed_value::<T>(joined::<T>(first, scale, second), negative))
+}
+
+// The value of a front and a last part of a number, where the type has it.
+#[inline(always)]
+pub(super) fn value_if_fits<T: Integer>(front: T, scale: T, last: T, negative: bool) -> Option<T>
+    requires minus { IsTrue negative → IsTrue T.TYPE.is_signed }
+    requires front { pos 0 ≤ℤ T.number front }
+    requires scale { pos 1 ≤ℤ T.number scale }
+    requires last { pos 0 ≤ℤ T.number last }
+    ensures value { IfSome result (λ value. T.number value
+        ≡ signed_sum negative (T.number front) (T.number scale) (T.number last)) }
+    ensures fits { IfSome result (λ value. IsNumber T.TYPE (T.number value)) }
+{
+    match front.checked_mul_add(scale, last, false) {
+        Some(value) => Some(signed_value::<T>(value, negative)),
+        None => None,
+    }
+}
+
+// The same where it is known that the type has it.
+#[inline(always)]
+fn value_of_sum<T: Integer>(front: T, scale: T, last: T, negative: bool) -> T
+    requires minus { IsTrue negative → IsTrue T.TYPE.is_signed }
+    requires front { pos 0 ≤ℤ T.number front }
+    requires scale { pos 1 ≤ℤ T.number scale }
+    requires last { pos 0 ≤ℤ T.number last }
+    requires fits { IsNumber T.TYPE
+        (mul_add false (T.number front) (T.number scale) (T.number last)) }
+    ensures value { T.number result
+        ≡ signed_sum negative (T.number front) (T.number scale) (T.number last) }
+    ensures fits { IsNumber T.TYPE (T.number result) }
+{
+    signed_value::<T>(front.mul_add(scale, last, false), negative)
 }
 
 // The value of a number of sixteen to twenty-four digits, where the type has it.
@@ -86,16 +178,11 @@ fn value_to_24<T: Integer>(first: u32, high: u32, low: u32, negative: bool) -> O
         ≡ with_sign negative (first * 10000000000000000 + (high * 100000000 + low))) }
     ensures fits { IfSome result (λ value. IsNumber T.TYPE (T.number value)) }
 {
-    let scale = T::from_u32(100_000_000);
-    let front = T::from_u32(first).mul_add(scale, T::from_u32(high), false);
     if T::BITS > 64 {
-        let value = front.mul_add(scale, T::from_u32(low), false);
-        return Some(signed_value::<T>(value, negative));
+        return Some(signed_value::<T>(number_of_three::<T>(first, high, low), negative));
     }
-    match front.checked_mul_add(scale, T::from_u32(low), false) {
-        Some(value) => Some(signed_value::<T>(value, negative)),
-        None => None,
-    }
+    let front = joined::<T>(first, 100_000_000, high);
+    value_if_fits::<T>(front, T::from_u32(100_000_000), T::from_u32(low), negative)
 }
 
 // The value of a number of twenty-five to forty digits, where the type has it. Those of up to thirty-eight are numbers of
@@ -115,19 +202,12 @@ fn value_to_40<T: Integer>(front: (u32, u32, u32), back: (u32, u32), negative: b
         * 10000000000000000 + (back.0 * 100000000 + back.1))) }
     ensures fits { IfSome result (λ value. IsNumber T.TYPE (T.number value)) }
 {
-    let scale = T::from_u32(100_000_000);
-    let whole = scale.mul_add(scale, T::ZERO, false);
-    let high = T::from_u32(front.1).mul_add(scale, T::from_u32(front.2), false);
-    let before = T::from_u32(front.0).mul_add(whole, high, false);
-    let last = T::from_u32(back.0).mul_add(scale, T::from_u32(back.1), false);
+    let before = number_of_three::<T>(front.0, front.1, front.2);
+    let last = joined::<T>(back.0, 100_000_000, back.1);
     if front.0 < 1_000_000 {
-        let value = before.mul_add(whole, last, false);
-        return Some(signed_value::<T>(value, negative));
+        return Some(value_of_sum::<T>(before, scale_of_two::<T>(), last, negative));
     }
-    match before.checked_mul_add(whole, last, false) {
-        Some(value) => Some(signed_value::<T>(value, negative)),
-        None => None,
-    }
+    value_if_fits::<T>(before, scale_of_two::<T>(), last, negative)
 }
 
 // The value of one to sixteen digits, behind a minus where that is negative.
@@ -149,7 +229,7 @@ pub(super) fn value_of<T: Integer>(digits: &[u8], negative: bool) -> Option<T>
         return None;
     }
     let (high, low) = numbers_to_16(digits)?;
-    value_to_16::<T>(high, low, negative)
+    value_of_two::<T>(high, low, 100_000_000, negative)
 }
 
 // The value of twenty-five digits and more, where the type has 128 bits.
