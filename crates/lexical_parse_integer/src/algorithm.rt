@@ -23,11 +23,10 @@ mod zeros;
 use crate::algorithm::head::{is_prefix_alone, read_head};
 use crate::algorithm::marked::grouped::front_in_groups;
 use crate::algorithm::marked::{front_if_marked, value_if_marked};
-use crate::algorithm::numeral::read_digits;
+use crate::algorithm::numeral::read_numeral;
 pub use crate::algorithm::plain::fields::{field_in_front, is_separated};
 pub use crate::algorithm::plain::value_if_short;
 use crate::algorithm::plain::{answer_in_radix, front_if_plain, signed_front, value_if_plain};
-use crate::algorithm::zeros::read_first;
 use crate::cursor::Cursor;
 use crate::options::{self, Options};
 pub use head::parse_sign;
@@ -56,8 +55,7 @@ fn read<T: Integer>(c: &mut Cursor<'_>, no_multi_digit: bool) -> Result<T>
     if is_prefix_alone(c, is_marked) {
         return Err(Error::Empty(c.buffer_length()));
     }
-    let first = read_first::<T>(c, negative, is_marked)?;
-    let value = read_digits::<T>(c, first, negative, no_multi_digit)?;
+    let value = read_numeral::<T>(c, negative, is_marked, no_multi_digit)?;
     c.read_suffix();
     Ok(value)
 }

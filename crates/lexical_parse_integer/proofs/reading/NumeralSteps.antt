@@ -10,6 +10,7 @@ use Rattle.lexical_parse_integer.specs.Grammar.{range_fault}
 use Rattle.lexical_parse_integer.specs.Numeral.{Numeral, digit_count, numeral_in, numeral_value}
 use Rattle.lexical_parse_integer.specs.Reading.{GoesOn, IsReading, Reads, ReadsAll, ReadsOn}
 use Rattle.lexical_parse_integer.specs.Runs.{digit_at, digits_between, places}
+use Rattle.lexical_util.specs.declared.error.Error.{Error}
 use Rattle.lexical_util.specs.Digit.{value_if_below, digit, digit_value}
 use Rattle.lexical_util.specs.Number.{IntegerType}
 use Rattle.lexical_parse_integer.proofs.grammar.PlaceSearch.{filter_range-at, get_or-append_seam}
@@ -147,3 +148,7 @@ reads_all_further t b u v w value g all =
 -- nothing more is read
 pub reads_no_more : (t : IntegerType) (b : Bool) (u : CursorView) (value : ℤ) → IsReading t b u value → ReadsOn t b u u value
 reads_no_more t b u value ready = record { reads = ready.reads; goes_on = goes_on_none u ready.sound ready.still_open }
+
+-- a fault of the numeral stays its fault
+pub fault_further : (t : IntegerType) (b : Bool) (u v : CursorView) (e : Error) → GoesOn u v → range_fault t b (numeral_of v) ≡ Some e → range_fault t b (numeral_of u) ≡ Some e
+fault_further t b u v e g fault = ap (range_fault t b) (sym (same_numeral u v g)) ∙ fault
