@@ -3,6 +3,7 @@ use Rattle.std.specs.Prelude.{◌≡◌, ◌⊎◌, ℕ, ◌+◌, ◌-◌, ◌*�
 use Rattle.lexical_util.specs.Format.{Format}
 use Rattle.lexical_util.specs.Number.{IntegerType, is_number, overflow_digits}
 use Rattle.lexical_parse_integer.specs.CursorView.{CursorView, IsSound, numeral_of}
+use Rattle.lexical_parse_integer.specs.Folded.{Folded}
 use Rattle.lexical_parse_integer.specs.Grammar.{prefix_fault, zero_fault, range_fault}
 use Rattle.lexical_parse_integer.specs.Head.{Head, head_of}
 use Rattle.lexical_parse_integer.specs.Numeral.{Numeral, numeral_in, digit_count, front_value, numeral_value}
@@ -27,13 +28,13 @@ pub record GoesOn (old new : CursorView) : Type 0 where
   pub radix : new.radix ≡ old.radix
   pub start : new.start ≡ old.start
   pub closed : new.closed ≡ false
-  pub sound : IsSound new
+  pub sound : Folded (IsSound new)
 
 -- a value is that of the digits read so far, and more of them may follow
 pub record IsReading (type : IntegerType) (is_minus : Bool) (cursor : CursorView) (value : ℤ)
     : Type 0 where
   pub still_open : cursor.closed ≡ false
-  pub sound : IsSound cursor
+  pub sound : Folded (IsSound cursor)
   pub minus : is_minus ≡ true → type.is_signed ≡ true
   pub reads : Reads type is_minus (numeral_of cursor) cursor.digits value
 
@@ -46,7 +47,7 @@ pub record ReadsOn (type : IntegerType) (is_minus : Bool) (old new : CursorView)
 -- no digit of a numeral was read yet
 pub record IsAtNumeral (cursor : CursorView) : Type 0 where
   pub still_open : cursor.closed ≡ false
-  pub sound : IsSound cursor
+  pub sound : Folded (IsSound cursor)
   pub none : cursor.digits ≡ 0
 
 -- the first digit was looked for, and taken where it has to be: one turn a digit, and without a separator one at most

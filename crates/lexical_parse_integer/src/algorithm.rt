@@ -6,6 +6,7 @@ ghost use Rattle.std.specs.Prelude.{◌≡◌, ◌&&◌, ◌||◌, ◌==◌, Err
 ghost use Rattle.lexical_util.specs.Format.{standard};
 ghost use Rattle.lexical_util.specs.Validity.{fault};
 ghost use Rattle.lexical_parse_integer.specs.Answer.{with_place, view_of};
+ghost use Rattle.lexical_parse_integer.specs.Folded.{Folded};
 ghost use Rattle.lexical_parse_integer.specs.Grammar.{complete, digits_required, partial};
 ghost use Rattle.lexical_parse_integer.specs.Reading.{IsOver, IsRead, StandsAtStop};
 ghost use Rattle.lexical_parse_integer.specs.Turns.{AsksWords, HasFewTurns};
@@ -41,14 +42,14 @@ pub use words::{is_4digits, is_8digits, parse_4digits, parse_8digits};
 #[inline(always)]
 fn read<T: Integer>(c: &mut Cursor<'_>, no_multi_digit: bool) -> Result<T>
     requires { c.old.position ≡ 0 }
-    ensures over { IsOver c.old.bytes c.old.format c.new }
+    ensures over { Folded (IsOver c.old.bytes c.old.format c.new) }
     ensures found { IfOk result
-        (λ value. IsRead c.old.format T.TYPE c.old.bytes (T.number value) c.new) }
+        (λ value. Folded (IsRead c.old.format T.TYPE c.old.bytes (T.number value) c.new)) }
     ensures completes { IfErr result (λ e. complete c.old.format T.TYPE c.old.bytes ≡ Err e) }
     ensures goes_part { IfErr result (λ e. partial c.old.format T.TYPE c.old.bytes ≡ Err e) }
-    ensures each { IsTrue no_multi_digit → OnOk result (c.new.turns ≡ c.new.digits) }
-    ensures few { AsksWords T.BITS no_multi_digit c.old.format
-        → HasFewTurns c.old.format T.TYPE c.old.bytes c.new.turns }
+    ensures each { OnOk result (Folded (IsTrue no_multi_digit → c.new.turns ≡ c.new.digits)) }
+    ensures few { Folded (AsksWords T.BITS no_multi_digit c.old.format
+        → HasFewTurns c.old.format T.TYPE c.old.bytes c.new.turns) }
 {
     let (negative, is_marked) = read_head::<T>(c)?;
     c.sound();
@@ -100,7 +101,7 @@ pub fn algorithm_complete_on<T: Integer>(c: &mut Cursor<'_>, options: &Options) 
 {
     let value = read::<T>(c, options.get_no_multi_digit())?;
     if !c.is_buffer_empty() {
-        return Err(Error::InvalidDigit(c.cursor()));
+        return Err(Error::InvalidDigit(c.place()));
     }
     if lacks_digits(c) {
         return Err(Error::Empty(c.buffer_length()));
@@ -127,11 +128,11 @@ pub fn algorithm_partial_on<T: Integer>(c: &mut Cursor<'_>, options: &Options) -
     let front = read::<T>(c, options.get_no_multi_digit())?;
     if lacks_digits(c) {
         if is_settled(c) {
-            return Err(Error::Empty(c.cursor()));
+            return Err(Error::Empty(c.place()));
         }
-        return Ok((front, c.cursor()));
+        return Ok((front, c.place()));
     }
-    Ok((front, c.cursor()))
+    Ok((front, c.place()))
 }
 
 /// The integer that the whole text stands for under a valid format.

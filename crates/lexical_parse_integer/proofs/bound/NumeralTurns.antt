@@ -64,7 +64,7 @@ turns_of_rest bits t n u v w g some all left rest =
 pub turns_of_first : (bits : ℕ) (t : IntegerType) (n : Bool) (u v : CursorView) → IsAtNumeral u → LooksAhead u v → Folded (KeepsTurns bits t n u v)
 turns_of_first bits t n u v front ahead =
     let none = front.none in
-    let before = front.sound.turns in
+    let before = (fact_of front.sound).turns in
     let turns = ahead.turns in
     let count = ahead.count in
     folded (record {
@@ -77,7 +77,7 @@ pub turns_behind_first : (bits : ℕ) (t : IntegerType) (n : Bool) (u v w : Curs
 turns_behind_first bits t n u v w front ahead lone kept =
     let behind = fact_of kept in
     let none = front.none in
-    let before = front.sound.turns in
+    let before = (fact_of front.sound).turns in
     let turns = ahead.turns in
     let g = ahead.goes_on in
     let same : digit_count (numeral_of v) ≡ digit_count (numeral_of u) = ap digit_count (same_numeral u v g) in

@@ -10,9 +10,10 @@ use Rattle.lexical_parse_integer.specs.CursorView.{CursorView, behind_prefix, Is
 use Rattle.lexical_parse_integer.specs.Grammar.{complete, digits_required, first_fault_or, partial, prefix_fault, range_fault, zero_fault}
 use Rattle.lexical_parse_integer.specs.Head.{Head, head_of, no_sign, sign, sign_by}
 use Rattle.lexical_parse_integer.specs.Numeral.{Numeral, digit_count, numeral_in, numeral_value}
-use Rattle.lexical_parse_integer.specs.Reading.{GoesOn, IsAtHead, IsOver, IsRead, IsReading, Reads, ReadsNumeral}
+use Rattle.lexical_parse_integer.specs.Reading.{GoesOn, IsAtHead, IsOver, IsRead, IsReading, Reads, ReadsNumeral, StandsAtStop}
 use Rattle.lexical_util.specs.Format.{Format}
 use Rattle.lexical_util.specs.Number.{IntegerType}
+use Rattle.lexical_parse_integer.proofs.Folds.{fact_of}
 use Rattle.lexical_parse_integer.proofs.reading.Soundness.{digits_bound}
 use Rattle.lexical_parse_integer.proofs.reading.OctalZeros.{bare_octal, bare_own, octal_byte}
 use Rattle.lexical_parse_integer.proofs.reading.NumeralSteps.{same_numeral}
@@ -331,13 +332,17 @@ over_head f t text minus p v at s = record { bytes = at.bytes; format = at.forma
 
 -- a cursor that has gone on from there
 pub over_numeral : (f : Format) (t : IntegerType) (text : List ℕ) (minus p : Bool) (v w : CursorView) → IsAtHead f t text minus p v → GoesOn v w → IsOver text f w
-over_numeral f t text minus p v w at g = record { bytes = g.bytes ∙ at.bytes; format = g.format ∙ at.format; sound = g.sound }
+over_numeral f t text minus p v w at g = record { bytes = g.bytes ∙ at.bytes; format = g.format ∙ at.format; sound = fact_of g.sound }
 
 -- a cursor from which the suffix was looked for
 pub over_suffix : (f : Format) (t : IntegerType) (text : List ℕ) (minus p b : Bool) (v w x : CursorView) → IsAtHead f t text minus p v → GoesOn v w → x ≡ cond b (record w { position = w.position + 1; closed = true }) w → IsSound x → IsOver text f x
 over_suffix f t text minus p b v w x at g after s =
     let kept = same_but_place b w x after in
     record { bytes = kept.0 ∙ g.bytes ∙ at.bytes; format = kept.1 ∙ g.format ∙ at.format; sound = s }
+
+-- behind all that is read, it stands where reading stops
+pub at_stop_read : (f : Format) (t : IntegerType) (text : List ℕ) (value : ℤ) (v : CursorView) → IsRead f t text value v → StandsAtStop f t text v
+at_stop_read f t text value v r = record { head = r.head; head_is = r.head_is; at_stop = r.at_stop; all_digits = r.all_digits }
 
 -- ---- the answers
 
