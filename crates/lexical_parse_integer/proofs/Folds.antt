@@ -1,5 +1,10 @@
 -- What a folded fact says.
-use Rattle.lexical_parse_integer.specs.Folded.{Folded, folded}
+use Rattle.lexical_parse_integer.specs.Folded.{Folded}
 
 pub fact_of : {Fact : Type 0} → Folded Fact → Fact
-fact_of (folded fact) = fact
+unfolding Folded
+fact_of fact = fact
+
+pub folded : {Fact : Type 0} → Fact → Folded Fact
+unfolding Folded
+folded fact = fact

@@ -6,12 +6,12 @@ use Rattle.lexical_util.specs.declared.error.Error.{Error}
 use Rattle.lexical_util.specs.Format.{Format}
 use Rattle.lexical_util.specs.Number.{IntegerType, overflow_digits}
 use Rattle.lexical_parse_integer.specs.CursorView.{CursorView, numeral_of}
-use Rattle.lexical_parse_integer.specs.Folded.{Folded, folded}
+use Rattle.lexical_parse_integer.specs.Folded.{Folded}
 use Rattle.lexical_parse_integer.specs.Head.{Head, head_of}
 use Rattle.lexical_parse_integer.specs.Numeral.{digit_count, numeral_in}
 use Rattle.lexical_parse_integer.specs.Reading.{GoesOn, IsAtHead, IsAtNumeral, KeepsTurns, LeavesFewTurns, LeavesTurns, LooksAhead, ReadsOn, ReadsWords}
 use Rattle.lexical_parse_integer.specs.Turns.{AsksWords, HasFewTurns, turns_bound, digits_per_word}
-use Rattle.lexical_parse_integer.proofs.Folds.{fact_of}
+use Rattle.lexical_parse_integer.proofs.Folds.{fact_of, folded}
 use Rattle.lexical_parse_integer.proofs.bound.TurnBound.{TakesWords, few_turns, one_within, still_few}
 use Rattle.lexical_parse_integer.proofs.reading.NumeralSteps.{same_numeral}
 use Rattle.lexical_parse_integer.proofs.reading.ParserAnswers.{same_text}

@@ -8,7 +8,7 @@ use Rattle.std.proofs.Math.Nat.{one-le-pow}
 use Rattle.lexical_util.specs.declared.error.Error.{Error}
 use Rattle.lexical_util.specs.declared.error.Error.TheVariants.{InvalidLeadingZeros}
 use Rattle.lexical_parse_integer.specs.CursorView.{CursorView, IsSound, ReachesEnd, TakesDigit, numeral_end, numeral_of}
-use Rattle.lexical_parse_integer.specs.Folded.{Folded, folded}
+use Rattle.lexical_parse_integer.specs.Folded.{Folded}
 use Rattle.lexical_parse_integer.specs.Grammar.{range_error, range_fault, zero_fault}
 use Rattle.lexical_parse_integer.specs.Numeral.{Numeral, digit_count}
 use Rattle.lexical_parse_integer.specs.Reading.{GoesOn, IsAtNumeral, LooksAhead, Reads, ReadsFirst}
@@ -16,7 +16,7 @@ use Rattle.lexical_parse_integer.specs.Runs.{are_same, digit_at, separator_at}
 use Rattle.lexical_util.specs.Digit.{value_if_below, digit, digit_value}
 use Rattle.lexical_util.specs.Format.{Format}
 use Rattle.lexical_util.specs.Number.{IntegerType, is_number, mul_add, number_limit}
-use Rattle.lexical_parse_integer.proofs.Folds.{fact_of}
+use Rattle.lexical_parse_integer.proofs.Folds.{fact_of, folded}
 use Rattle.lexical_parse_integer.proofs.grammar.NumeralEnd.{finds_here, ends_here}
 use Rattle.lexical_parse_integer.proofs.reading.DigitsRead.{reads_none}
 use Rattle.lexical_parse_integer.proofs.reading.NumeralSteps.{IsDigitOf, digit_found, all_found, goes_on_none, goes_on_digit, goes_on_further, same_numeral}

@@ -39,6 +39,12 @@ is_fresh v s front =
     let none : v.digits ≡ 0 = omega (arith, digits_bound v s open_now) in
     record { start = start; closed = open_now; no_digit = none; no_turn = omega (arith, s.turns); in_force = s.in_force (omega arith) }
 
+-- where nothing was read, the region starts at the position
+pub stays_at_front : (v : CursorView) → IsSound v → v.position ≡ 0 → v ≡ record v { start = v.position; position = v.position }
+stays_at_front v s front =
+    let start : v.start ≡ v.position = omega (arith, s.after_start) in
+    ap (λ (n : ℕ). record v { start = n; position = v.position }) start
+
 -- ---- sign and prefix
 
 pair_len : (b : Bool) (n k : ℕ) (s : Bool × ℕ) → n ≤ k → ◌≡◌ {A = Result (Bool × ℕ) Error} (Ok (b, n)) (Ok s) → s.1 ≤ k

@@ -1,7 +1,6 @@
 use Rattle.std.proofs.Common.{refl, sym, ◌∙◌}
 use Rattle.std.proofs.lemmas.Result.{err_from_is_err_and}
-use Rattle.lexical_parse_integer.specs.Folded.{folded}
-use Rattle.lexical_parse_integer.proofs.Folds.{fact_of}
+use Rattle.lexical_parse_integer.proofs.Folds.{fact_of, folded}
 use Rattle.lexical_parse_integer.proofs.reading.ParserAnswers.{sign_completes, sign_goes_part, prefix_alone, digit_fault, is_read, over_head, over_numeral, over_suffix, same_but_place}
 use Rattle.lexical_parse_integer.proofs.bound.NumeralTurns.{each_behind_head, few_behind_head, no_turn_is_few}
 use Rattle.lexical_parse_integer.proofs.algorithm.read.Goals as goal

@@ -1,6 +1,7 @@
 use Rattle.std.proofs.Common.{◌≡◌, ◌+◌, ap, arith}
 use Rattle.std.proofs.lemmas.Result.{err_from_is_err_and}
 use Rattle.lexical_parse_integer.specs.CursorView.{CursorView}
+use Rattle.lexical_parse_integer.proofs.Folds.{fact_of}
 use Rattle.lexical_parse_integer.proofs.reading.DigitsRead.{reads_sign}
 use Rattle.lexical_parse_integer.proofs.reading.NumeralSteps.{goes_on_digit}
 use Rattle.lexical_parse_integer.proofs.reading.FirstDigit.{taken_count_from}
@@ -40,3 +41,6 @@ returns-in_err-value-clause-count g c = taken_count_from c.args.c.now c.loop-dig
 
 pub join_checked-requires-clause-sign : goal.join_checked-requires-clause-sign
 join_checked-requires-clause-sign g c = reads_sign _ c.args.negative _ _ _ c.loop-digit.invariant.reads
+
+pub join_checked-requires-clause-radix : goal.join_checked-requires-clause-radix
+join_checked-requires-clause-radix g c = rw c.radix.ensures (fact_of c.in-Some.ensures.sound).radix

@@ -1,3 +1,4 @@
+use Rattle.std.proofs.lemmas.Int.{ints}
 use Rattle.std.proofs.Common.{◌≡◌, ◌+◌, ap, arith}
 use Rattle.std.specs.Prelude.{ℤ, pos}
 use Rattle.lexical_parse_integer.specs.CursorView.{CursorView}
@@ -53,3 +54,13 @@ returns-clause-on g c = record { reads = c.loop-radix.invariant.reads; goes_on =
 
 pub mul_add-value-requires-clause-sign : goal.mul_add-value-requires-clause-sign
 mul_add-value-requires-clause-sign g c = reads_sign _ c.args.negative _ _ _ c.loop-radix.invariant.reads
+
+pub from_u32-radix-requires : goal.from_u32-radix-requires
+from_u32-radix-requires g c =
+    let high = (fact_of c.requires.ready.sound).radix.high in
+    small_is_number _ _ c.radix.result g.met.T.Integer.width_law (omega (arith, c.radix.ensures))
+
+pub mul_add-value-requires-clause-scale : goal.mul_add-value-requires-clause-scale
+mul_add-value-requires-clause-scale g c =
+    let two = (fact_of c.requires.ready.sound).radix.low in
+    rw c.loop-radix.invariant.radix (omega (arith, ints))

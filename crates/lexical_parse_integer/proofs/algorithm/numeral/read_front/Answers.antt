@@ -1,6 +1,7 @@
 use Rattle.std.proofs.Common.{ap, refl, sym, ◌∙◌}
 use Rattle.std.proofs.lemmas.Bool.{false≢true}
 use Rattle.lexical_util.specs.Number.{overflow_digits}
+use Rattle.lexical_parse_integer.proofs.Folds.{fact_of}
 use Rattle.lexical_parse_integer.proofs.reading.NumeralSteps.{reads_no_more}
 use Rattle.lexical_parse_integer.proofs.bound.NumeralTurns.{turns_where_digits, turns_where_words}
 use Rattle.lexical_parse_integer.proofs.algorithm.numeral.read_front.Goals as goal
@@ -18,3 +19,6 @@ returns-clause-turns g c = turns_where_digits _ _ _ _ _ (λ both. false≢true (
 
 pub returns-clause-on : goal.returns-clause-on
 returns-clause-on g c = reads_no_more _ _ _ _ c.requires.ready
+
+pub overflow_digits-most-requires : goal.overflow_digits-most-requires
+overflow_digits-most-requires g c = rw c.radix.ensures (fact_of c.requires.ready.sound).radix

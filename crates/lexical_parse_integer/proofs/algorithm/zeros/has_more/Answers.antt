@@ -20,3 +20,6 @@ returns-else-is_contiguous-clause-answer c =
 
 pub returns-else-is_contiguous-clause-count : goal.returns-else-is_contiguous-clause-count
 returns-else-is_contiguous-clause-count c = λ low. step_count c.read_digit.result c.args.c.now c.read_digit.new.self (fact_of c.requires.sound) c.requires.open c.read_digit.ensures.step
+
+pub char_is_digit-requires : goal.char_is_digit-requires
+char_is_digit-requires c = rw c.radix.ensures (fact_of c.requires.sound).radix

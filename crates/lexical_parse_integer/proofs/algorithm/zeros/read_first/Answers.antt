@@ -64,3 +64,6 @@ returns-clause-first g c =
         | else-is_contiguous-via-else-is_contiguous w ↦ absurd (false≢true (sym w.if-is_contiguous.false ∙ c.is_contiguous.ensures.1 none))
       ];
     }) c.join_checked.ensures.fits
+
+pub join_checked-requires-clause-radix : goal.join_checked-requires-clause-radix
+join_checked-requires-clause-radix g c = rw c.radix.ensures (fact_of c.in-Some.ensures.sound).radix

@@ -1,4 +1,4 @@
-use Rattle.lexical_parse_integer.specs.Folded.{folded}
+use Rattle.lexical_parse_integer.proofs.Folds.{folded}
 use Rattle.lexical_parse_integer.proofs.cursor.Cursor.read_digit.Goals as goal
 
 pub returns-clause-sound : goal.returns-clause-sound

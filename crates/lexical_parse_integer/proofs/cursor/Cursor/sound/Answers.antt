@@ -1,6 +1,6 @@
 use Rattle.std.proofs.Common.{subst}
 use Rattle.lexical_parse_integer.specs.CursorView.{IsSound}
-use Rattle.lexical_parse_integer.specs.Folded.{folded}
+use Rattle.lexical_parse_integer.proofs.Folds.{folded}
 use Rattle.lexical_parse_integer.proofs.cursor.Cursor.sound.Goals as goal
 
 pub returns : goal.returns
