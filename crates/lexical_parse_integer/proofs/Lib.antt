@@ -1,5 +1,6 @@
 -- The proofs of the parsers, in folders by the step of the argument.
 pub mod bound
+pub mod Folds
 pub mod ForCallers
 pub mod grammar
 pub mod lanes

@@ -1,11 +1,13 @@
 -- How far a parser has come in a text.
-use Rattle.std.specs.Prelude.{◌≡◌, ◌⊎◌, ℕ, ◌+◌, ◌*◌, ◌≤◌, ◌<◌, Bool, true, false, List, ℤ, None, IsNone, Ok}
+use Rattle.std.specs.Prelude.{◌≡◌, ◌⊎◌, ℕ, ◌+◌, ◌-◌, ◌*◌, ◌≤◌, ◌<◌, Bool, true, false, List, ℤ, None, IsNone, IsTrue, Ok}
 use Rattle.lexical_util.specs.Format.{Format}
-use Rattle.lexical_util.specs.Number.{IntegerType, is_number}
+use Rattle.lexical_util.specs.Number.{IntegerType, is_number, overflow_digits}
 use Rattle.lexical_parse_integer.specs.CursorView.{CursorView, IsSound, numeral_of}
+use Rattle.lexical_parse_integer.specs.Folded.{Folded}
 use Rattle.lexical_parse_integer.specs.Grammar.{prefix_fault, zero_fault, range_fault}
 use Rattle.lexical_parse_integer.specs.Head.{Head, head_of}
 use Rattle.lexical_parse_integer.specs.Numeral.{Numeral, numeral_in, digit_count, front_value, numeral_value}
+use Rattle.lexical_parse_integer.specs.Turns.{AsksWords, turns_bound, digits_per_word}
 
 -- the values of the first fronts, so many, are numbers of the type
 abbrev pub FrontsFit : IntegerType → Bool → Numeral → ℕ → Type 0
@@ -26,13 +28,13 @@ pub record GoesOn (old new : CursorView) : Type 0 where
   pub radix : new.radix ≡ old.radix
   pub start : new.start ≡ old.start
   pub closed : new.closed ≡ false
-  pub sound : IsSound new
+  pub sound : Folded (IsSound new)
 
 -- a value is that of the digits read so far, and more of them may follow
 pub record IsReading (type : IntegerType) (is_minus : Bool) (cursor : CursorView) (value : ℤ)
     : Type 0 where
   pub still_open : cursor.closed ≡ false
-  pub sound : IsSound cursor
+  pub sound : Folded (IsSound cursor)
   pub minus : is_minus ≡ true → type.is_signed ≡ true
   pub reads : Reads type is_minus (numeral_of cursor) cursor.digits value
 
@@ -45,7 +47,7 @@ pub record ReadsOn (type : IntegerType) (is_minus : Bool) (old new : CursorView)
 -- no digit of a numeral was read yet
 pub record IsAtNumeral (cursor : CursorView) : Type 0 where
   pub still_open : cursor.closed ≡ false
-  pub sound : IsSound cursor
+  pub sound : Folded (IsSound cursor)
   pub none : cursor.digits ≡ 0
 
 -- the first digit was looked for, and taken where it has to be: one turn a digit, and without a separator one at most
@@ -80,6 +82,35 @@ pub record ReadsAll (type : IntegerType) (is_minus : Bool) (old new : CursorView
   pub fits : range_fault type is_minus (numeral_of old) ≡ None
   pub at_end : new.position ≡ (numeral_of old).ends
   pub all : new.digits ≡ digit_count (numeral_of old)
+
+-- all digits are read, and there is no zero too many in front
+pub record ReadsNumeral (type : IntegerType) (is_minus is_marked : Bool) (old new : CursorView)
+    (value : ℤ) : Type 0 where
+  pub no_zeros : zero_fault old.format is_marked (numeral_of old) ≡ None
+  pub all : ReadsAll type is_minus old new value
+
+-- where no digit was read before, or the only one, a turn for each digit that is left stays within the bound for words
+-- that are taken from so many digits
+pub record LeavesFewTurns (bits room : ℕ) (old new : CursorView) : Type 0 where
+  pub few : old.turns ≡ old.digits → (old.digits ≡ 0) ⊎ (digit_count (numeral_of old) ≤ 1)
+      → new.turns + (digit_count (numeral_of old) - new.digits)
+      ≤ turns_bound (digits_per_word bits) room (digit_count (numeral_of old))
+
+-- one turn a digit where no words may be taken, and few turns where they are asked for, with one for each digit left
+pub record LeavesTurns (bits : ℕ) (type : IntegerType) (no_multi_digit : Bool)
+    (old new : CursorView) : Type 0 where
+  pub each : IsTrue no_multi_digit → new.turns + old.digits ≡ old.turns + new.digits
+  pub few : AsksWords bits no_multi_digit old.format → old.radix ≤ 10
+      → LeavesFewTurns bits (overflow_digits type old.radix) old new
+
+-- the same once no digit is left to be read
+pub record KeepsTurns (bits : ℕ) (type : IntegerType) (no_multi_digit : Bool)
+    (old new : CursorView) : Type 0 where
+  pub each : IsTrue no_multi_digit → new.turns + old.digits ≡ old.turns + new.digits
+  pub few : AsksWords bits no_multi_digit old.format → old.radix ≤ 10
+      → old.turns ≡ old.digits → (old.digits ≡ 0) ⊎ (digit_count (numeral_of old) ≤ 1)
+      → new.turns ≤ turns_bound (digits_per_word bits) (overflow_digits type old.radix)
+      (digit_count (numeral_of old))
 
 -- a cursor is over this text and under this format, and what is true of each cursor is true of it
 pub record IsOver (text : List ℕ) (under : Format) (cursor : CursorView) : Type 0 where

@@ -6,6 +6,7 @@ ghost use Rattle.std.specs.Prelude.{◌≡◌, ◌&&◌, ◌||◌, ◌==◌, Err
 ghost use Rattle.lexical_util.specs.Format.{standard};
 ghost use Rattle.lexical_util.specs.Validity.{fault};
 ghost use Rattle.lexical_parse_integer.specs.Answer.{with_place, view_of};
+ghost use Rattle.lexical_parse_integer.specs.Folded.{Folded};
 ghost use Rattle.lexical_parse_integer.specs.Grammar.{complete, digits_required, partial};
 ghost use Rattle.lexical_parse_integer.specs.Reading.{IsOver, IsRead, StandsAtStop};
 ghost use Rattle.lexical_parse_integer.specs.Turns.{AsksWords, HasFewTurns};
@@ -23,11 +24,10 @@ mod zeros;
 use crate::algorithm::head::{is_prefix_alone, read_head};
 use crate::algorithm::marked::grouped::front_in_groups;
 use crate::algorithm::marked::{front_if_marked, value_if_marked};
-use crate::algorithm::numeral::read_digits;
+use crate::algorithm::numeral::read_numeral;
 pub use crate::algorithm::plain::fields::{field_in_front, is_separated};
 pub use crate::algorithm::plain::value_if_short;
 use crate::algorithm::plain::{answer_in_radix, front_if_plain, signed_front, value_if_plain};
-use crate::algorithm::zeros::read_first;
 use crate::cursor::Cursor;
 use crate::options::{self, Options};
 pub use head::parse_sign;
@@ -42,22 +42,21 @@ pub use words::{is_4digits, is_8digits, parse_4digits, parse_8digits};
 #[inline(always)]
 fn read<T: Integer>(c: &mut Cursor<'_>, no_multi_digit: bool) -> Result<T>
     requires { c.old.position ≡ 0 }
-    ensures over { IsOver c.old.bytes c.old.format c.new }
+    ensures over { Folded (IsOver c.old.bytes c.old.format c.new) }
     ensures found { IfOk result
-        (λ value. IsRead c.old.format T.TYPE c.old.bytes (T.number value) c.new) }
+        (λ value. Folded (IsRead c.old.format T.TYPE c.old.bytes (T.number value) c.new)) }
     ensures completes { IfErr result (λ e. complete c.old.format T.TYPE c.old.bytes ≡ Err e) }
     ensures goes_part { IfErr result (λ e. partial c.old.format T.TYPE c.old.bytes ≡ Err e) }
-    ensures each { IsTrue no_multi_digit → OnOk result (c.new.turns ≡ c.new.digits) }
-    ensures few { AsksWords T.BITS no_multi_digit c.old.format
-        → HasFewTurns c.old.format T.TYPE c.old.bytes c.new.turns }
+    ensures each { OnOk result (Folded (IsTrue no_multi_digit → c.new.turns ≡ c.new.digits)) }
+    ensures few { Folded (AsksWords T.BITS no_multi_digit c.old.format
+        → HasFewTurns c.old.format T.TYPE c.old.bytes c.new.turns) }
 {
     let (negative, is_marked) = read_head::<T>(c)?;
     c.sound();
     if is_prefix_alone(c, is_marked) {
         return Err(Error::Empty(c.buffer_length()));
     }
-    let first = read_first::<T>(c, negative, is_marked)?;
-    let value = read_digits::<T>(c, first, negative, no_multi_digit)?;
+    let value = read_numeral::<T>(c, negative, is_marked, no_multi_digit)?;
     c.read_suffix();
     Ok(value)
 }
@@ -102,7 +101,7 @@ pub fn algorithm_complete_on<T: Integer>(c: &mut Cursor<'_>, options: &Options) 
 {
     let value = read::<T>(c, options.get_no_multi_digit())?;
     if !c.is_buffer_empty() {
-        return Err(Error::InvalidDigit(c.cursor()));
+        return Err(Error::InvalidDigit(c.place()));
     }
     if lacks_digits(c) {
         return Err(Error::Empty(c.buffer_length()));
@@ -129,11 +128,11 @@ pub fn algorithm_partial_on<T: Integer>(c: &mut Cursor<'_>, options: &Options) -
     let front = read::<T>(c, options.get_no_multi_digit())?;
     if lacks_digits(c) {
         if is_settled(c) {
-            return Err(Error::Empty(c.cursor()));
+            return Err(Error::Empty(c.place()));
         }
-        return Ok((front, c.cursor()));
+        return Ok((front, c.place()));
     }
-    Ok((front, c.cursor()))
+    Ok((front, c.place()))
 }
 
 /// The integer that the whole text stands for under a valid format.

@@ -13,6 +13,7 @@ ghost use Rattle.lexical_util.specs.Ascii.{minus, plus};
 ghost use Rattle.lexical_util.specs.Validity.{fault};
 ghost use Rattle.lexical_parse_integer.specs.Affixes.{numeral_stop, octal_zero_at, prefix_radix};
 ghost use Rattle.lexical_parse_integer.specs.CursorView.{AreDigitsAhead, IsSound, ReachesEnd, TakesDigit, behind_prefix, closes, numeral_end};
+ghost use Rattle.lexical_parse_integer.specs.Folded.{Folded};
 
 use crate::affixes::{octal_zero_at, prefix_radix, suffix_at};
 use crate::seek::{Found, seek};
@@ -109,9 +110,17 @@ impl<'a> Cursor<'a> {
     // What is true of each cursor. It does nothing: the proofs of the calls above lean on its contract.
     #[inline(always)]
     pub(crate) fn sound(&self)
-        ensures { IsSound self.now }
+        ensures { Folded (IsSound self.now) }
     {
         let _position = &self.position;
+    }
+
+    // The position alone, for proofs that don't ask what is true of each cursor.
+    #[inline(always)]
+    pub(crate) fn place(&self) -> usize
+        ensures { result ≡ self.now.position }
+    {
+        self.position
     }
 
     /// Where the numeral's region starts: after the sign and the prefix that were read.
@@ -293,6 +302,17 @@ impl<'a> Cursor<'a> {
                 None
             }
         }
+    }
+
+    // The same, for proofs that take no fact on the cursor apart.
+    #[inline(always)]
+    pub(crate) fn read_digit(&mut self) -> Option<u32>
+        requires is_open { self.old.closed ≡ false }
+        ensures step { MatchOption result (ReachesEnd self.old self.new)
+            (λ value. TakesDigit self.old self.new value) }
+        ensures sound { Folded (IsSound self.new) }
+    {
+        self.next_digit()
     }
 
     /// Takes the next `n` bytes, which are digits, as one turn. `n` is 4 or 8.

@@ -85,3 +85,17 @@ few_turns bits o q d₀ t₀ d₁ t₁ s =
 -- digits that take a turn each leave the bound as it is
 pub still_few : (bound q d₁ t₁ d₂ t₂ : ℕ) → t₁ + (q - d₁) ≤ bound → t₂ + d₁ ≡ t₁ + d₂ → d₁ ≤ q → d₂ ≤ q → t₂ + (q - d₂) ≤ bound
 still_few bound q d₁ t₁ d₂ t₂ few turns one two = omega arith
+
+one_within_8 : (o q t : ℕ) → t ≤ 1 → t ≤ q → t ≤ turns_bound 8 o q
+one_within_8 o q t one all = omega arith
+
+one_within_4 : (o q t : ℕ) → t ≤ 1 → t ≤ q → t ≤ turns_bound 4 o q
+one_within_4 o q t one all = omega arith
+
+-- one digit's turn is within each bound
+pub one_within : (bits o q t : ℕ) → t ≤ 1 → t ≤ q → t ≤ turns_bound (digits_per_word bits) o q
+one_within bits o q t one all =
+    elim (word_cases bits) [
+      | inl e ↦ subst (λ w. t ≤ turns_bound w o q) (sym e) (one_within_8 o q t one all)
+      | inr e ↦ subst (λ w. t ≤ turns_bound w o q) (sym e) (one_within_4 o q t one all)
+    ]

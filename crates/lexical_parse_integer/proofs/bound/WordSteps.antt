@@ -14,6 +14,8 @@ use Rattle.lexical_parse_integer.specs.Words.{word_value}
 use Rattle.lexical_parse_integer.proofs.words.AsciiDigits.{AreAsciiDigits, ascii_value, ascii_value_is}
 use Rattle.lexical_util.specs.Format.{Format}
 use Rattle.lexical_util.specs.Number.{HasRoom, IntegerType, IsNumber, integer_type, is_number, mul_add, number_limit}
+use Rattle.lexical_parse_integer.specs.Folded.{Folded}
+use Rattle.lexical_parse_integer.proofs.Folds.{fact_of}
 use Rattle.lexical_parse_integer.proofs.grammar.NumeralEnd.{IsStop-end_of, reaches}
 use Rattle.lexical_parse_integer.proofs.grammar.DigitCounts.{length-digits_between_all}
 use Rattle.lexical_parse_integer.proofs.grammar.FrontValues.{positional_value-push, with_sign-step}
@@ -151,7 +153,7 @@ pub record ReadsWord (bits : ℕ) (s b : Bool) (u v : CursorView) (w : ℕ) (nex
 pub reads_word : (bits : ℕ) (s b : Bool) (u v : CursorView) (w o : ℕ) (value scale word : ℤ) → 1 ≤ w → GoesOn u v → v.radix ≤ 10 → v.format.digit_separator ≡ None → HasRoom (integer_type bits s) v.radix o → (b ≡ true → s ≡ true) → v.digits + w ≤ o → AreDigitsAhead v w → Reads (integer_type bits s) b (numeral_of u) v.digits value
     → scale ≡ pos (v.radix ^ w) → word ≡ pos (word_value v.radix (slice_range v.bytes v.position (v.position + w))) → ReadsWord bits s b u v w (mul_add b value scale word)
 reads_word bits s b u v w o value scale word some g ten none room may le ahead reads is_scale is_word =
-    let sound = g.sound in
+    let sound = fact_of g.sound in
     let state = sound.while_open g.closed in
     let bs : List ℕ = slice_range v.bytes v.position (v.position + w) in
     let within : v.position + w ≤ length v.bytes = elim (cases_lt (length v.bytes) (v.position + w)) [ inl l ↦ absurd (past_end v.radix v.bytes v.position w some l ahead) | inr l ↦ l ] in
@@ -183,7 +185,7 @@ reads_word bits s b u v w o value scale word some g ten none room may le ahead r
       reads = subst (λ (x : Numeral). Reads (integer_type bits s) b x (v.digits + w) (mul_add b value scale word)) same there;
     }
 
-pub goes_on_word : (u v next : CursorView) (w : ℕ) → GoesOn u v → IsSound next → next ≡ record v { position = v.position + w; digits = v.digits + w; turns = v.turns + 1 } → GoesOn u next
+pub goes_on_word : (u v next : CursorView) (w : ℕ) → GoesOn u v → Folded (IsSound next) → next ≡ record v { position = v.position + w; digits = v.digits + w; turns = v.turns + 1 } → GoesOn u next
 goes_on_word u v next w g s e = record {
   bytes = ap (λ (z : CursorView). z.bytes) e ∙ g.bytes;
   format = ap (λ (z : CursorView). z.format) e ∙ g.format;
@@ -195,6 +197,6 @@ goes_on_word u v next w g s e = record {
 
 pub few_left_from : (u v : CursorView) (w : ℕ) → GoesOn u v → v.format.digit_separator ≡ None → (AreDigitsAhead v w → ⊥) → digit_count (numeral_of u) < v.digits + w
 few_left_from u v w g none no_word =
-    let low = few_left v w g.sound g.closed none no_word in
+    let low = few_left v w (fact_of g.sound) g.closed none no_word in
     let same : digit_count (numeral_of v) ≡ digit_count (numeral_of u) = ap digit_count (same_numeral u v g) in
     omega arith

@@ -7,6 +7,7 @@ use Rattle.lexical_parse_integer.specs.Grammar.{range_error, range_fault}
 use Rattle.lexical_parse_integer.specs.Numeral.{Numeral, digit_count, numeral_in}
 use Rattle.lexical_parse_integer.specs.Reading.{GoesOn, Reads, ReadsAll}
 use Rattle.lexical_util.specs.Number.{IntegerType, is_number, mul_add}
+use Rattle.lexical_parse_integer.proofs.Folds.{fact_of}
 use Rattle.lexical_parse_integer.proofs.reading.DigitsRead.{reads_more, reads_leaving, reads_all}
 use Rattle.lexical_parse_integer.proofs.reading.NumeralSteps.{IsDigitOf, digit_found, all_found, digit_at_below, same_numeral}
 
@@ -19,7 +20,7 @@ unfolding numeral_in
 numeral_ends v = refl
 
 pub digit_taken : (u v w : CursorView) (d : ℕ) → GoesOn u v → (k : TakesDigit v w d) → IsDigitOf (numeral_of u) v.digits d k.place
-digit_taken u v w d g k = subst (λ (x : Numeral). IsDigitOf x v.digits d k.place) (same_numeral u v g) (digit_found v w d g.sound g.closed k)
+digit_taken u v w d g k = subst (λ (x : Numeral). IsDigitOf x v.digits d k.place) (same_numeral u v g) (digit_found v w d (fact_of g.sound) g.closed k)
 
 pub digit_below : (v w : CursorView) (d r : ℕ) → TakesDigit v w d → r ≡ w.radix → d < r
 digit_below v w d r k e =
@@ -49,7 +50,7 @@ reads_leaves t b u v w d r place value e g k reads same at is leaves =
 pub reads_end : (t : IntegerType) (b : Bool) (u v w : CursorView) (value : ℤ) → GoesOn u v → ReachesEnd v w → Reads t b (numeral_of u) v.digits value → ReadsAll t b u w value
 reads_end t b u v w value g k reads =
     let same = same_numeral u v g in
-    let all : v.digits ≡ digit_count (numeral_of u) = all_found v g.sound g.closed w k ∙ ap digit_count same in
+    let all : v.digits ≡ digit_count (numeral_of u) = all_found v (fact_of g.sound) g.closed w k ∙ ap digit_count same in
     let told = reads_all t b (numeral_of u) v.digits value reads all in
     record {
       value_is = told.1;

@@ -1,11 +1,12 @@
 -- What a loop has read of a numeral, digit by digit: for `DigitLoop` and for words.
-use Rattle.std.proofs.Common.{◌≡◌, ℕ, ◌+◌, ◌<◌, Bool, true, false, get_or, refl, sym, ap, subst, ◌∙◌, arith, Some, None, below_more}
+use Rattle.std.proofs.Common.{◌≡◌, ℕ, zero, suc, ◌+◌, ◌<◌, Bool, true, false, get_or, refl, sym, ap, subst, ◌∙◌, arith, Some, None, below_more}
 use Rattle.std.proofs.Math.IntN.{ℤ, pos}
+use Rattle.std.proofs.lemmas.Int.{ints}
 use Rattle.lexical_parse_integer.specs.Grammar.{range_error, range_fault}
 use Rattle.lexical_parse_integer.specs.Numeral.{Numeral, digit_count, front_value, numeral_value}
 use Rattle.lexical_parse_integer.specs.Reading.{FrontsFit, Reads}
 use Rattle.lexical_parse_integer.specs.Value.{with_sign}
-use Rattle.lexical_util.specs.Number.{IntegerType, is_number, mul_add}
+use Rattle.lexical_util.specs.Number.{HasSign, IntegerType, is_number, mul_add}
 use Rattle.lexical_parse_integer.proofs.grammar.FrontValues.{front_value-next, fitting_fault, leaving_fault}
 
 pub reads_none : (t : IntegerType) (b : Bool) (x : Numeral) (value : ℤ) → value ≡ pos 0 → Reads t b x 0 value
@@ -40,3 +41,12 @@ pub reads_all : (t : IntegerType) (b : Bool) (x : Numeral) (m : ℕ) (value : �
 reads_all t b x m value r e =
     let all : FrontsFit t b x (digit_count x) = subst (FrontsFit t b x) e r.fit in
     (fitting_fault t b x all, r.front ∙ ap (front_value b x) e)
+
+-- the value has the numeral's sign
+sign_stays : (b : Bool) (n : ℕ) → HasSign b (with_sign b n)
+sign_stays true zero = omega (arith, ints)
+sign_stays true (suc n) = omega (arith, ints)
+sign_stays false n = omega (arith, ints)
+
+pub reads_sign : (t : IntegerType) (b : Bool) (x : Numeral) (m : ℕ) (value : ℤ) → Reads t b x m value → HasSign b value
+reads_sign t b x m value r = subst (HasSign b) (sym r.front) (sign_stays b _)

@@ -8,6 +8,7 @@ use Rattle.std.proofs.Math.Nat.{one-le-pow}
 use Rattle.lexical_util.specs.declared.error.Error.{Error}
 use Rattle.lexical_util.specs.declared.error.Error.TheVariants.{InvalidLeadingZeros}
 use Rattle.lexical_parse_integer.specs.CursorView.{CursorView, IsSound, ReachesEnd, TakesDigit, numeral_end, numeral_of}
+use Rattle.lexical_parse_integer.specs.Folded.{Folded}
 use Rattle.lexical_parse_integer.specs.Grammar.{range_error, range_fault, zero_fault}
 use Rattle.lexical_parse_integer.specs.Numeral.{Numeral, digit_count}
 use Rattle.lexical_parse_integer.specs.Reading.{GoesOn, IsAtNumeral, LooksAhead, Reads, ReadsFirst}
@@ -15,6 +16,7 @@ use Rattle.lexical_parse_integer.specs.Runs.{are_same, digit_at, separator_at}
 use Rattle.lexical_util.specs.Digit.{value_if_below, digit, digit_value}
 use Rattle.lexical_util.specs.Format.{Format}
 use Rattle.lexical_util.specs.Number.{IntegerType, is_number, mul_add, number_limit}
+use Rattle.lexical_parse_integer.proofs.Folds.{fact_of, folded}
 use Rattle.lexical_parse_integer.proofs.grammar.NumeralEnd.{finds_here, ends_here}
 use Rattle.lexical_parse_integer.proofs.reading.DigitsRead.{reads_none}
 use Rattle.lexical_parse_integer.proofs.reading.NumeralSteps.{IsDigitOf, digit_found, all_found, goes_on_none, goes_on_digit, goes_on_further, same_numeral}
@@ -130,9 +132,9 @@ other_first v w d p s open_now none k other = let first = first_is v w d s open_
 join : (a b c d : Bool) (e : Error) → a ≡ true → b ≡ false → c ≡ true → d ≡ true → cond (((a && not b) && c) && d) (Some e) None ≡ Some e
 join a b c d e x y z w = rw (x, y, z, w) refl
 
-module _ (v w : CursorView) (d : ℕ) (s : IsSound v) (open_now : v.closed ≡ false) (none : v.digits ≡ 0) (k : TakesDigit v w d) (sw : IsSound w) where
+module _ (v w : CursorView) (d : ℕ) (s : IsSound v) (open_now : v.closed ≡ false) (none : v.digits ≡ 0) (k : TakesDigit v w d) (sw : Folded (IsSound w)) where
   go : GoesOn v w
-  go = goes_on_digit v v w d (goes_on_none v s open_now) k sw
+  go = goes_on_digit v v w d (goes_on_none v (folded s) open_now) k sw
 
   pub leading_zeros : (p : Bool) (place : ℕ) → d ≡ 0 → v.format.no_integer_leading_zeros ≡ true → p ≡ false → place + 1 ≡ w.position → true ≡ nat_lt w.digits (digit_count (numeral_of w)) → zero_fault v.format p (numeral_of v) ≡ Some (InvalidLeadingZeros place)
   leading_zeros p place zero flag no_prefix at more =
@@ -158,19 +160,19 @@ pub reads_zero : (t : IntegerType) (b : Bool) (v w : CursorView) (d : ℕ) (valu
 reads_zero t b v w d value s open_now none k zero is =
     let start : Reads t b (numeral_of v) v.digits (pos 0) = subst (λ (m : ℕ). Reads t b (numeral_of v) m (pos 0)) (sym none) (reads_none t b (numeral_of v) (pos 0) refl) in
     let step : value ≡ mul_add b (pos 0) (pos w.radix) (pos d) = is ∙ fused_zero b w.radix ∙ ap (λ n. mul_add b (pos 0) (pos w.radix) (pos n)) (sym zero) in
-    reads_next t b v v w d w.radix (pos 0) value (goes_on_none v s open_now) k start refl step (ap (is_number t) is ∙ zero_number t)
+    reads_next t b v v w d w.radix (pos 0) value (goes_on_none v (folded s) open_now) k start refl step (ap (is_number t) is ∙ zero_number t)
 
 -- another first digit
 pub reads_first : (t : IntegerType) (b : Bool) (v w : CursorView) (d r : ℕ) (value next : ℤ) → IsSound v → v.closed ≡ false → v.digits ≡ 0 → TakesDigit v w d → value ≡ pos 0 → r ≡ w.radix → next ≡ mul_add b value (pos r) (pos d) → is_number t next ≡ true → Reads t b (numeral_of v) w.digits next
 reads_first t b v w d r value next s open_now none k is same step fits =
     let start : Reads t b (numeral_of v) v.digits value = subst (λ (m : ℕ). Reads t b (numeral_of v) m value) (sym none) (reads_none t b (numeral_of v) value is) in
-    reads_next t b v v w d r value next (goes_on_none v s open_now) k start same step fits
+    reads_next t b v v w d r value next (goes_on_none v (folded s) open_now) k start same step fits
 
 pub leaves_first : (t : IntegerType) (b p : Bool) (v w : CursorView) (d r place : ℕ) (value : ℤ) (e : Error) → IsSound v → v.closed ≡ false → v.digits ≡ 0 → TakesDigit v w d → d ≢ 0 → value ≡ pos 0 → r ≡ w.radix → place + 1 ≡ w.position → e ≡ range_error b place → is_number t (mul_add b value (pos r) (pos d)) ≡ false → option_or (zero_fault v.format p (numeral_of v)) (range_fault t b (numeral_of v)) ≡ Some e
 leaves_first t b p v w d r place value e s open_now none k other is same at fault leaves =
     let start : Reads t b (numeral_of v) v.digits value = subst (λ (m : ℕ). Reads t b (numeral_of v) m value) (sym none) (reads_none t b (numeral_of v) value is) in
     ap (λ z. option_or z (range_fault t b (numeral_of v))) (other_first v w d p s open_now none k other)
-    ∙ reads_leaves t b v v w d r place value e (goes_on_none v s open_now) k start same at fault leaves
+    ∙ reads_leaves t b v v w d r place value e (goes_on_none v (folded s) open_now) k start same at fault leaves
 
 -- ---- turns, without a separator
 
@@ -213,7 +215,7 @@ step_count (Some d) v w s open_now m = taken_count v w d s open_now m
 pub taken_count_from : (u v w : CursorView) (d : ℕ) → GoesOn u v → TakesDigit v w d → w.digits ≤ digit_count (numeral_of u)
 taken_count_from u v w d g k =
     let same : digit_count (numeral_of v) ≡ digit_count (numeral_of u) = ap digit_count (same_numeral u v g) in
-    let t = taken_count v w d g.sound g.closed k in
+    let t = taken_count v w d (fact_of g.sound) g.closed k in
     omega arith
 
 pub zero_ahead_told : (o : Option ℕ) (b : Bool) → b ≡ not (option_eq ◌==◌ o (Some 48)) → b ≡ false → o ≡ Some 48
@@ -236,7 +238,7 @@ reads_nothing t b p v w value none is no_zeros =
     }
 
 -- a zero is all that there is
-pub reads_lone_zero : (t : IntegerType) (b p : Bool) (v w x : CursorView) (d : ℕ) (value : ℤ) → IsAtNumeral v → TakesDigit v w d → IsSound w → d ≡ 0 → value ≡ pos 0 → x.digits ≡ w.digits → false ≡ nat_lt w.digits (digit_count (numeral_of w)) → ReadsFirst t b p v x value
+pub reads_lone_zero : (t : IntegerType) (b p : Bool) (v w x : CursorView) (d : ℕ) (value : ℤ) → IsAtNumeral v → TakesDigit v w d → Folded (IsSound w) → d ≡ 0 → value ≡ pos 0 → x.digits ≡ w.digits → false ≡ nat_lt w.digits (digit_count (numeral_of w)) → ReadsFirst t b p v x value
 reads_lone_zero t b p v w x d value front k s zero is same none_left =
     let goes = goes_on_digit v v w d (goes_on_none v front.sound front.still_open) k s in
     let counts : digit_count (numeral_of w) ≡ digit_count (numeral_of v) = ap digit_count (same_numeral v w goes) in
@@ -245,13 +247,13 @@ reads_lone_zero t b p v w x d value front k s zero is same none_left =
     let last : digit_count (numeral_of w) ≤ w.digits = ltb-false w.digits (digit_count (numeral_of w)) (sym none_left) in
     let few : digit_count (numeral_of v) ≤ 1 = omega arith in
     record {
-      reads = subst (λ (n : ℕ). Reads t b (numeral_of v) n value) (sym same) (reads_zero t b v w d value front.sound front.still_open front.none k zero is);
+      reads = subst (λ (n : ℕ). Reads t b (numeral_of v) n value) (sym same) (reads_zero t b v w d value (fact_of front.sound) front.still_open front.none k zero is);
       no_zeros = few_no_fault v.format p (numeral_of v) few;
       lone = λ _. inr few;
     }
 
 -- the first digit was taken
-pub looks_at_digit : (v w : CursorView) (d : ℕ) → IsAtNumeral v → TakesDigit v w d → IsSound w → LooksAhead v w
+pub looks_at_digit : (v w : CursorView) (d : ℕ) → IsAtNumeral v → TakesDigit v w d → Folded (IsSound w) → LooksAhead v w
 looks_at_digit v w d front k s =
     let none = front.none in
     let digits : w.digits ≡ v.digits + 1 = ap (λ (z : CursorView). z.digits) k.after in
@@ -259,7 +261,7 @@ looks_at_digit v w d front k s =
     record {
       goes_on = goes_on_digit v v w d (goes_on_none v front.sound front.still_open) k s;
       turns = omega arith;
-      count = taken_count v w d front.sound front.still_open k;
+      count = taken_count v w d (fact_of front.sound) front.still_open k;
       one = λ _. omega arith;
     }
 

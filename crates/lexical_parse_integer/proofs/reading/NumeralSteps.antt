@@ -6,10 +6,12 @@ use Rattle.std.specs.Option.{unwrap_or}
 use Rattle.std.proofs.lemmas.Bool.{ltb-true}
 use Rattle.std.proofs.lemmas.List.{length-map, get_or-map}
 use Rattle.lexical_parse_integer.specs.CursorView.{CursorView, IsSound, ReachesEnd, TakesDigit, numeral_end, numeral_of}
+use Rattle.lexical_parse_integer.specs.Folded.{Folded}
 use Rattle.lexical_parse_integer.specs.Grammar.{range_fault}
 use Rattle.lexical_parse_integer.specs.Numeral.{Numeral, digit_count, numeral_in, numeral_value}
 use Rattle.lexical_parse_integer.specs.Reading.{GoesOn, IsReading, Reads, ReadsAll, ReadsOn}
 use Rattle.lexical_parse_integer.specs.Runs.{digit_at, digits_between, places}
+use Rattle.lexical_util.specs.declared.error.Error.{Error}
 use Rattle.lexical_util.specs.Digit.{value_if_below, digit, digit_value}
 use Rattle.lexical_util.specs.Number.{IntegerType}
 use Rattle.lexical_parse_integer.proofs.grammar.PlaceSearch.{filter_range-at, get_or-append_seam}
@@ -70,10 +72,10 @@ all_found v s open_now w t =
 
 -- ---- going on
 
-pub goes_on_none : (v : CursorView) → IsSound v → v.closed ≡ false → GoesOn v v
+pub goes_on_none : (v : CursorView) → Folded (IsSound v) → v.closed ≡ false → GoesOn v v
 goes_on_none v s open_now = record { bytes = refl; format = refl; radix = refl; start = refl; closed = open_now; sound = s }
 
-pub goes_on_digit : (u v w : CursorView) (value : ℕ) → GoesOn u v → TakesDigit v w value → IsSound w → GoesOn u w
+pub goes_on_digit : (u v w : CursorView) (value : ℕ) → GoesOn u v → TakesDigit v w value → Folded (IsSound w) → GoesOn u w
 goes_on_digit u v w value g t s =
     record {
       bytes = ap (λ (z : CursorView). z.bytes) t.after ∙ g.bytes;
@@ -84,7 +86,7 @@ goes_on_digit u v w value g t s =
       sound = s;
     }
 
-pub goes_on_end : (u v w : CursorView) → GoesOn u v → ReachesEnd v w → IsSound w → GoesOn u w
+pub goes_on_end : (u v w : CursorView) → GoesOn u v → ReachesEnd v w → Folded (IsSound w) → GoesOn u w
 goes_on_end u v w g t s =
     record {
       bytes = ap (λ (z : CursorView). z.bytes) t.after ∙ g.bytes;
@@ -147,3 +149,7 @@ reads_all_further t b u v w value g all =
 -- nothing more is read
 pub reads_no_more : (t : IntegerType) (b : Bool) (u : CursorView) (value : ℤ) → IsReading t b u value → ReadsOn t b u u value
 reads_no_more t b u value ready = record { reads = ready.reads; goes_on = goes_on_none u ready.sound ready.still_open }
+
+-- a fault of the numeral stays its fault
+pub fault_further : (t : IntegerType) (b : Bool) (u v : CursorView) (e : Error) → GoesOn u v → range_fault t b (numeral_of v) ≡ Some e → range_fault t b (numeral_of u) ≡ Some e
+fault_further t b u v e g fault = ap (range_fault t b) (sym (same_numeral u v g)) ∙ fault

@@ -10,9 +10,10 @@ use Rattle.lexical_parse_integer.specs.CursorView.{CursorView, behind_prefix, Is
 use Rattle.lexical_parse_integer.specs.Grammar.{complete, digits_required, first_fault_or, partial, prefix_fault, range_fault, zero_fault}
 use Rattle.lexical_parse_integer.specs.Head.{Head, head_of, no_sign, sign, sign_by}
 use Rattle.lexical_parse_integer.specs.Numeral.{Numeral, digit_count, numeral_in, numeral_value}
-use Rattle.lexical_parse_integer.specs.Reading.{GoesOn, IsAtHead, IsOver, IsRead, IsReading, Reads}
+use Rattle.lexical_parse_integer.specs.Reading.{GoesOn, IsAtHead, IsOver, IsRead, IsReading, Reads, ReadsNumeral, StandsAtStop}
 use Rattle.lexical_util.specs.Format.{Format}
 use Rattle.lexical_util.specs.Number.{IntegerType}
+use Rattle.lexical_parse_integer.proofs.Folds.{fact_of}
 use Rattle.lexical_parse_integer.proofs.reading.Soundness.{digits_bound}
 use Rattle.lexical_parse_integer.proofs.reading.OctalZeros.{bare_octal, bare_own, octal_byte}
 use Rattle.lexical_parse_integer.proofs.reading.NumeralSteps.{same_numeral}
@@ -37,6 +38,12 @@ is_fresh v s front =
     let open_now : v.closed ≡ false = elim (cases_bool v.closed) [ inl t ↦ absurd (omega (arith, (s.once_closed t).behind_end)) | inr t ↦ t ] in
     let none : v.digits ≡ 0 = omega (arith, digits_bound v s open_now) in
     record { start = start; closed = open_now; no_digit = none; no_turn = omega (arith, s.turns); in_force = s.in_force (omega arith) }
+
+-- where nothing was read, the region starts at the position
+pub stays_at_front : (v : CursorView) → IsSound v → v.position ≡ 0 → v ≡ record v { start = v.position; position = v.position }
+stays_at_front v s front =
+    let start : v.start ≡ v.position = omega (arith, s.after_start) in
+    ap (λ (n : ℕ). record v { start = n; position = v.position }) start
 
 -- ---- sign and prefix
 
@@ -277,58 +284,46 @@ range_behind t minus p v w e g none fault =
     ap (λ z. option_or z (range_fault t minus (numeral_of v))) none ∙ ap (range_fault t minus) (sym (same_numeral v w g)) ∙ fault
 
 -- behind the first digit, reading may go on
-pub reading_behind_head : (f : Format) (t : IntegerType) (text : List ℕ) (minus p : Bool) (v w : CursorView) (value : ℤ) → IsAtHead f t text minus p v → GoesOn v w → Reads t minus (numeral_of v) w.digits value → IsReading t minus w value
-reading_behind_head f t text minus p v w value at g reads =
+pub reading_behind : (t : IntegerType) (minus : Bool) (v w : CursorView) (value : ℤ) → (minus ≡ true → t.is_signed ≡ true) → GoesOn v w → Reads t minus (numeral_of v) w.digits value → IsReading t minus w value
+reading_behind t minus v w value signed g reads =
     record {
       still_open = g.closed;
       sound = g.sound;
-      minus = at.minus;
+      minus = signed;
       reads = subst (λ (x : Numeral). Reads t minus x w.digits value) (sym (same_numeral v w g)) reads;
     }
 
 -- ---- all is read
 
-goes_on_joined : (u v w : CursorView) → GoesOn u v → GoesOn v w → GoesOn u w
-goes_on_joined u v w g h = record {
-  bytes = h.bytes ∙ g.bytes;
-  format = h.format ∙ g.format;
-  radix = h.radix ∙ g.radix;
-  start = h.start ∙ g.start;
-  closed = h.closed;
-  sound = h.sound;
-}
-
 stop_of_numeral : (v : CursorView) → (numeral_of v).stop ≡ numeral_stop v.format v.radix v.bytes v.start
 unfolding numeral_in
 stop_of_numeral v = refl
 
-same_but_place : (b : Bool) (v w : CursorView) → w ≡ cond b (record v { position = v.position + 1; closed = true }) v → (w.bytes ≡ v.bytes) × (w.format ≡ v.format) × (w.digits ≡ v.digits) × (w.turns ≡ v.turns)
+pub same_but_place : (b : Bool) (v w : CursorView) → w ≡ cond b (record v { position = v.position + 1; closed = true }) v → (w.bytes ≡ v.bytes) × (w.format ≡ v.format) × (w.digits ≡ v.digits) × (w.turns ≡ v.turns)
 same_but_place true v w e = (ap (λ (z : CursorView). z.bytes) e, ap (λ (z : CursorView). z.format) e, ap (λ (z : CursorView). z.digits) e, ap (λ (z : CursorView). z.turns) e)
 same_but_place false v w e = (ap (λ (z : CursorView). z.bytes) e, ap (λ (z : CursorView). z.format) e, ap (λ (z : CursorView). z.digits) e, ap (λ (z : CursorView). z.turns) e)
 
-pub is_read : (f : Format) (t : IntegerType) (text : List ℕ) (minus p b : Bool) (v₁ v₂ v₃ v₄ : CursorView) (value : ℤ) → IsAtHead f t text minus p v₁ → false ≡ (p && (v₁.position == length v₁.bytes)) → GoesOn v₁ v₂ → zero_fault v₁.format p (numeral_of v₁) ≡ None → GoesOn v₂ v₃ → value ≡ numeral_value minus (numeral_of v₂) → range_fault t minus (numeral_of v₂) ≡ None → v₃.position ≡ (numeral_of v₂).ends → v₃.digits ≡ digit_count (numeral_of v₂)
-    → (v₃.position ≡ numeral_end v₃ → v₄.position ≡ numeral_stop v₃.format v₃.radix v₃.bytes v₃.start) → v₄ ≡ cond b (record v₃ { position = v₃.position + 1; closed = true }) v₃ → IsRead f t text value v₄
-is_read f t text minus p b v₁ v₂ v₃ v₄ value at goes g₁ no_zeros g₂ value_is no_range ends all stops after =
-    let x : Numeral = numeral_in f text v₁.start v₁.radix in
-    let first : numeral_of v₁ ≡ x = sym (same_text f t text minus p v₁ at) in
-    let second : numeral_of v₂ ≡ x = same_numeral v₁ v₂ g₁ ∙ first in
-    let third : numeral_of v₃ ≡ x = same_numeral v₂ v₃ g₂ ∙ second in
-    let kept = same_but_place b v₃ v₄ after in
-    let g = goes_on_joined v₁ v₂ v₃ g₁ g₂ in
-    let here : v₃.position ≡ numeral_end v₃ = ends ∙ ap (λ (y : Numeral). y.ends) (sym (same_numeral v₂ v₃ g₂)) ∙ numeral_ends v₃ in
-    let digits : v₄.digits ≡ v₃.digits = kept.2 in
-    let turns : v₄.turns ≡ v₃.turns = kept.3 in
+pub is_read : (f : Format) (t : IntegerType) (text : List ℕ) (minus p b : Bool) (v w x : CursorView) (value : ℤ) → IsAtHead f t text minus p v → false ≡ (p && (v.position == length v.bytes)) → GoesOn v w → ReadsNumeral t minus p v w value
+    → (w.position ≡ numeral_end w → x.position ≡ numeral_stop w.format w.radix w.bytes w.start) → x ≡ cond b (record w { position = w.position + 1; closed = true }) w → IsRead f t text value x
+is_read f t text minus p b v w x value at goes g reads stops after =
+    let all = reads.all in
+    let here : Numeral = numeral_in f text v.start v.radix in
+    let first : numeral_of v ≡ here = sym (same_text f t text minus p v at) in
+    let second : numeral_of w ≡ here = same_numeral v w g ∙ first in
+    let kept = same_but_place b w x after in
+    let ends : w.position ≡ numeral_end w = all.at_end ∙ ap (λ (y : Numeral). y.ends) (sym (same_numeral v w g)) ∙ numeral_ends w in
+    let digits : x.digits ≡ w.digits = kept.2 in
     record {
-      head = record { is_minus = minus; is_marked = p; start = v₁.start; radix = v₁.radix };
+      head = record { is_minus = minus; is_marked = p; start = v.start; radix = v.radix };
       head_is = at.head_is;
-      no_prefix_fault = not_alone f t text minus p v₁ at goes;
-      no_zero_fault = ap (λ h. zero_fault h p x) (sym at.format) ∙ ap (zero_fault v₁.format p) (sym first) ∙ no_zeros;
-      no_range_fault = ap (range_fault t minus) (sym second) ∙ no_range;
-      value_is = value_is ∙ ap (numeral_value minus) second;
+      no_prefix_fault = not_alone f t text minus p v at goes;
+      no_zero_fault = ap (λ h. zero_fault h p here) (sym at.format) ∙ ap (zero_fault v.format p) (sym first) ∙ reads.no_zeros;
+      no_range_fault = ap (range_fault t minus) (sym first) ∙ all.fits;
+      value_is = all.value_is ∙ ap (numeral_value minus) first;
       bytes = kept.0 ∙ g.bytes ∙ at.bytes;
       format = kept.1 ∙ g.format ∙ at.format;
-      at_stop = stops here ∙ sym (stop_of_numeral v₃) ∙ ap (λ (y : Numeral). y.stop) third;
-      all_digits = digits ∙ all ∙ ap digit_count second;
+      at_stop = stops ends ∙ sym (stop_of_numeral w) ∙ ap (λ (y : Numeral). y.stop) second;
+      all_digits = digits ∙ all.all ∙ ap digit_count first;
     }
 
 -- ---- the cursor's text and format
@@ -337,12 +332,23 @@ is_read f t text minus p b v₁ v₂ v₃ v₄ value at goes g₁ no_zeros g₂ 
 pub over_same : (v w : CursorView) → IsSound v → w ≡ v → IsOver v.bytes v.format w
 over_same v w s same = subst (λ (u : CursorView). IsOver v.bytes v.format u) (sym same) (record { bytes = refl; format = refl; sound = s })
 
+-- a cursor behind sign and prefix
+pub over_head : (f : Format) (t : IntegerType) (text : List ℕ) (minus p : Bool) (v : CursorView) → IsAtHead f t text minus p v → IsSound v → IsOver text f v
+over_head f t text minus p v at s = record { bytes = at.bytes; format = at.format; sound = s }
+
+-- a cursor that has gone on from there
+pub over_numeral : (f : Format) (t : IntegerType) (text : List ℕ) (minus p : Bool) (v w : CursorView) → IsAtHead f t text minus p v → GoesOn v w → IsOver text f w
+over_numeral f t text minus p v w at g = record { bytes = g.bytes ∙ at.bytes; format = g.format ∙ at.format; sound = fact_of g.sound }
+
 -- a cursor from which the suffix was looked for
-pub over_suffix : (f : Format) (t : IntegerType) (text : List ℕ) (minus p b : Bool) (v₁ v₂ v₃ v₄ : CursorView) → IsAtHead f t text minus p v₁ → GoesOn v₁ v₂ → GoesOn v₂ v₃ → v₄ ≡ cond b (record v₃ { position = v₃.position + 1; closed = true }) v₃ → IsSound v₄ → IsOver text f v₄
-over_suffix f t text minus p b v₁ v₂ v₃ v₄ at g₁ g₂ after s =
-    let kept = same_but_place b v₃ v₄ after in
-    let g = goes_on_joined v₁ v₂ v₃ g₁ g₂ in
+pub over_suffix : (f : Format) (t : IntegerType) (text : List ℕ) (minus p b : Bool) (v w x : CursorView) → IsAtHead f t text minus p v → GoesOn v w → x ≡ cond b (record w { position = w.position + 1; closed = true }) w → IsSound x → IsOver text f x
+over_suffix f t text minus p b v w x at g after s =
+    let kept = same_but_place b w x after in
     record { bytes = kept.0 ∙ g.bytes ∙ at.bytes; format = kept.1 ∙ g.format ∙ at.format; sound = s }
+
+-- behind all that is read, it stands where reading stops
+pub at_stop_read : (f : Format) (t : IntegerType) (text : List ℕ) (value : ℤ) (v : CursorView) → IsRead f t text value v → StandsAtStop f t text v
+at_stop_read f t text value v r = record { head = r.head; head_is = r.head_is; at_stop = r.at_stop; all_digits = r.all_digits }
 
 -- ---- the answers
 

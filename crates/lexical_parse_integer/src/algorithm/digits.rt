@@ -58,7 +58,7 @@ pub(crate) fn read_untested<T: Integer>(
     let radix = T::from_u32(c.radix());
     let mut value = value;
     while c.digits() < most {
-        match c.next_digit() {
+        match c.read_digit() {
             Some(digit) => value = value.mul_add(radix, T::from_u32(digit), negative),
             None => return value,
         }
@@ -77,8 +77,8 @@ pub(crate) fn read_rest<T: Integer>(c: &mut Cursor<'_>, value: T, negative: bool
     ensures turns { c.new.turns + c.old.digits ≡ c.old.turns + c.new.digits }
 {
     let mut value = value;
-    while let Some(digit) = c.next_digit() {
-        let place = c.cursor() - 1;
+    while let Some(digit) = c.read_digit() {
+        let place = c.place() - 1;
         value = join_checked::<T>(value, digit, c.radix(), place, negative)?;
     }
     Ok(value)

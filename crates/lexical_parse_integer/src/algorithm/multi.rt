@@ -2,6 +2,7 @@
 ghost use Rattle.std.specs.Prelude.{◌≡◌, ◌+◌, ◌≤◌, ◌↔◌, ◌^◌, pos, false, IsNone, IsSome, IsTrue, IfSome, MatchOption, slice_range};
 ghost use Rattle.lexical_util.specs.Number.{HasRoom};
 ghost use Rattle.lexical_parse_integer.specs.CursorView.{AreDigitsAhead, IsSound};
+ghost use Rattle.lexical_parse_integer.specs.Folded.{Folded};
 ghost use Rattle.lexical_parse_integer.specs.Reading.{IsReading, ReadsWords};
 ghost use Rattle.lexical_parse_integer.specs.Turns.{digits_per_word};
 ghost use Rattle.lexical_parse_integer.specs.Words.{word_value};
@@ -96,7 +97,7 @@ fn try_parse_word<T: Integer>(c: &mut Cursor<'_>) -> Option<T>
           turns = c.old.turns + 1;
         }) }
     ensures digits { IsSome result ↔ AreDigitsAhead c.old (digits_per_word T.BITS) }
-    ensures sound { IsSound c.new }
+    ensures sound { Folded (IsSound c.new) }
     ensures value { IfSome result
         (λ word. T.number word
         ≡ pos (word_value c.old.radix

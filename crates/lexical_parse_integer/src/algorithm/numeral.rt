@@ -1,14 +1,17 @@
 // All digits of a numeral, by the ways that options and format leave open.
-ghost use Rattle.std.specs.Prelude.{◌≡◌, ◌⊎◌, ◌+◌, ◌-◌, ◌≤◌, ◌↔◌, Some, IfErr, IfOk, IsTrue};
-ghost use Rattle.lexical_util.specs.Number.{overflow_digits};
+ghost use Rattle.std.specs.Prelude.{◌≡◌, ◌≤◌, ◌↔◌, true, Some, IfErr, IfOk, IsNone, IsTrue};
+ghost use Rattle.std.specs.Option.{option_or};
+ghost use Rattle.lexical_util.specs.Number.{HasRoom};
 ghost use Rattle.lexical_parse_integer.specs.CursorView.{numeral_of};
-ghost use Rattle.lexical_parse_integer.specs.Grammar.{range_fault};
-ghost use Rattle.lexical_parse_integer.specs.Numeral.{digit_count};
-ghost use Rattle.lexical_parse_integer.specs.Reading.{GoesOn, IsReading, ReadsAll, ReadsOn};
-ghost use Rattle.lexical_parse_integer.specs.Turns.{AsksWords, turns_bound, digits_per_word};
+ghost use Rattle.lexical_parse_integer.specs.Folded.{Folded};
+ghost use Rattle.lexical_parse_integer.specs.Grammar.{range_fault, zero_fault};
+ghost use Rattle.lexical_parse_integer.specs.Reading.{GoesOn, IsAtNumeral, IsReading, KeepsTurns, LeavesFewTurns};
+ghost use Rattle.lexical_parse_integer.specs.Reading.{LeavesTurns, ReadsAll, ReadsNumeral, ReadsOn};
+ghost use Rattle.lexical_parse_integer.specs.Turns.{AsksWords};
 
 use crate::algorithm::digits::{read_rest, read_untested};
 use crate::algorithm::multi::read_words;
+use crate::algorithm::zeros::read_first;
 use crate::cursor::Cursor;
 use lexical_util::num::Integer;
 use lexical_util::result::Result;
@@ -28,22 +31,31 @@ fn skips_tests(c: &Cursor<'_>, most: usize) -> bool {
     c.is_contiguous() || c.buffer_length() - c.cursor() <= most
 }
 
+// Takes words of digits, and then digits alone, as many as no test is needed for.
+#[inline(always)]
+fn read_by_words<T: Integer>(c: &mut Cursor<'_>, value: T, negative: bool, most: usize) -> T
+    requires bits { 32 ≤ T.BITS }
+    requires radix { c.old.radix ≤ 10 }
+    requires contiguous { IsNone c.old.format.digit_separator }
+    requires ready { IsReading T.TYPE negative c.old (T.number value) }
+    requires room { HasRoom T.TYPE c.old.radix most }
+    ensures on { ReadsOn T.TYPE negative c.old c.new (T.number result) }
+    ensures few { Folded (LeavesFewTurns T.BITS most c.old c.new) }
+{
+    let value = read_words::<T>(c, value, negative, most);
+    read_untested::<T>(c, value, negative, most)
+}
+
 // Takes the digits that no test is needed for, in words where that is asked for.
 #[inline(always)]
 fn read_front<T: Integer>(c: &mut Cursor<'_>, value: T, negative: bool, no_multi_digit: bool) -> T
     requires ready { IsReading T.TYPE negative c.old (T.number value) }
     ensures on { ReadsOn T.TYPE negative c.old c.new (T.number result) }
-    ensures each { IsTrue no_multi_digit → c.new.turns + c.old.digits ≡ c.old.turns + c.new.digits }
-    ensures few { AsksWords T.BITS no_multi_digit c.old.format → c.old.radix ≤ 10
-        → c.old.turns ≡ c.old.digits → (c.old.digits ≡ 0) ⊎ (digit_count (numeral_of c.old) ≤ 1)
-        → c.new.turns + (digit_count (numeral_of c.old) - c.new.digits)
-        ≤ turns_bound (digits_per_word T.BITS) (overflow_digits T.TYPE c.old.radix)
-        (digit_count (numeral_of c.old)) }
+    ensures turns { Folded (LeavesTurns T.BITS T.TYPE no_multi_digit c.old c.new) }
 {
     let most = T::overflow_digits(c.radix());
     if takes_words::<T>(c, no_multi_digit) {
-        let value = read_words::<T>(c, value, negative, most);
-        return read_untested::<T>(c, value, negative, most);
+        return read_by_words::<T>(c, value, negative, most);
     }
     if skips_tests(c, most) {
         return read_untested::<T>(c, value, negative, most);
@@ -63,13 +75,30 @@ pub(crate) fn read_digits<T: Integer>(
     ensures all { IfOk result (λ value. ReadsAll T.TYPE negative c.old c.new (T.number value)) }
     ensures leaves { IfErr result (λ e. range_fault T.TYPE negative (numeral_of c.old) ≡ Some e) }
     ensures goes_on { GoesOn c.old c.new }
-    ensures each { IsTrue no_multi_digit → c.new.turns + c.old.digits ≡ c.old.turns + c.new.digits }
-    ensures few { AsksWords T.BITS no_multi_digit c.old.format → c.old.radix ≤ 10
-        → c.old.turns ≡ c.old.digits → (c.old.digits ≡ 0) ⊎ (digit_count (numeral_of c.old) ≤ 1)
-        → c.new.turns
-        ≤ turns_bound (digits_per_word T.BITS) (overflow_digits T.TYPE c.old.radix)
-        (digit_count (numeral_of c.old)) }
+    ensures turns { Folded (KeepsTurns T.BITS T.TYPE no_multi_digit c.old c.new) }
 {
     let front = read_front::<T>(c, value, negative, no_multi_digit);
     read_rest::<T>(c, front, negative)
+}
+
+// Takes the whole numeral, of which no digit was read yet.
+#[inline(always)]
+pub(crate) fn read_numeral<T: Integer>(
+    c: &mut Cursor<'_>,
+    negative: bool,
+    is_marked: bool,
+    no_multi_digit: bool,
+) -> Result<T>
+    requires front { IsAtNumeral c.old }
+    requires minus { negative ≡ true → T.TYPE.is_signed ≡ true }
+    ensures all { IfOk result
+        (λ value. ReadsNumeral T.TYPE negative is_marked c.old c.new (T.number value)) }
+    ensures fault { IfErr result
+        (λ e. option_or (zero_fault c.old.format is_marked (numeral_of c.old))
+        (range_fault T.TYPE negative (numeral_of c.old)) ≡ Some e) }
+    ensures goes_on { GoesOn c.old c.new }
+    ensures turns { Folded (KeepsTurns T.BITS T.TYPE no_multi_digit c.old c.new) }
+{
+    let first = read_first::<T>(c, negative, is_marked)?;
+    read_digits::<T>(c, first, negative, no_multi_digit)
 }

@@ -2,6 +2,7 @@
 ghost use Rattle.std.specs.Prelude.{◌≡◌, ◌+◌, ◌≤◌, false, Some, nat_lt, IfErr, IfOk, IsNone};
 ghost use Rattle.std.specs.Option.{option_or};
 ghost use Rattle.lexical_parse_integer.specs.CursorView.{IsSound, numeral_of};
+ghost use Rattle.lexical_parse_integer.specs.Folded.{Folded};
 ghost use Rattle.lexical_parse_integer.specs.Grammar.{range_fault, zero_fault};
 ghost use Rattle.lexical_parse_integer.specs.Numeral.{digit_count};
 ghost use Rattle.lexical_parse_integer.specs.Reading.{GoesOn, IsAtNumeral, LooksAhead, ReadsFirst};
@@ -17,7 +18,7 @@ use lexical_util::result::Result;
 #[inline(always)]
 fn has_more(c: &mut Cursor<'_>) -> bool
     requires open { c.old.closed ≡ false }
-    requires sound { IsSound c.old }
+    requires sound { Folded (IsSound c.old) }
     ensures answer { result ≡ nat_lt c.old.digits (digit_count (numeral_of c.old)) }
     ensures goes_on { GoesOn c.old c.new }
     ensures digits { result ≡ false → c.new.digits ≡ c.old.digits }
@@ -32,7 +33,7 @@ fn has_more(c: &mut Cursor<'_>) -> bool
             None => false,
         }
     } else {
-        c.next_digit().is_some()
+        c.read_digit().is_some()
     }
 }
 
@@ -58,11 +59,11 @@ pub(crate) fn read_first<T: Integer>(
     if c.is_contiguous() && c.first() != Some(b'0') {
         return Ok(T::ZERO);
     }
-    let digit = match c.next_digit() {
+    let digit = match c.read_digit() {
         Some(digit) => digit,
         None => return Ok(T::ZERO),
     };
-    let place = c.cursor() - 1;
+    let place = c.place() - 1;
     if digit == 0 {
         if has_more(c) {
             return Err(Error::InvalidLeadingZeros(place));

@@ -7,6 +7,7 @@ use Rattle.lexical_util.specs.Number.{HasRoom, mul_add}
 use Rattle.lexical_parse_integer.specs.CursorView.{CursorView}
 use Rattle.lexical_parse_integer.specs.Reading.{GoesOn}
 use Rattle.lexical_parse_integer.specs.Turns.{digits_per_word}
+use Rattle.lexical_parse_integer.proofs.Folds.{fact_of}
 use Rattle.lexical_parse_integer.proofs.reading.Soundness.{none_from_IsNone}
 use Rattle.lexical_parse_integer.proofs.bound.TurnBound.{turn_of_word, word_some}
 use Rattle.lexical_parse_integer.proofs.bound.WordSteps.{ReadsWord, reads_word, goes_on_word, few_left_from}
@@ -19,7 +20,7 @@ no_room test digits word most says fails = elim (cases_lt most (digits + word)) 
 
 pub mul_add-value-requires-clause-scale : goal.mul_add-value-requires-clause-scale
 mul_add-value-requires-clause-scale g c =
-    let two = c.requires.ready.sound.radix.low in
+    let two = (fact_of c.requires.ready.sound).radix.low in
     let one = one-le-pow (digits_per_word g.T.Integer.BITS) c.args.c.now.radix (omega arith) in
     rw c.loop-scale.invariant.scale (omega (arith, ints))
 

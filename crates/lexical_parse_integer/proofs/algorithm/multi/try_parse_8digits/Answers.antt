@@ -1,5 +1,6 @@
 use Rattle.std.proofs.Common.{◌<◌, ◌^◌, ◌∙◌, arith, refl, sym}
 use Rattle.std.proofs.lemmas.Bool.{false≢true}
+use Rattle.lexical_parse_integer.proofs.Folds.{fact_of}
 use Rattle.lexical_parse_integer.proofs.lanes.LentBytes.{are_lent, lanes_small, lent_size, none_told, some_told}
 use Rattle.lexical_parse_integer.proofs.words.WordsInTexts.{past_end, word_number}
 use Rattle.lexical_parse_integer.proofs.algorithm.multi.try_parse_8digits.Goals as goal
@@ -32,3 +33,6 @@ pub returns-in-None-value_of_8lanes-clause-digits : goal.returns-in-None-value_o
 returns-in-None-value_of_8lanes-clause-digits g c =
     let w = are_lent c.args.c.now.radix c.radix.result c.args.c.now.bytes c.in-Some.bytes.now c.args.c.now.position 8 c.requires.radix c.in-Some.ensures.0 c.in-Some.ensures.1 c.radix.ensures in
     (λ e. absurd (false≢true e), λ all. absurd (false≢true (sym (none_told _ _ c.in-None-value_of_8lanes.ensures) ∙ w.back all)))
+
+pub value_of_8lanes-requires-clause-least : goal.value_of_8lanes-requires-clause-least
+value_of_8lanes-requires-clause-least g c = let low = (fact_of c.sound.ensures).radix.low in omega (arith, c.radix.ensures)

@@ -1,41 +1,24 @@
-use Rattle.std.proofs.Common.{◌≡◌, ◌∙◌, ap, arith}
+use Rattle.std.proofs.Common.{ap, refl, sym, ◌∙◌}
+use Rattle.std.proofs.lemmas.Bool.{false≢true}
 use Rattle.lexical_util.specs.Number.{overflow_digits}
-use Rattle.lexical_parse_integer.specs.CursorView.{numeral_of}
-use Rattle.lexical_parse_integer.specs.Numeral.{digit_count}
-use Rattle.lexical_parse_integer.specs.Turns.{digits_per_word}
-use Rattle.lexical_parse_integer.proofs.reading.NumeralSteps.{reading_from, reads_further, reads_no_more, same_numeral}
-use Rattle.lexical_parse_integer.proofs.bound.TurnBound.{TakesWords, few_turns, still_few}
+use Rattle.lexical_parse_integer.proofs.Folds.{fact_of}
+use Rattle.lexical_parse_integer.proofs.reading.NumeralSteps.{reads_no_more}
+use Rattle.lexical_parse_integer.proofs.bound.NumeralTurns.{turns_where_digits, turns_where_words}
 use Rattle.lexical_parse_integer.proofs.algorithm.numeral.read_front.Goals as goal
 
-pub returns-then-takes_words-clause-few : goal.returns-then-takes_words-clause-few
-returns-then-takes_words-clause-few g c = λ asks ten fresh first.
-    let words = c.read_words-value.ensures.words in
-    let rest = c.read_untested.ensures in
-    let type = g.T.Integer.TYPE in
-    let most : c.overflow_digits-most.result ≡ overflow_digits type c.args.c.now.radix = c.overflow_digits-most.ensures.value ∙ ap (overflow_digits type) c.radix.ensures in
-    let same : digit_count (numeral_of c.read_words-value.new.c) ≡ digit_count (numeral_of c.args.c.now) = ap digit_count (same_numeral c.args.c.now c.read_words-value.new.c words.goes_on) in
-    let all = rest.on.reads.count in
-    let taken : TakesWords (digits_per_word g.T.Integer.BITS) (overflow_digits type c.args.c.now.radix) (digit_count (numeral_of c.args.c.now)) c.args.c.now.digits c.args.c.now.turns c.read_words-value.new.c.digits c.read_words-value.new.c.turns =
-    record {
-      fresh = fresh;
-      first = first;
-      words = words.turns;
-      within = rw (most) at words.within;
-      ended = rw (most) at words.ended;
-      some = c.requires.ready.reads.count;
-      all = words.reads.count;
-    } in
-    still_few _ _ _ _ _ _ (few_turns g.T.Integer.BITS _ _ _ _ _ _ taken) rest.turns words.reads.count (omega arith)
+pub returns-then-takes_words-clause-turns : goal.returns-then-takes_words-clause-turns
+returns-then-takes_words-clause-turns g c =
+    turns_where_words _ c.overflow_digits-most.result _ _ _ _ (c.takes_words.ensures.0 c.if-takes_words.true).0 (c.overflow_digits-most.ensures.value ∙ ap (overflow_digits g.T.Integer.TYPE) c.radix.ensures) c.read_by_words.ensures.few
 
-pub read_untested-requires-clause-ready : goal.read_untested-requires-clause-ready
-read_untested-requires-clause-ready g c =
-    let words = c.read_words-value.ensures.words in
-    reading_from _ _ _ _ _ _ c.requires.ready (record { reads = words.reads; goes_on = words.goes_on })
+pub returns-then-skips_tests-clause-turns : goal.returns-then-skips_tests-clause-turns
+returns-then-skips_tests-clause-turns g c =
+    turns_where_digits _ _ _ _ _ (λ both. false≢true (sym c.if-takes_words.false ∙ c.takes_words.ensures.1 both)) c.read_untested.ensures.turns
 
-pub returns-then-takes_words-clause-on : goal.returns-then-takes_words-clause-on
-returns-then-takes_words-clause-on g c =
-    let words = c.read_words-value.ensures.words in
-    reads_further _ _ _ _ _ _ _ (record { reads = words.reads; goes_on = words.goes_on }) c.read_untested.ensures.on
+pub returns-clause-turns : goal.returns-clause-turns
+returns-clause-turns g c = turns_where_digits _ _ _ _ _ (λ both. false≢true (sym c.if-takes_words.false ∙ c.takes_words.ensures.1 both)) refl
 
 pub returns-clause-on : goal.returns-clause-on
 returns-clause-on g c = reads_no_more _ _ _ _ c.requires.ready
+
+pub overflow_digits-most-requires : goal.overflow_digits-most-requires
+overflow_digits-most-requires g c = rw c.radix.ensures (fact_of c.requires.ready.sound).radix
