@@ -192,6 +192,19 @@ pub(crate) fn complete_with_marks<T: Integer>(
     }
 }
 
+// The answer over a cursor that is let go of.
+#[inline(always)]
+fn complete_by_cursor<T: Integer>(
+    bytes: &[u8],
+    format: &NumberFormat,
+    options: &Options,
+) -> Result<T>
+    requires { IsNone (fault format.now) }
+    ensures { view_of T.number result ≡ complete format.now T.TYPE bytes.now }
+{
+    algorithm_complete_on::<T>(&mut Cursor::new(bytes, format), options)
+}
+
 // The way of all texts, out of line too.
 #[inline(never)]
 fn complete_over_cursor<T: Integer>(
@@ -202,7 +215,7 @@ fn complete_over_cursor<T: Integer>(
     requires valid { IsNone (fault format.now) }
     ensures { view_of T.number result ≡ complete format.now T.TYPE bytes.now }
 {
-    algorithm_complete_on::<T>(&mut Cursor::new(bytes, format), options)
+    complete_by_cursor::<T>(bytes, format, options)
 }
 
 // The same under the standard format, whose fields the compiler then folds into the code.
@@ -212,10 +225,7 @@ pub(crate) fn standard_over_cursor<T: Integer>(bytes: &[u8]) -> Result<T>
 {
     match answer_in_radix::<T>(bytes, &format::STANDARD, 10) {
         Some(answer) => answer,
-        None => {
-            let mut c = Cursor::new(bytes, &format::STANDARD);
-            algorithm_complete_on::<T>(&mut c, &options::STANDARD)
-        }
+        None => complete_by_cursor::<T>(bytes, &format::STANDARD, &options::STANDARD),
     }
 }
 
@@ -286,6 +296,18 @@ pub(crate) fn partial_with_marks<T: Integer>(
     }
 }
 
+#[inline(always)]
+fn partial_by_cursor<T: Integer>(
+    bytes: &[u8],
+    format: &NumberFormat,
+    options: &Options,
+) -> Result<(T, usize)>
+    requires { IsNone (fault format.now) }
+    ensures { view_of (with_place T.number) result ≡ partial format.now T.TYPE bytes.now }
+{
+    algorithm_partial_on::<T>(&mut Cursor::new(bytes, format), options)
+}
+
 #[inline(never)]
 fn partial_over_cursor<T: Integer>(
     bytes: &[u8],
@@ -295,7 +317,7 @@ fn partial_over_cursor<T: Integer>(
     requires valid { IsNone (fault format.now) }
     ensures { view_of (with_place T.number) result ≡ partial format.now T.TYPE bytes.now }
 {
-    algorithm_partial_on::<T>(&mut Cursor::new(bytes, format), options)
+    partial_by_cursor::<T>(bytes, format, options)
 }
 
 // The same under the standard format, behind a plus too.
@@ -313,6 +335,5 @@ pub(crate) fn standard_partial_over_cursor<T: Integer>(bytes: &[u8]) -> Result<(
 fn standard_partial_from_cursor<T: Integer>(bytes: &[u8]) -> Result<(T, usize)>
     ensures { view_of (with_place T.number) result ≡ partial standard T.TYPE bytes.now }
 {
-    let mut front = Cursor::new(bytes, &format::STANDARD);
-    algorithm_partial_on::<T>(&mut front, &options::STANDARD)
+    partial_by_cursor::<T>(bytes, &format::STANDARD, &options::STANDARD)
 }

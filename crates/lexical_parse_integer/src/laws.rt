@@ -103,7 +103,6 @@ pub fn numeral<T: Integer>(text: &[u8], radix: u32) -> Result<T>
 /// Lean on it where numbers come filled up to a width, as in columns and counters.
 ///
 /// `-128` and `-00128` both give -128 as `i8`.
-#[tactic(auto, using(crate::proofs::theorems::ZerosInFront::answers_padded))]
 pub fn zeros_in_front<T: Integer>(text: &[u8], padded: &[u8]) -> (Result<T>, Result<T>)
     ensures first { view_of T.number result.0 ≡ complete standard T.TYPE text.now }
     ensures second { view_of T.number result.1 ≡ complete standard T.TYPE padded.now }

@@ -1,7 +1,8 @@
 -- What few turns come to, in plain numbers: for `laws::turns`.
-use Rattle.std.proofs.Common.{◌≡◌, ℕ, ◌+◌, ◌-◌, ◌≤◌, Bool, true, false, min, List, Ok, refl, arith}
+use Rattle.std.proofs.Common.{◌≡◌, ℕ, ◌+◌, ◌-◌, ◌≤◌, Bool, true, false, min, List, Err, Ok, refl, arith}
 use Rattle.std.specs.Prelude.{◌/◌, ◌%◌, nat_le, IsNone}
 use Rattle.std.proofs.lemmas.Bool.{le-leb}
+use Rattle.lexical_util.specs.declared.error.Error.{Error}
 use Rattle.lexical_util.specs.Format.{Format}
 use Rattle.lexical_util.specs.Number.{integer_type, overflow_digits}
 use Rattle.lexical_parse_integer.specs.Head.{Head, head_of}
@@ -26,6 +27,10 @@ digits_after f text head = digit_count (numeral_in f text head.start head.radix)
 bound : (width bits : ℕ) (same : width ≡ bits) (s : Bool) (f : Format) (text : List ℕ) (turns : ℕ) → (AsksWords width false f → HasFewTurns f (integer_type bits s) text turns) → IsNone f.digit_separator → 32 ≤ width → (head : Head) → head_of f (integer_type bits s) text ≡ Ok head → head.radix ≤ 10
     → turns ≤ turns_bound (digits_per_word bits) (overflow_digits (integer_type bits s) head.radix) (digits_after f text head)
 bound width bits same s f text turns few none wide head is ten = (rw is at few (record { multi = refl; wide = wide; contiguous = none })) ten
+
+-- a fault of the sign takes no turn
+pub at_fault : (width bits : ℕ) (same : width ≡ bits) (s : Bool) (f : Format) (text : List ℕ) (turns : ℕ) → (AsksWords width false f → HasFewTurns f (integer_type bits s) text turns) → IsNone f.digit_separator → 32 ≤ width → (error : Error) → head_of f (integer_type bits s) text ≡ Err error → turns ≡ 0
+at_fault width bits same s f text turns few none wide error is = rw is at few (record { multi = refl; wide = wide; contiguous = none })
 
 -- at most the digits that have room
 within : (w o d turns : ℕ) → turns ≤ turns_bound w o d → d ≤ o → turns ≤ d / w + d % w

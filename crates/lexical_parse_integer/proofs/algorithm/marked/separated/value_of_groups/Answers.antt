@@ -1,8 +1,14 @@
 use Rattle.std.proofs.Common.{◌≡◌, ◌<◌, ◌∙◌, ap, arith, get_or, is_some, length, subst, sym, Bool, None, Some, true}
 use Rattle.lexical_util.specs.Digit.{digit}
-use Rattle.lexical_parse_integer.proofs.marked.PartedFronts.{IsParted, digit_parted, digit_worth, parted_grouped, separator_parted, separator_worth}
+use Rattle.lexical_parse_integer.proofs.marked.PartedFronts.{IsParted, all_worth, digit_parted, digit_worth, nothing_parted, nothing_worth, parted_grouped, separator_parted, separator_worth}
 use Rattle.lexical_parse_integer.proofs.algorithm.marked.separated.value_of_groups.Goals as goal
 use Rattle.lexical_parse_integer.proofs.algorithm.marked.separated.value_of_groups.Goals.{in-Some+in-Some-with_digit, in-None+else-byte-separator+else-not-may_part}
+
+pub loop-byte-init : goal.loop-byte-init
+loop-byte-init g c = record {
+  parted = nothing_parted _ _ _ c.args.bytes.now;
+  worth = nothing_worth _ _ _ c.args.bytes.now _ (ap g.T.Integer.number c.ZERO-value.ensures ∙ g.met.T.Integer.zero_law);
+}
 
 pub loop-byte-preserved : goal.loop-byte-preserved
 loop-byte-preserved g c =
@@ -28,3 +34,6 @@ loop-byte-preserved g c =
 pub returns-clause-grouped : goal.returns-clause-grouped
 returns-clause-grouped g c =
     parted_grouped _ _ c.args.separator _ c.args.bytes.now _ c.requires.separator c.requires.internal c.requires.some (omega (arith, c.loop-byte-test.false)) c.if-bytes-separator.false c.loop-byte.invariant.parted
+
+pub returns-clause-worth : goal.returns-clause-worth
+returns-clause-worth g c = all_worth _ _ _ c.args.bytes.now c.loop-byte.byte-index _ (omega (arith, c.loop-byte-test.false)) c.loop-byte.invariant.worth

@@ -4,7 +4,7 @@ use Rattle.lexical_util.specs.Digit.{digit}
 use Rattle.lexical_util.specs.Number.{mul_add}
 use Rattle.lexical_parse_integer.proofs.marked.DigitsAmong.{words_only, words_worth}
 use Rattle.lexical_parse_integer.proofs.marked.MarkedAnswers.{row_grouped}
-use Rattle.lexical_parse_integer.proofs.marked.PartedFronts.{worth_sign}
+use Rattle.lexical_parse_integer.proofs.marked.PartedFronts.{all_worth, worth_sign}
 use Rattle.lexical_parse_integer.proofs.marked.Threes.{row_ends, row_parted, three_ends, three_parted, three_worth, threes_grouped}
 use Rattle.lexical_parse_integer.proofs.plain.DigitsAlone.{if_found}
 use Rattle.lexical_parse_integer.proofs.algorithm.marked.threes.value_of_threes.Goals as goal
@@ -26,6 +26,18 @@ loop-place-init g c =
       worth = words_worth _ 10 _ _ _ refl c.in_ok-value.ensures;
     }
 
+pub three_at-requires : goal.three_at-requires
+three_at-requires g c = c.loop-place-test.true
+
+pub loop-place-smaller : goal.loop-place-smaller
+loop-place-smaller g c = omega arith
+
+pub with_three-requires-clause-bits : goal.with_three-requires-clause-bits
+with_three-requires-clause-bits g c = c.requires.bits
+
+pub with_three-requires-clause-small : goal.with_three-requires-clause-small
+with_three-requires-clause-small g c = c.in-Some.ensures.small
+
 pub with_three-requires-clause-sign : goal.with_three-requires-clause-sign
 with_three-requires-clause-sign g c = worth_sign _ _ _ _ _ c.loop-place.invariant.worth
 
@@ -44,3 +56,8 @@ pub returns-clause-grouped : goal.returns-clause-grouped
 returns-clause-grouped g c =
     let i = c.loop-place.invariant in
     threes_grouped _ c.args.separator c.args.bytes.now _ c.requires.separator c.requires.internal c.requires.no_digit c.requires.some (omega (arith, i.within, c.if-place-bytes.false)) i.ends i.parted
+
+pub returns-clause-worth : goal.returns-clause-worth
+returns-clause-worth g c =
+    let i = c.loop-place.invariant in
+    all_worth _ 10 _ c.args.bytes.now c.loop-place.place _ (omega (arith, i.within, c.if-place-bytes.false)) i.worth
