@@ -3,7 +3,7 @@ use Rattle.std.proofs.Common.{◌≡◌, ℕ, zero, suc, ◌+◌, ◌-◌, ◌*�
 use Rattle.std.proofs.lemmas.Bool.{lt-ltb}
 use Rattle.std.proofs.lemmas.Int.{ints}
 use Rattle.std.proofs.lemmas.Int.Digits.{digits_of_step, all_below_base_digits_of, length-digits_of-le}
-use Rattle.std.proofs.lemmas.List.{map-append, drop-set, append_assoc, length-append, length-drop, length-map, length-take-le, take-append-drop, take-take}
+use Rattle.std.proofs.lemmas.List.{map-append, drop-set, append_assoc, length-append, length-drop, length-map, length-take-le, take-append-drop, take_rest, take-take}
 use Rattle.std.proofs.Math.Seq.{take-append_seam}
 use Rattle.std.proofs.Math.Nat.{pow-suc, pow-succ', pow-zero}
 use Rattle.std.specs.Char.{digit_char}
@@ -113,6 +113,10 @@ few_digits (suc n) few =
 -- 39 digits at the end of an array of 40 leave room
 pub leaves_room : (n : ℕ) (place : List ℕ) (start : ℕ) → n < 10 ^ 39 → length place ≡ 40 → drop start place ≡ decimal_text n → 1 ≤ start
 leaves_room n place start few size written = omega (arith, size, few_digits n few, ap length written, length-drop start place)
+
+-- the digits at the end of that array
+pub digits_at_end : (place text : List ℕ) (start : ℕ) → length place ≡ 40 → drop start place ≡ text → take (40 - start) (drop start place) ≡ text
+digits_at_end place text start size written = subst (λ n. take (n - start) (drop start place) ≡ text) size (take_rest place start ∙ written)
 
 -- the digits fit where more have room
 pub room_behind : (n count digits : ℕ) → n < 10 ^ digits → n < 10 ^ (count + digits)

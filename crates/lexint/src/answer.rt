@@ -1,6 +1,6 @@
 //! One line's answer.
 
-ghost use Rattle.std.specs.Prelude.{◌≡◌, ◌∷◌, [], Some, ◌++◌, codes, OnOk, OnErr, IsOkUnless, option_map};
+ghost use Rattle.std.specs.Prelude.{◌≡◌, ◌<ℤ◌, ◌∷◌, [], Some, ◌++◌, codes, pos, OnOk, OnErr, IsOkUnless, option_map};
 ghost use Rattle.lexical_util.specs.Ascii.{line_feed, minus};
 ghost use Rattle.lexical_util.specs.Faults.{place_of};
 ghost use Rattle.lexint.specs.Command.{view_of_command};
@@ -211,8 +211,34 @@ fn put_signed<W: Write>(value: &Number, batch: &mut Batch, out: &mut W) -> Resul
     ensures fault { IsOkUnless result RunError.Write }
 {
     if value.is_negative() {
-        return put_negative(value.size(), batch, out);
+        return put_below_0(value, batch, out);
     }
+    put_from_0(value, batch, out)
+}
+
+// The digits of a number below 0, with its sign.
+#[inline(always)]
+fn put_below_0<W: Write>(value: &Number, batch: &mut Batch, out: &mut W) -> Result<(), RunError>
+    requires below { value.now <ℤ pos 0 }
+    ensures ok { OnOk result (Gathers (W.contents out.old) batch.old (W.contents out.new) batch.new
+        (signed_text value.now)) }
+    ensures front { GainsFront (W.contents out.old) (W.contents out.new)
+        (batch.old ++ signed_text value.now) }
+    ensures fault { IsOkUnless result RunError.Write }
+{
+    put_negative(value.size(), batch, out)
+}
+
+// The digits of a number from 0 up.
+#[inline(always)]
+fn put_from_0<W: Write>(value: &Number, batch: &mut Batch, out: &mut W) -> Result<(), RunError>
+    requires from_0 { value.now <ℤ pos 0 → ⊥ }
+    ensures ok { OnOk result (Gathers (W.contents out.old) batch.old (W.contents out.new) batch.new
+        (signed_text value.now)) }
+    ensures front { GainsFront (W.contents out.old) (W.contents out.new)
+        (batch.old ++ signed_text value.now) }
+    ensures fault { IsOkUnless result RunError.Write }
+{
     put_decimal(value.size(), batch, out)
 }
 

@@ -1,9 +1,16 @@
-use Rattle.std.proofs.Common.{arith, ◌≡◌, ◌<◌, length}
+use Rattle.std.proofs.Common.{arith, ◌≡◌, ◌<◌, ◌∙◌, ◌++◌, ap, length}
 use Rattle.std.proofs.lemmas.Bool.Decides.{nat_tests}
 use Rattle.std.proofs.lemmas.Result.{on_ok_weaker}
+use Rattle.lexint.specs.Lines.{lines}
+use Rattle.lexint.specs.Output.{answers}
 use Rattle.lexint.proofs.LineSteps.{Front-line, Sends-end, Sends-next, Sends-last}
-use Rattle.lexint.proofs.Sending.{front_more, sends_sent}
+use Rattle.lexint.proofs.Sending.{front_more, sends_held, sends_sent}
 use Rattle.lexint.proofs.program.run.Goals as goal
+
+pub loop-rest-init : goal.loop-rest-init
+loop-rest-init g c =
+    let texts = lines c.args.input.now in
+    sends_held _ _ _ (ap (λ batch. batch ++ answers c.standard-settings.result texts) c.new-batch.ensures ∙ ap (λ settings. answers settings texts) c.standard-settings.ensures)
 
 pub loop-rest-preserved : goal.loop-rest-preserved
 loop-rest-preserved g c =

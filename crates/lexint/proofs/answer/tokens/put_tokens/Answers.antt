@@ -1,10 +1,15 @@
-use Rattle.std.proofs.Common.{List, [], ◌∷◌, ◌++◌, subst}
+use Rattle.std.proofs.Common.{ℕ, List, [], ◌∷◌, ◌∙◌, ◌++◌, ap, subst}
 use Rattle.std.proofs.lemmas.Result.{on_ok_weaker}
-use Rattle.lexint.proofs.Sending.{front_first, front_more, front_piece, front_second, gathers_more, sends_more, sends_piece}
+use Rattle.lexint.proofs.Sending.{front_first, front_more, front_piece, front_second, gathers_more, sends_held, sends_more, sends_piece}
 use Rattle.lexint.specs.Gather.{Sends}
 use Rattle.lexint.specs.Output.{token_text, tokens_text}
 use Rattle.lexical_literals.specs.Tokens.{TokenView, view_of_token, tokens}
 use Rattle.lexint.proofs.answer.tokens.put_tokens.Goals as goal
+
+pub loop-token-init : goal.loop-token-init
+loop-token-init g c =
+    let whole : List TokenView → List ℕ = λ items. c.args.batch.now ++ tokens_text items in
+    sends_held _ _ _ (ap whole (c.into_iter-token-iterator.ensures.into_iter_gives ∙ c.new-token-items.ensures.tokens))
 
 pub loop-token-preserved : goal.loop-token-preserved
 loop-token-preserved g c =
