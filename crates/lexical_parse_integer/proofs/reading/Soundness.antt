@@ -1,13 +1,13 @@
 -- What keeps a cursor sound: for the answers of `cursor`.
-use Rattle.std.proofs.Common.{◌≡◌, ℕ, ◌+◌, ◌-◌, ◌≤◌, ◌<◌, Bool, true, false, List, [], ◌∷◌, length, length-append, ◌&&◌, ltb, Option, Some, None, is_some, IsNone, option_and_then, slice_get, refl, sym, ◌∙◌, ap, arith, inl, inr, cond}
+use Rattle.std.proofs.Common.{◌≡◌, ℕ, ◌+◌, ◌-◌, ◌≤◌, ◌<◌, Bool, true, false, List, [], ◌∷◌, length, length-append, ◌&&◌, ltb, Option, Some, None, is_some, IsNone, option_and_then, slice_get, refl, sym, ◌∙◌, ap, arith, inl, inr, cond, subst}
 use Rattle.std.proofs.lemmas.Bool.{false≢true, cases_lt, ltb-false, ltb-true}
 use Rattle.std.proofs.lemmas.Bool.Decides.{nat_tests}
 use Rattle.std.specs.Prelude.{nat_lt}
 use Rattle.std.proofs.lemmas.Option.{slice_get_past}
 use Rattle.lexical_parse_integer.specs.Affixes.{bare_radix, is_affix, literal_radix, marked_radix, matches, numeral_stop, octal_zero_at, prefix_radix, suffix_at}
-use Rattle.lexical_parse_integer.specs.CursorView.{CursorView, IsSound, IsSuffixNoDigit, IsSuffixNoSeparator, closes, numeral_end}
+use Rattle.lexical_parse_integer.specs.CursorView.{CursorView, IsSound, IsSuffixNoDigit, IsSuffixNoSeparator, ReachesEnd, TakesDigit, closes, numeral_end}
 use Rattle.lexical_parse_integer.specs.Runs.{are_same, is_in_numeral, digit_at, digits_between, end_of, places, separator_at}
-use Rattle.lexical_parse_integer.specs.Seeking.{Finds, IsSeparatorNoDigit}
+use Rattle.lexical_parse_integer.specs.Seeking.{Finds, HasNoDigit, IsSeparatorNoDigit}
 use Rattle.lexical_util.specs.Digit.{digit}
 use Rattle.lexical_util.specs.Format.{Format}
 use Rattle.lexical_util.specs.Validity.{fault}
@@ -107,6 +107,23 @@ IsSound-end v place s open_now found =
       };
       once_closed = λ t. absurd (false≢true (sym open_now ∙ t));
     }
+
+-- what the steps do, by what was found
+pub takes_found : (v : CursorView) (turns place value : ℕ) → turns ≡ v.turns + 1 → Finds v.format v.radix v.bytes v.start v.position (Digit place value) → TakesDigit v (record v { position = place + 1; digits = v.digits + 1; turns = turns }) value
+takes_found v turns place value one_more found = record {
+  place = place;
+  from = found.0;
+  least = found.2;
+  before_end = found.1;
+  value_is = found.3;
+  after = ap (λ (n : ℕ). record v { position = place + 1; digits = v.digits + 1; turns = n }) one_more;
+}
+
+pub reaches_found : (v : CursorView) (place : ℕ) → Finds v.format v.radix v.bytes v.start v.position (End place) → ReachesEnd v (record v { position = place })
+reaches_found v place found = record {
+  none_left = subst (λ (e : ℕ). HasNoDigit v.radix v.bytes v.position e) found.0 found.1;
+  after = ap (λ (n : ℕ). record v { position = n }) found.0;
+}
 
 no_separator : (f : Format) (b : List ℕ) (k : ℕ) → f.digit_separator ≡ None → separator_at f b k ≡ false
 unfolding separator_at are_same

@@ -45,6 +45,9 @@ pub returns-clause-answer : goal.returns-clause-answer
 returns-clause-answer g c =
     rw c.place-2.ensures (sym (partial_value _ _ _ _ c.read.new.c (fact_of c.in_ok-front.ensures.found) c.if-lacks_digits.ensures))
 
+pub returns-clause-place : goal.returns-clause-place
+returns-clause-place g c = sym c.place-2.ensures
+
 pub returns-clause-over : goal.returns-clause-over
 returns-clause-over g c = fact_of c.in_ok-front.ensures.over
 

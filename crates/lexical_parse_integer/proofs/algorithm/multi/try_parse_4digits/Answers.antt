@@ -1,4 +1,4 @@
-use Rattle.std.proofs.Common.{◌<◌, ◌^◌, ◌∙◌, arith, refl, sym}
+use Rattle.std.proofs.Common.{◌<◌, ◌^◌, ◌∙◌, ap, arith, pos, refl, sym}
 use Rattle.std.proofs.lemmas.Bool.{false≢true}
 use Rattle.lexical_parse_integer.proofs.Folds.{fact_of}
 use Rattle.lexical_parse_integer.proofs.lanes.LentBytes.{are_lent, lanes_small, lent_size, none_told, some_told}
@@ -36,3 +36,17 @@ returns-in-None-value_of_4lanes-clause-digits g c =
 
 pub value_of_4lanes-requires-clause-least : goal.value_of_4lanes-requires-clause-least
 value_of_4lanes-requires-clause-least g c = let low = (fact_of c.sound.ensures).radix.low in omega (arith, c.radix.ensures)
+
+pub value_of_4lanes-requires-clause-greatest : goal.value_of_4lanes-requires-clause-greatest
+value_of_4lanes-requires-clause-greatest g c = let ten = c.requires.radix in omega (arith, c.radix.ensures)
+
+pub returns-in-Some-value_of_4lanes-clause-moved : goal.returns-in-Some-value_of_4lanes-clause-moved
+returns-in-Some-value_of_4lanes-clause-moved g c = c.take_digits.ensures
+
+pub returns-in-None-value_of_4lanes-clause-moved : goal.returns-in-None-value_of_4lanes-clause-moved
+returns-in-None-value_of_4lanes-clause-moved g c = refl
+
+pub returns-in-Some-value_of_4lanes-clause-value : goal.returns-in-Some-value_of_4lanes-clause-value
+returns-in-Some-value_of_4lanes-clause-value g c =
+    let w = are_lent c.args.c.now.radix c.radix.result c.args.c.now.bytes c.in-Some.bytes.now c.args.c.now.position 4 c.requires.radix c.in-Some.ensures.0 c.in-Some.ensures.1 c.radix.ensures in
+    c.from_u32.ensures ∙ ap pos ((some_told _ _ _ c.in-Some-value_of_4lanes.ensures).1 ∙ w.value)
