@@ -47,6 +47,13 @@ pub parts_fit : (t : IntegerType) (before whole last : ℤ) (n m : ℕ) → IsWi
 parts_fit t before whole last n m width long is_before few is_whole is_last rest =
     rw (is_before, is_whole, is_last) (long_is_number t.bits t.is_signed (n * 10000000000000000 + m) width long (omega arith))
 
+-- a part of up to sixteen digits, and eight after it
+pub three_fit : (t : IntegerType) (front scale last : ℤ) (n s m : ℕ) → IsWidth t.bits → 64 < t.bits → front ≡ pos n → n < 10000000000000000 → scale ≡ pos s → s ≤ 100000000 → last ≡ pos m → m < 100000000 →
+    IsNumber t ((front *ℤ scale) +ℤ last)
+three_fit t front scale last n s m width long is_front few is_scale low is_last rest =
+    let most : n * s ≤ 10000000000000000 * 100000000 = mul-le n s 10000000000000000 100000000 (omega arith) low in
+    rw (is_front, is_scale, is_last) (long_is_number t.bits t.is_signed (n * s + m) width long (omega arith))
+
 -- ---- what parts are worth
 
 pub parts_worth : (front scale last : ℤ) (n s m : ℕ) → front ≡ pos n → scale ≡ pos s → last ≡ pos m → (front *ℤ scale) +ℤ last ≡ pos (n * s + m)
