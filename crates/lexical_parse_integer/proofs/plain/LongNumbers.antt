@@ -1,12 +1,13 @@
 -- Numbers in parts: for the answers of `algorithm::plain::values` and `algorithm::plain::long_fronts`.
-use Rattle.std.proofs.Common.{◌≡◌, ℕ, ◌+◌, ◌*◌, ◌^◌, ◌<◌, ◌≤◌, Bool, true, false, refl, ap, ◌∙◌, arith, pos, Some, None}
-use Rattle.std.specs.Prelude.{ℤ, ◌+ℤ◌, ◌*ℤ◌, ◌≤ℤ◌, neg_ℤ, if◌then◌else◌}
+use Rattle.std.proofs.Common.{◌≡◌, ℕ, ◌+◌, ◌*◌, ◌^◌, ◌<◌, ◌≤◌, Bool, true, false, refl, ap, ◌∙◌, arith, pos, Option, Some, None, List, sym}
+use Rattle.std.specs.Prelude.{ℤ, ◌+ℤ◌, ◌*ℤ◌, ◌≤ℤ◌, neg_ℤ, if◌then◌else◌, IfSome}
 use Rattle.std.proofs.lemmas.Bool.{lt-ltb}
 use Rattle.std.proofs.lemmas.Bool.Decides.{nat_tests}
 use Rattle.std.proofs.lemmas.Nat.{mul-le}
 use Rattle.lexical_util.specs.Number.{IntegerType, IsNumber, IsWidth, integer_type, number_if_fits, is_number}
 use Rattle.lexical_util.specs.Number.IsWidth.{w8, w16, w32, w64, w128}
 use Rattle.lexical_parse_integer.specs.Parts.{signed_sum}
+use Rattle.lexical_parse_integer.specs.Plain.{WritesDecimal, WritesValue}
 use Rattle.lexical_parse_integer.specs.Value.{with_sign}
 
 -- ---- numbers of a type
@@ -46,6 +47,13 @@ pub parts_fit : (t : IntegerType) (before whole last : ℤ) (n m : ℕ) → IsWi
     IsNumber t ((before *ℤ whole) +ℤ last)
 parts_fit t before whole last n m width long is_before few is_whole is_last rest =
     rw (is_before, is_whole, is_last) (long_is_number t.bits t.is_signed (n * 10000000000000000 + m) width long (omega arith))
+
+-- a part of up to sixteen digits, and eight after it
+pub three_fit : (t : IntegerType) (front scale last : ℤ) (n s m : ℕ) → IsWidth t.bits → 64 < t.bits → front ≡ pos n → n < 10000000000000000 → scale ≡ pos s → s ≤ 100000000 → last ≡ pos m → m < 100000000 →
+    IsNumber t ((front *ℤ scale) +ℤ last)
+three_fit t front scale last n s m width long is_front few is_scale low is_last rest =
+    let most : n * s ≤ 10000000000000000 * 100000000 = mul-le n s 10000000000000000 100000000 (omega arith) low in
+    rw (is_front, is_scale, is_last) (long_is_number t.bits t.is_signed (n * s + m) width long (omega arith))
 
 -- ---- what parts are worth
 
@@ -88,3 +96,11 @@ sum_fits t value sum found = ap (is_number t) (sum_found t value sum found) ∙ 
     by_test : (fits : Bool) → Some value ≡ (if fits then Some sum else None) → fits ≡ true
     by_test true same = refl
     by_test false same = cc
+
+-- ---- what digits write
+
+-- a value that was found for the number of a text
+pub value_written : {V : Type 0} (number_of : V → ℤ) (t : IntegerType) (more : ℕ) (negative : Bool) (text : List ℕ) (number : ℕ) (found : Option V) → WritesDecimal more text number →
+    IfSome found (λ v. number_of v ≡ with_sign negative number) → IfSome found (λ v. IsNumber t (number_of v)) → IfSome found (λ v. WritesValue t more negative text (number_of v))
+value_written number_of t more negative text number None writes worth fits = tt
+value_written number_of t more negative text number (Some v) writes worth fits = record { number = number; writes = writes; worth = worth; fits = ap (is_number t) (sym worth) ∙ fits }

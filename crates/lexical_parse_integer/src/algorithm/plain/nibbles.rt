@@ -1,6 +1,6 @@
 // The values of hexadecimal digits: a few by bytes, more by two blocks that overlap. No branch hangs on a digit: a table
 // has the value of each byte, and for what is no digit one so large that the sum shows it.
-ghost use Rattle.std.specs.Prelude.{◌≡◌, ◌+◌, ◌*◌, ◌^◌, ◌<◌, ◌≤◌, IfSome, IsTrue, length, pos, unwrap_or};
+ghost use Rattle.std.specs.Prelude.{◌≡◌, ◌+◌, ◌*◌, ◌^◌, ◌<◌, ◌≤◌, ◌≤ℤ◌, IfSome, IsTrue, length, pos, unwrap_or};
 ghost use Rattle.lexical_util.specs.Digit.{digit};
 ghost use Rattle.lexical_util.specs.Number.{HasRoom};
 ghost use Rattle.lexical_parse_integer.specs.Plain.{StandsFor, WritesFront};
@@ -9,7 +9,7 @@ mod table;
 
 use crate::algorithm::plain::nibbles::table::VALUES;
 use crate::algorithm::plain::table::value_by_table;
-use crate::algorithm::plain::values::signed_value;
+use crate::algorithm::plain::values::{joined, signed_value};
 use lexical_util::num::Integer;
 
 // No eight digits write this number, or a greater one.
@@ -112,6 +112,16 @@ fn number_to_8(text: &[u8]) -> Option<u32>
     }
 }
 
+// What the first of two blocks is scaled by, where the second has eight digits.
+#[inline(always)]
+fn scale_of_blocks<T: Integer>() -> T
+    requires bits { 32 < T.TYPE.bits }
+    ensures value { T.number result ≡ pos 4294967296 }
+    ensures some { pos 1 ≤ℤ T.number result }
+{
+    joined::<T>(0x1_0000, 0x1_0000, 0)
+}
+
 // The number of nine to sixteen digits, where the type has room for them.
 #[inline(always)]
 fn number_to_16<T: Integer>(text: &[u8], most: usize) -> Option<T>
@@ -125,8 +135,7 @@ fn number_to_16<T: Integer>(text: &[u8], most: usize) -> Option<T>
     if T::BITS < 64 {
         return None;
     }
-    let half = T::from_u32(0x1_0000);
-    let scale = half.mul_add(half, T::ZERO, false);
+    let scale = scale_of_blocks::<T>();
     match numbers_of_blocks(text, 8) {
         Some((high, low)) => Some(T::from_u32(high).mul_add(scale, T::from_u32(low), false)),
         None => None,

@@ -92,21 +92,17 @@ fn scale_of_two<T: Integer>() -> T
     joined::<T>(100_000_000, 100_000_000, 0)
 }
 
-// Three parts of a number joined.
+// A part of a number joined with the sixteen digits behind it.
 #[inline(always)]
-fn number_of_three<T: Integer>(first: u32, second: u32, third: u32) -> T
-    requires bits { 64 < T.TYPE.bits }
-    requires first { first < 100000000 }
-    requires second { second < 100000000 }
-    requires third { third < 100000000 }
-    ensures value { T.number result
-        ≡ pos (first * 10000000000000000 + (second * 100000000 + third)) }
-    ensures positive { pos 0 ≤ℤ T.number result }
-    ensures fits { IsNumber T.TYPE (T.number result) }
+fn joined_long<T: Integer>(first: u32, rest: T) -> T
+    requires bits { 32 < T.TYPE.bits }
+    requires rest { pos 0 ≤ℤ T.number rest }
+    requires fits { IsNumber T.TYPE
+        (mul_add false (pos first) (pos 10000000000000000) (T.number rest)) }
+    ensures { T.number result
+        ≡ mul_add false (pos first) (pos 10000000000000000) (T.number rest) }
 {
-    let high = T::from_u32(first);
-    let low = joined::<T>(second, 100_000_000, third);
-    high.mul_add(scale_of_two::<T>(), low, false)
+    T::from_u32(first).mul_add(scale_of_two::<T>(), rest, false)
 }
 
 // The value of two parts of a number, where the type has it.
@@ -165,6 +161,22 @@ fn value_of_sum<T: Integer>(front: T, scale: T, last: T, negative: bool) -> T
     signed_value::<T>(front.mul_add(scale, last, false), negative)
 }
 
+// The value of a number of up to twenty-four digits, which every type of 128 bits has.
+#[inline(always)]
+fn long_value_to_24<T: Integer>(first: u32, high: u32, low: u32, negative: bool) -> T
+    requires bits { 64 < T.TYPE.bits }
+    requires minus { IsTrue negative → IsTrue T.TYPE.is_signed }
+    requires first { first < 100000000 }
+    requires high { high < 100000000 }
+    requires low { low < 100000000 }
+    ensures value { T.number result
+        ≡ with_sign negative (first * 10000000000000000 + (high * 100000000 + low)) }
+    ensures fits { IsNumber T.TYPE (T.number result) }
+{
+    let front = joined::<T>(first, 100_000_000, high);
+    value_of_sum::<T>(front, T::from_u32(100_000_000), T::from_u32(low), negative)
+}
+
 // The value of a number of sixteen to twenty-four digits, where the type has it.
 #[inline(always)]
 fn value_to_24<T: Integer>(first: u32, high: u32, low: u32, negative: bool) -> Option<T>
@@ -179,7 +191,7 @@ fn value_to_24<T: Integer>(first: u32, high: u32, low: u32, negative: bool) -> O
     ensures fits { IfSome result (λ value. IsNumber T.TYPE (T.number value)) }
 {
     if T::BITS > 64 {
-        return Some(signed_value::<T>(number_of_three::<T>(first, high, low), negative));
+        return Some(long_value_to_24::<T>(first, high, low, negative));
     }
     let front = joined::<T>(first, 100_000_000, high);
     value_if_fits::<T>(front, T::from_u32(100_000_000), T::from_u32(low), negative)
@@ -202,7 +214,8 @@ fn value_to_40<T: Integer>(front: (u32, u32, u32), back: (u32, u32), negative: b
         * 10000000000000000 + (back.0 * 100000000 + back.1))) }
     ensures fits { IfSome result (λ value. IsNumber T.TYPE (T.number value)) }
 {
-    let before = number_of_three::<T>(front.0, front.1, front.2);
+    let rest = joined::<T>(front.1, 100_000_000, front.2);
+    let before = joined_long::<T>(front.0, rest);
     let last = joined::<T>(back.0, 100_000_000, back.1);
     if front.0 < 1_000_000 {
         return Some(value_of_sum::<T>(before, scale_of_two::<T>(), last, negative));

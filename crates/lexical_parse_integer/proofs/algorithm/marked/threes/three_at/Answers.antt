@@ -1,4 +1,4 @@
-use Rattle.std.proofs.Common.{ℕ, ◌≡◌, ◌+◌, ◌*◌, ◌-◌, get_or, ap, arith, sym, subst, Some, ◌∙◌}
+use Rattle.std.proofs.Common.{ℕ, ◌≡◌, ◌+◌, ◌-◌, get_or, ap, arith, sym, subst, Some, ◌∙◌}
 use Rattle.std.specs.Prelude.{IfSome}
 use Rattle.lexical_util.specs.Digit.{digit}
 use Rattle.lexical_parse_integer.proofs.marked.Threes.{in_four}
