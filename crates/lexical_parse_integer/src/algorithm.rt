@@ -296,6 +296,7 @@ pub(crate) fn partial_with_marks<T: Integer>(
     }
 }
 
+// The same of the front of the text.
 #[inline(always)]
 fn partial_by_cursor<T: Integer>(
     bytes: &[u8],
