@@ -69,12 +69,14 @@ static void faults_of_texts(void)
     EXPECT(jadvolni_u8, uint8_t, NO_FORMAT, "1a", JADVOLNI_INVALID_DIGIT, 1, 77);
     EXPECT(jadvolni_i64, int64_t, NO_FORMAT, "1\0002", JADVOLNI_INVALID_DIGIT, 1, 77);
     EXPECT(jadvolni_u8, uint8_t, NO_FORMAT, "+", JADVOLNI_EMPTY, 1, 77);
+    EXPECT(jadvolni_usize, size_t, NO_FORMAT, "", JADVOLNI_EMPTY, 0, 77);
     EXPECT(jadvolni_i64_with_format, int64_t, UNDER(with_sign), "12", JADVOLNI_MISSING_SIGN, 0, 77);
     EXPECT(jadvolni_i64_with_format, int64_t, UNDER(with_sign), "-12", JADVOLNI_OK, 3, -12);
     EXPECT(jadvolni_i32_with_format, int32_t, UNDER(json), "+1", JADVOLNI_INVALID_POSITIVE_SIGN, 0, 77);
     EXPECT(jadvolni_i32_with_format, int32_t, UNDER(json), "-01", JADVOLNI_INVALID_LEADING_ZEROS, 1, 77);
     EXPECT(jadvolni_u64_partial, uint64_t, NO_FORMAT, "1234 }, {\"Key\"", JADVOLNI_OK, 4, 1234);
     EXPECT(jadvolni_u32_partial, uint32_t, NO_FORMAT, "-12345", JADVOLNI_OK, 0, 0);
+    EXPECT(jadvolni_i8_partial, int8_t, NO_FORMAT, "-128 }", JADVOLNI_OK, 4, INT8_MIN);
 }
 
 /* The rules that a format may break, in their order. */
@@ -121,10 +123,13 @@ static void formats(void)
     hexadecimal.base_prefix = 'x';
     EXPECT(jadvolni_i64_with_format, int64_t, UNDER(hexadecimal), "-0XfF", JADVOLNI_OK, 5, -255);
     EXPECT(jadvolni_u8_with_format, uint8_t, UNDER(hexadecimal), "0x", JADVOLNI_EMPTY, 2, 77);
+    EXPECT(jadvolni_u8_with_format, uint8_t, UNDER(hexadecimal), "0x1F", JADVOLNI_OK, 4, 31);
     /* A NUL behind each digit: 0 alone is no separator, and with the flag beside it it is. */
     utf16.integer_internal_digit_separator = 1;
     utf16.integer_trailing_digit_separator = 1;
     EXPECT(jadvolni_u16_with_format, uint16_t, UNDER(utf16), "1\0002\0003\0", JADVOLNI_INVALID_DIGIT, 1, 77);
+    utf16.digit_separator_is_nul = 255;
+    EXPECT(jadvolni_u16_partial_with_format, uint16_t, UNDER(utf16), "1\0002 3", JADVOLNI_OK, 3, 12);
     utf16.digit_separator_is_nul = 1;
     EXPECT(jadvolni_u16_with_format, uint16_t, UNDER(utf16), "1\0002\0003\0", JADVOLNI_OK, 6, 123);
     utf16.base_suffix_is_nul = 1;
@@ -182,6 +187,8 @@ static void halves(void)
 #ifdef __SIZEOF_INT128__
     CHECK(jadvolni_i128_number(i) < 0 && jadvolni_u128_number(u) == 5);
 #endif
+    r = jadvolni_i128("-1", 2, &i);
+    CHECK(r.status == JADVOLNI_OK && r.place == 2 && i.low == UINT64_MAX && i.high == -1);
     r = jadvolni_i128_partial("-1e5", 4, &i);
     CHECK(r.status == JADVOLNI_OK && r.place == 2 && i.low == UINT64_MAX && i.high == -1);
     r = jadvolni_i128_with_format("-18446744073709551616", 21, &standard, &i);
@@ -219,7 +226,7 @@ static void names(void)
 
 int main(void)
 {
-    CHECK(jadvolni_version() == JADVOLNI_VERSION);
+    CHECK(jadvolni_version() == JADVOLNI_VERSION && JADVOLNI_VERSION == 100);
     each_type();
     faults_of_texts();
     faults_of_formats();

@@ -100,15 +100,19 @@ static void faults_of_formats(void)
 static void separators(void)
 {
     jadvolni_format grouped = JADVOLNI_FORMAT_STANDARD, prefixed = JADVOLNI_FORMAT_STANDARD;
+    jadvolni_format hexadecimal = JADVOLNI_FORMAT_STANDARD;
     grouped.digit_separator = '_';
     grouped.integer_internal_digit_separator = 1;
     prefixed.base_prefix = 'x';
+    hexadecimal.mantissa_radix = 16;
     EXPECT("1020", '0', STANDARD, JADVOLNI_OK, 4, 2, 1, 2);
     EXPECT("3+4", '+', STANDARD, JADVOLNI_OK, 3, 2, 3, 4);
     EXPECT("3--4", '-', STANDARD, JADVOLNI_EMPTY, 2, 1, 3, 77);
     EXPECT("1_2", '_', grouped, JADVOLNI_OK, 3, 2, 1, 2);
     EXPECT("1_2,3", ',', grouped, JADVOLNI_OK, 5, 2, 12, 3);
     EXPECT("0x1,2", 'x', prefixed, JADVOLNI_INVALID_DIGIT, 3, 1, 0, 77);
+    EXPECT("FF,10,", ',', hexadecimal, JADVOLNI_OK, 6, 2, 255, 16);
+    EXPECT("5\000-32768", 0, STANDARD, JADVOLNI_OK, 8, 2, 5, -32768);
     EXPECT("1\0002", 0, STANDARD, JADVOLNI_OK, 3, 2, 1, 2);
     EXPECT("1\3772", 255, STANDARD, JADVOLNI_OK, 3, 2, 1, 2);
     EXPECT("12", ',', STANDARD, JADVOLNI_OK, 2, 1, 12, 77);

@@ -8,7 +8,5 @@ pub mod halves;
 pub mod outcome;
 pub mod signed;
 pub mod slot;
-#[cfg(test)]
-mod tests;
 pub mod unsigned;
 pub mod version;

@@ -18,6 +18,3 @@ mod split;
 pub use columns::{Column, ColumnError, read_column};
 pub use iterator::{Field, Fields};
 pub use split::field_length;
-
-#[cfg(test)]
-mod tests;

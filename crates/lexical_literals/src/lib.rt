@@ -268,6 +268,3 @@ impl<'a> Iterator for Tokens<'a> {
         })
     }
 }
-
-#[cfg(test)]
-mod tests;

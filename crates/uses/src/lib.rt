@@ -8,6 +8,4 @@ pub mod json;
 pub mod ledger;
 mod narrow;
 pub mod source;
-#[cfg(test)]
-mod tests;
 pub mod toml;

@@ -1,6 +1,6 @@
 // Texts with their fields and what each stands for.
 
-use crate::{Field, Fields, field_length};
+use lexical_fields::{Field, Fields, field_length};
 use lexical_parse_integer::{Error, NumberFormatBuilder, Result as Parse, format, options};
 use std::process::Abort;
 

@@ -1,6 +1,6 @@
 // Columns that are meant to go wrong: no separator, nothing else, or one that means something else too.
 
-use crate::{Column, ColumnError, Fields, read_column};
+use lexical_fields::{Column, ColumnError, Fields, read_column};
 use lexical_parse_integer::{Error, NumberFormatBuilder, format, options};
 use std::test::Fail;
 

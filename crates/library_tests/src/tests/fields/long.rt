@@ -1,7 +1,7 @@
 // Long texts: 16 MiB of separators, or of one field.
 
 use super::hostile::{counts, read};
-use crate::{Column, ColumnError};
+use lexical_fields::{Column, ColumnError};
 use lexical_parse_integer::Error;
 use std::test::Fail;
 

@@ -1,6 +1,6 @@
 // Columns that are read, that have a fault, and that have more fields than there is room for.
 
-use crate::{Column, ColumnError, read_column};
+use lexical_fields::{Column, ColumnError, read_column};
 use lexical_parse_integer::parse::ParseInteger;
 use lexical_parse_integer::{Error, NumberFormatBuilder, format, options};
 use std::test::Fail;

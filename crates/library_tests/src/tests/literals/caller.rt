@@ -5,7 +5,7 @@ ghost use Rattle.lexical_literals.specs.TokenCallers.{first_fault, is_number};
 ghost use Rattle.lexical_literals.specs.Tokens.{tokens, tokens_if_valid};
 ghost use Rattle.lexical_parse_integer.specs.Answer.{view_of};
 
-use crate::{Kind, Tokens};
+use lexical_literals::{Kind, Tokens};
 use lexical_parse_integer::{Error, NumberFormat, NumberFormatBuilder, Result as Parse};
 use lexical_util::format::JSON;
 use std::alloc::{AllocError, Global};

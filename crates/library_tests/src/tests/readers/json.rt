@@ -3,8 +3,8 @@
 ghost use Rattle.std.specs.Prelude.{◌≡◌, ◌<◌, Some, length};
 ghost use Rattle.uses.specs.Json.{settled_at};
 
-use crate::json::{NumberError, Part, integer_part};
 use lexical_parse_integer::Error;
+use uses::json::{NumberError, Part, integer_part};
 
 // A reader that cuts its buffer behind the place of a final answer, and asks again.
 fn before_and_after_cut(

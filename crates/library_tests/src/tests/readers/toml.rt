@@ -1,6 +1,6 @@
 // Tests of the reader of TOML.
-use crate::toml::{integer, setting};
 use lexical_parse_integer::Error;
+use uses::toml::{integer, setting};
 
 // TOML v1.0.0, "Integer": the integers of its text, and texts that it refuses.
 #[test]

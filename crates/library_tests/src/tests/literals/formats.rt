@@ -1,7 +1,7 @@
 // Sources and their tokens under formats of the caller's choice.
 
 use super::{Span, are_tokens};
-use crate::{Kind, Tokens, literal_format};
+use lexical_literals::{Kind, Tokens, literal_format};
 use lexical_parse_integer::{Error, NumberFormat, NumberFormatBuilder};
 use lexical_util::format::{JSON, STANDARD};
 use std::process::Abort;

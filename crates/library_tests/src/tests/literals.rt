@@ -4,7 +4,7 @@ mod caller;
 mod formats;
 mod tokens;
 
-use crate::{Kind, Tokens};
+use lexical_literals::{Kind, Tokens};
 use std::process::Abort;
 
 // What a token is, and where it starts and stops.

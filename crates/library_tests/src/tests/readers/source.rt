@@ -1,6 +1,6 @@
 // Tests of the readers of C and of Python.
-use crate::source::{c, python};
 use lexical_parse_integer::Error;
+use uses::source::{c, python};
 
 // C23, 6.4.4.1: the literals of its grammar, and texts that aren't.
 #[test]

@@ -1,7 +1,7 @@
 // Sources and their tokens.
 
 use super::{Span, are_tokens};
-use crate::{Kind, Token, Tokens, literal_format};
+use lexical_literals::{Kind, Token, Tokens, literal_format};
 use lexical_parse_integer::{Error, FromLexicalWithOptions, Result as Parse, options};
 use std::process::Abort;
 use std::test::Fail;

@@ -3,7 +3,7 @@
 ghost use Rattle.std.specs.Prelude.{◌≡◌, ◌<◌, ◌^◌, count_by, is_err, length, map, sum, IfOk};
 ghost use Rattle.lexical_fields.specs.Callers.{plain_fields, total};
 
-use crate::{ColumnError, Fields, read_column};
+use lexical_fields::{ColumnError, Fields, read_column};
 use lexical_parse_integer::{format, options};
 use std::alloc::{AllocError, Global};
 use std::test::Fail;

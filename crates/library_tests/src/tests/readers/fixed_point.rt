@@ -1,7 +1,7 @@
 // Prices and rates in units of the last digit, and texts that have none.
 
-use crate::fixed_point::{FixedPointError, fixed_point};
 use lexical_parse_integer::Error;
+use uses::fixed_point::{FixedPointError, fixed_point};
 
 #[test]
 fn prices_are_read_in_cents(rt: HostRuntime) {

@@ -1,7 +1,7 @@
 use Rattle.std.proofs.Common.{◌≡◌}
 use Rattle.lexical_literals.specs.TokenCallers.{first_fault}
 use Rattle.lexical_literals.specs.Tokens.{tokens}
-use Rattle.lexical_literals.proofs.tests.caller.first_fault.Given as goal
+use Rattle.library_tests.proofs.tests.literals.caller.first_fault.Given as goal
 
 -- no fault so far
 abbrev pub invariant-loop-token : goal.invariant-loop-token

@@ -1,7 +1,7 @@
 // Ledgers and their totals, and the first line that has none.
 
-use crate::ledger::{Entry, LedgerError, LineError, total};
 use lexical_parse_integer::Error;
+use uses::ledger::{Entry, LedgerError, LineError, total};
 
 #[test]
 fn a_line_has_a_name_and_an_amount(rt: HostRuntime) {

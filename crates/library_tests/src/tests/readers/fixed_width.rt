@@ -1,7 +1,7 @@
 // Rows of columns, and the first column that is not read.
 
-use crate::fixed_width::{RowError, values};
 use lexical_parse_integer::Error;
+use uses::fixed_width::{RowError, values};
 
 // A station's number, a day's number, and the tenths of a degree.
 const WIDTHS: [usize; 3] = [5, 3, 5];

@@ -1,7 +1,7 @@
 // Values of a configuration, and texts that are none.
 
-use crate::config::{ValueError, value};
 use lexical_parse_integer::Error;
+use uses::config::{ValueError, value};
 
 #[test]
 fn values_of_a_file_are_read(rt: HostRuntime) {
