@@ -22,7 +22,6 @@ use std::io::Write;
 
 /// Writes a line's answer and a line feed, and sets what the line sets. A line that asks for
 /// nothing is answered by `bad line`, and changes nothing. A refused write changes no setting.
-#[tactic(auto, unfolding(crate::specs::Output::answer_of, crate::specs::Output::settings_after))]
 pub fn answer<W: Write>(
     line: &[u8],
     settings: &mut Settings,

@@ -1,7 +1,7 @@
-use Rattle.std.proofs.Common.{◌≡◌, ℕ, List, [], ◌∷◌, ◌++◌, Option, ap, subst}
+use Rattle.std.proofs.Common.{◌≡◌, ℕ, List, [], ◌∷◌, ◌++◌, ◌∙◌, Option, ap, subst}
 use Rattle.lexint.specs.Command.{Command, command_in}
 use Rattle.lexint.specs.Gather.{GainsFront, Sends}
-use Rattle.lexint.specs.Output.{answer_of, command_answer}
+use Rattle.lexint.specs.Output.{answer_of, command_answer, command_effect, settings_after}
 use Rattle.lexint.specs.Settings.{Settings}
 use Rattle.lexint.proofs.Sending.{front_first, front_of_sent, front_second, gathers_more}
 use Rattle.lexint.proofs.answer.answer.Goals as goal
@@ -30,3 +30,11 @@ pub returns-clause-front : goal.returns-clause-front
 returns-clause-front g c =
     let gains : List ℕ → Type 0 = λ text. GainsFront (g.W.Write.contents c.args.out.now) (g.W.Write.contents c.put.new.out) (c.args.batch.now ++ (text ++ 10 ∷ [])) in
     subst gains (answer-of_command _ _ _ c.of-command.ensures) (front_of_sent _ _ _ _ (gathers_more _ _ _ _ _ _ _ (10 ∷ []) c.in_ok-tell.ensures.ok c.in_ok-put.ensures.ok))
+
+-- what a line's command sets is what the line sets
+effect-of_command : (settings after : Settings) (line : List ℕ) (command : Option Command) → after ≡ command_effect settings command → command ≡ command_in line → after ≡ settings_after settings line
+unfolding settings_after
+effect-of_command settings after line command e f = e ∙ ap (command_effect settings) f
+
+pub returns-clause-settings : goal.returns-clause-settings
+returns-clause-settings g c = effect-of_command _ _ _ _ c.obey.ensures c.of-command.ensures
