@@ -151,8 +151,7 @@ class Gate:
         self.start, self.lock = time.time(), threading.Lock()
         self.parts, self.ended = 0, 0
         self.cores = len(os.sched_getaffinity(0))
-        # `rt ci` takes every processor that it has work for. So the judge's checks fill those that it leaves idle, and
-        # each of them takes a little longer, as long as both run.
+        # `rt ci` takes every processor that it has work for, and the judge's checks fill those that it leaves idle.
         self.slots = Slots(self.checks_for(self.cores, MEMORY_OF_PROOFS))
 
     @staticmethod
@@ -272,9 +271,9 @@ class Gate:
             self.wait_for(self.crates[name])
             with self.slots.at((LIBRARY, 0)):
                 start = time.time()
-                ran = subprocess.run([RT, "lib", "--jobs", str(min(4, self.cores))], cwd=os.path.join(self.root, "crates", name),
-                                     stdin=subprocess.DEVNULL, stdout=subprocess.PIPE, stderr=subprocess.STDOUT,
-                                     text=True, errors="replace")
+                words = [*judge_edits.NICE, RT, "lib", "--jobs", str(min(4, self.cores))]
+                ran = subprocess.run(words, cwd=os.path.join(self.root, "crates", name), stdin=subprocess.DEVNULL,
+                                     stdout=subprocess.PIPE, stderr=subprocess.STDOUT, text=True, errors="replace")
             is_well = ran.returncode == 0
             if not is_well:
                 raise Failed(f"{name} is not proved:\n{ran.stdout[-4000:]}")

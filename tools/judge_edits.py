@@ -10,7 +10,7 @@ says nothing of the contract. edit_files.py says what a batch is, and check_outp
 --jobs N     so many checks at once; without it as many as there are processors and memory for
 --crate      this crate alone, also several times
 --only       these edits alone
---most N     at most so many edits in a batch, 60 unless it is given
+--most N     at most so many edits in a batch, 40 unless it is given
 --log        a line for each edit into this file, in place of standard output
 --said       keeps what each check said in this folder
 """
@@ -39,8 +39,10 @@ PARTS = ("src", "specs", "proofs")
 # Where a check keeps what it has proved, and how the names of its modules end there.
 KEPT = "out/incremental"
 MODULE = ".oantt"
-# What a check of the largest crate takes, and what is left to others.
+# What a check takes, most of them less and few more, and what is left to others.
 MEMORY, SPARE = 1.6e9, 1.5e9
+# Edits give way to what else runs: in the gate the longest chain of checks is that of `rt ci`.
+NICE = ["nice", "-n", "10"]
 
 
 def crates_below(root, name):
@@ -175,7 +177,7 @@ class Room:
         paths = list(paths)
         while True:
             words = (["--jobs", str(jobs)] if jobs else []) + [word for path in paths for word in ("--only", path)]
-            with subprocess.Popen([RT, "check", *words], cwd=self.folder, stdin=subprocess.DEVNULL,
+            with subprocess.Popen([*NICE, RT, "check", *words], cwd=self.folder, stdin=subprocess.DEVNULL,
                                   stdout=subprocess.PIPE, stderr=subprocess.STDOUT, errors="replace") as started:
                 said = started.stdout.read()
                 _, status, used = os.wait4(started.pid, 0)
@@ -351,7 +353,7 @@ def options_of(words):
     parser.add_argument("--jobs", type=int)
     parser.add_argument("--crate", action="append")
     parser.add_argument("--only", nargs="+", default=[])
-    parser.add_argument("--most", type=int, default=60)
+    parser.add_argument("--most", type=int, default=40)
     parser.add_argument("--log")
     parser.add_argument("--said")
     parser.add_argument("--root", default=ROOT)

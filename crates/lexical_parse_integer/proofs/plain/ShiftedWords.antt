@@ -154,7 +154,7 @@ pub record HoldsFront (k word shifted : ℕ) : Type 0 where
   pub digits : AreDigits 10 (word_bytes 4 shifted)
   pub worth : word_value 10 (word_bytes 4 shifted) ≡ word_value 10 (take k (word_bytes 4 word))
 
-pub holds_front : (k word : ℕ) → 1 ≤ k → k ≤ 4 → word < 4294967296 → AreDigits 10 (word_bytes 4 word) → HoldsFront k word ((word - 808464432) * 2 ^ (32 - 8 * k) % 4294967296 + 808464432)
+holds_front : (k word : ℕ) → 1 ≤ k → k ≤ 4 → word < 4294967296 → AreDigits 10 (word_bytes 4 word) → HoldsFront k word ((word - 808464432) * 2 ^ (32 - 8 * k) % 4294967296 + 808464432)
 holds_front k word low high less all =
     let bs : List ℕ = word_bytes 4 word in
     let ascii = ascii_from_digits 10 bs (omega arith) all in
@@ -172,6 +172,10 @@ holds_front k word low high less all =
       digits = subst (λ (cs : List ℕ). AreDigits 10 cs) (sym bytes) (digits_from_ascii 10 (padded (4 - k) front) (omega arith) taken);
       worth = ap (word_value 10) bytes ∙ padded_value (4 - k) front;
     }
+
+pub holds_shifted : (k shift word : ℕ) → shift ≡ 32 - 8 * k → 1 ≤ k → k ≤ 4 → word < 4294967296 → AreDigits 10 (word_bytes 4 word) → HoldsFront k word ((word - 808464432) * 2 ^ shift % 4294967296 + 808464432)
+holds_shifted k shift word is low high less all =
+    subst (λ (s : ℕ). HoldsFront k word ((word - 808464432) * 2 ^ s % 4294967296 + 808464432)) (sym is) (holds_front k word low high less all)
 
 take_twice : (j k : ℕ) (bs : List ℕ) → j ≤ k → take j (take k bs) ≡ take j bs
 take_twice zero k bs few = refl

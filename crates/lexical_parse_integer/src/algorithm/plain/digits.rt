@@ -171,16 +171,17 @@ pub(in crate::algorithm) fn number_of_4digits(word: u32) -> u32
     pairs.wrapping_mul(100 * 0x1_0000 + 1) >> 16
 }
 
-// The number that the first digits of a word of four write: the rest is shifted out.
+// The number of the first digits of a word of four: of a text of so many bytes, those before the last four. The rest is
+// shifted out.
 #[inline(always)]
-fn number_of_first_of_four(word: u32, count: usize) -> u32
-    requires some { 1 ≤ count }
-    requires few { count ≤ 4 }
+fn number_of_first_of_four(word: u32, length: usize) -> u32
+    requires some { 4 < length }
+    requires few { length ≤ 8 }
     requires digits { AreDigits 10 (word_bytes 4 word) }
-    ensures value { result ≡ word_value 10 (take count (word_bytes 4 word)) }
+    ensures value { result ≡ word_value 10 (take (length - 4) (word_bytes 4 word)) }
     ensures small { result < 10000 }
 {
-    let shift = 32 - 8 * count as u32;
+    let shift = 64 - 8 * length as u32;
     let first = (word - 0x3030_3030) << shift;
     number_of_4digits(first + 0x3030_3030)
 }
@@ -202,7 +203,7 @@ pub(super) fn number_to_8(text: &[u8]) -> Option<u32>
     if !(is_4digits(first, 10) & is_4digits(last, 10)) {
         return None;
     }
-    let front = number_of_first_of_four(first, n - 4);
+    let front = number_of_first_of_four(first, n);
     Some(front * 10000 + number_of_4digits(last))
 }
 
