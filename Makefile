@@ -6,7 +6,7 @@ PROGRAM := crates/lexint/out/lexint
 PROGRAM_CRATES := lexint $(shell sed -n 's/^lexint: *//p' crates.txt)
 SOURCES := $(shell find $(addprefix crates/,$(PROGRAM_CRATES)) -name out -prune -o -type f \( -name '*.rt' -o -name '*.antt' \) -print) crates.txt
 
-.PHONY: help toolchain run test test-one-by-one devices lexint install uninstall install-lexint uninstall-lexint rows docs
+.PHONY: help toolchain run test test-one-by-one devices answers lexint install uninstall install-lexint uninstall-lexint rows docs
 .PHONY: check-docs check-languages bench judge test-judge must-not-compile fuzz fuzz-edges
 
 # A target is listed by the words after its two number signs.
@@ -37,6 +37,9 @@ test-one-by-one: | toolchain ## the gate, with each edit tried alone by the tool
 devices: $(PROGRAM) ## runs the program over devices that refuse; a part of the gate
 	@RT=$(RT) tools/devices.py $(PROGRAM)
 
+answers: $(PROGRAM) ## has the program answer every worked row; a part of the gate
+	@tools/run_rows.py $(PROGRAM)
+
 install: install-lexint install-lib ## puts the program and the library where users look: PREFIX, DESTDIR
 
 uninstall: uninstall-lexint uninstall-lib ## takes both away
@@ -51,7 +54,7 @@ uninstall-lexint:
 
 include tools/lib.mk
 
-rows: | toolchain ## writes the theorems and tests of the worked rows from tools/rows.txt and tools/languages.txt
+rows: | toolchain ## writes the theorems of the worked rows from tools/rows.txt and tools/languages.txt
 	@python3 tools/rows.py
 	@cd crates/rows && $(RT) fmt
 

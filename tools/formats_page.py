@@ -20,7 +20,7 @@ use lexical_parse_integer::{FromLexicalWithOptions, options};
 let answer = u64::from_lexical_with_options(b"0x_1F", &languages::rust(), &options::STANDARD); // Ok(31)
 ```
 
-Each function's contract says the fields of its format, and that the format is valid. Each row below is a theorem about the definitions of [GRAMMAR.md](GRAMMAR.md), and a test that runs the call; its answer was worked out by hand from the language's reference. `make docs` writes this page from `tools/languages.txt`, and `make check-languages` compares the formats with the compilers and interpreters that it finds.
+Each function's contract says the fields of its format, and that the format is valid. Each row below is a theorem about the definitions of [GRAMMAR.md](GRAMMAR.md), and a line that the built program answers; its answer was worked out by hand from the language's reference. `make docs` writes this page from `tools/languages.txt`, and `make check-languages` compares the formats with the compilers and interpreters that it finds.
 
 What holds for each of them:
 

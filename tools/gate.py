@@ -16,6 +16,7 @@ gate      tests of this script, in which no prover runs
 judge     tests of the judge
 programs  what must_not_compile.txt has is refused, or proved
 devices   the programs that `rt ci` has built, over devices that refuse
+answers   the same programs answer every worked row
 callers   the library for C is built, and its callers in C, C++ and Rust run; what no compiler is there for is counted
 
 With --one-by-one `rt ci` tries the edits itself, each in a check of its own, in place of the judge.
@@ -172,6 +173,7 @@ class Gate:
                  "gate": (None, self.tests_of_gate),
                  "judge": (None, self.tests_of_judge),
                  "programs": (self.libraries_are_built, self.programs), "devices": (self.proofs_passed, self.devices),
+                 "answers": (self.proofs_passed, self.answers),
                  "callers": (self.all_is_built, self.callers)}
         if self.is_one_by_one:
             del parts["edits"], parts["judge"]
@@ -333,10 +335,17 @@ class Gate:
         with self.slots.at((SINGLE, 0)):
             return last_line(self.tool("must_not_compile.py"))
 
-    def devices(self):
+    def of_built(self, script):
+        """Runs a script of tools/ on the programs that `rt ci` has built."""
         out = os.path.join(self.proofs_root, "crates", "lexint", "out")
         built = [os.path.join(out, name) for name in ("lexint", "lexint.by-rattle")]
-        return last_line(self.tool("devices.py", *built, root=self.proofs_root))
+        return last_line(self.tool(script, *built, root=self.proofs_root))
+
+    def devices(self):
+        return self.of_built("devices.py")
+
+    def answers(self):
+        return self.of_built("run_rows.py")
 
     def callers(self):
         with self.slots.at((SINGLE, 0)):

@@ -1,5 +1,5 @@
 #!/usr/bin/env python3
-"""Writes the worked rows of tools/rows.txt and tools/languages.txt as theorems and as tests.
+"""Writes the worked rows of tools/rows.txt and tools/languages.txt as theorems.
 
     python3 tools/rows.py            writes the files
     python3 tools/rows.py --check    writes nothing, and fails where a file is not what it would write
@@ -11,11 +11,12 @@ The second file has the integers of languages. Its rows name a language's format
 the language stands between the rows; tools/formats_page.py makes docs/FORMATS.md of it.
 
 Each row becomes a theorem, `complete FORMAT TYPE TEXT ≡ ANSWER`, or the same of `partial` or `fault`, with the proof
-`refl`; a row of fields becomes `LANGUAGE ≡ FORMAT`. The check computes the definitions on that text, so it refuses a row and a definition that disagree. Each
-group of rows becomes a test, which runs the calls. The files are, below crates/rows,
+`refl`; a row of fields becomes `LANGUAGE ≡ FORMAT`. The check computes the definitions on that text, so it refuses a
+row and a definition that disagree. A row of fields becomes a test too. tools/run_rows.py has the built program answer
+the others. The files are, below crates/rows,
 
     proofs/rows/FILE.antt     the theorems, and proofs/rows.antt, which declares these files
-    src/tests/FILE.rt         the tests, over the helpers in src/tests.rt
+    src/tests/languages.rt    the tests of the ready formats
 
 `rt fmt` lays the tests out behind this, so they are compared but for white space and trailing commas.
 Needs Python 3.8 and nothing else.
@@ -342,10 +343,6 @@ def theorems(file):
 
 # ---- tests
 
-HELPERS = ("are_refused are_valid complete complete_in_radixes complete_with partial partial_in_radixes "
-           "partial_with").split()
-
-
 def rust_value(name, value):
     """The value of a field."""
     if isinstance(value, bool):
@@ -361,113 +358,24 @@ def rust_builder(fields):
     return "NumberFormatBuilder::new()" + "".join(f".{name}({rust_value(name, value)})" for name, value in fields)
 
 
-def rust_format(fields):
-    """A format with these fields, or of this name."""
-    if is_ready(fields):
-        return f"languages::{fields[0]}()"
-    if is_radix_alone(fields):
-        return f"NumberFormatBuilder::from_radix({fields[0][1]})"
-    return rust_builder(fields) + ".build_unchecked()"
-
-
-def is_radix_alone(fields):
-    """Whether the radix is the only field."""
-    return len(fields) == 1 and not is_ready(fields) and fields[0][0] == "mantissa_radix"
-
-
-def rust_answer(row):
-    """What a test expects of a parse."""
-    name, numbers = row.answer[0], row.answer[1:]
-    if name != "Ok":
-        return f"Err(Error::{name}({numbers[0]}))" if numbers else f"Err(Error::{name})"
-    return f"Ok(({numbers[0]}, {numbers[1]}))" if row.parser == "partial" else f"Ok({numbers[0]})"
-
-
-def rust_row(row):
-    """A text, and what is expected."""
-    return f'b"{escaped(row.text)}", {rust_answer(row)}'
-
-
-def sorted_into(rows, key):
-    """The rows by a key of theirs, in the order in which each key comes first."""
-    found = {}
-    for row in rows:
-        found.setdefault(key(row), []).append(row)
-    return found.items()
-
-
-def rust_table(rows, fields):
-    """A call of a helper, for parses by one parser, under one format and for one type."""
-    call = f"{rows[0].parser}_with" if fields else rows[0].parser
-    argument = "&JSON, " if fields == JSON else "&format, " if fields else ""
-    table = "".join(f"({rust_row(row)})," for row in rows)
-    return f"{call}::<{rows[0].type}>(&rt, {argument}&[{table}]);\n"
-
-
-def are_in_radixes(rows):
-    """Whether parses by one parser and for one type differ in their radixes, and in no other field."""
-    alike = {(row.parser, row.type) for row in rows}
-    radixes = {row.fields for row in rows}
-    return len(alike) == 1 and len(radixes) > 3 and all(is_radix_alone(fields) for fields in radixes)
-
-
-def rust_parses(rows):
-    """The statements that test parses."""
-    if are_in_radixes(rows):
-        table = "".join(f"({row.fields[0][1]}, {rust_row(row)})," for row in rows)
-        return f"{rows[0].parser}_in_radixes::<{rows[0].type}>(&rt, &[{table}]);\n"
-    code = ""
-    for fields, alike in sorted_into(rows, lambda row: row.fields):
-        code += f"let format = {rust_format(fields)};\n" if fields not in (STANDARD, JSON) else ""
-        for _, table in sorted_into(alike, lambda row: (row.parser, row.type)):
-            code += rust_table(table, fields)
-    return code
-
-
-def rust_formats(rows):
-    """The statements that test formats."""
-    code = ""
-    for (name,), alike in sorted_into(rows, lambda row: row.answer):
-        builders = "".join(rust_builder(row.fields) + "," for row in alike if row.fields != JSON)
-        call = "are_valid(&rt, " if name == "valid" else f"are_refused(&rt, Error::{name}, "
-        code += f"{call}&[{builders}]);\n"
-        if any(row.fields == JSON for row in alike):
-            code += "assert_eq!(rt; JSON.error(), None);\n"
-    return code
-
-
 def rust_fields(row):
     """The statement that tests the fields of a language's format."""
     builder = rust_builder(row.answer)
     return f"assert_eq!(rt; languages::{row.fields[0]}(), {builder}.build_unchecked());\n"
 
 
-def rust_test(group):
-    """A group's test, none where another runs its rows."""
-    formats = [row for row in group.rows if row.parser == "format"]
-    parses = [row for row in group.rows if row.parser in ("complete", "partial") and not row.is_long]
-    code = "".join(rust_fields(row) for row in group.rows if row.parser == "fields")
-    code += (rust_formats(formats) if formats else "") + (rust_parses(parses) if parses else "")
-    head = f"// {group.shows[0].upper()}{group.shows[1:]}.\n#[test]\nfn {group.name}(rt: HostRuntime) "
+def test_of_formats(file):
+    """The test of the ready formats whose rows a file has, none where it has none."""
+    code = "".join(rust_fields(row) for group in file.groups for row in group.rows if row.parser == "fields")
+    head = f"// {file.shows[0].upper()}{file.shows[1:]}.\n#[test]\nfn {file.name}(rt: HostRuntime) "
     return head + "{\n" + code + "}\n" if code else ""
 
 
-def rust_use(module, names, code):
-    """The import of those of the names that the code has."""
-    used = [name for name in names if re.search(rf"\b{name}\b", code)]
-    if not used:
-        return ""
-    return f"use {module}::" + (used[0] if len(used) == 1 else "{" + ", ".join(used) + "}") + ";\n"
-
-
-def tests(file):
-    """The tests of a file."""
-    body = "\n".join(test for test in map(rust_test, file.groups) if test)
-    code = re.sub(r'"(?:[^"\\]|\\.)*"|//[^\n]*|fn \w+', "", body)
-    own = [rust_use("lexical_parse_integer", ["Error", "NumberFormatBuilder"], code),
-           rust_use("lexical_parse_integer::format", ["JSON", "languages"], code)]
-    uses = rust_use("super", HELPERS, code) + "".join(sorted(own))
-    return f"// Worked rows: {file.shows}.\n// {WRITTEN.format(file.data)}\n{uses}\n{body}"
+def tests(files):
+    """The tests of the ready formats."""
+    body = "\n".join(test for test in map(test_of_formats, files) if test)
+    uses = "use lexical_parse_integer::NumberFormatBuilder;\nuse lexical_parse_integer::format::languages;\n"
+    return f"// The fields of the ready formats.\n// {WRITTEN.format('languages.txt')}\n{uses}\n{body}"
 
 
 # ---- both
@@ -483,10 +391,10 @@ def all_files(files):
     modules = sorted(file.name.capitalize() for file in files)
     declared = "".join(f"pub mod {module}\n" for module in modules)
     written = WRITTEN.format("rows.txt and tools/languages.txt")
-    out = {"proofs/rows.antt": f"-- Worked rows, a file for each subject.\n-- {written}\n{declared}"}
+    out = {"proofs/rows.antt": f"-- Worked rows, a file for each subject.\n-- {written}\n{declared}",
+           "src/tests/languages.rt": tests(files)}
     for file in files:
         out[f"proofs/rows/{file.name.capitalize()}.antt"] = theorems(file)
-        out[f"src/tests/{file.name}.rt"] = tests(file)
     for path, text in out.items():
         if text.count("\n") > LONGEST:
             sys.exit(f"{path} would have more than {LONGEST} lines: split its part of the data")

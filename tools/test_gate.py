@@ -48,6 +48,7 @@ FILES = {
     "tools/test_judge.py": "print('Ran 3 tests in 1s')\n",
     "tools/must_not_compile.py": "print('4 programs, 0 failed')\n",
     "tools/devices.py": "import sys\nassert len(sys.argv) == 3\nprint('9 runs, 0 failed')\n",
+    "tools/run_rows.py": "import sys\nassert len(sys.argv) == 3\nprint('5 rows, 0 wrong answers')\n",
 }
 
 
@@ -102,7 +103,7 @@ class GateTests(unittest.TestCase):
 
     def test_all_is_well(self):
         status, said = self.said()
-        self.assertEqual((status, said.splitlines()[-1]), (0, "11 parts passed, 0 failed"), said)
+        self.assertEqual((status, said.splitlines()[-1]), (0, "12 parts passed, 0 failed"), said)
         self.assertIn("3 of 3 edits refused", said)
         self.assertIn("2 passed, 0 failed: 3 functions and 2 tests", said)
         self.assertIn("callers of the library: 6 passed", said)
@@ -136,7 +137,7 @@ class GateTests(unittest.TestCase):
         self.assertIn("its last line is not '5 passed, 0 failed'", self.said("--one-by-one")[1])
         self.write("said", "5 passed, 0 failed\n")
         status, said = self.said("--one-by-one")
-        self.assertEqual((status, said.splitlines()[-1]), (0, "9 parts passed, 0 failed"), said)
+        self.assertEqual((status, said.splitlines()[-1]), (0, "10 parts passed, 0 failed"), said)
 
     def test_the_proofs_run_without_edits_and_the_judge_with_them(self):
         self.write("rt", STAND_IN.replace("ci)", "ci) test ! -e crates/low/must-fail || exit 1;")
@@ -158,7 +159,7 @@ class GateTests(unittest.TestCase):
 
     def test_a_crate_that_is_not_proved(self):
         self.write("said", "1 passed, 0 failed\n")
-        self.fails("its last line is not '2 passed, 0 failed'", failed=2)
+        self.fails("its last line is not '2 passed, 0 failed'", failed=3)
 
     def test_a_library_that_is_not_proved_for_the_judge(self):
         self.write("rt", STAND_IN.replace("exit 0", "exit 1"))
@@ -166,11 +167,15 @@ class GateTests(unittest.TestCase):
 
     def test_no_toolchain(self):
         with mock.patch.object(gate, "RT", "/nowhere/rt"):
-            self.fails("No such file", failed=5)
+            self.fails("No such file", failed=6)
 
     def test_a_tool_that_fails(self):
         self.write("tools/devices.py", "import sys\nsys.exit(1)\n")
         self.fails("tools/devices.py ended with status 1")
+
+    def test_a_wrong_answer(self):
+        self.write("tools/run_rows.py", "import sys\nsys.exit(1)\n")
+        self.fails("tools/run_rows.py ended with status 1")
 
     def test_an_old_document(self):
         self.write("tools/documents.py", "import sys\nsys.exit(1)\n")

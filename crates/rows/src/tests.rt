@@ -1,35 +1,17 @@
-// What no clause says: that the definitions are those of worked texts, and that the calls answer so when they run.
-mod affixes;
+// What no clause says: that the calls answer hostile texts as a slow reading of the grammar does.
 mod beginnings;
-mod behind;
 mod bytes;
-mod cfamily;
-mod compiled;
-mod data;
-mod ends;
-mod flags;
-mod formats;
-mod functional;
 mod hostile_formats;
 mod hostile_words;
 mod huge;
+mod languages;
 mod lengths;
-mod literals;
-mod long;
-mod octal;
 mod parted;
-mod radixes;
 mod runs;
-mod scripting;
-mod separators;
-mod signs;
 mod slow;
 mod small;
-mod stops;
 mod whole;
-mod zeros;
 
-use lexical_parse_integer::format::STANDARD;
 use lexical_parse_integer::options::{LARGE_NUMBERS, SMALL_NUMBERS};
 use lexical_parse_integer::{
     Error, FromLexicalWithOptions, NumberFormat, NumberFormatBuilder, Options, Result,
@@ -40,41 +22,11 @@ use std::process::Abort;
 // A text, and what a parser answers to it.
 type Row<'a, A> = (&'a [u8], Result<A>);
 
-// A radix, a text, and what a parser answers to it.
-type RadixRow<'a, A> = (u8, &'a [u8], Result<A>);
-
 // Texts most of which have a fault of their own: one that is empty, and those with no digit, a value outside of a byte,
 // zeros in front, a prefix alone, or bytes of other kinds.
 const FAULTY: [&[u8]; 10] = [
     b"", b"+", b"+-", b"999", b"00", b"0x", b"_", b"1\xff", b"\0", b"1",
 ];
-
-// The complete parser under the standard format: with no options, and with either kind.
-fn complete<T>(rt: &impl Abort, rows: &[Row<'_, T>])
-where
-    T: FromLexicalWithOptions<Options = Options> + Debug,
-{
-    for (text, expected) in rows {
-        assert_eq!(rt; T::from_lexical(text), *expected, "{}", text.escape_ascii());
-    }
-    complete_with(rt, &STANDARD, rows);
-}
-
-// The partial parser under the standard format: with no options, and with either kind.
-fn partial<T>(rt: &impl Abort, rows: &[Row<'_, (T, usize)>])
-where
-    T: FromLexicalWithOptions<Options = Options> + Debug,
-{
-    for (text, expected) in rows {
-        assert_eq!(rt;
-            T::from_lexical_partial(text),
-            *expected,
-            "{}",
-            text.escape_ascii()
-        );
-    }
-    partial_with(rt, &STANDARD, rows);
-}
 
 // The complete parser under a format.
 fn complete_with<T>(rt: &impl Abort, format: &NumberFormat, rows: &[Row<'_, T>])
@@ -93,26 +45,6 @@ where
 {
     for (text, expected) in rows {
         is_partial(rt, format, text, expected);
-    }
-}
-
-// The complete parser in several radixes.
-fn complete_in_radixes<T>(rt: &impl Abort, rows: &[RadixRow<'_, T>])
-where
-    T: FromLexicalWithOptions<Options = Options> + Debug,
-{
-    for (radix, text, expected) in rows {
-        is_complete(rt, &NumberFormatBuilder::from_radix(*radix), text, expected);
-    }
-}
-
-// The partial parser in several radixes.
-fn partial_in_radixes<T>(rt: &impl Abort, rows: &[RadixRow<'_, (T, usize)>])
-where
-    T: FromLexicalWithOptions<Options = Options> + Debug,
-{
-    for (radix, text, expected) in rows {
-        is_partial(rt, &NumberFormatBuilder::from_radix(*radix), text, expected);
     }
 }
 
