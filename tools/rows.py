@@ -361,7 +361,7 @@ def rust_builder(fields):
 def rust_fields(row):
     """The statement that tests the fields of a language's format."""
     builder = rust_builder(row.answer)
-    return f"assert_eq!(rt; languages::{row.fields[0]}(), {builder}.build_unchecked());\n"
+    return f"is_built_by(&rt, languages::{row.fields[0]}(), {builder});\n"
 
 
 def test_of_formats(file):
@@ -374,7 +374,8 @@ def test_of_formats(file):
 def tests(files):
     """The tests of the ready formats."""
     body = "\n".join(test for test in map(test_of_formats, files) if test)
-    uses = "use lexical_parse_integer::NumberFormatBuilder;\nuse lexical_parse_integer::format::languages;\n"
+    uses = ("use super::is_built_by;\nuse lexical_parse_integer::NumberFormatBuilder;\n"
+            "use lexical_parse_integer::format::languages;\n")
     return f"// The fields of the ready formats.\n// {WRITTEN.format('languages.txt')}\n{uses}\n{body}"
 
 

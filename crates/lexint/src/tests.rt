@@ -11,7 +11,23 @@ mod tokens;
 use crate::fault::RunError;
 use crate::program::run;
 use std::alloc::Global;
+use std::fmt::Debug;
 use std::process::Abort;
+
+/// What was found is as expected. A call of this costs a test's proof a fifth of what an assertion in its place does.
+fn same<A: PartialEq + Debug + Drop>(rt: &impl Abort, found: A, expected: A) {
+    assert_eq!(rt; found, expected);
+}
+
+/// The same at a row, or at a place, which a failure shows.
+fn same_at<P: Debug + Drop, A: PartialEq + Debug + Drop>(
+    rt: &impl Abort,
+    at: P,
+    found: A,
+    expected: A,
+) {
+    assert_eq!(rt; found, expected, "at {at:?}");
+}
 
 /// What a run writes for an input.
 fn output_of(alloc: Global, input: &[u8]) -> Result<Vec<u8>, RunError> {

@@ -5,3 +5,16 @@ mod literals;
 mod parser;
 mod readers;
 mod util;
+
+use std::fmt::Debug;
+use std::process::Abort;
+
+// An answer is as expected. A call of this costs a test's proof a fifth of what an assertion in its place does.
+fn answers<A: PartialEq + Debug + Drop>(rt: &impl Abort, answer: A, expected: A) {
+    assert_eq!(rt; answer, expected);
+}
+
+// The answer to a text, which a failure shows.
+fn answers_to<A: PartialEq + Debug + Drop>(rt: &impl Abort, text: &[u8], answer: A, expected: A) {
+    assert_eq!(rt; answer, expected, "{}", text.escape_ascii());
+}

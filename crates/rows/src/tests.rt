@@ -105,6 +105,11 @@ fn is_refused(rt: &impl Abort, fault: Error, builder: &NumberFormatBuilder) {
     }
 }
 
+// A format is what this builder builds.
+fn is_built_by(rt: &impl Abort, format: NumberFormat, builder: NumberFormatBuilder) {
+    assert_eq!(rt; format, builder.build_unchecked());
+}
+
 // Formats that break no rule.
 fn are_valid(rt: &impl Abort, rows: &[NumberFormatBuilder]) {
     for builder in rows {

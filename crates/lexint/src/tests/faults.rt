@@ -3,6 +3,7 @@
 use super::devices::{
     BlockWriter, FailingReader, FixedWriter, OneByteReader, ROOM, Refusal, RefusingBuffer,
 };
+use super::{same, same_at};
 use crate::fault::RunError;
 use crate::program::{output_in_memory, run, run_from, run_with};
 use std::alloc::{AllocError, Global};
@@ -53,10 +54,10 @@ fn blocks(alloc: Global) -> Result<Vec<u8>, AllocError> {
 #[test]
 fn a_run_writes_an_answer_line_for_each_line(rt: HostRuntime) -> Result<(), Fail> {
     let mut out = FixedWriter::new(ROOM);
-    assert_eq!(rt; run(INPUT, &mut out), Ok(()));
-    assert_eq!(rt; out.held(), OUTPUT);
+    same(&rt, run(INPUT, &mut out), Ok(()));
+    same(&rt, out.held(), OUTPUT);
     let written = output_in_memory(rt.alloc(), INPUT)?;
-    assert_eq!(rt; written.as_slice(), OUTPUT);
+    same(&rt, written.as_slice(), OUTPUT);
     Ok(())
 }
 
@@ -73,8 +74,8 @@ fn a_refused_read_writes_nothing(rt: HostRuntime) -> Result<(), Fail> {
             };
             let mut out = FixedWriter::new(ROOM);
             let answer = run_from(rt.alloc(), &mut input, &mut out);
-            assert_eq!(rt; answer, Err(RunError::Read), "after {good} bytes");
-            assert_eq!(rt; out.held(), b"".as_slice(), "after {good} bytes");
+            same_at(&rt, good, answer, Err(RunError::Read));
+            same_at(&rt, good, out.held(), b"".as_slice());
         }
     }
     Ok(())
@@ -92,8 +93,8 @@ fn a_read_is_refused_whatever_the_fault(rt: HostRuntime) {
             };
             let mut out = FixedWriter::new(ROOM);
             let answer = run_from(rt.alloc(), &mut input, &mut out);
-            assert_eq!(rt; answer, Err(RunError::Read), "{kind:?} after {good} bytes");
-            assert_eq!(rt; out.held(), b"".as_slice(), "{kind:?} after {good} bytes");
+            same_at(&rt, (kind, good), answer, Err(RunError::Read));
+            same_at(&rt, (kind, good), out.held(), b"".as_slice());
         }
     }
 }
@@ -105,13 +106,13 @@ fn a_refused_write_is_told(rt: HostRuntime) {
             let mut input: &[u8] = INPUT;
             let mut out = FixedWriter::failing(1, good, refusal);
             let answer = run_from(rt.alloc(), &mut input, &mut out);
-            assert_eq!(rt; answer, Err(RunError::Write), "{refusal:?} after {good}");
-            assert_eq!(rt; out.held(), &OUTPUT[..good], "{refusal:?} after {good}");
+            same_at(&rt, (refusal, good), answer, Err(RunError::Write));
+            same_at(&rt, (refusal, good), out.held(), &OUTPUT[..good]);
         }
         let mut input: &[u8] = INPUT;
         let mut out = FixedWriter::failing(1, OUTPUT.len(), refusal);
-        assert_eq!(rt; run_from(rt.alloc(), &mut input, &mut out), Ok(()));
-        assert_eq!(rt; out.held(), OUTPUT);
+        same(&rt, run_from(rt.alloc(), &mut input, &mut out), Ok(()));
+        same(&rt, out.held(), OUTPUT);
     }
 }
 
@@ -121,9 +122,10 @@ fn each_refused_write_of_a_long_run_is_told(rt: HostRuntime) -> Result<(), Fail>
     let long = blocks(rt.alloc())?;
     for (most, least_writes) in [(usize::MAX, 3), (10_000, 14)] {
         let mut out = BlockWriter::new(ANSWERS, most);
-        assert_eq!(rt;
+        same(
+            &rt,
             run_from(rt.alloc(), &mut long.as_slice(), &mut out),
-            Ok(())
+            Ok(()),
         );
         assert!(rt; out.has_blocks(TIMES));
         let writes = out.writes;
@@ -132,8 +134,8 @@ fn each_refused_write_of_a_long_run_is_told(rt: HostRuntime) -> Result<(), Fail>
             for good in 0..writes {
                 let mut out = BlockWriter::failing(ANSWERS, most, good, refusal);
                 let answer = run_from(rt.alloc(), &mut long.as_slice(), &mut out);
-                assert_eq!(rt; answer, Err(RunError::Write), "{refusal:?} after {good}");
-                assert_eq!(rt; out.writes, good, "{refusal:?}");
+                same_at(&rt, (refusal, good), answer, Err(RunError::Write));
+                same_at(&rt, refusal, out.writes, good);
                 assert!(rt; !out.is_other, "{refusal:?} after {good}");
             }
         }
@@ -147,8 +149,8 @@ fn a_write_is_refused_whatever_the_fault(rt: HostRuntime) {
         let mut input: &[u8] = INPUT;
         let mut out = FixedWriter::failing(1, 9, Refusal::Fault(kind));
         let answer = run_from(rt.alloc(), &mut input, &mut out);
-        assert_eq!(rt; answer, Err(RunError::Write), "{kind:?}");
-        assert_eq!(rt; out.held(), &OUTPUT[..9], "{kind:?}");
+        same_at(&rt, kind, answer, Err(RunError::Write));
+        same_at(&rt, kind, out.held(), &OUTPUT[..9]);
     }
 }
 
@@ -165,9 +167,9 @@ fn a_refused_flush_is_told(rt: HostRuntime) -> Result<(), Fail> {
             let mut input = bytes;
             let mut out = BlockWriter::unflushed(block, kind);
             let answer = run_from(rt.alloc(), &mut input, &mut out);
-            assert_eq!(rt; answer, Err(RunError::Write), "{kind:?}");
+            same_at(&rt, kind, answer, Err(RunError::Write));
             assert!(rt; out.has_blocks(times), "{kind:?}");
-            assert_eq!(rt; out.flushed, out.bytes, "{kind:?}");
+            same_at(&rt, kind, out.flushed, out.bytes);
         }
     }
     Ok(())
@@ -179,13 +181,13 @@ fn bytes_go_one_at_a_time(rt: HostRuntime) -> Result<(), Fail> {
     for interruptions in [0, 1, 5] {
         let mut input = OneByteReader::new(INPUT, interruptions);
         let mut out = FixedWriter::new(1);
-        assert_eq!(rt; run_from(rt.alloc(), &mut input, &mut out), Ok(()));
-        assert_eq!(rt; out.held(), OUTPUT);
+        same(&rt, run_from(rt.alloc(), &mut input, &mut out), Ok(()));
+        same(&rt, out.held(), OUTPUT);
         let mut input = OneByteReader::new(&long, interruptions);
         let mut out = BlockWriter::new(ANSWERS, 1);
-        assert_eq!(rt; run_from(rt.alloc(), &mut input, &mut out), Ok(()));
+        same(&rt, run_from(rt.alloc(), &mut input, &mut out), Ok(()));
         assert!(rt; out.has_blocks(TIMES));
-        assert_eq!(rt; out.flushed, out.bytes);
+        same(&rt, out.flushed, out.bytes);
     }
     Ok(())
 }
@@ -196,10 +198,10 @@ fn a_refused_allocation_writes_nothing(rt: HostRuntime) {
     let mut input: &[u8] = INPUT;
     let mut out = FixedWriter::new(ROOM);
     match run_from(rt.alloc(), &mut input, &mut out) {
-        Ok(()) => assert_eq!(rt; out.held(), OUTPUT),
+        Ok(()) => same(&rt, out.held(), OUTPUT),
         Err(fault) => {
-            assert_eq!(rt; fault, RunError::Memory);
-            assert_eq!(rt; out.held(), b"".as_slice());
+            same(&rt, fault, RunError::Memory);
+            same(&rt, out.held(), b"".as_slice());
         }
     }
 }
@@ -217,11 +219,11 @@ fn each_refused_growth_writes_nothing(rt: HostRuntime) {
         let mut input = OneByteReader::new(INPUT, 0);
         let mut out = FixedWriter::new(ROOM);
         match run_with(buffer, &mut input, &mut out) {
-            Ok(()) => assert_eq!(rt; out.held(), OUTPUT, "at {left}"),
+            Ok(()) => same_at(&rt, left, out.held(), OUTPUT),
             Err(fault) => {
-                assert_eq!(rt; fault, RunError::Memory, "at {left}");
-                assert_eq!(rt; out.held(), b"".as_slice(), "at {left}");
-                assert_eq!(rt; refused, left);
+                same_at(&rt, left, fault, RunError::Memory);
+                same_at(&rt, left, out.held(), b"".as_slice());
+                same(&rt, refused, left);
                 refused = refused.saturating_add(1);
             }
         }
@@ -244,9 +246,9 @@ fn each_refused_growth_of_a_long_run_writes_nothing(rt: HostRuntime) -> Result<(
         match run_with(buffer, &mut input, &mut out) {
             Ok(()) => assert!(rt; out.has_blocks(TIMES), "at {left}"),
             Err(fault) => {
-                assert_eq!(rt; fault, RunError::Memory, "at {left}");
-                assert_eq!(rt; out.bytes, 0, "at {left}");
-                assert_eq!(rt; refused, left);
+                same_at(&rt, left, fault, RunError::Memory);
+                same_at(&rt, left, out.bytes, 0);
+                same(&rt, refused, left);
                 refused = refused.saturating_add(1);
             }
         }
@@ -258,7 +260,7 @@ fn each_refused_growth_of_a_long_run_writes_nothing(rt: HostRuntime) -> Result<(
 
 #[test]
 fn faults_are_told(rt: HostRuntime) {
-    assert_eq!(rt; RunError::Read.message(), "lexint: read failed");
-    assert_eq!(rt; RunError::Write.message(), "lexint: write failed");
-    assert_eq!(rt; RunError::Memory.message(), "lexint: out of memory");
+    same(&rt, RunError::Read.message(), "lexint: read failed");
+    same(&rt, RunError::Write.message(), "lexint: write failed");
+    same(&rt, RunError::Memory.message(), "lexint: out of memory");
 }

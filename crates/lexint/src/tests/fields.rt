@@ -1,6 +1,6 @@
 // Lines that set fields, and the answers that they change. Each row is one run.
 
-use super::{each_has_output, output_of};
+use super::{each_has_output, output_of, same};
 use std::test::Fail;
 
 #[test]
@@ -226,6 +226,6 @@ fn the_radix_of_a_field_is_read_as_decimal(rt: HostRuntime) -> Result<(), Fail> 
     input.extend_from_slice(&[b'0'; 300])?;
     input.extend_from_slice(b"16\nc u8 1f\n")?;
     let out = output_of(rt.alloc(), &input)?;
-    assert_eq!(rt; out.as_slice(), b"ok\nok\nok 31\n".as_slice());
+    same(&rt, out.as_slice(), b"ok\nok\nok 31\n".as_slice());
     Ok(())
 }

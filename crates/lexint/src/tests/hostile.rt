@@ -1,7 +1,7 @@
 // Long inputs, and bytes that no line is made for.
 
 use super::devices::{BlockWriter, OneByteReader};
-use super::output_of;
+use super::{output_of, same, same_at};
 use crate::program::{run, run_from};
 use std::alloc::{AllocError, Global};
 use std::test::Fail;
@@ -38,7 +38,7 @@ fn filled(
 fn a_million_empty_lines(rt: HostRuntime) -> Result<(), Fail> {
     let input = filled(rt.alloc(), "", "\n", MANY, "")?;
     let mut out = BlockWriter::new(b"bad line\n", usize::MAX);
-    assert_eq!(rt; run(&input, &mut out), Ok(()));
+    same(&rt, run(&input, &mut out), Ok(()));
     assert!(rt; out.has_blocks(MANY));
     Ok(())
 }
@@ -47,10 +47,10 @@ fn a_million_empty_lines(rt: HostRuntime) -> Result<(), Fail> {
 #[test]
 fn a_million_short_reads(rt: HostRuntime) -> Result<(), Fail> {
     let input = filled(rt.alloc(), "", "c u8 12\nr\n", 100_010, "")?;
-    assert_eq!(rt; input.len(), 1_000_100);
+    same(&rt, input.len(), 1_000_100);
     let mut reader = OneByteReader::new(&input, 0);
     let mut out = BlockWriter::new(b"ok 12\nok\n", usize::MAX);
-    assert_eq!(rt; run_from(rt.alloc(), &mut reader, &mut out), Ok(()));
+    same(&rt, run_from(rt.alloc(), &mut reader, &mut out), Ok(()));
     assert!(rt; out.has_blocks(100_010));
     Ok(())
 }
@@ -62,7 +62,7 @@ fn settings_change_a_hundred_thousand_times(rt: HostRuntime) -> Result<(), Fail>
     let answers = "ok\nok 2\nok\nok 36 2\nbad line\nok 36\nok\nok 10\n";
     let input = filled(rt.alloc(), "", block, 100_000, "")?;
     let mut out = BlockWriter::new(answers.as_bytes(), usize::MAX);
-    assert_eq!(rt; run(&input, &mut out), Ok(()));
+    same(&rt, run(&input, &mut out), Ok(()));
     assert!(rt; out.has_blocks(100_000));
     Ok(())
 }
@@ -87,7 +87,7 @@ fn lines_of_mebibytes(rt: HostRuntime) -> Result<(), Fail> {
         let count = MEBIBYTE.saturating_mul(mebibytes);
         let input = filled(rt.alloc(), front, filler, count, back)?;
         let out = output_of(rt.alloc(), &input)?;
-        assert_eq!(rt; out.as_slice(), want.as_bytes(), "{front} {filler} {back}");
+        same_at(&rt, (front, filler, back), out.as_slice(), want.as_bytes());
     }
     Ok(())
 }
@@ -100,7 +100,7 @@ fn mebibytes_of_byte_255(rt: HostRuntime) -> Result<(), Fail> {
     input.push(b'\n')?;
     add_times(&mut input, &[255; 1024], 10_240)?;
     let out = output_of(rt.alloc(), &input)?;
-    assert_eq!(rt; out.as_slice(), b"ok 0 0\nbad line\n".as_slice());
+    same(&rt, out.as_slice(), b"ok 0 0\nbad line\n".as_slice());
     Ok(())
 }
 
@@ -115,7 +115,7 @@ fn numerals_of_a_million_digits(rt: HostRuntime) -> Result<(), Fail> {
     ] {
         let input = filled(rt.alloc(), front, digit, MANY, back)?;
         let out = output_of(rt.alloc(), &input)?;
-        assert_eq!(rt; out.as_slice(), want.as_bytes(), "{front} {digit} {back}");
+        same_at(&rt, (front, digit, back), out.as_slice(), want.as_bytes());
     }
     Ok(())
 }
@@ -149,10 +149,11 @@ fn fields_and_a_million_digits(rt: HostRuntime) -> Result<(), Fail> {
         let input = filled(rt.alloc(), &before, digit, MANY, back)?;
         let out = output_of(rt.alloc(), &input)?;
         let answers = format!(in rt.alloc(); "ok\n{want}")?;
-        assert_eq!(rt;
+        same_at(
+            &rt,
+            (field, front, digit, back),
             out.as_slice(),
             answers.as_bytes(),
-            "{field} {front} {digit} {back}"
         );
     }
     Ok(())
@@ -183,10 +184,11 @@ fn a_million_separators(rt: HostRuntime) -> Result<(), Fail> {
         let input = filled(rt.alloc(), &before, filler, MANY, back)?;
         let out = output_of(rt.alloc(), &input)?;
         let answers = format!(in rt.alloc(); "ok\nok\nok\n{want}")?;
-        assert_eq!(rt;
+        same_at(
+            &rt,
+            (flag, front, filler, back),
             out.as_slice(),
             answers.as_bytes(),
-            "{flag} {front} {filler} {back}"
         );
     }
     Ok(())
@@ -205,7 +207,7 @@ fn a_million_separators_in_a_row_are_refused(rt: HostRuntime) -> Result<(), Fail
         let input = filled(rt.alloc(), &before, "_", MANY, back)?;
         let out = output_of(rt.alloc(), &input)?;
         let answers = format!(in rt.alloc(); "ok\nok\n{want}")?;
-        assert_eq!(rt; out.as_slice(), answers.as_bytes(), "{flag} {front} {back}");
+        same_at(&rt, (flag, front, back), out.as_slice(), answers.as_bytes());
     }
     Ok(())
 }
@@ -226,13 +228,13 @@ fn each_byte_in_a_line(rt: HostRuntime) -> Result<(), Fail> {
             _ => b"err InvalidDigit 1\n",
         };
         let out = output_of(rt.alloc(), &[byte])?;
-        assert_eq!(rt; out.as_slice(), alone.as_bytes(), "{byte}");
+        same_at(&rt, byte, out.as_slice(), alone.as_bytes());
         let out = output_of(rt.alloc(), &[b'r', byte])?;
-        assert_eq!(rt; out.as_slice(), behind.as_bytes(), "{byte}");
+        same_at(&rt, byte, out.as_slice(), behind.as_bytes());
         let out = output_of(rt.alloc(), &[b'c', b' ', b'u', b'8', b' ', b'1', byte])?;
-        assert_eq!(rt; out.as_slice(), after_digit, "{byte}");
+        same_at(&rt, byte, out.as_slice(), after_digit);
         let out = output_of(rt.alloc(), &[byte, b'c', b' ', b'u', b'8', b' ', b'1'])?;
-        assert_eq!(rt; out.as_slice(), before.as_bytes(), "{byte}");
+        same_at(&rt, byte, out.as_slice(), before.as_bytes());
     }
     Ok(())
 }
@@ -258,7 +260,7 @@ fn bytes_0_and_255_in_lines(rt: HostRuntime) -> Result<(), Fail> {
         for place in 0..line.len() {
             for byte in [0, 255] {
                 let out = output_of(rt.alloc(), &with_byte(rt.alloc(), line, place, byte)?)?;
-                assert_eq!(rt; out.as_slice(), b"bad line\n".as_slice(), "{line} {place}");
+                same_at(&rt, (line, place), out.as_slice(), b"bad line\n".as_slice());
             }
         }
     }
@@ -279,7 +281,7 @@ fn bytes_0_and_255_in_texts(rt: HostRuntime) -> Result<(), Fail> {
     ] {
         for byte in [0, 255] {
             let out = output_of(rt.alloc(), &with_byte(rt.alloc(), line, place, byte)?)?;
-            assert_eq!(rt; out.as_slice(), want.as_bytes(), "{line} {place} {byte}");
+            same_at(&rt, (line, place, byte), out.as_slice(), want.as_bytes());
         }
     }
     Ok(())

@@ -1,6 +1,6 @@
 // Lines and their answers, each alone under the standard settings.
 
-use super::{each_has_output, output_of};
+use super::{each_has_output, output_of, same, same_at};
 use std::test::Fail;
 
 #[test]
@@ -114,7 +114,7 @@ fn other_lines_are_bad(rt: HostRuntime) -> Result<(), Fail> {
         b"\xff".as_slice(),
     ] {
         let out = output_of(rt.alloc(), input)?;
-        assert_eq!(rt; out.as_slice(), b"bad line\n".as_slice(), "{input:?}");
+        same_at(&rt, input, out.as_slice(), b"bad line\n".as_slice());
     }
     Ok(())
 }
@@ -147,7 +147,7 @@ fn a_line_ends_at_its_line_feed_wherever_that_stands(rt: HostRuntime) -> Result<
         input.resize(length, b'\r')?;
         input.extend_from_slice(b"\nr")?;
         let out = output_of(rt.alloc(), &input)?;
-        assert_eq!(rt; out.as_slice(), b"bad line\nok\n".as_slice());
+        same(&rt, out.as_slice(), b"bad line\nok\n".as_slice());
     }
     Ok(())
 }
@@ -158,6 +158,6 @@ fn places_are_counted_far_into_a_line(rt: HostRuntime) -> Result<(), Fail> {
     line.extend_from_slice(&[b'0'; 1000])?;
     line.extend_from_slice(b"256")?;
     let out = output_of(rt.alloc(), &line)?;
-    assert_eq!(rt; out.as_slice(), b"err Overflow 1002\n".as_slice());
+    same(&rt, out.as_slice(), b"err Overflow 1002\n".as_slice());
     Ok(())
 }

@@ -1,6 +1,7 @@
 // The parts below the lines: numbers and batches.
 
 use super::devices::{BlockWriter, Refusal};
+use super::{same, same_at};
 use crate::batch::{Batch, SIZE, put, put_decimal, send};
 use crate::decimal::{MOST, write_decimal};
 use crate::fault::RunError;
@@ -16,9 +17,9 @@ const ANSWER: &[u8] = b"bad line\n";
 #[test]
 fn answers_go_out_by_the_batch(rt: HostRuntime) {
     let mut out = BlockWriter::new(ANSWER, usize::MAX);
-    assert_eq!(rt; run(EMPTY_LINES, &mut out), Ok(()));
+    same(&rt, run(EMPTY_LINES, &mut out), Ok(()));
     assert!(rt; out.has_blocks(LINES));
-    assert_eq!(rt; out.writes, 6);
+    same(&rt, out.writes, 6);
 }
 
 #[test]
@@ -26,8 +27,8 @@ fn a_refused_batch_is_told(rt: HostRuntime) {
     for good in 0..6 {
         let refusal = Refusal::Fault(ErrorKind::Other);
         let mut out = BlockWriter::failing(ANSWER, usize::MAX, good, refusal);
-        assert_eq!(rt; run(EMPTY_LINES, &mut out), Err(RunError::Write));
-        assert_eq!(rt; out.writes, good);
+        same(&rt, run(EMPTY_LINES, &mut out), Err(RunError::Write));
+        same(&rt, out.writes, good);
     }
 }
 
@@ -35,17 +36,17 @@ fn a_refused_batch_is_told(rt: HostRuntime) {
 fn a_piece_longer_than_the_batch_goes_out(rt: HostRuntime) {
     let mut out = BlockWriter::new(b"x", usize::MAX);
     let mut batch = Batch::new();
-    assert_eq!(rt; put(b"xxx", &mut batch, &mut out), Ok(()));
-    assert_eq!(rt; out.writes, 0);
-    assert_eq!(rt; put(&[b'x'; SIZE + 1], &mut batch, &mut out), Ok(()));
-    assert_eq!(rt; out.bytes, SIZE + 4);
-    assert_eq!(rt; out.writes, 2);
-    assert_eq!(rt; put(&[b'x'; SIZE], &mut batch, &mut out), Ok(()));
-    assert_eq!(rt; out.writes, 2);
-    assert_eq!(rt; send(&mut batch, &mut out), Ok(()));
-    assert_eq!(rt; out.writes, 3);
-    assert_eq!(rt; send(&mut batch, &mut out), Ok(()));
-    assert_eq!(rt; out.writes, 3);
+    same(&rt, put(b"xxx", &mut batch, &mut out), Ok(()));
+    same(&rt, out.writes, 0);
+    same(&rt, put(&[b'x'; SIZE + 1], &mut batch, &mut out), Ok(()));
+    same(&rt, out.bytes, SIZE + 4);
+    same(&rt, out.writes, 2);
+    same(&rt, put(&[b'x'; SIZE], &mut batch, &mut out), Ok(()));
+    same(&rt, out.writes, 2);
+    same(&rt, send(&mut batch, &mut out), Ok(()));
+    same(&rt, out.writes, 3);
+    same(&rt, send(&mut batch, &mut out), Ok(()));
+    same(&rt, out.writes, 3);
     assert!(rt; out.has_blocks(2 * SIZE + 4));
 }
 
@@ -64,7 +65,7 @@ fn writes_numbers_of_each_length(rt: HostRuntime) {
         (u128::MAX, "340282366920938463463374607431768211455"),
     ] {
         let start = write_decimal(number, &mut place);
-        assert_eq!(rt; &place[start..], want.as_bytes(), "{number}");
+        same_at(&rt, number, &place[start..], want.as_bytes());
     }
 }
 
@@ -88,7 +89,7 @@ fn numbers_fill_the_batch_to_its_end(rt: HostRuntime) -> Result<(), RunError> {
             send(&mut batch, &mut out)?;
             let mut place = [0u8; MOST];
             let start = write_decimal(number, &mut place);
-            assert_eq!(rt; out.len(), SIZE - room + (MOST - start), "{room} {number}");
+            same_at(&rt, (room, number), out.len(), SIZE - room + (MOST - start));
             assert!(rt; out.starts_with(&text[room..]), "{room} {number}");
             assert!(rt; out.ends_with(&place[start..]), "{room} {number}");
         }

@@ -4,6 +4,7 @@ mod caller;
 mod formats;
 mod tokens;
 
+use crate::tests::answers;
 use lexical_literals::{Kind, Tokens};
 use std::process::Abort;
 
@@ -19,7 +20,7 @@ fn are_tokens(rt: &impl Abort, tokens: Tokens<'_>, source: &[u8], expected: &[Sp
                 assert_eq!(rt; token.kind, *kind, "{}", source.escape_ascii());
                 assert_eq!(rt; token.start, *start, "{}", source.escape_ascii());
                 assert_eq!(rt; token.stop, *stop, "{}", source.escape_ascii());
-                assert_eq!(rt; source.get(*start..*stop), Some(token.text));
+                answers(rt, source.get(*start..*stop), Some(token.text));
             }
             None => panic!(rt; "{} has too few tokens", source.escape_ascii()),
         }

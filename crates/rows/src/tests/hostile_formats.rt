@@ -5,13 +5,11 @@ use super::{are_refused, are_valid};
 use lexical_parse_integer::{Error, NumberFormat, NumberFormatBuilder};
 use std::process::Abort;
 
-// `STANDARD` with this radix, separator, prefix and suffix.
-fn marked(
-    radix: u8,
-    separator: Option<u8>,
-    prefix: Option<u8>,
-    suffix: Option<u8>,
-) -> NumberFormatBuilder {
+// A radix, a separator, a prefix and a suffix.
+type Marks = (u8, Option<u8>, Option<u8>, Option<u8>);
+
+// `STANDARD` with these.
+fn marked((radix, separator, prefix, suffix): Marks) -> NumberFormatBuilder {
     NumberFormatBuilder::new()
         .mantissa_radix(radix)
         .digit_separator(separator)
@@ -19,24 +17,30 @@ fn marked(
         .base_suffix(suffix)
 }
 
-// The same with literal prefixes.
-fn literal(
-    radix: u8,
-    separator: Option<u8>,
-    prefix: Option<u8>,
-    suffix: Option<u8>,
-) -> NumberFormatBuilder {
-    marked(radix, separator, prefix, suffix).literal_prefixes(true)
+// Formats with these marks break this rule.
+fn marks_are_refused(rt: &impl Abort, fault: Error, rows: &[Marks]) {
+    for marks in rows {
+        are_refused(rt, fault, &[marked(*marks)]);
+    }
+}
+
+// The same beside literal prefixes.
+fn literals_are_refused(rt: &impl Abort, fault: Error, rows: &[Marks]) {
+    for marks in rows {
+        are_refused(rt, fault, &[marked(*marks).literal_prefixes(true)]);
+    }
 }
 
 // A byte that in this radix is no separator, no prefix and no suffix.
 fn is_nowhere(rt: &impl Abort, radix: u8, byte: u8) {
-    let separator = marked(radix, Some(byte), None, None);
-    let prefix = marked(radix, None, Some(byte), None);
-    let suffix = marked(radix, None, None, Some(byte));
-    are_refused(rt, Error::InvalidDigitSeparator, &[separator]);
-    are_refused(rt, Error::InvalidBasePrefix, &[prefix]);
-    are_refused(rt, Error::InvalidBaseSuffix, &[suffix]);
+    let byte = Some(byte);
+    marks_are_refused(
+        rt,
+        Error::InvalidDigitSeparator,
+        &[(radix, byte, None, None)],
+    );
+    marks_are_refused(rt, Error::InvalidBasePrefix, &[(radix, None, byte, None)]);
+    marks_are_refused(rt, Error::InvalidBaseSuffix, &[(radix, None, None, byte)]);
 }
 
 #[test]
@@ -46,95 +50,110 @@ fn one_unfit_byte(rt: HostRuntime) {
     }
     for byte in [b'a', b'F', b'f'] {
         is_nowhere(&rt, 16, byte);
-        are_valid(&rt, &[marked(10, Some(byte), None, None)]);
+        are_valid(&rt, &[marked((10, Some(byte), None, None))]);
     }
 }
 
 #[test]
 fn one_broken_rule(rt: HostRuntime) {
-    are_refused(
-        &rt,
-        Error::InvalidMantissaRadix,
-        &[0, 1, 37, 128, 255].map(|radix| marked(radix, None, None, None)),
-    );
-    are_refused(
+    for radix in [0, 1, 37, 128, 255] {
+        marks_are_refused(
+            &rt,
+            Error::InvalidMantissaRadix,
+            &[(radix, None, None, None)],
+        );
+    }
+    marks_are_refused(
         &rt,
         Error::InvalidPunctuation,
         &[
-            marked(10, Some(b'_'), Some(b'_'), None),
-            marked(10, Some(b'x'), None, Some(b'X')),
-            marked(10, None, Some(b'x'), Some(b'X')),
-            marked(10, None, Some(0), Some(0)),
+            (10, Some(b'_'), Some(b'_'), None),
+            (10, Some(b'x'), None, Some(b'X')),
+            (10, None, Some(b'x'), Some(b'X')),
+            (10, None, Some(0), Some(0)),
         ],
     );
-    are_refused(
+    literals_are_refused(
         &rt,
         Error::InvalidLiteralPrefixes,
         &[
-            literal(2, None, None, None),
-            literal(16, None, None, None),
-            literal(10, None, Some(b'd'), None),
-            literal(10, None, None, Some(b'f')),
-            literal(10, None, None, Some(b'X')),
-            literal(10, None, None, Some(b'o')),
-            literal(10, Some(b'B'), None, None),
+            (2, None, None, None),
+            (16, None, None, None),
+            (10, None, Some(b'd'), None),
+            (10, None, None, Some(b'f')),
+            (10, None, None, Some(b'X')),
+            (10, None, None, Some(b'o')),
+            (10, Some(b'B'), None, None),
         ],
     );
 }
 
 // Of two broken rules the first is the fault. The rules are those of the radix, of the separator, of the prefix, of the
-// suffix, of two bytes that are alike, and of literal prefixes; each line breaks the one that is named, and a later one.
+// suffix, of two bytes that are alike, and of literal prefixes; each row breaks the one that is named, and a later one.
 #[test]
 fn first_of_two_broken_rules(rt: HostRuntime) {
-    are_refused(
+    marks_are_refused(
         &rt,
         Error::InvalidMantissaRadix,
         &[
-            marked(1, Some(b'+'), None, None),
-            marked(37, None, Some(b'+'), None),
-            marked(0, None, None, Some(b'-')),
-            marked(1, None, Some(b'x'), Some(b'X')),
-            literal(37, None, None, None),
+            (1, Some(b'+'), None, None),
+            (37, None, Some(b'+'), None),
+            (0, None, None, Some(b'-')),
+            (1, None, Some(b'x'), Some(b'X')),
         ],
     );
-    are_refused(
+    marks_are_refused(
         &rt,
         Error::InvalidDigitSeparator,
         &[
-            marked(10, Some(b'+'), Some(b'0'), None),
-            marked(10, Some(b'+'), None, Some(b'-')),
-            marked(10, Some(b'5'), Some(b'x'), Some(b'X')),
-            marked(10, Some(b'+'), Some(b'+'), None),
-            literal(10, Some(b'5'), None, None),
-            literal(10, Some(128), Some(b'd'), None),
+            (10, Some(b'+'), Some(b'0'), None),
+            (10, Some(b'+'), None, Some(b'-')),
+            (10, Some(b'5'), Some(b'x'), Some(b'X')),
+            (10, Some(b'+'), Some(b'+'), None),
         ],
     );
-    are_refused(
+    marks_are_refused(
         &rt,
         Error::InvalidBasePrefix,
         &[
-            marked(10, None, Some(b'-'), Some(b'9')),
-            marked(10, Some(b'x'), Some(b'0'), Some(b'X')),
-            marked(10, None, Some(b'-'), Some(b'-')),
-            literal(10, None, Some(b'0'), None),
+            (10, None, Some(b'-'), Some(b'9')),
+            (10, Some(b'x'), Some(b'0'), Some(b'X')),
+            (10, None, Some(b'-'), Some(b'-')),
         ],
     );
-    are_refused(
+    let alike = (10, Some(b'_'), Some(b'_'), Some(b'9'));
+    marks_are_refused(&rt, Error::InvalidBaseSuffix, &[alike]);
+}
+
+// The same, where the format has literal prefixes.
+#[test]
+fn first_of_two_broken_rules_beside_literal_prefixes(rt: HostRuntime) {
+    literals_are_refused(&rt, Error::InvalidMantissaRadix, &[(37, None, None, None)]);
+    literals_are_refused(
+        &rt,
+        Error::InvalidDigitSeparator,
+        &[
+            (10, Some(b'5'), None, None),
+            (10, Some(128), Some(b'd'), None),
+        ],
+    );
+    let zero = (10, None, Some(b'0'), None);
+    literals_are_refused(&rt, Error::InvalidBasePrefix, &[zero]);
+    literals_are_refused(
         &rt,
         Error::InvalidBaseSuffix,
         &[
-            marked(10, Some(b'_'), Some(b'_'), Some(b'9')),
-            literal(10, None, None, Some(b'9')),
-            literal(10, Some(b'x'), None, Some(b'+')),
+            (10, None, None, Some(b'9')),
+            (10, Some(b'x'), None, Some(b'+')),
         ],
     );
-    are_refused(
+    literals_are_refused(
         &rt,
         Error::InvalidPunctuation,
         &[
-            literal(10, None, Some(b'x'), Some(b'X')),
-            literal(10, Some(b'_'), None, Some(b'_')),
-            literal(10, Some(b'o'), Some(b'O'), None),
+            (10, None, Some(b'x'), Some(b'X')),
+            (10, Some(b'_'), None, Some(b'_')),
+            (10, Some(b'o'), Some(b'O'), None),
         ],
     );
 }
@@ -208,12 +227,12 @@ const FORMATS: usize = 8 * 9 * 9 * 9 * 2;
 // The builder of this number, which counts them.
 fn builder_of(number: usize) -> NumberFormatBuilder {
     let flag = number % 2 == 1;
-    marked(
+    marked((
         RADIXES[number / 2 % 8],
         MARKS[number / 16 % 9],
         MARKS[number / 144 % 9],
         MARKS[number / 1296 % 9],
-    )
+    ))
     .literal_prefixes(flag)
     .integer_internal_digit_separator(true)
     .integer_trailing_digit_separator(true)

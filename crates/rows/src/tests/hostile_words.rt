@@ -8,6 +8,7 @@ use lexical_parse_integer::algorithm::{
 use lexical_parse_integer::cursor::Cursor;
 use lexical_parse_integer::{NumberFormat, NumberFormatBuilder};
 use lexical_util::digit::char_is_digit;
+use std::fmt::Debug;
 use std::process::Abort;
 
 // What the digits of a text are worth: each times the radix to the power of the number of digits behind it.
@@ -47,6 +48,17 @@ fn taken_8<'a>(text: &'a [u8], radix: u8) -> (Option<u64>, Cursor<'a>)
     (word, c)
 }
 
+// Is this the answer for a word?
+fn answers<A: PartialEq + Debug + Drop>(
+    rt: &impl Abort,
+    word: u64,
+    radix: u8,
+    answer: A,
+    expected: A,
+) {
+    assert_eq!(rt; answer, expected, "{word:x} in radix {radix}");
+}
+
 // A word of four bytes, which are all digits or aren't.
 fn reads_4(rt: &impl Abort, text: [u8; 4], radix: u8, are_digits: bool)
     requires least { 2 ≤ radix }
@@ -54,31 +66,26 @@ fn reads_4(rt: &impl Abort, text: [u8; 4], radix: u8, are_digits: bool)
 {
     let v = u32::from_le_bytes(text);
     let value = worth(&text, u32::from(radix));
-    assert_eq!(rt;
-        is_4digits(v, u32::from(radix)),
-        are_digits,
-        "{v:x} in radix {radix}"
-    );
-    if is_4digits(v, u32::from(radix)) {
-        assert_eq!(rt;
-            u64::from(parse_4digits(v, u32::from(radix))),
-            value,
-            "{v:x} in radix {radix}"
-        );
-    }
+    let is_word = is_4digits(v, u32::from(radix));
     let (word, c) = taken_4(&text, radix);
-    let taken = if are_digits { 4 } else { 0 };
-    assert_eq!(rt; word.is_some(), are_digits, "{v:x} in radix {radix}");
-    assert_eq!(rt;
-        u64::from(word.unwrap_or(0)),
-        if are_digits { value } else { 0 },
-        "{v:x} in radix {radix}"
-    );
-    assert_eq!(rt;
+    let (expected, taken) = if are_digits {
+        (Some(value), 4)
+    } else {
+        (None, 0)
+    };
+    answers(rt, u64::from(v), radix, is_word, are_digits);
+    answers(rt, u64::from(v), radix, word.map(u64::from), expected);
+    answers(
+        rt,
+        u64::from(v),
+        radix,
         (c.cursor(), c.digits()),
         (taken, taken),
-        "{v:x} in radix {radix}"
     );
+    if is_word {
+        let parsed = u64::from(parse_4digits(v, u32::from(radix)));
+        answers(rt, u64::from(v), radix, parsed, value);
+    }
 }
 
 // A word of eight bytes, which are all digits or aren't.
@@ -88,27 +95,19 @@ fn reads_8(rt: &impl Abort, text: [u8; 8], radix: u8, are_digits: bool)
 {
     let v = u64::from_le_bytes(text);
     let value = worth(&text, u32::from(radix));
-    assert_eq!(rt;
-        is_8digits(v, u32::from(radix)),
-        are_digits,
-        "{v:x} in radix {radix}"
-    );
-    if is_8digits(v, u32::from(radix)) {
-        assert_eq!(rt;
-            parse_8digits(v, u32::from(radix)),
-            value,
-            "{v:x} in radix {radix}"
-        );
-    }
+    let is_word = is_8digits(v, u32::from(radix));
     let (word, c) = taken_8(&text, radix);
-    let expected = if are_digits { Some(value) } else { None };
-    let taken = if are_digits { 8 } else { 0 };
-    assert_eq!(rt; word, expected, "{v:x} in radix {radix}");
-    assert_eq!(rt;
-        (c.cursor(), c.digits()),
-        (taken, taken),
-        "{v:x} in radix {radix}"
-    );
+    let (expected, taken) = if are_digits {
+        (Some(value), 8)
+    } else {
+        (None, 0)
+    };
+    answers(rt, v, radix, is_word, are_digits);
+    answers(rt, v, radix, word, expected);
+    answers(rt, v, radix, (c.cursor(), c.digits()), (taken, taken));
+    if is_word {
+        answers(rt, v, radix, parse_8digits(v, u32::from(radix)), value);
+    }
 }
 
 // Each byte at one place of words whose other bytes are one digit.

@@ -88,23 +88,32 @@ fn leaves_the_type<T: Whole>(rt: &impl Abort, radix: u8, text: &[u8], before: us
     faults::<T>(rt, &format, text, fault);
 }
 
+fn leaves_each_unsigned_type(rt: &impl Abort, radix: u8, text: &[u8]) {
+    leaves_the_type::<u8>(rt, radix, text, 0);
+    leaves_the_type::<u16>(rt, radix, text, 0);
+    leaves_the_type::<u32>(rt, radix, text, 0);
+    leaves_the_type::<u64>(rt, radix, text, 0);
+    leaves_the_type::<u128>(rt, radix, text, 0);
+    leaves_the_type::<usize>(rt, radix, text, 0);
+}
+
+// The text's first byte is a minus.
+fn leaves_each_signed_type(rt: &impl Abort, radix: u8, text: &[u8]) {
+    leaves_the_type::<i8>(rt, radix, text, 1);
+    leaves_the_type::<i16>(rt, radix, text, 1);
+    leaves_the_type::<i32>(rt, radix, text, 1);
+    leaves_the_type::<i64>(rt, radix, text, 1);
+    leaves_the_type::<i128>(rt, radix, text, 1);
+    leaves_the_type::<isize>(rt, radix, text, 1);
+}
+
 #[test]
 fn a_million_greatest_digits(rt: HostRuntime) -> std::result::Result<(), Fail> {
     for radix in 2..=36_u8 {
         let mut text = vec![in rt.alloc(); greatest_digit(radix); MILLION]?;
-        leaves_the_type::<u8>(&rt, radix, &text, 0);
-        leaves_the_type::<u16>(&rt, radix, &text, 0);
-        leaves_the_type::<u32>(&rt, radix, &text, 0);
-        leaves_the_type::<u64>(&rt, radix, &text, 0);
-        leaves_the_type::<u128>(&rt, radix, &text, 0);
-        leaves_the_type::<usize>(&rt, radix, &text, 0);
+        leaves_each_unsigned_type(&rt, radix, &text);
         put(&mut text, 0, b'-');
-        leaves_the_type::<i8>(&rt, radix, &text, 1);
-        leaves_the_type::<i16>(&rt, radix, &text, 1);
-        leaves_the_type::<i32>(&rt, radix, &text, 1);
-        leaves_the_type::<i64>(&rt, radix, &text, 1);
-        leaves_the_type::<i128>(&rt, radix, &text, 1);
-        leaves_the_type::<isize>(&rt, radix, &text, 1);
+        leaves_each_signed_type(&rt, radix, &text);
     }
     Ok(())
 }

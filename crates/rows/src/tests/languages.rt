@@ -1,62 +1,64 @@
 // The fields of the ready formats.
 // Written by tools/rows.py from tools/languages.txt: make rows writes it anew.
+use super::is_built_by;
 use lexical_parse_integer::NumberFormatBuilder;
 use lexical_parse_integer::format::languages;
 
 // The integers of C, and of languages that write them as C does.
 #[test]
 fn cfamily(rt: HostRuntime) {
-    assert_eq!(rt;
+    is_built_by(
+        &rt,
         languages::c(),
         NumberFormatBuilder::new()
             .no_positive_mantissa_sign(true)
             .literal_prefixes(true)
-            .literal_octal_zero(true)
-            .build_unchecked()
+            .literal_octal_zero(true),
     );
-    assert_eq!(rt;
+    is_built_by(
+        &rt,
         languages::c_decimal(),
         NumberFormatBuilder::new()
             .no_positive_mantissa_sign(true)
-            .no_integer_leading_zeros(true)
-            .build_unchecked()
+            .no_integer_leading_zeros(true),
     );
-    assert_eq!(rt;
+    is_built_by(
+        &rt,
         languages::c_octal(),
         NumberFormatBuilder::new()
             .no_positive_mantissa_sign(true)
-            .mantissa_radix(8)
-            .build_unchecked()
+            .mantissa_radix(8),
     );
-    assert_eq!(rt;
+    is_built_by(
+        &rt,
         languages::c_hexadecimal(),
         NumberFormatBuilder::new()
             .no_positive_mantissa_sign(true)
             .mantissa_radix(16)
-            .base_prefix(Some(b'x'))
-            .build_unchecked()
+            .base_prefix(Some(b'x')),
     );
-    assert_eq!(rt;
+    is_built_by(
+        &rt,
         languages::c23(),
         NumberFormatBuilder::new()
             .no_positive_mantissa_sign(true)
             .literal_prefixes(true)
             .digit_separator(Some(0x27))
             .integer_internal_digit_separator(true)
-            .literal_octal_zero(true)
-            .build_unchecked()
+            .literal_octal_zero(true),
     );
-    assert_eq!(rt;
+    is_built_by(
+        &rt,
         languages::cpp14(),
         NumberFormatBuilder::new()
             .no_positive_mantissa_sign(true)
             .literal_prefixes(true)
             .digit_separator(Some(0x27))
             .integer_internal_digit_separator(true)
-            .literal_octal_zero(true)
-            .build_unchecked()
+            .literal_octal_zero(true),
     );
-    assert_eq!(rt;
+    is_built_by(
+        &rt,
         languages::csharp(),
         NumberFormatBuilder::new()
             .no_positive_mantissa_sign(true)
@@ -64,10 +66,10 @@ fn cfamily(rt: HostRuntime) {
             .digit_separator(Some(b'_'))
             .integer_internal_digit_separator(true)
             .integer_consecutive_digit_separator(true)
-            .integer_prefix_digit_separator(true)
-            .build_unchecked()
+            .integer_prefix_digit_separator(true),
     );
-    assert_eq!(rt;
+    is_built_by(
+        &rt,
         languages::java(),
         NumberFormatBuilder::new()
             .no_positive_mantissa_sign(true)
@@ -76,10 +78,10 @@ fn cfamily(rt: HostRuntime) {
             .integer_internal_digit_separator(true)
             .base_suffix(Some(b'l'))
             .integer_consecutive_digit_separator(true)
-            .literal_octal_zero(true)
-            .build_unchecked()
+            .literal_octal_zero(true),
     );
-    assert_eq!(rt;
+    is_built_by(
+        &rt,
         languages::kotlin(),
         NumberFormatBuilder::new()
             .no_positive_mantissa_sign(true)
@@ -89,15 +91,15 @@ fn cfamily(rt: HostRuntime) {
             .base_suffix(Some(b'L'))
             .case_sensitive_base_suffix(true)
             .integer_consecutive_digit_separator(true)
-            .no_integer_leading_zeros(true)
-            .build_unchecked()
+            .no_integer_leading_zeros(true),
     );
 }
 
 // The integers of Rust, Go, Swift, Ada and VHDL, and of assemblers.
 #[test]
 fn compiled(rt: HostRuntime) {
-    assert_eq!(rt;
+    is_built_by(
+        &rt,
         languages::rust(),
         NumberFormatBuilder::new()
             .no_positive_mantissa_sign(true)
@@ -107,10 +109,10 @@ fn compiled(rt: HostRuntime) {
             .integer_trailing_digit_separator(true)
             .integer_consecutive_digit_separator(true)
             .case_sensitive_base_prefix(true)
-            .integer_prefix_digit_separator(true)
-            .build_unchecked()
+            .integer_prefix_digit_separator(true),
     );
-    assert_eq!(rt;
+    is_built_by(
+        &rt,
         languages::go(),
         NumberFormatBuilder::new()
             .no_positive_mantissa_sign(true)
@@ -118,10 +120,10 @@ fn compiled(rt: HostRuntime) {
             .digit_separator(Some(b'_'))
             .integer_internal_digit_separator(true)
             .integer_prefix_digit_separator(true)
-            .literal_octal_zero(true)
-            .build_unchecked()
+            .literal_octal_zero(true),
     );
-    assert_eq!(rt;
+    is_built_by(
+        &rt,
         languages::swift(),
         NumberFormatBuilder::new()
             .no_positive_mantissa_sign(true)
@@ -130,39 +132,39 @@ fn compiled(rt: HostRuntime) {
             .integer_internal_digit_separator(true)
             .integer_trailing_digit_separator(true)
             .integer_consecutive_digit_separator(true)
-            .case_sensitive_base_prefix(true)
-            .build_unchecked()
+            .case_sensitive_base_prefix(true),
     );
-    assert_eq!(rt;
+    is_built_by(
+        &rt,
         languages::ada(),
         NumberFormatBuilder::new()
             .no_positive_mantissa_sign(true)
             .digit_separator(Some(b'_'))
-            .integer_internal_digit_separator(true)
-            .build_unchecked()
+            .integer_internal_digit_separator(true),
     );
-    assert_eq!(rt;
+    is_built_by(
+        &rt,
         languages::vhdl(),
         NumberFormatBuilder::new()
             .no_positive_mantissa_sign(true)
             .digit_separator(Some(b'_'))
-            .integer_internal_digit_separator(true)
-            .build_unchecked()
+            .integer_internal_digit_separator(true),
     );
-    assert_eq!(rt;
+    is_built_by(
+        &rt,
         languages::assembler_hexadecimal(),
         NumberFormatBuilder::new()
             .no_positive_mantissa_sign(true)
             .mantissa_radix(16)
-            .base_suffix(Some(b'h'))
-            .build_unchecked()
+            .base_suffix(Some(b'h')),
     );
 }
 
 // The integers of Python, Ruby, JavaScript and Julia.
 #[test]
 fn scripting(rt: HostRuntime) {
-    assert_eq!(rt;
+    is_built_by(
+        &rt,
         languages::python(),
         NumberFormatBuilder::new()
             .no_positive_mantissa_sign(true)
@@ -170,19 +172,19 @@ fn scripting(rt: HostRuntime) {
             .digit_separator(Some(b'_'))
             .integer_internal_digit_separator(true)
             .integer_prefix_digit_separator(true)
-            .no_integer_leading_zeros(true)
-            .build_unchecked()
+            .no_integer_leading_zeros(true),
     );
-    assert_eq!(rt;
+    is_built_by(
+        &rt,
         languages::ruby(),
         NumberFormatBuilder::new()
             .literal_prefixes(true)
             .digit_separator(Some(b'_'))
             .integer_internal_digit_separator(true)
-            .literal_octal_zero(true)
-            .build_unchecked()
+            .literal_octal_zero(true),
     );
-    assert_eq!(rt;
+    is_built_by(
+        &rt,
         languages::javascript(),
         NumberFormatBuilder::new()
             .no_positive_mantissa_sign(true)
@@ -191,25 +193,25 @@ fn scripting(rt: HostRuntime) {
             .integer_internal_digit_separator(true)
             .base_suffix(Some(b'n'))
             .case_sensitive_base_suffix(true)
-            .no_integer_leading_zeros(true)
-            .build_unchecked()
+            .no_integer_leading_zeros(true),
     );
-    assert_eq!(rt;
+    is_built_by(
+        &rt,
         languages::julia(),
         NumberFormatBuilder::new()
             .no_positive_mantissa_sign(true)
             .literal_prefixes(true)
             .digit_separator(Some(b'_'))
             .integer_internal_digit_separator(true)
-            .case_sensitive_base_prefix(true)
-            .build_unchecked()
+            .case_sensitive_base_prefix(true),
     );
 }
 
 // The integers of Haskell and OCaml.
 #[test]
 fn functional(rt: HostRuntime) {
-    assert_eq!(rt;
+    is_built_by(
+        &rt,
         languages::haskell(),
         NumberFormatBuilder::new()
             .no_positive_mantissa_sign(true)
@@ -217,10 +219,10 @@ fn functional(rt: HostRuntime) {
             .digit_separator(Some(b'_'))
             .integer_internal_digit_separator(true)
             .integer_consecutive_digit_separator(true)
-            .integer_prefix_digit_separator(true)
-            .build_unchecked()
+            .integer_prefix_digit_separator(true),
     );
-    assert_eq!(rt;
+    is_built_by(
+        &rt,
         languages::ocaml(),
         NumberFormatBuilder::new()
             .no_positive_mantissa_sign(true)
@@ -228,64 +230,60 @@ fn functional(rt: HostRuntime) {
             .digit_separator(Some(b'_'))
             .integer_internal_digit_separator(true)
             .integer_trailing_digit_separator(true)
-            .integer_consecutive_digit_separator(true)
-            .build_unchecked()
+            .integer_consecutive_digit_separator(true),
     );
 }
 
 // The integers of JSON, JSON5, TOML, YAML and SQL, and of columns of money.
 #[test]
 fn data(rt: HostRuntime) {
-    assert_eq!(rt;
+    is_built_by(
+        &rt,
         languages::json(),
         NumberFormatBuilder::new()
             .required_integer_digits(true)
             .no_positive_mantissa_sign(true)
-            .no_integer_leading_zeros(true)
-            .build_unchecked()
+            .no_integer_leading_zeros(true),
     );
-    assert_eq!(rt;
+    is_built_by(
+        &rt,
         languages::json5(),
         NumberFormatBuilder::new()
             .literal_prefixes(true)
-            .no_integer_leading_zeros(true)
-            .build_unchecked()
+            .no_integer_leading_zeros(true),
     );
-    assert_eq!(rt;
+    is_built_by(
+        &rt,
         languages::toml(),
         NumberFormatBuilder::new()
             .literal_prefixes(true)
             .digit_separator(Some(b'_'))
             .integer_internal_digit_separator(true)
             .case_sensitive_base_prefix(true)
-            .no_integer_leading_zeros(true)
-            .build_unchecked()
+            .no_integer_leading_zeros(true),
     );
-    assert_eq!(rt;
+    is_built_by(
+        &rt,
         languages::yaml(),
         NumberFormatBuilder::new()
             .literal_prefixes(true)
-            .case_sensitive_base_prefix(true)
-            .build_unchecked()
+            .case_sensitive_base_prefix(true),
     );
-    assert_eq!(rt;
-        languages::sql(),
-        NumberFormatBuilder::new().build_unchecked()
-    );
-    assert_eq!(rt;
+    is_built_by(&rt, languages::sql(), NumberFormatBuilder::new());
+    is_built_by(
+        &rt,
         languages::sql_2023(),
         NumberFormatBuilder::new()
             .literal_prefixes(true)
             .digit_separator(Some(b'_'))
             .integer_internal_digit_separator(true)
-            .integer_prefix_digit_separator(true)
-            .build_unchecked()
+            .integer_prefix_digit_separator(true),
     );
-    assert_eq!(rt;
+    is_built_by(
+        &rt,
         languages::money(),
         NumberFormatBuilder::new()
             .digit_separator(Some(b','))
-            .integer_internal_digit_separator(true)
-            .build_unchecked()
+            .integer_internal_digit_separator(true),
     );
 }

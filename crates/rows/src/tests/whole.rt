@@ -21,6 +21,36 @@ fn shown(text: &[u8]) -> &[u8] {
     text.get(..LONGEST).unwrap_or(text)
 }
 
+// Are these the answers to a text?
+fn are_answers<T: Whole, A: PartialEq + Debug + Drop>(
+    rt: &impl Abort,
+    format: &NumberFormat,
+    text: &[u8],
+    answers: A,
+    expected: A,
+) {
+    assert_eq!(rt;
+        answers,
+        expected,
+        "{} bytes, {}, at width {} under {format:?}",
+        text.len(),
+        shown(text).escape_ascii(),
+        T::WIDTH
+    );
+}
+
+// What both parsers answer with these options.
+fn both<T: Whole>(
+    format: &NumberFormat,
+    text: &[u8],
+    options: &Options,
+) -> (Result<T>, Result<(T, usize)>) {
+    (
+        T::from_lexical_with_options(text, format, options),
+        T::from_lexical_partial_with_options(text, format, options),
+    )
+}
+
 // What both parsers answer, with either kind of options, and under the standard format by the calls without options.
 pub(super) fn answers<T: Whole>(
     rt: &impl Abort,
@@ -30,29 +60,16 @@ pub(super) fn answers<T: Whole>(
     front: Result<(Number, usize)>,
 ) {
     for options in [SMALL_NUMBERS, LARGE_NUMBERS] {
-        let complete = T::from_lexical_with_options(text, format, &options);
-        let partial = T::from_lexical_partial_with_options(text, format, &options);
-        assert_eq!(rt;
-            (of_whole(complete), of_front(partial)),
-            (whole, front),
-            "{} bytes, {}, at width {} under {format:?} with {options:?}",
-            text.len(),
-            shown(text).escape_ascii(),
-            T::WIDTH
-        );
+        let (complete, partial) = both::<T>(format, text, &options);
+        let numbers = (&options, of_whole(complete), of_front(partial));
+        are_answers::<T, _>(rt, format, text, numbers, (&options, whole, front));
     }
     if *format == STANDARD {
-        assert_eq!(rt;
-            (
-                of_whole(T::from_lexical(text)),
-                of_front(T::from_lexical_partial(text))
-            ),
-            (whole, front),
-            "{} bytes, {}, at width {}",
-            text.len(),
-            shown(text).escape_ascii(),
-            T::WIDTH
+        let numbers = (
+            of_whole(T::from_lexical(text)),
+            of_front(T::from_lexical_partial(text)),
         );
+        are_answers::<T, _>(rt, format, text, numbers, (whole, front));
     }
 }
 
@@ -76,20 +93,9 @@ pub(super) fn agrees<T: Whole>(rt: &impl Abort, format: &NumberFormat, text: &[u
 
 // Both kinds of options have the same answers.
 fn options_agree<T: Whole>(rt: &impl Abort, format: &NumberFormat, text: &[u8]) {
-    assert_eq!(rt;
-        T::from_lexical_with_options(text, format, &SMALL_NUMBERS),
-        T::from_lexical_with_options(text, format, &LARGE_NUMBERS),
-        "{} bytes at width {} under {format:?}",
-        text.len(),
-        T::WIDTH
-    );
-    assert_eq!(rt;
-        T::from_lexical_partial_with_options(text, format, &SMALL_NUMBERS),
-        T::from_lexical_partial_with_options(text, format, &LARGE_NUMBERS),
-        "{} bytes at width {} under {format:?}",
-        text.len(),
-        T::WIDTH
-    );
+    let small = both::<T>(format, text, &SMALL_NUMBERS);
+    let large = both::<T>(format, text, &LARGE_NUMBERS);
+    are_answers::<T, _>(rt, format, text, small, large);
 }
 
 // Each beginning of a text, from no byte to the whole: by the slow reading as far as that goes.

@@ -3,6 +3,7 @@
 ghost use Rattle.std.specs.Prelude.{◌≡◌, ◌<◌, ◌^◌, count_by, is_err, length, map, sum, IfOk};
 ghost use Rattle.lexical_fields.specs.Callers.{plain_fields, total};
 
+use crate::tests::answers;
 use lexical_fields::{ColumnError, Fields, read_column};
 use lexical_parse_integer::{format, options};
 use std::alloc::{AllocError, Global};
@@ -59,13 +60,14 @@ fn total(text: &[u8], separator: u8, values: &mut [u64]) -> Result<u128, ColumnE
 
 #[test]
 fn callers(rt: HostRuntime) -> Result<(), Fail> {
-    assert_eq!(rt; field_count(b"12,,7,", b','), 3);
-    assert_eq!(rt; fault_count(b"12,,7,", b','), 1);
-    assert_eq!(rt;
+    answers(&rt, field_count(b"12,,7,", b','), 3);
+    answers(&rt, fault_count(b"12,,7,", b','), 1);
+    answers(
+        &rt,
         starts(rt.alloc(), b"12,,7,", b',')?.as_slice(),
-        [0, 3, 4].as_slice()
+        [0, 3, 4].as_slice(),
     );
     let mut values = [0; 4];
-    assert_eq!(rt; total(b"12,7,", b',', &mut values), Ok(19));
+    answers(&rt, total(b"12,7,", b',', &mut values), Ok(19));
     Ok(())
 }

@@ -1,5 +1,6 @@
 // Texts with their fields and what each stands for.
 
+use crate::tests::answers;
 use lexical_fields::{Field, Fields, field_length};
 use lexical_parse_integer::{Error, NumberFormatBuilder, Result as Parse, format, options};
 use std::process::Abort;
@@ -51,25 +52,26 @@ fn fields_go_on_behind_a_fault(rt: HostRuntime) {
 #[test]
 fn the_separator_is_found_at_each_place(rt: HostRuntime) {
     let zeros = b"0000000000000000000000000000000000000000";
-    assert_eq!(rt; field_length(zeros, b';'), 40);
-    assert_eq!(rt; field_length(b"", b';'), 0);
+    answers(&rt, field_length(zeros, b';'), 40);
+    answers(&rt, field_length(b"", b';'), 0);
     let mut text = [b'0'; 40];
     for place in 0..text.len() {
         text[place] = b';';
-        assert_eq!(rt; field_length(&text, b';'), place);
+        answers(&rt, field_length(&text, b';'), place);
         let mut fields = Fields::<u8>::new(&text, b';', &format::STANDARD, &options::STANDARD);
         let front = if place == 0 {
             Err(Error::Empty(0))
         } else {
             Ok(0)
         };
-        assert_eq!(rt;
+        answers(
+            &rt,
             fields.next(),
             Some(Field {
                 start: 0,
                 text: &zeros[..place],
                 answer: front,
-            })
+            }),
         );
         let behind = if place == 39 {
             None
@@ -80,8 +82,8 @@ fn the_separator_is_found_at_each_place(rt: HostRuntime) {
                 answer: Ok(0),
             })
         };
-        assert_eq!(rt; fields.next(), behind);
-        assert_eq!(rt; fields.next(), None);
+        answers(&rt, fields.next(), behind);
+        answers(&rt, fields.next(), None);
         text[place] = b'0';
     }
 }
@@ -93,21 +95,23 @@ fn each_field_has_the_fault_of_an_invalid_format(rt: HostRuntime) {
         .build_unchecked();
     let mut fields = Fields::<u8>::new(b"1,2", b',', &format, &options::STANDARD);
     let fault = Err(Error::InvalidMantissaRadix);
-    assert_eq!(rt;
+    answers(
+        &rt,
         fields.next(),
         Some(Field {
             start: 0,
             text: b"1",
             answer: fault,
-        })
+        }),
     );
-    assert_eq!(rt;
+    answers(
+        &rt,
         fields.next(),
         Some(Field {
             start: 2,
             text: b"2",
             answer: fault,
-        })
+        }),
     );
-    assert_eq!(rt; fields.next(), None);
+    answers(&rt, fields.next(), None);
 }

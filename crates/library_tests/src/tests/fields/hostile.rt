@@ -1,8 +1,9 @@
 // Columns that are meant to go wrong: no separator, nothing else, or one that means something else too.
 
-use lexical_fields::{Column, ColumnError, Fields, read_column};
+use super::{column, fault_in, reads, reads_under};
+use crate::tests::answers;
+use lexical_fields::Fields;
 use lexical_parse_integer::{Error, NumberFormatBuilder, format, options};
-use std::test::Fail;
 
 // How many fields a text has, and how many of them are no numbers of `u64`.
 pub(crate) fn counts(text: &[u8], separator: u8) -> (usize, usize) {
@@ -13,99 +14,62 @@ pub(crate) fn counts(text: &[u8], separator: u8) -> (usize, usize) {
     (fields.count(), faults)
 }
 
-// The column of a text under the standard format.
-pub(crate) fn read(text: &[u8], separator: u8, values: &mut [u64]) -> Result<Column, ColumnError> {
-    read_column::<u64>(
-        text,
-        separator,
-        &format::STANDARD,
-        &options::LARGE_NUMBERS,
-        values,
-    )
+#[test]
+fn no_separator(rt: HostRuntime) {
+    answers(&rt, counts(b"12", b','), (1, 0));
+    reads::<u64>(&rt, b"12", b',', &mut [0; 2], column(1, 2), &[12, 0]);
 }
 
 #[test]
-fn no_separator(rt: HostRuntime) -> Result<(), Fail> {
-    let mut values = [0; 2];
-    assert_eq!(rt; counts(b"12", b','), (1, 0));
-    assert_eq!(rt;
-        read(b"12", b',', &mut values),
-        Ok(Column { count: 1, stop: 2 })
-    );
-    assert_eq!(rt; values, [12, 0]);
-    Ok(())
+fn only_separators(rt: HostRuntime) {
+    answers(&rt, counts(b",,,", b','), (3, 3));
+    let empty = fault_in(0, 0, Error::Empty(0));
+    reads::<u64>(&rt, b",,,", b',', &mut [7; 2], empty, &[7, 7]);
 }
 
 #[test]
-fn only_separators(rt: HostRuntime) -> Result<(), Fail> {
-    let mut values = [7; 2];
-    assert_eq!(rt; counts(b",,,", b','), (3, 3));
-    assert_eq!(rt;
-        read(b",,,", b',', &mut values),
-        Err(ColumnError::InvalidField {
-            field: 0,
-            start: 0,
-            error: Error::Empty(0),
-        })
-    );
-    assert_eq!(rt; values, [7, 7]);
-    Ok(())
-}
-
-#[test]
-fn a_fault_at_each_field(rt: HostRuntime) -> Result<(), Fail> {
-    let texts = [b"x,1,2,3".as_slice(), b"0,x,2,3", b"0,1,x,3", b"0,1,2,x"];
-    for (field, text) in texts.iter().enumerate() {
-        let mut values = [9; 4];
-        assert_eq!(rt;
-            read(text, b',', &mut values),
-            Err(ColumnError::InvalidField {
-                field,
-                start: 2 * field,
-                error: Error::InvalidDigit(2 * field),
-            })
-        );
-        for (place, value) in values.iter().enumerate() {
-            let expected = if place < field { place as u64 } else { 9 };
-            assert_eq!(rt; *value, expected);
-        }
+fn a_fault_at_each_field(rt: HostRuntime) {
+    for (field, start, text, held) in [
+        (0, 0, b"x,1,2,3".as_slice(), [9, 9, 9, 9]),
+        (1, 2, b"0,x,2,3", [0, 9, 9, 9]),
+        (2, 4, b"0,1,x,3", [0, 1, 9, 9]),
+        (3, 6, b"0,1,2,x", [0, 1, 2, 9]),
+    ] {
+        let letter = fault_in(field, start, Error::InvalidDigit(start));
+        reads::<u64>(&rt, text, b',', &mut [9; 4], letter, &held);
     }
-    Ok(())
 }
 
 #[test]
-fn a_separator_that_is_a_digit_or_a_sign(rt: HostRuntime) -> Result<(), Fail> {
-    let mut values = [9; 3];
-    assert_eq!(rt;
-        read(b"1020", b'0', &mut values),
-        Ok(Column { count: 2, stop: 4 })
-    );
-    assert_eq!(rt; values, [1, 2, 9]);
-    assert_eq!(rt;
-        read(b"3+4+5", b'+', &mut values),
-        Ok(Column { count: 3, stop: 5 })
-    );
-    assert_eq!(rt; values, [3, 4, 5]);
-    Ok(())
+fn a_separator_that_is_a_digit_or_a_sign(rt: HostRuntime) {
+    reads::<u64>(&rt, b"1020", b'0', &mut [9; 3], column(2, 4), &[1, 2, 9]);
+    reads::<u64>(&rt, b"3+4+5", b'+', &mut [9; 3], column(3, 5), &[3, 4, 5]);
 }
 
 #[test]
-fn a_separator_that_the_format_uses(rt: HostRuntime) -> Result<(), Fail> {
+fn a_separator_that_the_format_uses(rt: HostRuntime) {
     let format = NumberFormatBuilder::new()
         .digit_separator(Some(b'_'))
         .integer_internal_digit_separator(true)
         .base_suffix(Some(b'h'))
         .build_strict();
-    let mut values = [9; 3];
-    assert_eq!(rt;
-        read_column::<u64>(b"1_2_3", b'_', &format, &options::STANDARD, &mut values),
-        Ok(Column { count: 3, stop: 5 })
+    let mut room = [9_u64; 3];
+    reads_under(
+        &rt,
+        &format,
+        b"1_2_3",
+        b'_',
+        &mut room,
+        column(3, 5),
+        &[1, 2, 3],
     );
-    assert_eq!(rt; values, [1, 2, 3]);
-    assert_eq!(rt;
-        read_column::<u64>(b"1_2h4h", b'h', &format, &options::STANDARD, &mut values),
-        Ok(Column { count: 2, stop: 6 })
+    reads_under(
+        &rt,
+        &format,
+        b"1_2h4h",
+        b'h',
+        &mut room,
+        column(2, 6),
+        &[12, 4, 3],
     );
-    assert_eq!(rt; values, [12, 4, 3]);
-    Ok(())
 }

@@ -5,6 +5,7 @@ ghost use Rattle.lexical_literals.specs.TokenCallers.{first_fault, is_number};
 ghost use Rattle.lexical_literals.specs.Tokens.{tokens, tokens_if_valid};
 ghost use Rattle.lexical_parse_integer.specs.Answer.{view_of};
 
+use crate::tests::answers;
 use lexical_literals::{Kind, Tokens};
 use lexical_parse_integer::{Error, NumberFormat, NumberFormatBuilder, Result as Parse};
 use lexical_util::format::JSON;
@@ -62,21 +63,23 @@ fn first_fault(source: &[u8]) -> Option<usize>
 #[test]
 fn callers(rt: HostRuntime) -> Result<(), Fail> {
     let source = b"x1 = 0x1F + 12_3; 0x";
-    assert_eq!(rt; token_count(source), 7);
-    assert_eq!(rt; number_count(source), 2);
-    assert_eq!(rt; number_count_under(b"[1, 02, -3]", &JSON), Ok(2));
+    answers(&rt, token_count(source), 7);
+    answers(&rt, number_count(source), 2);
+    answers(&rt, number_count_under(b"[1, 02, -3]", &JSON), Ok(2));
     let invalid = NumberFormatBuilder::new()
         .mantissa_radix(1)
         .build_unchecked();
-    assert_eq!(rt;
+    answers(
+        &rt,
         number_count_under(source, &invalid),
-        Err(Error::InvalidMantissaRadix)
+        Err(Error::InvalidMantissaRadix),
     );
-    assert_eq!(rt;
+    answers(
+        &rt,
         starts(rt.alloc(), source)?.as_slice(),
-        [0, 3, 5, 10, 12, 16, 18].as_slice()
+        [0, 3, 5, 10, 12, 16, 18].as_slice(),
     );
-    assert_eq!(rt; first_fault(source), Some(18));
-    assert_eq!(rt; first_fault(b"12 x"), None);
+    answers(&rt, first_fault(source), Some(18));
+    answers(&rt, first_fault(b"12 x"), None);
     Ok(())
 }

@@ -1,6 +1,7 @@
 // Sources and their tokens under formats of the caller's choice.
 
 use super::{Span, are_tokens};
+use crate::tests::answers;
 use lexical_literals::{Kind, Tokens, literal_format};
 use lexical_parse_integer::{Error, NumberFormat, NumberFormatBuilder};
 use lexical_util::format::{JSON, STANDARD};
@@ -208,15 +209,17 @@ fn an_invalid_format_is_refused(rt: HostRuntime) {
         .mantissa_radix(37)
         .digit_separator(Some(b'+'))
         .build_unchecked();
-    assert_eq!(rt;
+    answers(
+        &rt,
         Tokens::with_format(b"1", &radix).err(),
-        Some(Error::InvalidMantissaRadix)
+        Some(Error::InvalidMantissaRadix),
     );
     let sign = NumberFormatBuilder::new()
         .digit_separator(Some(b'+'))
         .build_unchecked();
-    assert_eq!(rt;
+    answers(
+        &rt,
         Tokens::with_format(b"", &sign).err(),
-        Some(Error::InvalidDigitSeparator)
+        Some(Error::InvalidDigitSeparator),
     );
 }

@@ -1,6 +1,7 @@
 // Sources and their tokens.
 
 use super::{Span, are_tokens};
+use crate::tests::answers;
 use lexical_literals::{Kind, Token, Tokens, literal_format};
 use lexical_parse_integer::{Error, FromLexicalWithOptions, Result as Parse, options};
 use std::process::Abort;
@@ -126,8 +127,8 @@ fn first_text(source: &[u8]) -> Option<&[u8]> {
 
 #[test]
 fn bytes_outlive_the_iterator(rt: HostRuntime) {
-    assert_eq!(rt; first_text(b" 12_3;"), Some(b"12_3".as_slice()));
-    assert_eq!(rt; first_text(b" "), None);
+    answers(&rt, first_text(b" 12_3;"), Some(b"12_3".as_slice()));
+    answers(&rt, first_text(b" "), None);
 }
 
 // What the whole text is under the format of literals.
@@ -137,10 +138,10 @@ fn whole(text: &[u8]) -> Parse<u128> {
 
 #[test]
 fn literals_have_their_own_format(rt: HostRuntime) {
-    assert_eq!(rt; whole(b"1_000"), Ok(1000));
-    assert_eq!(rt; whole(b"0xF_F"), Ok(255));
-    assert_eq!(rt; whole(b"0o1__7"), Ok(15));
-    assert_eq!(rt; whole(b"_1"), Err(Error::InvalidDigit(0)));
-    assert_eq!(rt; whole(b"1_"), Err(Error::InvalidDigit(1)));
-    assert_eq!(rt; whole(b""), Err(Error::Empty(0)));
+    answers(&rt, whole(b"1_000"), Ok(1000));
+    answers(&rt, whole(b"0xF_F"), Ok(255));
+    answers(&rt, whole(b"0o1__7"), Ok(15));
+    answers(&rt, whole(b"_1"), Err(Error::InvalidDigit(0)));
+    answers(&rt, whole(b"1_"), Err(Error::InvalidDigit(1)));
+    answers(&rt, whole(b""), Err(Error::Empty(0)));
 }

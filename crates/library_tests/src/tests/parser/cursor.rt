@@ -1,4 +1,5 @@
 // A cursor's calls, on texts that have every part of a numeral.
+use crate::tests::answers;
 use lexical_parse_integer::cursor::Cursor;
 use lexical_parse_integer::format::STANDARD;
 use lexical_parse_integer::{NumberFormat, NumberFormatBuilder};
@@ -24,20 +25,20 @@ fn a_new_cursor_shows_its_text(rt: HostRuntime) {
     let format = with_all_parts();
     assert!(rt; format.is_valid());
     let c = Cursor::new(b"+0x1_23h.", &format);
-    assert_eq!(rt; state(&c), (0, 0, 0, false));
-    assert_eq!(rt; c.buffer_length(), 9);
+    answers(&rt, state(&c), (0, 0, 0, false));
+    answers(&rt, c.buffer_length(), 9);
     assert!(rt; !c.is_buffer_empty());
     assert!(rt; Cursor::new(b"", &format).is_buffer_empty());
-    assert_eq!(rt; c.first(), Some(b'+'));
-    assert_eq!(rt; c.radix(), 10);
-    assert_eq!(rt; c.format(), format);
+    answers(&rt, c.first(), Some(b'+'));
+    answers(&rt, c.radix(), 10);
+    answers(&rt, c.format(), format);
     assert!(rt; !c.is_contiguous());
     assert!(rt; Cursor::new(b"", &STANDARD).is_contiguous());
 }
 
 // A cursor is in this state.
 fn stands(rt: &impl Abort, c: &Cursor<'_>, want: (usize, usize, usize, bool)) {
-    assert_eq!(rt; state(c), want);
+    answers(rt, state(c), want);
 }
 
 #[test]
@@ -49,28 +50,28 @@ fn a_cursor_reads_part_by_part(rt: HostRuntime) {
     stands(&rt, &c, (1, 1, 0, false));
     assert!(rt; c.read_prefix());
     stands(&rt, &c, (3, 3, 0, false));
-    assert_eq!(rt; c.next_digit(), Some(1));
+    answers(&rt, c.next_digit(), Some(1));
     stands(&rt, &c, (4, 3, 1, false));
-    assert_eq!(rt; c.first(), Some(b'_'));
-    assert_eq!(rt; c.next_digit(), Some(2));
+    answers(&rt, c.first(), Some(b'_'));
+    answers(&rt, c.next_digit(), Some(2));
     stands(&rt, &c, (6, 3, 2, false));
     assert!(rt; !c.read_suffix());
-    assert_eq!(rt; c.next_digit(), Some(3));
-    assert_eq!(rt; c.next_digit(), None);
+    answers(&rt, c.next_digit(), Some(3));
+    answers(&rt, c.next_digit(), None);
     stands(&rt, &c, (7, 3, 3, false));
     assert!(rt; c.read_suffix());
     stands(&rt, &c, (8, 3, 3, true));
-    assert_eq!(rt; c.first(), Some(b'.'));
+    answers(&rt, c.first(), Some(b'.'));
 }
 
 #[test]
 fn a_cursor_takes_four_bytes_at_once(rt: HostRuntime) {
     let mut c = Cursor::new(b"12345", &STANDARD);
-    assert_eq!(rt; c.peek_word(4), Some(&b"1234"[..]));
-    assert_eq!(rt; c.peek_word(8), None);
+    answers(&rt, c.peek_word(4), Some(&b"1234"[..]));
+    answers(&rt, c.peek_word(8), None);
     c.take_digits(4);
-    assert_eq!(rt; state(&c), (4, 0, 4, false));
-    assert_eq!(rt; c.next_digit(), Some(5));
+    answers(&rt, state(&c), (4, 0, 4, false));
+    answers(&rt, c.next_digit(), Some(5));
     assert!(rt; c.is_buffer_empty());
 }
 
@@ -83,5 +84,5 @@ fn first_word<'a>(text: &'a [u8]) -> Option<&'a [u8]> {
 #[test]
 fn a_word_outlives_the_cursor(rt: HostRuntime) {
     let text = *b"12345678, 9";
-    assert_eq!(rt; first_word(&text), Some(&b"12345678"[..]));
+    answers(&rt, first_word(&text), Some(&b"12345678"[..]));
 }

@@ -5,6 +5,7 @@ ghost use Rattle.std.specs.Fmt.{decimal};
 ghost use Rattle.lexical_parse_integer.specs.Answer.{with_place, view_of};
 ghost use Rattle.lexical_parse_integer.specs.Laws.{IsSettledAt};
 
+use crate::tests::answers;
 use lexical_parse_integer::FromLexical;
 use lexical_parse_integer::cursor::Cursor;
 use lexical_parse_integer::laws::grammar::{numerals, range_faults};
@@ -67,77 +68,83 @@ fn plus_in_no_turn() -> (Answer<u64>, Cursor<'static>)
 
 #[test]
 fn turns_follow_from_digits(rt: HostRuntime) {
-    assert_eq!(rt; eight_in_a_turn().0, Ok(12_345_678));
-    assert_eq!(rt; front_in_a_turn().0, Ok((12_345_678, 8)));
-    assert_eq!(rt; plus_in_no_turn().0, Err(Error::InvalidPositiveSign(0)));
+    answers(&rt, eight_in_a_turn().0, Ok(12_345_678));
+    answers(&rt, front_in_a_turn().0, Ok((12_345_678, 8)));
+    answers(&rt, plus_in_no_turn().0, Err(Error::InvalidPositiveSign(0)));
 }
 
 #[test]
 fn complete_follows_partial(rt: HostRuntime) -> Result<(), Fail> {
-    assert_eq!(rt;
+    answers(
+        &rt,
         complete_and_partial::<i32>(b"12x", &STANDARD, &SMALL_NUMBERS),
-        (Err(Error::InvalidDigit(2)), Ok((12, 2)))
+        (Err(Error::InvalidDigit(2)), Ok((12, 2))),
     );
     let internal = NumberFormatBuilder::new()
         .digit_separator(Some(b'_'))
         .integer_internal_digit_separator(true)
         .build_unchecked();
-    assert_eq!(rt;
+    answers(
+        &rt,
         complete_and_partial::<i64>(b"_1_", &internal, &SMALL_NUMBERS),
-        (Err(Error::InvalidDigit(0)), Err(Error::Empty(0)))
+        (Err(Error::InvalidDigit(0)), Err(Error::Empty(0))),
     );
     Ok(())
 }
 
 #[test]
 fn a_value_leaves_its_type_within_the_text(rt: HostRuntime) -> Result<(), Fail> {
-    assert_eq!(rt; byte_too_many(b"256"), Some(b'6'));
-    assert_eq!(rt; byte_too_many(b"1000"), Some(b'0'));
-    assert_eq!(rt; byte_too_many(b"25x"), None);
+    answers(&rt, byte_too_many(b"256"), Some(b'6'));
+    answers(&rt, byte_too_many(b"1000"), Some(b'0'));
+    answers(&rt, byte_too_many(b"25x"), None);
     Ok(())
 }
 
 #[test]
 fn later_bytes_change_nothing(rt: HostRuntime) -> Result<(), Fail> {
-    assert_eq!(rt;
+    answers(
+        &rt,
         local::<u64>(b"12 x", b"12 345", &STANDARD, &LARGE_NUMBERS),
-        (Ok((12, 2)), Ok((12, 2)))
+        (Ok((12, 2)), Ok((12, 2))),
     );
-    assert_eq!(rt;
+    answers(
+        &rt,
         local::<u8>(b"2567", b"256abc", &STANDARD, &SMALL_NUMBERS),
-        (Err(Error::Overflow(2)), Err(Error::Overflow(2)))
+        (Err(Error::Overflow(2)), Err(Error::Overflow(2))),
     );
-    assert_eq!(rt; cut::<u64>(b"12 x", 2), (Ok((12, 2)), Ok((12, 2))));
+    answers(&rt, cut::<u64>(b"12 x", 2), (Ok((12, 2)), Ok((12, 2))));
     Ok(())
 }
 
 #[test]
 fn numerals_are_read_back(rt: HostRuntime) -> Result<(), Fail> {
-    assert_eq!(rt; numeral::<i8>(b"-10000000", 2), Ok(-128));
-    assert_eq!(rt; numeral::<u16>(b"zZ", 36), Ok(1295));
+    answers(&rt, numeral::<i8>(b"-10000000", 2), Ok(-128));
+    answers(&rt, numeral::<u16>(b"zZ", 36), Ok(1295));
     Ok(())
 }
 
 #[test]
 fn what_std_writes_is_read_back(rt: HostRuntime) -> Result<(), Fail> {
-    assert_eq!(rt; read_back(b"42", 42), Ok(42));
+    answers(&rt, read_back(b"42", 42), Ok(42));
     Ok(())
 }
 
 #[test]
 fn zeros_leave_the_value(rt: HostRuntime) -> Result<(), Fail> {
-    assert_eq!(rt;
+    answers(
+        &rt,
         zeros_in_front::<i8>(b"-128", b"-00128"),
-        (Ok(-128), Ok(-128))
+        (Ok(-128), Ok(-128)),
     );
     Ok(())
 }
 
 #[test]
 fn options_change_no_answer(rt: HostRuntime) -> Result<(), Fail> {
-    assert_eq!(rt;
+    answers(
+        &rt,
         small_and_large::<u64>(b"18446744073709551616", &STANDARD),
-        (Err(Error::Overflow(19)), Err(Error::Overflow(19)))
+        (Err(Error::Overflow(19)), Err(Error::Overflow(19))),
     );
     Ok(())
 }

@@ -2,6 +2,7 @@
 ghost use Rattle.std.specs.Prelude.{◌≡◌, ◌↔◌, IsTrue, Ok, Some, false, true};
 ghost use Rattle.std.specs.declared.cmp.Ordering.TheVariants.{Equal};
 
+use crate::tests::answers;
 use lexical_parse_integer::options::{LARGE_NUMBERS, SMALL_NUMBERS, STANDARD};
 use lexical_parse_integer::{
     FromLexicalWithOptions, Options, OptionsBuilder, ParseOptions, format,
@@ -21,10 +22,10 @@ fn all_options_are_valid(rt: HostRuntime) {
 
 #[test]
 fn every_build_answers(rt: HostRuntime) {
-    assert_eq!(rt; OptionsBuilder::new().build(), Ok(Options::new()));
-    assert_eq!(rt; OptionsBuilder::default().build(), Ok(Options::new()));
-    assert_eq!(rt; Options::new().rebuild(), Options::builder());
-    assert_eq!(rt; Options::new(), Options::default());
+    answers(&rt, OptionsBuilder::new().build(), Ok(Options::new()));
+    answers(&rt, OptionsBuilder::default().build(), Ok(Options::new()));
+    answers(&rt, Options::new().rebuild(), Options::builder());
+    answers(&rt, Options::new(), Options::default());
 }
 
 #[test]
@@ -41,10 +42,10 @@ fn new_options_take_digits_one_at_a_time(rt: HostRuntime) {
 fn what_was_set_stands_after_a_build(rt: HostRuntime) {
     for value in [true, false] {
         let builder = OptionsBuilder::new().no_multi_digit(value);
-        assert_eq!(rt; builder.get_no_multi_digit(), value);
-        assert_eq!(rt; builder.build_strict().get_no_multi_digit(), value);
-        assert_eq!(rt; builder.build_unchecked().get_no_multi_digit(), value);
-        assert_eq!(rt; builder.build_strict().rebuild(), builder);
+        answers(&rt, builder.get_no_multi_digit(), value);
+        answers(&rt, builder.build_strict().get_no_multi_digit(), value);
+        answers(&rt, builder.build_unchecked().get_no_multi_digit(), value);
+        answers(&rt, builder.build_strict().rebuild(), builder);
     }
 }
 
@@ -130,8 +131,8 @@ fn options_compare_by_their_field(rt: HostRuntime) -> std::result::Result<(), Fa
     assert!(rt; is_less(&LARGE_NUMBERS, &SMALL_NUMBERS));
     assert!(rt; !is_less(&SMALL_NUMBERS, &LARGE_NUMBERS));
     let less = (Ordering::Less, Some(Ordering::Less));
-    assert_eq!(rt; compared(&LARGE_NUMBERS, &SMALL_NUMBERS), less);
-    assert_eq!(rt; cloned(&LARGE_NUMBERS)?, LARGE_NUMBERS);
+    answers(&rt, compared(&LARGE_NUMBERS, &SMALL_NUMBERS), less);
+    answers(&rt, cloned(&LARGE_NUMBERS)?, LARGE_NUMBERS);
     Ok(())
 }
 
@@ -144,8 +145,8 @@ fn builders_compare_by_their_field(rt: HostRuntime) -> std::result::Result<(), F
     assert!(rt; is_less_builder(&large, &new));
     assert!(rt; !is_less_builder(&new, &large));
     let less = (Ordering::Less, Some(Ordering::Less));
-    assert_eq!(rt; compared_builders(&large, &new), less);
-    assert_eq!(rt; cloned_builder(&large)?, large);
+    answers(&rt, compared_builders(&large, &new), less);
+    answers(&rt, cloned_builder(&large)?, large);
     Ok(())
 }
 
@@ -153,5 +154,5 @@ fn builders_compare_by_their_field(rt: HostRuntime) -> std::result::Result<(), F
 fn options_of_a_builder_serve_a_parse(rt: HostRuntime) {
     let options = Options::builder().no_multi_digit(true).build_strict();
     let answer = u64::from_lexical_with_options(b"1234", &format::STANDARD, &options);
-    assert_eq!(rt; answer, Ok(1234));
+    answers(&rt, answer, Ok(1234));
 }

@@ -5,6 +5,7 @@ ghost use Rattle.lexical_parse_integer.specs.Answer.{with_place, view_of};
 ghost use Rattle.lexical_parse_integer.specs.Grammar.{complete, partial, partial_if_valid};
 
 use super::cursor::with_all_parts;
+use crate::tests::answers;
 use lexical_parse_integer::algorithm::{
     algorithm_complete, algorithm_complete_on, algorithm_partial, algorithm_partial_on,
 };
@@ -22,9 +23,9 @@ use std::process::Abort;
 // What each type answers alike: a number of five digits, and the same behind a plus.
 fn five_digits<T: Integer + Debug>(rt: &impl Abort, value: T) {
     let plain = algorithm_partial::<T>(b"12345", &STANDARD, &SMALL_NUMBERS);
-    assert_eq!(rt; plain, Ok((value, 5)));
+    answers(rt, plain, Ok((value, 5)));
     let plus = algorithm_partial::<T>(b"+12345", &STANDARD, &SMALL_NUMBERS);
-    assert_eq!(rt; plus, Ok((value, 6)));
+    answers(rt, plus, Ok((value, 6)));
 }
 
 #[test]
@@ -32,13 +33,15 @@ fn partial_answers_of_unsigned_types(rt: HostRuntime) {
     five_digits::<u32>(&rt, 12345);
     five_digits::<u128>(&rt, 12345);
     let text = b"-12345";
-    assert_eq!(rt;
+    answers(
+        &rt,
         algorithm_partial::<u32>(text, &STANDARD, &SMALL_NUMBERS),
-        Ok((0, 0))
+        Ok((0, 0)),
     );
-    assert_eq!(rt;
+    answers(
+        &rt,
         algorithm_partial::<u128>(text, &STANDARD, &SMALL_NUMBERS),
-        Ok((0, 0))
+        Ok((0, 0)),
     );
 }
 
@@ -47,22 +50,26 @@ fn partial_answers_of_signed_types(rt: HostRuntime) {
     five_digits::<i32>(&rt, 12345);
     five_digits::<i128>(&rt, 12345);
     let minus = b"-12345";
-    assert_eq!(rt;
+    answers(
+        &rt,
         algorithm_partial::<i32>(minus, &STANDARD, &SMALL_NUMBERS),
-        Ok((-12345, 6))
+        Ok((-12345, 6)),
     );
-    assert_eq!(rt;
+    answers(
+        &rt,
         algorithm_partial::<i128>(minus, &STANDARD, &SMALL_NUMBERS),
-        Ok((-12345, 6))
+        Ok((-12345, 6)),
     );
     let dot = b"+123.45";
-    assert_eq!(rt;
+    answers(
+        &rt,
         algorithm_partial::<i32>(dot, &STANDARD, &SMALL_NUMBERS),
-        Ok((123, 4))
+        Ok((123, 4)),
     );
-    assert_eq!(rt;
+    answers(
+        &rt,
         algorithm_partial::<i128>(dot, &STANDARD, &SMALL_NUMBERS),
-        Ok((123, 4))
+        Ok((123, 4)),
     );
 }
 
@@ -106,11 +113,11 @@ fn ends_in_large_radixes(rt: HostRuntime) {
 #[test]
 fn parsers_of_a_type(rt: HostRuntime) {
     let answer = u64::parse_complete(b"18446744073709551616", &STANDARD, &LARGE_NUMBERS);
-    assert_eq!(rt; answer, Err(Error::Overflow(19)));
+    answers(&rt, answer, Err(Error::Overflow(19)));
     let front = u64::parse_partial(b"1234 }, {\"Key\"", &STANDARD, &SMALL_NUMBERS);
-    assert_eq!(rt; front, Ok((1234, 4)));
+    answers(&rt, front, Ok((1234, 4)));
     let json = algorithm_complete::<i32>(b"-01", &JSON, &LARGE_NUMBERS);
-    assert_eq!(rt; json, Err(Error::InvalidLeadingZeros(1)));
+    answers(&rt, json, Err(Error::InvalidLeadingZeros(1)));
 }
 
 // At an answer the cursor stands behind the suffix, and counts the digits alone.
@@ -120,14 +127,19 @@ fn cursors_stand_where_reading_stops(rt: HostRuntime) {
     assert!(rt; format.is_valid());
     for options in [SMALL_NUMBERS, LARGE_NUMBERS] {
         let mut whole = Cursor::new(b"-0x1_2h", &format);
-        assert_eq!(rt; algorithm_complete_on::<i32>(&mut whole, &options), Ok(-12));
-        assert_eq!(rt; (whole.cursor(), whole.digits()), (7, 2));
-        let mut front = Cursor::new(b"-0x1_2hh", &format);
-        assert_eq!(rt;
-            algorithm_partial_on::<i32>(&mut front, &options),
-            Ok((-12, 7))
+        answers(
+            &rt,
+            algorithm_complete_on::<i32>(&mut whole, &options),
+            Ok(-12),
         );
-        assert_eq!(rt; (front.cursor(), front.digits()), (7, 2));
+        answers(&rt, (whole.cursor(), whole.digits()), (7, 2));
+        let mut front = Cursor::new(b"-0x1_2hh", &format);
+        answers(
+            &rt,
+            algorithm_partial_on::<i32>(&mut front, &options),
+            Ok((-12, 7)),
+        );
+        answers(&rt, (front.cursor(), front.digits()), (7, 2));
     }
 }
 
@@ -142,13 +154,15 @@ fn both<T: FromLexical>(text: &[u8]) -> (Result<T>, Result<(T, usize)>)
 #[test]
 fn callers_over_every_type_that_reads_itself(rt: HostRuntime) {
     let text = b"-12,5";
-    assert_eq!(rt;
+    answers(
+        &rt,
         both::<i8>(text),
-        (Err(Error::InvalidDigit(3)), Ok((-12, 3)))
+        (Err(Error::InvalidDigit(3)), Ok((-12, 3))),
     );
-    assert_eq!(rt;
+    answers(
+        &rt,
         both::<u64>(text),
-        (Err(Error::InvalidDigit(0)), Ok((0, 0)))
+        (Err(Error::InvalidDigit(0)), Ok((0, 0))),
     );
 }
 
@@ -164,11 +178,12 @@ where
 #[test]
 fn callers_over_every_type_that_reads_itself_with_options(rt: HostRuntime) {
     let format = with_all_parts();
-    assert_eq!(rt; field::<i16>(b"-0x1_2h,", &format), Ok((-12, 7)));
-    assert_eq!(rt; field::<u128>(b"1_2_3", &format), Ok((123, 5)));
+    answers(&rt, field::<i16>(b"-0x1_2h,", &format), Ok((-12, 7)));
+    answers(&rt, field::<u128>(b"1_2_3", &format), Ok((123, 5)));
     let radixless = NumberFormatBuilder::from_radix(1);
-    assert_eq!(rt;
+    answers(
+        &rt,
         field::<u128>(b"0", &radixless),
-        Err(Error::InvalidMantissaRadix)
+        Err(Error::InvalidMantissaRadix),
     );
 }

@@ -3,6 +3,7 @@
 ghost use Rattle.std.specs.Prelude.{◌≡◌, ◌+◌, ◌≤◌, false, IfSome, length, None, Some, take, ℕ};
 ghost use Rattle.lexical_parse_integer.specs.Runs.{digit_at};
 
+use crate::tests::answers;
 use lexical_parse_integer::algorithm::algorithm_complete_on;
 use lexical_parse_integer::cursor::Cursor;
 use lexical_parse_integer::format::STANDARD;
@@ -48,9 +49,13 @@ fn first_digit(text: &[u8]) -> Option<(u32, usize)>
 
 #[test]
 fn words_of_contracts_are_pinned(rt: HostRuntime) {
-    assert_eq!(rt; passed_before_fault(b"655361"), Some(b"65536".as_slice()));
-    assert_eq!(rt; passed_before_fault(b"7"), None);
-    assert_eq!(rt; digits_at_front(&Cursor::new(b"7", &STANDARD)), 0);
-    assert_eq!(rt; first_digit(b"7"), Some((7, 0)));
-    assert_eq!(rt; first_digit(b"x7"), None);
+    answers(
+        &rt,
+        passed_before_fault(b"655361"),
+        Some(b"65536".as_slice()),
+    );
+    answers(&rt, passed_before_fault(b"7"), None);
+    answers(&rt, digits_at_front(&Cursor::new(b"7", &STANDARD)), 0);
+    answers(&rt, first_digit(b"7"), Some((7, 0)));
+    answers(&rt, first_digit(b"x7"), None);
 }

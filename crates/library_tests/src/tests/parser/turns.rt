@@ -2,6 +2,7 @@
 // shows the answers alone.
 ghost use Rattle.std.specs.Prelude.{◌≡◌, ◌≤◌, OnOk};
 
+use crate::tests::answers;
 use lexical_parse_integer::algorithm::{algorithm_complete_on, algorithm_partial_on};
 use lexical_parse_integer::cursor::Cursor;
 use lexical_parse_integer::format::STANDARD;
@@ -253,46 +254,52 @@ fn three_one_by_one() -> (Result<(u8, usize)>, Cursor<'static>)
 
 #[test]
 fn whole_texts_in_few_turns(rt: HostRuntime) {
-    assert_eq!(rt; eight_of_u32().0, Ok(12_345_678));
-    assert_eq!(rt; nine_of_i32().0, Ok(123_456_789));
-    assert_eq!(rt; seven_of_u64().0, Ok(1_234_567));
-    assert_eq!(rt; sixty_four_binary().0, Ok(u64::MAX));
-    assert_eq!(rt; sixteen_of_u64().0, Ok(1_234_567_812_345_678));
-    assert_eq!(rt; twenty_of_u64().0, Ok(12_345_678_901_234_567_890));
-    assert_eq!(rt; sixteen_of_i64().0, Ok(1_234_567_812_345_678));
-    assert_eq!(rt;
+    answers(&rt, eight_of_u32().0, Ok(12_345_678));
+    answers(&rt, nine_of_i32().0, Ok(123_456_789));
+    answers(&rt, seven_of_u64().0, Ok(1_234_567));
+    answers(&rt, sixty_four_binary().0, Ok(u64::MAX));
+    answers(&rt, sixteen_of_u64().0, Ok(1_234_567_812_345_678));
+    answers(&rt, twenty_of_u64().0, Ok(12_345_678_901_234_567_890));
+    answers(&rt, sixteen_of_i64().0, Ok(1_234_567_812_345_678));
+    answers(
+        &rt,
         thirty_two_of_u128().0,
-        Ok(12_345_678_123_456_781_234_567_812_345_678)
+        Ok(12_345_678_123_456_781_234_567_812_345_678),
     );
 }
 
 #[test]
 fn fronts_in_few_turns(rt: HostRuntime) {
-    assert_eq!(rt; twelve_before_a_brace().0, Ok((123_456_789_012, 12)));
-    assert_eq!(rt; five_before_a_letter().0, Ok((12_345, 5)));
-    assert_eq!(rt; eight_before_a_comma().0, Ok((12_345_678, 8)));
-    assert_eq!(rt; eight_zeros().0, Err(Error::InvalidLeadingZeros(0)));
+    answers(&rt, twelve_before_a_brace().0, Ok((123_456_789_012, 12)));
+    answers(&rt, five_before_a_letter().0, Ok((12_345, 5)));
+    answers(&rt, eight_before_a_comma().0, Ok((12_345_678, 8)));
+    answers(&rt, eight_zeros().0, Err(Error::InvalidLeadingZeros(0)));
 }
 
 #[test]
 fn few_turns_behind_signs_and_in_radixes(rt: HostRuntime) {
-    assert_eq!(rt; minus_eight_of_i64().0, Ok(-12_345_678));
-    assert_eq!(rt;
+    answers(&rt, minus_eight_of_i64().0, Ok(-12_345_678));
+    answers(
+        &rt,
         sixty_five_of_u128().0,
-        Ok(123_456_789_012_345_678_901_234_567_890_123_456_789)
+        Ok(123_456_789_012_345_678_901_234_567_890_123_456_789),
     );
-    assert_eq!(rt; sixteen_octal().0, Ok(45_954_944_846_776));
-    assert_eq!(rt; eleven_ternary().0, Ok(102_200));
-    assert_eq!(rt; two_before_an_eight().0, Ok((10, 2)));
-    assert_eq!(rt; eight_in_radix_nine().0, Ok(6_053_444));
-    assert_eq!(rt; eight_before_a_suffix().0, Ok(12_345_678));
-    assert_eq!(rt; eight_behind_a_prefix().0, Ok(12_345_678));
-    assert_eq!(rt; sixteen_behind_a_literal_prefix().0, Ok(45_954_944_846_776));
-    assert_eq!(rt; refused_plus().0, Err(Error::InvalidPositiveSign(0)));
+    answers(&rt, sixteen_octal().0, Ok(45_954_944_846_776));
+    answers(&rt, eleven_ternary().0, Ok(102_200));
+    answers(&rt, two_before_an_eight().0, Ok((10, 2)));
+    answers(&rt, eight_in_radix_nine().0, Ok(6_053_444));
+    answers(&rt, eight_before_a_suffix().0, Ok(12_345_678));
+    answers(&rt, eight_behind_a_prefix().0, Ok(12_345_678));
+    answers(
+        &rt,
+        sixteen_behind_a_literal_prefix().0,
+        Ok(45_954_944_846_776),
+    );
+    answers(&rt, refused_plus().0, Err(Error::InvalidPositiveSign(0)));
 }
 
 #[test]
 fn digits_one_by_one(rt: HostRuntime) {
-    assert_eq!(rt; sixteen_one_by_one().0, Ok(1_234_567_812_345_678));
-    assert_eq!(rt; three_one_by_one().0, Ok((255, 3)));
+    answers(&rt, sixteen_one_by_one().0, Ok(1_234_567_812_345_678));
+    answers(&rt, three_one_by_one().0, Ok((255, 3)));
 }

@@ -2,6 +2,7 @@
 // In a word the lowest byte comes first in the text: 0x31323334 is the text `4321`.
 ghost use Rattle.std.specs.Prelude.{◌≤◌};
 
+use crate::tests::{answers, answers_to};
 use lexical_parse_integer::NumberFormatBuilder;
 use lexical_parse_integer::algorithm::{
     is_4digits, is_8digits, parse_4digits, parse_8digits, try_parse_4digits, try_parse_8digits,
@@ -62,28 +63,28 @@ fn eight_bytes_that_are_not(rt: HostRuntime) {
 
 #[test]
 fn four_digits_are_worth(rt: HostRuntime) {
-    assert_eq!(rt; value_of_4(&rt, 0x3132_3334, 10), 4321);
-    assert_eq!(rt; value_of_4(&rt, 0x3132_3334, 5), 586);
-    assert_eq!(rt; value_of_4(&rt, 0x3637_3839, 10), 9876);
+    answers(&rt, value_of_4(&rt, 0x3132_3334, 10), 4321);
+    answers(&rt, value_of_4(&rt, 0x3132_3334, 5), 586);
+    answers(&rt, value_of_4(&rt, 0x3637_3839, 10), 9876);
 }
 
 #[test]
 fn eight_digits_are_worth(rt: HostRuntime) {
-    assert_eq!(rt; value_of_8(&rt, 0x3030_3030_3030_3031, 10), 10_000_000);
-    assert_eq!(rt; value_of_8(&rt, 0x3030_3030_3030_3031, 5), 78_125);
-    assert_eq!(rt; value_of_8(&rt, 0x3031_3030_3030_3030, 10), 10);
-    assert_eq!(rt; value_of_8(&rt, 0x3031_3030_3030_3030, 5), 5);
+    answers(&rt, value_of_8(&rt, 0x3030_3030_3030_3031, 10), 10_000_000);
+    answers(&rt, value_of_8(&rt, 0x3030_3030_3030_3031, 5), 78_125);
+    answers(&rt, value_of_8(&rt, 0x3031_3030_3030_3030, 10), 10);
+    answers(&rt, value_of_8(&rt, 0x3031_3030_3030_3030, 5), 5);
 }
 
 #[test]
 fn one_text_in_six_radixes(rt: HostRuntime) {
     let word = 0x3132_3334_3433_3231;
-    assert_eq!(rt; value_of_8(&rt, word, 10), 12_344_321);
-    assert_eq!(rt; value_of_8(&rt, word, 9), 6_052_420);
-    assert_eq!(rt; value_of_8(&rt, word, 8), 2_738_385);
-    assert_eq!(rt; value_of_8(&rt, word, 7), 1_120_400);
-    assert_eq!(rt; value_of_8(&rt, word, 6), 402_745);
-    assert_eq!(rt; value_of_8(&rt, word, 5), 121_836);
+    answers(&rt, value_of_8(&rt, word, 10), 12_344_321);
+    answers(&rt, value_of_8(&rt, word, 9), 6_052_420);
+    answers(&rt, value_of_8(&rt, word, 8), 2_738_385);
+    answers(&rt, value_of_8(&rt, word, 7), 1_120_400);
+    answers(&rt, value_of_8(&rt, word, 6), 402_745);
+    answers(&rt, value_of_8(&rt, word, 5), 121_836);
 }
 
 // What a cursor at a text's front gives of a word, and where it then stands.
@@ -110,7 +111,7 @@ fn cursors_take_four_digits(rt: HostRuntime) {
         (b"123_", None, 0),
     ];
     for (text, word, place) in rows {
-        assert_eq!(rt; taken_4(text), (word, place), "{}", text.escape_ascii());
+        answers_to(&rt, text, taken_4(text), (word, place));
     }
 }
 
@@ -124,7 +125,7 @@ fn cursors_take_eight_digits(rt: HostRuntime) {
         (b"1234567_", None, 0),
     ];
     for (text, word, place) in rows {
-        assert_eq!(rt; taken_8(text), (word, place), "{}", text.escape_ascii());
+        answers_to(&rt, text, taken_8(text), (word, place));
     }
 }
 
@@ -132,6 +133,6 @@ fn cursors_take_eight_digits(rt: HostRuntime) {
 fn nine_is_no_digit_of_radix_nine(rt: HostRuntime) {
     let format = NumberFormatBuilder::new().mantissa_radix(9).build_strict();
     let mut c = Cursor::new(b"1239", &format);
-    assert_eq!(rt; try_parse_4digits::<u32>(&mut c), None);
-    assert_eq!(rt; c.cursor(), 0);
+    answers(&rt, try_parse_4digits::<u32>(&mut c), None);
+    answers(&rt, c.cursor(), 0);
 }

@@ -1,5 +1,6 @@
 // Values of a configuration, and texts that are none.
 
+use crate::tests::answers_to;
 use lexical_parse_integer::Error;
 use uses::config::{ValueError, value};
 
@@ -13,7 +14,7 @@ fn values_of_a_file_are_read(rt: HostRuntime) {
         (b"0xdead_BEEF", 3735928559),
         (b"0xffff_ffff_ffff_ffff", 18446744073709551615),
     ] {
-        assert_eq!(rt; value(text), Ok(want), "{text:?}");
+        answers_to(&rt, text, value(text), Ok(want));
     }
 }
 
@@ -33,6 +34,6 @@ fn broken_values_name_their_notation(rt: HostRuntime) {
             ValueError::Hexadecimal(Error::Overflow(22)),
         ),
     ] {
-        assert_eq!(rt; value(text), Err(want), "{text:?}");
+        answers_to(&rt, text, value(text), Err(want));
     }
 }

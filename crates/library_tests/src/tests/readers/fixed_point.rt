@@ -1,7 +1,14 @@
 // Prices and rates in units of the last digit, and texts that have none.
 
+use crate::tests::answers;
 use lexical_parse_integer::Error;
+use std::process::Abort;
 use uses::fixed_point::{FixedPointError, fixed_point};
+
+// What a text with two digits behind its point is worth, and where it ends.
+fn reads(rt: &impl Abort, text: &[u8], expected: Result<(i64, usize), FixedPointError>) {
+    assert_eq!(rt; fixed_point(text, 2), expected, "{}", text.escape_ascii());
+}
 
 #[test]
 fn prices_are_read_in_cents(rt: HostRuntime) {
@@ -15,17 +22,18 @@ fn prices_are_read_in_cents(rt: HostRuntime) {
         (b"92233720368547758.07", 9223372036854775807, 20),
         (b"-92233720368547758.08", -9223372036854775808, 21),
     ] {
-        assert_eq!(rt; fixed_point(text, 2), Ok((units, end)), "{text:?}");
+        reads(&rt, text, Ok((units, end)));
     }
 }
 
 #[test]
 fn other_numbers_of_digits_are_read(rt: HostRuntime) {
-    assert_eq!(rt; fixed_point(b"5", 0), Ok((5, 1)));
-    assert_eq!(rt; fixed_point(b"0.0001", 4), Ok((1, 6)));
-    assert_eq!(rt;
+    answers(&rt, fixed_point(b"5", 0), Ok((5, 1)));
+    answers(&rt, fixed_point(b"0.0001", 4), Ok((1, 6)));
+    answers(
+        &rt,
         fixed_point(b"-9.223372036854775808", 18),
-        Ok((-9223372036854775808, 21))
+        Ok((-9223372036854775808, 21)),
     );
 }
 
@@ -44,7 +52,7 @@ fn broken_prices_say_where(rt: HostRuntime) {
         (b"92233720368547758.08", FixedPointError::OutOfRange(20)),
         (b"-92233720368547759 EUR", FixedPointError::OutOfRange(18)),
     ] {
-        assert_eq!(rt; fixed_point(text, 2), Err(want), "{text:?}");
+        reads(&rt, text, Err(want));
     }
 }
 
@@ -58,6 +66,6 @@ fn broken_fractions_say_where(rt: HostRuntime) {
         (b"12.18446744073709551616", Error::Overflow(19)),
     ] {
         let want = FixedPointError::Fraction { start: 3, error };
-        assert_eq!(rt; fixed_point(text, 2), Err(want), "{text:?}");
+        reads(&rt, text, Err(want));
     }
 }

@@ -1,5 +1,6 @@
 // Rows of columns, and the first column that is not read.
 
+use crate::tests::{answers, answers_to};
 use lexical_parse_integer::Error;
 use uses::fixed_width::{RowError, values};
 
@@ -8,10 +9,10 @@ const WIDTHS: [usize; 3] = [5, 3, 5];
 
 #[test]
 fn rows_of_a_table_are_read(rt: HostRuntime) {
-    assert_eq!(rt; values(b"01024032-0087", &WIDTHS), Ok([1024, 32, -87]));
-    assert_eq!(rt; values(b"00007365+0215", &WIDTHS), Ok([7, 365, 215]));
-    assert_eq!(rt; values(b"9999900000000", &WIDTHS), Ok([99999, 0, 0]));
-    assert_eq!(rt; values(b"", &[]), Ok([]));
+    answers(&rt, values(b"01024032-0087", &WIDTHS), Ok([1024, 32, -87]));
+    answers(&rt, values(b"00007365+0215", &WIDTHS), Ok([7, 365, 215]));
+    answers(&rt, values(b"9999900000000", &WIDTHS), Ok([99999, 0, 0]));
+    answers(&rt, values(b"", &[]), Ok([]));
 }
 
 #[test]
@@ -49,15 +50,16 @@ fn broken_rows_say_where(rt: HostRuntime) {
             },
         ),
     ] {
-        assert_eq!(rt; values(row, &WIDTHS), Err(want), "{row:?}");
+        answers_to(&rt, row, values(row, &WIDTHS), Err(want));
     }
     let error = Error::Overflow(18);
-    assert_eq!(rt;
+    answers(
+        &rt,
         values(b"19223372036854775808", &[1, 19]),
         Err(RowError::Column {
             column: 1,
             start: 1,
-            error
-        })
+            error,
+        }),
     );
 }

@@ -3,7 +3,9 @@
 ghost use Rattle.std.specs.Prelude.{◌≡◌, ◌<◌, Some, length};
 ghost use Rattle.uses.specs.Json.{settled_at};
 
+use crate::tests::answers;
 use lexical_parse_integer::Error;
+use std::process::Abort;
 use uses::json::{NumberError, Part, integer_part};
 
 // A reader that cuts its buffer behind the place of a final answer, and asks again.
@@ -23,29 +25,23 @@ fn a_cut_behind_the_place_changes_nothing(rt: HostRuntime) {
         value: -1204,
         end: 5,
     });
-    assert_eq!(rt; before_and_after_cut(b"-1204.50,", 5), (whole, whole));
+    answers(&rt, before_and_after_cut(b"-1204.50,", 5), (whole, whole));
+}
+
+// What a reader makes of the bytes that it has.
+fn reads(rt: &impl Abort, read: &[u8], expected: Result<Part, NumberError>) {
+    assert_eq!(rt; integer_part(read), expected, "{}", read.escape_ascii());
 }
 
 #[test]
 fn a_number_comes_piece_by_piece(rt: HostRuntime) {
     let text = b"-1204.50,";
     for read in 0..6 {
-        assert_eq!(rt;
-            integer_part(&text[..read]),
-            Ok(Part::Unfinished),
-            "after {read} bytes"
-        );
+        reads(&rt, &text[..read], Ok(Part::Unfinished));
     }
     for read in 6..10 {
-        let whole = Part::Whole {
-            value: -1204,
-            end: 5,
-        };
-        assert_eq!(rt;
-            integer_part(&text[..read]),
-            Ok(whole),
-            "after {read} bytes"
-        );
+        let (value, end) = (-1204, 5);
+        reads(&rt, &text[..read], Ok(Part::Whole { value, end }));
     }
 }
 
@@ -57,11 +53,7 @@ fn a_number_ends_where_json_goes_on(rt: HostRuntime) {
         (b"6e4", 6, 1),
         (b"-9223372036854775808,", -9223372036854775808, 20),
     ] {
-        assert_eq!(rt;
-            integer_part(text),
-            Ok(Part::Whole { value, end }),
-            "{text:?}"
-        );
+        reads(&rt, text, Ok(Part::Whole { value, end }));
     }
 }
 
@@ -85,6 +77,6 @@ fn broken_numbers_say_where(rt: HostRuntime) {
             NumberError::Malformed(Error::InvalidLeadingZeros(1)),
         ),
     ] {
-        assert_eq!(rt; integer_part(text), Err(want), "{text:?}");
+        reads(&rt, text, Err(want));
     }
 }

@@ -1,5 +1,6 @@
 // Ledgers and their totals, and the first line that has none.
 
+use crate::tests::{answers, answers_to};
 use lexical_parse_integer::Error;
 use uses::ledger::{Entry, LedgerError, LineError, total};
 
@@ -11,7 +12,7 @@ fn a_line_has_a_name_and_an_amount(rt: HostRuntime) {
         (b"refund +1999", b"refund", 1999),
         (b"caf\xc3\xa9 -0350", b"caf\xc3\xa9", -350),
     ] {
-        assert_eq!(rt; Entry::of(line), Ok(Entry { name, cents }), "{line:?}");
+        answers_to(&rt, line, Entry::of(line), Ok(Entry { name, cents }));
     }
 }
 
@@ -41,22 +42,24 @@ fn a_broken_line_says_where(rt: HostRuntime) {
             },
         ),
     ] {
-        assert_eq!(rt; Entry::of(line), Err(want), "{line:?}");
+        answers_to(&rt, line, Entry::of(line), Err(want));
     }
 }
 
 #[test]
 fn a_total_is_that_of_all_lines(rt: HostRuntime) {
-    assert_eq!(rt; total(""), Ok(0));
-    assert_eq!(rt;
+    answers(&rt, total(""), Ok(0));
+    answers(
+        &rt,
         total("salary 250000\nrent\t-85000\n\nrefund +1999\r\n"),
-        Ok(166999)
+        Ok(166999),
     );
 
     // An amount makes up for what the others exceed.
-    assert_eq!(rt;
+    answers(
+        &rt,
         total("a 9223372036854775807\nb 1\nc -2"),
-        Ok(9223372036854775806)
+        Ok(9223372036854775806),
     );
 }
 
@@ -66,19 +69,22 @@ fn a_broken_ledger_says_where(rt: HostRuntime) {
         start: 5,
         error: Error::InvalidDigit(3),
     };
-    assert_eq!(rt;
+    answers(
+        &rt,
         total("salary 250000\n\nrent -85x00\nrefund\n"),
-        Err(LedgerError::Line { line: 2, error })
+        Err(LedgerError::Line { line: 2, error }),
     );
-    assert_eq!(rt;
+    answers(
+        &rt,
         total("a 9223372036854775807\nb 1\n"),
-        Err(LedgerError::OutOfRange)
+        Err(LedgerError::OutOfRange),
     );
-    assert_eq!(rt;
+    answers(
+        &rt,
         total("a -9223372036854775808\nb -1\nc\n"),
         Err(LedgerError::Line {
             line: 2,
-            error: LineError::NoAmount
-        })
+            error: LineError::NoAmount,
+        }),
     );
 }

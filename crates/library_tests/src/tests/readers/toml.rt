@@ -1,4 +1,5 @@
 // Tests of the reader of TOML.
+use crate::tests::answers_to;
 use lexical_parse_integer::Error;
 use uses::toml::{integer, setting};
 
@@ -22,7 +23,7 @@ fn integers_of_toml_are_read(rt: HostRuntime) {
         (b"0b11010110", 214),
         (b"-9223372036854775808", -9223372036854775808),
     ] {
-        assert_eq!(rt; integer(text), Ok(want), "{text:?}");
+        answers_to(&rt, text, integer(text), Ok(want));
     }
 }
 
@@ -46,7 +47,7 @@ fn other_texts_are_none_of_toml(rt: HostRuntime) {
         (b"9223372036854775808", Error::Overflow(18)),
         (b"-9223372036854775809", Error::Underflow(19)),
     ] {
-        assert_eq!(rt; integer(text), Err(want), "{text:?}");
+        answers_to(&rt, text, integer(text), Err(want));
     }
 }
 
@@ -64,6 +65,6 @@ fn settings_are_read_by_their_names(rt: HostRuntime) {
         (b"retries_left = 1", None),
         (b"", None),
     ] {
-        assert_eq!(rt; setting(b"retries", line), want, "{line:?}");
+        answers_to(&rt, line, setting(b"retries", line), want);
     }
 }

@@ -3,6 +3,7 @@
 
 ghost use Rattle.std.specs.Prelude.{◌≡◌, ◌↔◌, IsTrue, Ok};
 
+use crate::tests::answers;
 use lexical_util::error::Error;
 use lexical_util::format::{JSON, NumberFormat, NumberFormatBuilder, STANDARD};
 use std::alloc::AllocError;
@@ -68,8 +69,8 @@ fn equality_and_copies(rt: HostRuntime) -> Result<(), Fail> {
     assert!(rt; !are_equal_builders(&builder, &builder.base_suffix(Some(b'h'))));
     let copies = copied(&Error::Empty(1), &JSON, &builder);
     assert!(rt; copies == (Error::Empty(1), JSON, builder));
-    assert_eq!(rt; cloned_fault(&Error::Empty(1))?, Error::Empty(1));
-    assert_eq!(rt; cloned_format(&JSON)?, JSON);
-    assert_eq!(rt; cloned_builder(&builder)?, builder);
+    answers(&rt, cloned_fault(&Error::Empty(1))?, Error::Empty(1));
+    answers(&rt, cloned_format(&JSON)?, JSON);
+    answers(&rt, cloned_builder(&builder)?, builder);
     Ok(())
 }

@@ -3,6 +3,7 @@
 ghost use Rattle.std.specs.Prelude.{◌≡◌, IfOk, string_bytes};
 ghost use Rattle.lexical_util.specs.Faults.{fault_text};
 
+use crate::tests::answers;
 use lexical_util::error::Error;
 use std::alloc::{AllocError, Allocator};
 use std::error;
@@ -109,8 +110,8 @@ fn texts_of_faults(rt: HostRuntime) -> Result<(), Fail> {
             "overflow at byte 18446744073709551615",
         ),
     ] {
-        assert_eq!(rt; text_of(rt.alloc(), &fault)?.as_str(), text);
-        assert_eq!(rt; message_of(rt.alloc(), &fault)?.as_str(), text);
+        answers(&rt, text_of(rt.alloc(), &fault)?.as_str(), text);
+        answers(&rt, message_of(rt.alloc(), &fault)?.as_str(), text);
     }
     Ok(())
 }

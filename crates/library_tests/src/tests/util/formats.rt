@@ -1,5 +1,6 @@
 // The fields of formats, and which formats are valid.
 
+use crate::tests::answers;
 use lexical_util::error::Error;
 use lexical_util::format::{JSON, NumberFormat, NumberFormatBuilder, STANDARD};
 use std::process::Abort;
@@ -28,7 +29,7 @@ fn flags_of(format: &NumberFormat) -> [bool; 14] {
 #[test]
 fn each_flag_alone(rt: HostRuntime) -> Result<(), Fail> {
     let bare = NumberFormatBuilder::new().required_digits(false);
-    assert_eq!(rt; flags_of(&bare.build_strict()), [false; 14]);
+    answers(&rt, flags_of(&bare.build_strict()), [false; 14]);
     assert!(rt; !bare.build_strict().required_digits());
     for (i, builder) in [
         bare.case_sensitive_base_prefix(true),
@@ -66,33 +67,38 @@ fn other_setters(rt: HostRuntime) {
         .base_prefix(Some(b'x'))
         .base_suffix(Some(b'h'))
         .build_strict();
-    assert_eq!(rt; format.mantissa_radix(), 16);
-    assert_eq!(rt; format.radix(), 16);
-    assert_eq!(rt; format.digit_separator(), Some(b'_'));
-    assert_eq!(rt; format.base_prefix(), Some(b'x'));
+    answers(&rt, format.mantissa_radix(), 16);
+    answers(&rt, format.radix(), 16);
+    answers(&rt, format.digit_separator(), Some(b'_'));
+    answers(&rt, format.base_prefix(), Some(b'x'));
     assert!(rt; format.has_base_prefix());
-    assert_eq!(rt; format.base_suffix(), Some(b'h'));
+    answers(&rt, format.base_suffix(), Some(b'h'));
 
     let builder = NumberFormatBuilder::new();
-    assert_eq!(rt;
+    answers(
+        &rt,
         builder.leading_digit_separator(true),
-        builder.integer_leading_digit_separator(true)
+        builder.integer_leading_digit_separator(true),
     );
-    assert_eq!(rt;
+    answers(
+        &rt,
         builder.internal_digit_separator(true),
-        builder.integer_internal_digit_separator(true)
+        builder.integer_internal_digit_separator(true),
     );
-    assert_eq!(rt;
+    answers(
+        &rt,
         builder.trailing_digit_separator(true),
-        builder.integer_trailing_digit_separator(true)
+        builder.integer_trailing_digit_separator(true),
     );
-    assert_eq!(rt;
+    answers(
+        &rt,
         builder.consecutive_digit_separator(true),
-        builder.integer_consecutive_digit_separator(true)
+        builder.integer_consecutive_digit_separator(true),
     );
-    assert_eq!(rt;
+    answers(
+        &rt,
         builder.required_digits(true),
-        builder.required_integer_digits(true)
+        builder.required_integer_digits(true),
     );
 }
 
@@ -108,18 +114,18 @@ fn ready_made_formats(rt: HostRuntime) {
         (NumberFormatBuilder::from_radix(36), 36),
         (NumberFormatBuilder::binary(), 2),
     ] {
-        assert_eq!(rt; format.radix(), radix);
-        assert_eq!(rt; flags_of(&format), digits_required);
-        assert_eq!(rt; format.digit_separator(), None);
-        assert_eq!(rt; format.base_prefix(), None);
+        answers(&rt, format.radix(), radix);
+        answers(&rt, flags_of(&format), digits_required);
+        answers(&rt, format.digit_separator(), None);
+        answers(&rt, format.base_prefix(), None);
         assert!(rt; !format.has_base_prefix());
-        assert_eq!(rt; format.base_suffix(), None);
+        answers(&rt, format.base_suffix(), None);
     }
     let json = NumberFormatBuilder::new()
         .required_integer_digits(true)
         .no_positive_mantissa_sign(true)
         .no_integer_leading_zeros(true);
-    assert_eq!(rt; JSON, json.build_strict());
+    answers(&rt, JSON, json.build_strict());
 }
 
 type Marks = (u8, Option<u8>, Option<u8>, Option<u8>);

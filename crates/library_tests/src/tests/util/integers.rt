@@ -4,6 +4,7 @@ ghost use Rattle.std.specs.Prelude.{◌+◌, ◌<◌, pos};
 ghost use Rattle.lexical_util.specs.Digit.{IsRadix};
 ghost use Rattle.lexical_util.specs.Number.{HasSign, IsNumber, mul_add};
 
+use crate::tests::answers;
 use lexical_util::num::Integer;
 use std::fmt::Debug;
 use std::process::Abort;
@@ -18,32 +19,32 @@ fn room<T: Integer>(radix: u32) -> usize
 #[test]
 fn digits_that_never_overflow(rt: HostRuntime) -> Result<(), Fail> {
     for radix in 2..=16 {
-        assert_eq!(rt; room::<u8>(radix), 2);
-        assert_eq!(rt; room::<i8>(radix), 1);
-        assert_eq!(rt; room::<u16>(radix), 4);
-        assert_eq!(rt; room::<i16>(radix), 3);
-        assert_eq!(rt; room::<u32>(radix), 8);
-        assert_eq!(rt; room::<i32>(radix), 7);
-        assert_eq!(rt; room::<u64>(radix), 16);
-        assert_eq!(rt; room::<i64>(radix), 15);
-        assert_eq!(rt; room::<usize>(radix), 16);
-        assert_eq!(rt; room::<isize>(radix), 15);
-        assert_eq!(rt; room::<u128>(radix), 32);
-        assert_eq!(rt; room::<i128>(radix), 31);
+        answers(&rt, room::<u8>(radix), 2);
+        answers(&rt, room::<i8>(radix), 1);
+        answers(&rt, room::<u16>(radix), 4);
+        answers(&rt, room::<i16>(radix), 3);
+        answers(&rt, room::<u32>(radix), 8);
+        answers(&rt, room::<i32>(radix), 7);
+        answers(&rt, room::<u64>(radix), 16);
+        answers(&rt, room::<i64>(radix), 15);
+        answers(&rt, room::<usize>(radix), 16);
+        answers(&rt, room::<isize>(radix), 15);
+        answers(&rt, room::<u128>(radix), 32);
+        answers(&rt, room::<i128>(radix), 31);
     }
     for radix in 17..=36 {
-        assert_eq!(rt; room::<u8>(radix), 1);
-        assert_eq!(rt; room::<i8>(radix), 1);
-        assert_eq!(rt; room::<u16>(radix), 2);
-        assert_eq!(rt; room::<i16>(radix), 2);
-        assert_eq!(rt; room::<u32>(radix), 4);
-        assert_eq!(rt; room::<i32>(radix), 4);
-        assert_eq!(rt; room::<u64>(radix), 8);
-        assert_eq!(rt; room::<i64>(radix), 8);
-        assert_eq!(rt; room::<usize>(radix), 8);
-        assert_eq!(rt; room::<isize>(radix), 8);
-        assert_eq!(rt; room::<u128>(radix), 16);
-        assert_eq!(rt; room::<i128>(radix), 16);
+        answers(&rt, room::<u8>(radix), 1);
+        answers(&rt, room::<i8>(radix), 1);
+        answers(&rt, room::<u16>(radix), 2);
+        answers(&rt, room::<i16>(radix), 2);
+        answers(&rt, room::<u32>(radix), 4);
+        answers(&rt, room::<i32>(radix), 4);
+        answers(&rt, room::<u64>(radix), 8);
+        answers(&rt, room::<i64>(radix), 8);
+        answers(&rt, room::<usize>(radix), 8);
+        answers(&rt, room::<isize>(radix), 8);
+        answers(&rt, room::<u128>(radix), 16);
+        answers(&rt, room::<i128>(radix), 16);
     }
     Ok(())
 }
@@ -61,9 +62,9 @@ fn reaches_end<T: Integer + Debug>(rt: &impl Abort, front: T, digit: u32, negati
     let ten = T::from_u32(10);
     let last = T::from_u32(digit);
     let next = T::from_u32(digit + 1);
-    assert_eq!(rt; front.mul_add(ten, last, negative), end);
-    assert_eq!(rt; front.checked_mul_add(ten, last, negative), Some(end));
-    assert_eq!(rt; front.checked_mul_add(ten, next, negative), None);
+    answers(rt, front.mul_add(ten, last, negative), end);
+    answers(rt, front.checked_mul_add(ten, last, negative), Some(end));
+    answers(rt, front.checked_mul_add(ten, next, negative), None);
 }
 
 #[test]
@@ -104,5 +105,9 @@ fn ends_of_the_types(rt: HostRuntime) {
         true,
         -170141183460469231731687303715884105728,
     );
-    assert_eq!(rt; <u8 as Integer>::ZERO.checked_mul_add(10, 1, true), None);
+    answers(
+        &rt,
+        <u8 as Integer>::ZERO.checked_mul_add(10, 1, true),
+        None,
+    );
 }
