@@ -69,6 +69,20 @@ fn read_all<R: Read, B: Buffer>(input: &mut R, bytes: &mut B) -> Result<(), RunE
     Err(RunError::Read)
 }
 
+// Writes the answer lines of the input, and flushes. A refused flush is `Write` too.
+fn run_and_flush<W: Write>(input: &[u8], out: &mut W) -> Result<(), RunError>
+    ensures ok { OnOk result (Appends (W.contents out.old) (W.contents out.new)
+        (output input.now)) }
+    ensures front { GainsFront (W.contents out.old) (W.contents out.new) (output input.now) }
+    ensures fault { IsOkUnless result RunError.Write }
+{
+    run(input, out)?;
+    match out.flush() {
+        Ok(()) => Ok(()),
+        Err(_) => Err(RunError::Write),
+    }
+}
+
 /// `run_from` with an empty buffer of the caller's.
 pub fn run_with<R: Read, W: Write, B: Buffer>(
     buffer: B,
@@ -91,11 +105,7 @@ pub fn run_with<R: Read, W: Write, B: Buffer>(
 {
     let mut buffer = buffer;
     read_all(input, &mut buffer)?;
-    run(buffer.bytes(), out)?;
-    match out.flush() {
-        Ok(()) => Ok(()),
-        Err(_) => Err(RunError::Write),
-    }
+    run_and_flush(buffer.bytes(), out)
 }
 
 /// Reads to the end, writes the answer lines of all that was read, and flushes.

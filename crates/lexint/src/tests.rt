@@ -29,6 +29,11 @@ fn same_at<P: Debug + Drop, A: PartialEq + Debug + Drop>(
     assert_eq!(rt; found, expected, "at {at:?}");
 }
 
+/// The same for an input, which a failure shows.
+fn same_for(rt: &impl Abort, input: &[u8], found: &[u8], expected: &[u8]) {
+    assert_eq!(rt; found, expected, "{}", input.escape_ascii());
+}
+
 /// What a run writes for an input.
 fn output_of(alloc: Global, input: &[u8]) -> Result<Vec<u8>, RunError> {
     let mut out = Vec::new(alloc);
@@ -44,7 +49,7 @@ fn each_has_output(
 ) -> Result<(), RunError> {
     for (input, expected) in rows {
         let out = output_of(alloc, input)?;
-        assert_eq!(rt; out.as_slice(), *expected, "{}", input.escape_ascii());
+        same_for(rt, input, &out, expected);
     }
     Ok(())
 }

@@ -8,6 +8,7 @@ use crate::fault::RunError;
 use crate::program::{output_in_memory, run, run_from, run_with};
 use std::alloc::{AllocError, Global};
 use std::io::ErrorKind;
+use std::process::Abort;
 use std::test::Fail;
 
 const INPUT: &[u8] =
@@ -51,6 +52,76 @@ fn blocks(alloc: Global) -> Result<Vec<u8>, AllocError> {
     Ok(input)
 }
 
+/// A run from a reader that refuses a read answers so, and writes nothing.
+fn is_refused_read(rt: &impl Abort, alloc: Global, reader: FailingReader<'_>) {
+    let at = (reader.kind, reader.good);
+    let mut input = reader;
+    let mut out = FixedWriter::new(ROOM);
+    let answer = run_from(alloc, &mut input, &mut out);
+    same_at(rt, at, answer, Err(RunError::Read));
+    same_at(rt, at, out.held(), b"".as_slice());
+}
+
+/// A run whose write is refused behind these bytes answers so, and has written them.
+fn is_refused_write(rt: &impl Abort, alloc: Global, refusal: Refusal, written: &[u8]) {
+    let mut input: &[u8] = INPUT;
+    let mut out = FixedWriter::failing(1, written.len(), refusal);
+    let answer = run_from(alloc, &mut input, &mut out);
+    same_at(rt, (refusal, written.len()), answer, Err(RunError::Write));
+    same_at(rt, refusal, out.held(), written);
+}
+
+/// A long run answers that the write after `good` of them is refused, and asks for none after it.
+fn is_refused_write_of_many(
+    rt: &impl Abort,
+    alloc: Global,
+    long: &[u8],
+    most: usize,
+    good: usize,
+    refusal: Refusal,
+) {
+    let mut input = long;
+    let mut out = BlockWriter::failing(ANSWERS, most, good, refusal);
+    let answer = run_from(alloc, &mut input, &mut out);
+    same_at(rt, (refusal, good), answer, Err(RunError::Write));
+    same_at(rt, (refusal, good), out.writes, good);
+    same_at(rt, (refusal, good), out.is_other, false);
+}
+
+/// A run whose flush is refused answers so, and has written all.
+fn is_refused_flush(
+    rt: &impl Abort,
+    alloc: Global,
+    bytes: &[u8],
+    block: &[u8],
+    times: usize,
+    kind: ErrorKind,
+) {
+    let mut input = bytes;
+    let mut out = BlockWriter::unflushed(block, kind);
+    let answer = run_from(alloc, &mut input, &mut out);
+    same_at(rt, kind, answer, Err(RunError::Write));
+    same_at(rt, kind, out.has_blocks(times), true);
+    same_at(rt, kind, out.flushed, out.bytes);
+}
+
+/// A run that reads and writes a byte a call writes the block so many times, and flushes last.
+fn is_run_byte_by_byte(
+    rt: &impl Abort,
+    alloc: Global,
+    interruptions: usize,
+    bytes: &[u8],
+    block: &[u8],
+    times: usize,
+) {
+    let mut input = OneByteReader::new(bytes, interruptions);
+    let mut out = BlockWriter::new(block, 1);
+    let answer = run_from(alloc, &mut input, &mut out);
+    same_at(rt, interruptions, answer, Ok(()));
+    same_at(rt, interruptions, out.has_blocks(times), true);
+    same_at(rt, interruptions, out.flushed, out.bytes);
+}
+
 #[test]
 fn a_run_writes_an_answer_line_for_each_line(rt: HostRuntime) -> Result<(), Fail> {
     let mut out = FixedWriter::new(ROOM);
@@ -66,16 +137,13 @@ fn a_refused_read_writes_nothing(rt: HostRuntime) -> Result<(), Fail> {
     let long = blocks(rt.alloc())?;
     for (bytes, most) in [(INPUT, 1), (INPUT, 7), (long.as_slice(), usize::MAX)] {
         for good in 0..=bytes.len() {
-            let mut input = FailingReader {
+            let reader = FailingReader {
                 bytes,
                 most,
                 good,
                 kind: ErrorKind::Other,
             };
-            let mut out = FixedWriter::new(ROOM);
-            let answer = run_from(rt.alloc(), &mut input, &mut out);
-            same_at(&rt, good, answer, Err(RunError::Read));
-            same_at(&rt, good, out.held(), b"".as_slice());
+            is_refused_read(&rt, rt.alloc(), reader);
         }
     }
     Ok(())
@@ -85,16 +153,13 @@ fn a_refused_read_writes_nothing(rt: HostRuntime) -> Result<(), Fail> {
 fn a_read_is_refused_whatever_the_fault(rt: HostRuntime) {
     for kind in KINDS {
         for good in [0, 9, INPUT.len()] {
-            let mut input = FailingReader {
+            let reader = FailingReader {
                 bytes: INPUT,
                 most: usize::MAX,
                 good,
                 kind,
             };
-            let mut out = FixedWriter::new(ROOM);
-            let answer = run_from(rt.alloc(), &mut input, &mut out);
-            same_at(&rt, (kind, good), answer, Err(RunError::Read));
-            same_at(&rt, (kind, good), out.held(), b"".as_slice());
+            is_refused_read(&rt, rt.alloc(), reader);
         }
     }
 }
@@ -103,11 +168,7 @@ fn a_read_is_refused_whatever_the_fault(rt: HostRuntime) {
 fn a_refused_write_is_told(rt: HostRuntime) {
     for refusal in REFUSALS {
         for good in 0..OUTPUT.len() {
-            let mut input: &[u8] = INPUT;
-            let mut out = FixedWriter::failing(1, good, refusal);
-            let answer = run_from(rt.alloc(), &mut input, &mut out);
-            same_at(&rt, (refusal, good), answer, Err(RunError::Write));
-            same_at(&rt, (refusal, good), out.held(), &OUTPUT[..good]);
+            is_refused_write(&rt, rt.alloc(), refusal, &OUTPUT[..good]);
         }
         let mut input: &[u8] = INPUT;
         let mut out = FixedWriter::failing(1, OUTPUT.len(), refusal);
@@ -132,11 +193,7 @@ fn each_refused_write_of_a_long_run_is_told(rt: HostRuntime) -> Result<(), Fail>
         assert!(rt; writes >= least_writes);
         for refusal in REFUSALS {
             for good in 0..writes {
-                let mut out = BlockWriter::failing(ANSWERS, most, good, refusal);
-                let answer = run_from(rt.alloc(), &mut long.as_slice(), &mut out);
-                same_at(&rt, (refusal, good), answer, Err(RunError::Write));
-                same_at(&rt, refusal, out.writes, good);
-                assert!(rt; !out.is_other, "{refusal:?} after {good}");
+                is_refused_write_of_many(&rt, rt.alloc(), &long, most, good, refusal);
             }
         }
     }
@@ -146,11 +203,7 @@ fn each_refused_write_of_a_long_run_is_told(rt: HostRuntime) -> Result<(), Fail>
 #[test]
 fn a_write_is_refused_whatever_the_fault(rt: HostRuntime) {
     for kind in KINDS {
-        let mut input: &[u8] = INPUT;
-        let mut out = FixedWriter::failing(1, 9, Refusal::Fault(kind));
-        let answer = run_from(rt.alloc(), &mut input, &mut out);
-        same_at(&rt, kind, answer, Err(RunError::Write));
-        same_at(&rt, kind, out.held(), &OUTPUT[..9]);
+        is_refused_write(&rt, rt.alloc(), Refusal::Fault(kind), &OUTPUT[..9]);
     }
 }
 
@@ -164,12 +217,7 @@ fn a_refused_flush_is_told(rt: HostRuntime) -> Result<(), Fail> {
             ErrorKind::Other,
             ErrorKind::WouldBlock,
         ] {
-            let mut input = bytes;
-            let mut out = BlockWriter::unflushed(block, kind);
-            let answer = run_from(rt.alloc(), &mut input, &mut out);
-            same_at(&rt, kind, answer, Err(RunError::Write));
-            assert!(rt; out.has_blocks(times), "{kind:?}");
-            same_at(&rt, kind, out.flushed, out.bytes);
+            is_refused_flush(&rt, rt.alloc(), bytes, block, times, kind);
         }
     }
     Ok(())
@@ -179,15 +227,8 @@ fn a_refused_flush_is_told(rt: HostRuntime) -> Result<(), Fail> {
 fn bytes_go_one_at_a_time(rt: HostRuntime) -> Result<(), Fail> {
     let long = blocks(rt.alloc())?;
     for interruptions in [0, 1, 5] {
-        let mut input = OneByteReader::new(INPUT, interruptions);
-        let mut out = FixedWriter::new(1);
-        same(&rt, run_from(rt.alloc(), &mut input, &mut out), Ok(()));
-        same(&rt, out.held(), OUTPUT);
-        let mut input = OneByteReader::new(&long, interruptions);
-        let mut out = BlockWriter::new(ANSWERS, 1);
-        same(&rt, run_from(rt.alloc(), &mut input, &mut out), Ok(()));
-        assert!(rt; out.has_blocks(TIMES));
-        same(&rt, out.flushed, out.bytes);
+        is_run_byte_by_byte(&rt, rt.alloc(), interruptions, INPUT, OUTPUT, 1);
+        is_run_byte_by_byte(&rt, rt.alloc(), interruptions, &long, ANSWERS, TIMES);
     }
     Ok(())
 }

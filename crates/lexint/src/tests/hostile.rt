@@ -4,6 +4,7 @@ use super::devices::{BlockWriter, OneByteReader};
 use super::{output_of, same, same_at};
 use crate::program::{run, run_from};
 use std::alloc::{AllocError, Global};
+use std::process::Abort;
 use std::test::Fail;
 
 const MANY: usize = 1_000_000;
@@ -32,6 +33,22 @@ fn filled(
     add_times(&mut line, filler.as_bytes(), count % 1000)?;
     line.extend_from_slice(back.as_bytes())?;
     Ok(line)
+}
+
+/// The output of a front, a filler so many times, and a back.
+fn is_answered(
+    rt: &impl Abort,
+    alloc: Global,
+    front: &str,
+    filler: &str,
+    count: usize,
+    back: &str,
+    want: &str,
+) -> Result<(), Fail> {
+    let input = filled(alloc, front, filler, count, back)?;
+    let out = output_of(alloc, &input)?;
+    same_at(rt, (front, filler, back), out.as_slice(), want.as_bytes());
+    Ok(())
 }
 
 #[test]
@@ -85,9 +102,7 @@ fn lines_of_mebibytes(rt: HostRuntime) -> Result<(), Fail> {
         ("", "\0", 10, "", "bad line\n"),
     ] {
         let count = MEBIBYTE.saturating_mul(mebibytes);
-        let input = filled(rt.alloc(), front, filler, count, back)?;
-        let out = output_of(rt.alloc(), &input)?;
-        same_at(&rt, (front, filler, back), out.as_slice(), want.as_bytes());
+        is_answered(&rt, rt.alloc(), front, filler, count, back, want)?;
     }
     Ok(())
 }
@@ -113,9 +128,7 @@ fn numerals_of_a_million_digits(rt: HostRuntime) -> Result<(), Fail> {
         ("c i64 -", "9", "x", "err Underflow 19\n"),
         ("p u32 ", "0", "12a", "ok 12 1000002\n"),
     ] {
-        let input = filled(rt.alloc(), front, digit, MANY, back)?;
-        let out = output_of(rt.alloc(), &input)?;
-        same_at(&rt, (front, digit, back), out.as_slice(), want.as_bytes());
+        is_answered(&rt, rt.alloc(), front, digit, MANY, back, want)?;
     }
     Ok(())
 }
@@ -146,15 +159,8 @@ fn fields_and_a_million_digits(rt: HostRuntime) -> Result<(), Fail> {
         ),
     ] {
         let before = format!(in rt.alloc(); "f {field}\n{front}")?;
-        let input = filled(rt.alloc(), &before, digit, MANY, back)?;
-        let out = output_of(rt.alloc(), &input)?;
         let answers = format!(in rt.alloc(); "ok\n{want}")?;
-        same_at(
-            &rt,
-            (field, front, digit, back),
-            out.as_slice(),
-            answers.as_bytes(),
-        );
+        is_answered(&rt, rt.alloc(), &before, digit, MANY, back, &answers)?;
     }
     Ok(())
 }
@@ -181,15 +187,8 @@ fn a_million_separators(rt: HostRuntime) -> Result<(), Fail> {
         (INTERNAL, "c u8 2", "_0", "", "err Overflow 6\n"),
     ] {
         let before = format!(in rt.alloc(); "f digit_separator _\n{flag}{CONSECUTIVE}{front}")?;
-        let input = filled(rt.alloc(), &before, filler, MANY, back)?;
-        let out = output_of(rt.alloc(), &input)?;
         let answers = format!(in rt.alloc(); "ok\nok\nok\n{want}")?;
-        same_at(
-            &rt,
-            (flag, front, filler, back),
-            out.as_slice(),
-            answers.as_bytes(),
-        );
+        is_answered(&rt, rt.alloc(), &before, filler, MANY, back, &answers)?;
     }
     Ok(())
 }
@@ -204,10 +203,8 @@ fn a_million_separators_in_a_row_are_refused(rt: HostRuntime) -> Result<(), Fail
         (CONSECUTIVE, "p i64 1", "2", "ok 1 1\n"),
     ] {
         let before = format!(in rt.alloc(); "f digit_separator _\n{flag}{front}")?;
-        let input = filled(rt.alloc(), &before, "_", MANY, back)?;
-        let out = output_of(rt.alloc(), &input)?;
         let answers = format!(in rt.alloc(); "ok\nok\n{want}")?;
-        same_at(&rt, (flag, front, back), out.as_slice(), answers.as_bytes());
+        is_answered(&rt, rt.alloc(), &before, "_", MANY, back, &answers)?;
     }
     Ok(())
 }

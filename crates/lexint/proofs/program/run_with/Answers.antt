@@ -1,4 +1,4 @@
-use Rattle.lexint.proofs.Sending.{front_kept, grown_by_front, grown_by_none, written_all, written_none}
+use Rattle.lexint.proofs.Sending.{grown_by_front, grown_by_none, written_all, written_none}
 use Rattle.lexint.specs.Output.{output}
 use Rattle.lexint.proofs.program.run_with.Goals as goal
 
@@ -8,25 +8,9 @@ returns-in_err-read_all-clause-written g c = written_none _ _ output
 pub returns-in_err-read_all-clause-grown : goal.returns-in_err-read_all-clause-grown
 returns-in_err-read_all-clause-grown g c = grown_by_none _
 
-pub returns-in_err-run-clause-written : goal.returns-in_err-run-clause-written
-returns-in_err-run-clause-written g c =
-    written_all _ _ _ output _ _ _ c.requires c.in_ok-read_all.ensures.all c.bytes.ensures c.in_err-run.ensures.front
-
-pub returns-in_err-run-clause-grown : goal.returns-in_err-run-clause-grown
-returns-in_err-run-clause-grown g c = grown_by_front _ _ _ c.in_err-run.ensures.front
-
-pub returns-in-Ok-clause-written : goal.returns-in-Ok-clause-written
-returns-in-Ok-clause-written g c =
-    written_all _ _ _ output _ _ _ c.requires c.in_ok-read_all.ensures.all c.bytes.ensures
-    (front_kept _ _ _ _ c.in_ok-run.ensures.front c.flush.ensures.bytes)
-
-pub returns-in-Ok-clause-grown : goal.returns-in-Ok-clause-grown
-returns-in-Ok-clause-grown g c = grown_by_front _ _ _ (front_kept _ _ _ _ c.in_ok-run.ensures.front c.flush.ensures.bytes)
-
 pub returns-clause-written : goal.returns-clause-written
 returns-clause-written g c =
-    written_all _ _ _ output _ _ _ c.requires c.in_ok-read_all.ensures.all c.bytes.ensures
-    (front_kept _ _ _ _ c.in_ok-run.ensures.front c.flush.ensures.bytes)
+    written_all _ _ _ output _ _ _ c.requires c.in_ok-read_all.ensures.all c.bytes.ensures c.run_and_flush.ensures.front
 
 pub returns-clause-grown : goal.returns-clause-grown
-returns-clause-grown g c = grown_by_front _ _ _ (front_kept _ _ _ _ c.in_ok-run.ensures.front c.flush.ensures.bytes)
+returns-clause-grown g c = grown_by_front _ _ _ c.run_and_flush.ensures.front
