@@ -1,12 +1,7 @@
 // Tests of the readers of C and of Python.
-use lexical_parse_integer::{Error, Result};
-use std::process::Abort;
+use crate::tests::answers_to;
+use lexical_parse_integer::Error;
 use uses::source::{c, python};
-
-// What a reader answers to a text.
-fn answers(rt: &impl Abort, text: &[u8], answer: Result<u64>, expected: Result<u64>) {
-    assert_eq!(rt; answer, expected, "{}", text.escape_ascii());
-}
 
 // C23, 6.4.4.1: the literals of its grammar, and texts that aren't.
 #[test]
@@ -25,7 +20,7 @@ fn literals_of_c_are_read(rt: HostRuntime) {
         (b"18446744073709551615", 18446744073709551615),
         (b"01777777777777777777777", 18446744073709551615),
     ] {
-        answers(&rt, text, c(text), Ok(want));
+        answers_to(&rt, text, c(text), Ok(want));
     }
 }
 
@@ -45,7 +40,7 @@ fn other_texts_are_none_of_c(rt: HostRuntime) {
         (b"-1", Error::InvalidDigit(0)),
         (b"02000000000000000000000", Error::Overflow(22)),
     ] {
-        answers(&rt, text, c(text), Err(want));
+        answers_to(&rt, text, c(text), Err(want));
     }
 }
 
@@ -65,7 +60,7 @@ fn literals_of_python_are_read(rt: HostRuntime) {
         (b"0b_1110_0101", 229),
         (b"0x_00", 0),
     ] {
-        answers(&rt, text, python(text), Ok(want));
+        answers_to(&rt, text, python(text), Ok(want));
     }
 }
 
@@ -86,6 +81,6 @@ fn other_texts_are_none_of_python(rt: HostRuntime) {
         (b"0b2", Error::InvalidDigit(2)),
         (b"-1", Error::InvalidDigit(0)),
     ] {
-        answers(&rt, text, python(text), Err(want));
+        answers_to(&rt, text, python(text), Err(want));
     }
 }
