@@ -45,8 +45,10 @@ ROOT = os.path.dirname(os.path.dirname(os.path.abspath(__file__)))
 RT = os.environ.get("RT", "rt")
 # The folders that no clone has, as .gitignore names them.
 MADE = (".git", "out", "build", "target", "__pycache__")
-# What `rt ci` takes beside the judge's checks, and the most that all take.
-MEMORY_OF_PROOFS, MOST_MEMORY = 7e9, 12e9
+# What `rt ci` takes beside the judge's checks: at first, with one crate at a time, and then, with tests of several.
+MEMORY_OF_BASE, MEMORY_OF_TESTS = 3e9, 7.5e9
+# The most that all take.
+MOST_MEMORY = 12e9
 # What comes first where checks wait for each other: libraries, then what is done by one check, then batches of edits.
 LIBRARY, SINGLE, BATCH = range(3)
 
@@ -67,7 +69,7 @@ class Slots:
     def at(self, rank):
         with self.changed:
             self.waiting.append(rank)
-            self.changed.wait_for(lambda: self.free and rank == min(self.waiting))
+            self.changed.wait_for(lambda: self.free > 0 and rank == min(self.waiting))
             self.waiting.remove(rank)
             self.free -= 1
             self.changed.notify_all()
@@ -78,10 +80,11 @@ class Slots:
                 self.free += 1
                 self.changed.notify_all()
 
-    def grow(self, number):
+    def resize(self, number):
+        """From now on so many may run at once. What runs already goes on."""
         with self.changed:
-            self.free += max(number - self.number, 0)
-            self.number = max(number, self.number)
+            self.free += number - self.number
+            self.number = number
             self.changed.notify_all()
 
 
@@ -152,14 +155,13 @@ class Gate:
         self.start, self.lock = time.time(), threading.Lock()
         self.parts, self.ended = 0, 0
         self.cores = len(os.sched_getaffinity(0))
+        self.memory = min(judge_edits.free_memory(), MOST_MEMORY)
         # `rt ci` takes every processor that it has work for, and the judge's checks fill those that it leaves idle.
-        self.slots = Slots(self.checks_for(self.cores, MEMORY_OF_PROOFS))
+        self.slots = Slots(self.checks_beside(MEMORY_OF_BASE))
 
-    @staticmethod
-    def checks_for(cores, taken):
-        """How many checks these processors and the memory beside what is taken have room for."""
-        memory = min(judge_edits.free_memory(), MOST_MEMORY) - taken
-        return max(1, min(cores, int(memory / judge_edits.MEMORY)))
+    def checks_beside(self, taken):
+        """How many checks the processors and the memory beside what is taken have room for."""
+        return max(1, min(self.cores, int((self.memory - taken) / judge_edits.MEMORY)))
 
     def say(self, text):
         with self.lock:
@@ -248,7 +250,7 @@ class Gate:
             wanted = f"{len(self.crates) + (self.edits if self.is_one_by_one else 0)} passed, 0 failed\n"
             is_well = status == 0 and said[-1:] == [wanted]
         finally:
-            self.slots.grow(self.checks_for(self.cores, 0))
+            self.slots.resize(self.checks_beside(0))
             self.proofs_end.set_result(is_well)
         if not is_well:
             raise Failed(f"rt ci ended with status {status}, and its last line is not '{wanted.strip()}':\n"
@@ -256,9 +258,16 @@ class Gate:
         return f"{wanted.strip()}: {counts_of(''.join(said))}"
 
     def hear(self, line):
-        """Passes on a line of `rt ci` that says how far it is."""
+        """Passes on a line of `rt ci` that says how far it is. Once the base is proved it proves tests too."""
         if line.startswith("rt: "):
             self.say(f"proofs: {line[len('rt: '):].strip()[:200]}")
+        if line.strip() in [f"rt: {name} proved" for name in self.base()[-1:]]:
+            self.slots.resize(self.checks_beside(MEMORY_OF_TESTS))
+
+    def base(self):
+        """The crates that all others stand on, lowest first: these can't be proved side by side."""
+        return [name for name, below in self.crates.items()
+                if all(name == it or name in self.crates[it] or it in below for it in self.crates)]
 
     def libraries(self):
         """The crates that others stand on, and the library for C, which its callers' part takes as it is proved here."""
@@ -312,7 +321,7 @@ class Gate:
     def edits_of(self, name):
         """How many edits of the crate are refused."""
         self.wait_for(self.crates[name] + [name] * (name in self.built))
-        options = judge_edits.options_of(["--jobs", str(self.checks_for(self.cores, 0))])
+        options = judge_edits.options_of(["--jobs", str(self.checks_beside(0))])
         say = lambda line: self.say(f"edits: {line}")
         # The crate with the most edits takes longest.
         most_first = -len(edits_in(self.root, [name]))

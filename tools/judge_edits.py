@@ -40,7 +40,7 @@ PARTS = ("src", "specs", "proofs")
 KEPT = "out/incremental"
 MODULE = ".oantt"
 # What a check takes, most of them less and few more, and what is left to others.
-MEMORY, SPARE = 1.6e9, 1.5e9
+MEMORY, SPARE = 2e9, 1.5e9
 # Edits give way to what else runs: in the gate the longest chain of checks is that of `rt ci`.
 NICE = ["nice", "-n", "10"]
 

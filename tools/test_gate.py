@@ -125,13 +125,26 @@ class GateTests(unittest.TestCase):
             it.join()
         self.assertEqual(order, [(0, 0), (1, -5), (2, -90), (2, -5)])
 
-    def test_slots_grow(self):
+    def test_slots_become_more_and_fewer(self):
         slots = gate.Slots(1)
-        slots.grow(2)
+        slots.resize(2)
         with slots.at((0, 0)), slots.at((0, 0)):
-            self.assertEqual(slots.free, 0)
-        slots.grow(1)
-        self.assertEqual(slots.free, 2)
+            slots.resize(1)
+            self.assertEqual(slots.free, -1)
+        self.assertEqual(slots.free, 1)
+
+    def test_fewer_checks_run_beside_tests(self):
+        with tempfile.TemporaryDirectory() as folder:
+            it = gate.Gate(folder, False)
+        it.crates = {"low": [], "base": ["low"], "left": ["low", "base"], "right": ["low", "base"]}
+        it.cores, it.memory = 4, 12e9
+        self.assertEqual(it.base(), ["low", "base"])
+        seen = []
+        with mock.patch.object(it.slots, "resize", seen.append):
+            for line in ("rt: low proved\n", "rt: base proved\n", "rt: left proved\n"):
+                it.hear(line)
+        self.assertEqual(seen, [2])
+        self.assertEqual((it.checks_beside(0), it.checks_beside(gate.MEMORY_OF_BASE)), (4, 4))
 
     def test_one_by_one_wants_the_edits_of_the_toolchain(self):
         self.assertIn("its last line is not '5 passed, 0 failed'", self.said("--one-by-one")[1])
