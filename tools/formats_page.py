@@ -7,11 +7,12 @@ import re
 import rows
 
 DATA = os.path.join("tools", "languages.txt")
-HEADINGS = {"more": "Reads more", "less": "Reads less", "otherwise": "Another value"}
+# A wrong number harms more than a fault, so texts with another value come first.
+HEADINGS = {"otherwise": "Another value", "more": "Reads more", "less": "Reads less"}
 UNLIKE = "unlike: "
 FRONT = """# Formats
 
-The integers of programming languages, of data formats and of other notations, each by a function of `format::languages` that makes its format.
+The integers of programming languages, of assemblers and of data formats, each by a function of `format::languages` that makes its format.
 
 ```rust
 use lexical_parse_integer::format::languages;
