@@ -88,8 +88,12 @@ impl fmt::Display for Error {
             Error::Empty(place) => write!(f, "missing digit at byte {place}"),
             Error::MissingSign(place) => write!(f, "missing sign at byte {place}"),
             Error::InvalidPositiveSign(place) => write!(f, "forbidden plus sign at byte {place}"),
-            Error::InvalidLeadingZeros(place) => write!(f, "forbidden leading zero at byte {place}"),
-            Error::InvalidMantissaRadix => f.write_str("the radix of the format is not from 2 to 36"),
+            Error::InvalidLeadingZeros(place) => {
+                write!(f, "forbidden leading zero at byte {place}")
+            }
+            Error::InvalidMantissaRadix => {
+                f.write_str("the radix of the format is not from 2 to 36")
+            }
             Error::InvalidDigitSeparator => {
                 f.write_str("the separator of the format is not ASCII, or is a sign or a digit")
             }

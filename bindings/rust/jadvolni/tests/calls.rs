@@ -42,14 +42,30 @@ fn faults_of_formats() {
 
 #[test]
 fn nul_is_a_byte_like_others() {
-    let utf16 = Format {
+    let with_nuls = Format {
         digit_separator: Some(0),
         integer_internal_digit_separator: true,
         integer_trailing_digit_separator: true,
         ..Format::STANDARD
     };
-    assert_eq!(parse_with::<u16>(b"1\x002\x003\x00", &utf16), Ok(123));
+    assert_eq!(parse_with::<u16>(b"1\x002\x003\x00", &with_nuls), Ok(123));
+    // That isn't UTF-16, in which these two bytes are the letter U+3131.
+    assert_eq!(parse_with::<u16>(b"11", &with_nuls), Ok(11));
     assert_eq!(parse::<u16>(b"1\x002\x003\x00"), Err(Error::InvalidDigit(1)));
+}
+
+#[test]
+fn literal_format_is_no_language() {
+    assert_eq!(parse_with::<u32>("0777", &Format::LITERAL), Ok(777));
+    assert_eq!(parse_with::<u32>("+1", &Format::LITERAL), Ok(1));
+}
+
+#[test]
+fn empty_text_without_required_digit_is_zero() {
+    let none = Format { required_mantissa_digits: false, ..Format::STANDARD };
+    let integer = Format { required_integer_digits: true, ..none };
+    assert_eq!(parse_with::<u32>("", &none), Ok(0));
+    assert_eq!(parse_with::<u32>("", &integer), Err(Error::Empty(0)));
 }
 
 #[test]
@@ -106,7 +122,10 @@ fn beside_std() {
             })
             .collect();
         let front = &text[..text.len().min(1 + next(20) as usize)];
-        assert_eq!(parse::<u8>(&front[..front.len().min(4)]).ok(), front[..front.len().min(4)].parse().ok());
+        assert_eq!(
+            parse::<u8>(&front[..front.len().min(4)]).ok(),
+            front[..front.len().min(4)].parse().ok()
+        );
         assert_eq!(parse::<i32>(front).ok(), front.parse().ok(), "{front}");
         assert_eq!(parse::<u64>(front).ok(), front.parse().ok(), "{front}");
         assert_eq!(parse::<i64>(front).ok(), front.parse().ok(), "{front}");
