@@ -29,11 +29,11 @@ WRITTEN = ("docs/CONTRACTS.md", "docs/FORMATS.md", "docs/MAP.md")
 # The most words of any other page: of a crate, a binding, an example.
 OF_OTHERS = 1000
 MADE = ("out/*", "*/out/*", "build/*", "dist/*", "venv/*", "libjadvolni.*", "liblexical*", "Proof.antt", "ledger.txt")
-# Where the version is written.
-VERSIONS = {
-    "CHANGELOG.md": r"(?m)^## (\S+)", "include/jadvolni.h": r'JADVOLNI_VERSION_STRING "(.*?)"',
-    "bindings/rust/Cargo.toml": r'(?m)^version = "(.*?)"', "bindings/python/pyproject.toml": r'(?m)^version = "(.*?)"',
-}
+# The files with the version, in quotes, at every place where it is written.
+VERSIONED = (
+    "include/jadvolni.h", "bindings/rust/Cargo.toml", "bindings/rust/Cargo.lock", "bindings/rust/jadvolni/Cargo.toml",
+    "bindings/python/pyproject.toml", "bindings/python/build_wheel.py", "bindings/python/src/jadvolni/__init__.py",
+)
 
 FENCE = re.compile(r"(?ms)^(```+)[^\n]*\n.*?^\1[ \t]*$")
 CODE = re.compile(r"`([^`\n]+)`")
@@ -136,13 +136,14 @@ def too_long(words: dict[str, int]) -> list[str]:
 
 def wrong_versions(top: str) -> list[str]:
     """The files whose version isn't that of the changelog."""
-    found = {}
-    for name, pattern in VERSIONS.items():
+    def text_of(name: str) -> str:
         with open(os.path.join(top, name), encoding="utf-8") as file:
-            version = re.search(pattern, file.read())
-        found[name] = version[1] if version else "none"
-    wanted = found["CHANGELOG.md"]
-    return [f"{name}: its version is {it}, and that of CHANGELOG.md {wanted}" for name, it in found.items() if it != wanted]
+            return file.read()
+
+    wanted = set(re.findall(r"(?m)^## (\S+)", text_of("CHANGELOG.md"))[:1])
+    found = {name: set(re.findall(r'"(\d+\.\d+\.\d+)"', text_of(name))) for name in VERSIONED}
+    return [f"{name}: its version is {' and '.join(sorted(it)) or 'missing'}, and that of CHANGELOG.md "
+            f"{' '.join(wanted) or 'missing'}" for name, it in found.items() if it != wanted or not it]
 
 
 def counts_of(pages: dict[str, str]) -> dict[str, int]:

@@ -214,12 +214,18 @@ def test_checks():
 
 
 def test_versions(top):
-    files = {"CHANGELOG.md": "# Changelog\n\n## 1.2.0\n\n## 1.1.0\n", "include/jadvolni.h": '#define JADVOLNI_VERSION_STRING "1.2.0"\n',
-             "bindings/rust/Cargo.toml": '[package]\nversion = "1.2.0"\n', "bindings/python/pyproject.toml": 'version = "1.2.0"\n'}
-    write(top, files)
+    write(top, {"CHANGELOG.md": "# Changelog\n\n## 1.2.0\n\n## 1.1.0\n"})
+    good = {name: 'least = "1.81"\nversion = "1.2.0"\nagain = "1.2.0"\n' for name in check_pages.VERSIONED}
+    write(top, good)
     holds("one version", check_pages.wrong_versions(top) == [])
-    write(top, {"include/jadvolni.h": '#define JADVOLNI_VERSION_STRING "1.1.0"\n'})
-    holds("another version", len(check_pages.wrong_versions(top)) == 1)
+    for name, text in good.items():
+        for what, other in (("another version", text.replace("1.2.0", "1.1.0", 1)), ("no version", "none\n")):
+            write(top, {name: other})
+            wrong = check_pages.wrong_versions(top)
+            holds(f"{what} in {name}", len(wrong) == 1 and wrong[0].startswith(f"{name}: "))
+            write(top, good)
+    write(top, {"CHANGELOG.md": "# Changelog\n"})
+    holds("no version of the changelog", len(check_pages.wrong_versions(top)) == len(good))
 
 
 def main():
