@@ -76,6 +76,41 @@ fn faults_as_texts() {
     assert_eq!(jadvolni::library_version(), 100);
 }
 
+/// Each text is that of the list which all bindings share, by the name of the fault.
+#[test]
+fn texts_of_faults_are_those_of_the_list() {
+    let faults = [
+        Error::Overflow(7),
+        Error::Underflow(7),
+        Error::InvalidDigit(7),
+        Error::Empty(7),
+        Error::MissingSign(7),
+        Error::InvalidPositiveSign(7),
+        Error::InvalidLeadingZeros(7),
+        Error::InvalidMantissaRadix,
+        Error::InvalidDigitSeparator,
+        Error::InvalidBasePrefix,
+        Error::InvalidBaseSuffix,
+        Error::InvalidPunctuation,
+        Error::InvalidLiteralPrefixes,
+        Error::Unknown(7),
+    ];
+    let said = faults.map(|fault| {
+        let name = format!("{fault:?}").replace("(7)", "");
+        format!("{name}: {}", fault.to_string().replace(" at byte 7", ""))
+    });
+    // No fault is no error, and a format of this crate has no reserved bytes.
+    let listed: Vec<&str> = include_str!("../../../errors.txt")
+        .lines()
+        .filter(|line| !line.starts_with('#'))
+        .filter(|line| !line.starts_with("Ok: ") && !line.starts_with("UnknownField: "))
+        .collect();
+    assert_eq!(said.as_slice(), listed);
+    for fault in &faults[..7] {
+        assert!(fault.to_string().ends_with(" at byte 7"), "{fault}");
+    }
+}
+
 /// The least and the greatest number of a type, by all four calls.
 fn ends<T: Integer + ToString + PartialEq + std::fmt::Debug>(ends: [T; 2]) {
     for end in ends {
