@@ -13,6 +13,7 @@ WITHOUT_COMMENT = {
     "HANDLES": "that no crate may abort, wait, start threads or open sockets",
     "LICENSE-APACHE": "the Apache licence 2.0",
     "LICENSE-MIT": "the MIT licence",
+    "NOTICE": "what was ported, and from whom",
     "stdin": "the input of the stored run, which `make test` repeats",
     "stdout": "what the stored run writes",
     "py.typed": "says that the package has type hints; by its name alone, so it is empty",
