@@ -144,7 +144,9 @@ def main(arguments: list[str]) -> int:
     old = old_ones(TOP, found)
     if arguments:
         faults += [f"{path}: it isn't as the source has it: make docs writes it anew" for path in old]
-        faults += check_pages.faults(found, files_of(TOP)) + check_pages.wrong_versions(TOP)
+        files = files_of(TOP)
+        faults += check_pages.faults(found, files, check_pages.code_words(TOP, files))
+        faults += check_pages.wrong_versions(TOP)
     else:
         for path in old:
             with open(os.path.join(TOP, path), "w", encoding="utf-8") as file:

@@ -196,14 +196,15 @@ $ true
 
 def test_checks():
     files = {*FILES, "README.md"}
-    wrong = lambda text: check_pages.faults({"README.md": text, "docs/GUIDE.md": FILES["docs/GUIDE.md"]}, files)
+    wrong = lambda text: check_pages.faults({"README.md": text, "docs/GUIDE.md": FILES["docs/GUIDE.md"]}, files, {"half_of"})
     holds("a run that is another one", len(wrong(GOOD_PAGE.replace("ok 7", "ok 8"))) == 2)
     budget = check_pages.too_long({"docs/GUIDE.md": 1})
     holds("a page without budget", len(budget) == 1 and budget[0].startswith("docs/GUIDE.md: say in"))
     holds("a good page", wrong(GOOD_PAGE) == budget)
     for what, text in (("a link to no file", "[a](docs/GONE.md)"), ("a link to no heading", "[a](docs/GUIDE.md#gone)"),
                        ("a link to no heading here", "[a](#gone)"), ("a name of no file", "`src/gone.rt`"),
-                       ("a name of no file in a command", "`make src/gone.rt`"), ("a name of no folder", "`gone/`")):
+                       ("a name of no file in a command", "`make src/gone.rt`"), ("a name of no folder", "`gone/`"),
+                       ("a name of no function", "`half_of` and `third_of`")):
         holds(what, len(wrong(GOOD_PAGE + text)) == 1 + len(budget))
     holds("a page that is too long", len(wrong(GOOD_PAGE + "word " * check_pages.BUDGETS["README.md"])) == 1 + len(budget))
     counted = {page: most for page, most in check_pages.BUDGETS.items()}
@@ -211,6 +212,20 @@ def test_checks():
           == (sum(counted.values()) > check_pages.MOST_WORDS))
     made = "<!-- block: a.rt: all -->\n```rust\nmade by a tool\n```\n<!-- measured: x -->\n1 2 3\n<!-- end of what was measured -->\n"
     holds("words by hand", check_pages.words_of("one, two - `three`\n" + made + "| four |\n") == 4)
+
+
+def test_functions(top):
+    code = {"crates/small/src/lib.rt": "pub fn half_of(x: u32) -> u32 // and not third_of\n",
+            "include/a.h": "half_u8(x);\n", "tools/a.py": "def fourth_of(x): pass\n"}
+    write(top, code)
+    words = check_pages.code_words(top, [*code, "README.md"])
+    holds("the words of the code", words >= {"half_of", "half_u8"} and not words & {"third_of", "fourth_of"})
+    wrong = lambda name: check_pages.wrong_functions("README.md", f"# A\n`{name}`\n", words)
+    for name in ("half_of", "half_of()", "u32::half_of", "half_T", "a half_of", "_of", "half_", "half",
+                 check_pages.LACKING[0]):
+        holds(f"a good name, {name}", wrong(name) == [])
+    for name in ("third_of", "third()", "third::half_of", "half_of::third", "half_T_of"):
+        holds(f"a wrong name, {name}", len(wrong(name)) == 1)
 
 
 def test_versions(top):
@@ -230,6 +245,8 @@ def test_versions(top):
 
 def main():
     test_checks()
+    with tempfile.TemporaryDirectory() as top:
+        test_functions(top)
     with tempfile.TemporaryDirectory() as top:
         test_versions(top)
     with tempfile.TemporaryDirectory() as top:
