@@ -145,7 +145,9 @@ def checked(found: dict[str, str], faults: list[str]) -> str:
     """Adds what is wrong with the documents, and says in a line what was looked at."""
     old = old_ones(TOP, found)
     faults += [f"{path}: it isn't as the source has it: make docs writes it anew" for path in old]
-    faults += check_pages.faults(found, files_of(TOP)) + check_pages.wrong_versions(TOP)
+    files = files_of(TOP)
+    faults += check_pages.faults(found, files, check_pages.code_words(TOP, files))
+    faults += check_pages.wrong_versions(TOP)
     return f"{len(found)} documents looked at, {len(old)} old; {check_pages.said(found)}"
 
 

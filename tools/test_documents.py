@@ -206,16 +206,33 @@ class OverRepository(unittest.TestCase):
         self.assertIn(FORMATS, self.old())
 
     def test_versions(self) -> None:
-        versions = {
-            "CHANGELOG.md": "# Changelog\n\n## 1.2.0\n\n## 1.1.0\n",
-            "include/jadvolni.h": '#define JADVOLNI_VERSION_STRING "1.2.0"\n',
-            "bindings/rust/Cargo.toml": '[package]\nversion = "1.2.0"\n',
-            "bindings/python/pyproject.toml": 'version = "1.2.0"\n',
-        }
-        write(self.top, versions)
+        text = 'least = "1.81"\nversion = "1.2.0"\nagain = "1.2.0"\n'
+        good = {name: text for name in check_pages.VERSIONED}
+        write(self.top, {"CHANGELOG.md": "# Changelog\n\n## 1.2.0\n\n## 1.1.0\n", **good})
         self.assertEqual(check_pages.wrong_versions(self.top), [])
-        write(self.top, {"CHANGELOG.md": "# Changelog\n\n## 1.1.0\n"})
-        self.assertNotEqual(check_pages.wrong_versions(self.top), [])
+        for name in check_pages.VERSIONED:
+            for other in (text.replace("1.2.0", "1.1.0", 1), "none\n"):
+                write(self.top, {**good, name: other})
+                wrong = check_pages.wrong_versions(self.top)
+                self.assertEqual([it.partition(":")[0] for it in wrong], [name])
+
+    def test_names_of_functions(self) -> None:
+        code = {
+            "crates/small/src/lib.rt": "pub fn half_of(x: u32) -> u32 // and not third_of\n",
+            "include/a.h": "half_u8(x);\n",
+            "tools/a.py": "def fourth_of(x): pass\n",
+        }
+        write(self.top, code)
+        words = check_pages.code_words(self.top, [*code, "README.md"])
+
+        def wrong(name: str) -> list[str]:
+            return check_pages.wrong_functions("README.md", f"# A\n`{name}`\n", words)
+
+        for name in ("half_of", "half_of()", "u32::half_of", "half_T", "a half_of", "_of", "half_",
+                     "half", check_pages.LACKING[0]):
+            self.assertEqual(wrong(name), [])
+        for name in ("third_of", "fourth_of", "third()", "third::half_of", "half_T_of"):
+            self.assertEqual(len(wrong(name)), 1)
 
 
 class OfPages(unittest.TestCase):
@@ -224,7 +241,7 @@ class OfPages(unittest.TestCase):
     def faults(self, text: str) -> list[str]:
         """What is wrong with a page, but that nobody says how many words its neighbour may have."""
         pages = {"README.md": text, GUIDE: FILES[GUIDE]}
-        found = check_pages.faults(pages, [*FILES, "README.md"])
+        found = check_pages.faults(pages, [*FILES, "README.md"], {"half_of"})
         return [it for it in found if not it.startswith(f"{GUIDE}: say in")]
 
     def test_a_good_page(self) -> None:
@@ -232,7 +249,8 @@ class OfPages(unittest.TestCase):
 
     def test_wrong_pages(self) -> None:
         wrong = ["[a](docs/GONE.md)", "[a](docs/GUIDE.md#gone)", "[a](#gone)", "`src/gone.rt`",
-                 "`make src/gone.rt`", "`gone/`", "word " * check_pages.BUDGETS["README.md"]]
+                 "`make src/gone.rt`", "`gone/`", "`half_of` and `third_of`",
+                 "word " * check_pages.BUDGETS["README.md"]]
         for text in wrong:
             self.assertEqual(len(self.faults(GOOD_PAGE + text)), 1, text[:40])
         self.assertEqual(len(self.faults(GOOD_PAGE.replace("ok 7", "ok 8"))), 1)
