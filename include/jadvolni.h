@@ -248,9 +248,8 @@ static inline jadvolni_format jadvolni_format_of_radix(int radix)
 #define JADVOLNI_FORMAT_JSON \
     {10, 0, 0, 0, 0, 0, 1, 1, 1, 0, 1, 0, 0, 0, 0, 0, 0, 0, 0, 0, 0, {0, 0, 0}}
 
-/* The format of the project's tokenizer: "1_000", "0xFF", "0o17", "0b1". It is that of no language,
- * and C's it is not: "0777" is 511 in C, and 777 here unless `literal_octal_zero` is set. It takes a
- * sign, as in "+1". */
+/* The format of the project's tokenizer, and of no language: "1_000", "0xFF", "0o17", "0b1". "0777",
+ * which is 511 in C, is 777 unless `literal_octal_zero` is set, and a sign is taken, as in "+1". */
 #define JADVOLNI_FORMAT_LITERAL \
     {10, '_', 0, 0, 0, 0, 0, 1, 0, 0, 0, 0, 1, 0, 1, 0, 1, 0, 0, 0, 0, {0, 0, 0}}
 
@@ -341,11 +340,10 @@ JADVOLNI_CALLS_(isize, ptrdiff_t);
  *         kept += got - whole;
  *         memmove(block, block + whole, kept);
  *     }
- *     read_lines(block, kept);
+ *     if (ferror(file) || kept == size) return 0; // or a line is longer than the block
+ *     read_lines(block, kept);                    // a last line without a line feed
  *
- * `read_lines` stands for a loop of jadvolni_i64_column until it has read all of its text. The last
- * call is for a last line without a line feed. Before it look at ferror(file), and at `kept == size`:
- * then a line is longer than the block.
+ * `read_lines` stands for a loop of jadvolni_i64_column until it has read all of its text.
  *
  * Beside what the head of this file says, `values` points to `capacity` numbers that may be written,
  * and may be NULL where `capacity` is 0; `count` is not NULL. Neither lies in the text, in the format

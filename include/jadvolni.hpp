@@ -260,6 +260,7 @@ private:
 
 // The numbers of the text's fields between a separator, which may be any byte, read into an array, as
 // far as it has room. The numbers before a fault stand, and the rest of the array is as it was.
+// Of a file that is read in blocks hand over whole lines, as jadvolni.h shows.
 template <class T>
 [[nodiscard]] column_result column(std::string_view text, char separator, T *values,
                                    std::size_t capacity, const format &under = standard) noexcept

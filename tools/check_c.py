@@ -20,6 +20,7 @@ import sysconfig
 import tempfile
 from functools import partial
 from itertools import product
+from textwrap import dedent
 from typing import Callable, Dict, Iterable, Iterator, List
 
 sys.dont_write_bytecode = True
@@ -204,25 +205,17 @@ def answer(said: str, wanted: str) -> str:
 
 # ---- documents
 
-def lines_between(text: str, first: str, last: str) -> str:
-    """The lines of a text from the one that begins so to the next one that is the last."""
-    found = re.search(rf"(?m)^ *{re.escape(first)}.*\n(?:.*\n)*?{re.escape(last)}\n", text)
-    if not found:
-        raise Failed(f"no lines from {first!r} to {last!r}")
-    return found.group()
-
-
-def documents(place: Place) -> str:
+def documents() -> str:
     """The examples of documents are those that are run."""
-    manual = text_of("packaging", "jadvolni.3.in").replace("\\e", "\\")
     whole = text_of("examples", "c", "ten_lines.c").partition("*/\n")[2]
-    loop = lines_between(text_of("tests", "c", "columns.c"), "size_t kept", "    }")
-    in_columns = text_of("examples", "columns", "README.md")
+    tested = text_of("tests", "c", "columns.c")
+    loop = tested[tested.index("    size_t kept"):tested.index("    return 1;\n")]
+    manual = text_of("packaging", "jadvolni.3.in").replace("\\e", "\\")
     in_header = text_of("include", "jadvolni.h").replace("\n *     ", "\n    ")
     for name, text, example in (
         ("README.md", text_of("README.md"), f"```c\n{whole}```\n"),
         ("packaging/jadvolni.3.in", manual, whole), ("packaging/jadvolni.3.in", manual, loop),
-        ("examples/columns/README.md", in_columns, loop.replace("\n    ", "\n")[4:]),
+        ("examples/columns/README.md", text_of("examples", "columns", "README.md"), dedent(loop)),
         ("include/jadvolni.h", in_header, loop),
     ):
         if example not in text:
@@ -230,7 +223,7 @@ def documents(place: Place) -> str:
     return "5 examples"
 
 
-def man_pages(place: Place) -> str:
+def man_pages() -> str:
     """groff finds nothing to say of the manual pages."""
     needs("groff")
     for page in ("jadvolni.3.in", "lexint.1.in"):
@@ -306,8 +299,8 @@ def steps(place: Place) -> Iterator[Step]:
     yield "ten lines of C by CMake, shared", partial(by_cmake, place, "jadvolni")
     yield "ten lines of C by CMake, static", partial(by_cmake, place, "static")
     yield "make uninstall-lib", partial(uninstall, place)
-    yield "manual pages", partial(man_pages, place)
-    yield "examples in documents", partial(documents, place)
+    yield "manual pages", man_pages
+    yield "examples in documents", documents
     yield "Rust", partial(cargo, place)
     yield "Python", partial(python, place)
 

@@ -224,7 +224,7 @@ static void read_lines(const char *text, size_t len)
     }
 }
 
-/* The loop of the header. Answers 0 where a line is longer than the block, or a read has failed. */
+/* The loop of the header. Answers whether the file could be read. */
 static int read_in_blocks(FILE *file, char *block, size_t size)
 {
     size_t kept = 0, got;
@@ -234,8 +234,8 @@ static int read_in_blocks(FILE *file, char *block, size_t size)
         kept += got - whole;
         memmove(block, block + whole, kept);
     }
-    if (ferror(file) || kept == size) return 0;
-    read_lines(block, kept);
+    if (ferror(file) || kept == size) return 0; // or a line is longer than the block
+    read_lines(block, kept);                    // a last line without a line feed
     return 1;
 }
 
