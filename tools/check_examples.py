@@ -39,9 +39,10 @@ class Case(NamedTuple):
 
 def adds_up(program: str, front: bytes = b"", words: Words = ()) -> Iterator[Case]:
     """What a program has to withstand that adds up numbers, each of them behind a front."""
-    for zeros in (4095, 65535, 200000):
-        long = front + b"0" * zeros + b"12\n"
-        yield Case(program, long * 2 + front + b"3", "27\n", words=words)
+    for block in (4096, 65536, 131072):
+        # Where a program cuts lines into blocks, it cuts this number in two.
+        long = front + b"0" * (block - 5 - len(front)) + b"123456789\n"
+        yield Case(program, long * 2 + front + b"3", "246913581\n", words=words)
     numbers = [GREATEST, b"-9223372036854775808", b"-1"]
     yield Case(program, b"".join(front + one + b"\n" for one in numbers), "-2\n", words=words)
     yield Case(program, front + b"1\n" + front + b"2", "3\n", words=words)
