@@ -158,10 +158,10 @@ class Inputs(Case):
                 for part in (b"1\n2", b"0\n", b"3\n" * 50_000):
                     pipe.write(part)
 
-        writer = threading.Thread(target=write)
+        writer = threading.Thread(target=write, daemon=True)
         writer.start()
         answer = answer_of("big_file.py", path, "3")
-        writer.join()
+        writer.join(timeout=60)
         self.assertEqual(answer, (0, "50002 numbers, sum 150021\n", ""))
 
     def test_a_file_without_a_size(self):
