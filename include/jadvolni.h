@@ -72,7 +72,7 @@ extern "C" {
 #define JADVOLNI_VERSION_PATCH 0
 #define JADVOLNI_VERSION_STRING "0.1.0"
 
-/* The same as one number: 10000 * major + 100 * minor + patch. */
+/* The version as one number: 10000 * major + 100 * minor + patch. */
 #define JADVOLNI_VERSION 100
 
 /* The version of the library that the program was linked with, as such a number. */

@@ -273,7 +273,7 @@ template <class T>
     return {count, answer};
 }
 
-// The same into what has its numbers in a row: a std::vector, a std::array, a std::span, an array.
+// A column into what has its numbers in a row: a std::vector, a std::array, a std::span, an array.
 template <class Values>
 [[nodiscard]] auto column(std::string_view text, char separator, Values &&values,
                           const format &under = standard) noexcept
@@ -329,12 +329,20 @@ template <class T>
 std::from_chars_result from_chars(const char *first, const char *last, T &value,
                                   int base = 10) noexcept
 {
-    format in_base = jadvolni_format_of_radix(base);
-    in_base.no_positive_mantissa_sign = 1;
-    auto read = from_chars(first, last, value, in_base);
-    if (read.ec == std::errc::result_out_of_range)
-        while (read.ptr != last && detail::digit_value(*read.ptr) < base) ++read.ptr;
-    return read;
+    if (first == last || *first == '+') return {first, std::errc::invalid_argument};
+    std::string_view text{first, static_cast<std::size_t>(last - first)};
+    auto read = base == 10 ? parse_partial<T>(text)
+                           : parse_partial<T>(text, jadvolni_format_of_radix(base));
+    const char *stop = first + read.place();
+    if (read.status() == status::overflow || read.status() == status::underflow) {
+        while (stop != last && detail::digit_value(*stop) < base) ++stop;
+        return {stop, std::errc::result_out_of_range};
+    }
+    // A front without digits is 0 to jadvolni_*_partial, at the start or after the minus.
+    if (!read || stop == first || (stop == first + 1 && *first == '-'))
+        return {first, std::errc::invalid_argument};
+    value = *read;
+    return {stop, std::errc()};
 }
 
 } // namespace jadvolni

@@ -1,5 +1,7 @@
 """The library's C calls from Python, by the shared library and the header, for tests alone.
 
+    python3 tools/c_calls.py LIBRARY    compares the worked rows with a shared library
+
 What the struct of a format looks like, and which number each status is, is read from include/jadvolni.h, so that a header
 and a library that disagree show here.
 """
@@ -8,6 +10,7 @@ from __future__ import annotations
 import ctypes
 import os
 import re
+import sys
 from typing import Dict, Iterator, List, NamedTuple, Optional, Tuple
 
 import slow_reading
@@ -164,3 +167,7 @@ def answer_of(row) -> slow_reading.Answer:
     if name != "Ok":
         return Fault(name, *numbers)
     return Value(numbers[0], numbers[1] if row.parser == "partial" else len(row.text))
+
+
+if __name__ == "__main__":
+    print(compare_rows(Library(sys.argv[1])))
