@@ -13,8 +13,8 @@ typedef struct question {
 } question;
 
 /* What a call was asked, by its arguments. The text has to be given back where it is 0. */
-static int question_of(const char *call, PyObject *const *args, Py_ssize_t count, PyObject *keywords,
-                       question *asked)
+static int question_of(const char *call, PyObject *const *args, Py_ssize_t count,
+                       PyObject *keywords, question *asked)
 {
     static const char *const names[] = {"text", "type", "format"};
     PyObject *found[3];
@@ -26,7 +26,8 @@ static int question_of(const char *call, PyObject *const *args, Py_ssize_t count
     return lend("text", found[0], &asked->text);
 }
 
-static PyObject *parse(PyObject *module, PyObject *const *args, Py_ssize_t count, PyObject *keywords)
+static PyObject *parse(PyObject *module, PyObject *const *args, Py_ssize_t count,
+                       PyObject *keywords)
 {
     question asked;
     number value;
@@ -191,8 +192,8 @@ static PyMethodDef METHODS[] = {
     CALL(parse,
          "parse(text, type=\"i64\", format=None)\n--\n\n"
          "The number that the whole text stands for.\n\n"
-         "The text is a str, read as UTF-8, or an object of contiguous bytes. ParseError tells why\n"
-         "it is no number of the type, and FormatError why the format is none."),
+         "The text is a str, read as UTF-8, or an object of contiguous bytes. ParseError tells\n"
+         "why it is no number of the type, and FormatError why the format is none."),
     CALL(parse_partial,
          "parse_partial(text, type=\"i64\", format=None)\n--\n\n"
          "The number at the text's front, and how many bytes of the text it has.\n\n"
@@ -200,10 +201,10 @@ static PyMethodDef METHODS[] = {
     CALL(parse_column,
          "parse_column(text, type=\"i64\", separator=b\"\\n\", format=None)\n--\n\n"
          "The numbers of the text's fields, as an array.array.\n\n"
-         "A field is the bytes up to a separator, which may be any byte; a last separator ends no\n"
-         "further field. ParseError has the first field that is no number, by `field` and `start`,\n"
-         "and its `place` counts from the text's start. Python's lock is let go: no other thread\n"
-         "may change the text meanwhile."),
+         "A field is the bytes up to a separator, which may be any byte; a last separator ends\n"
+         "no further field. ParseError has the first field that is no number, by `field` and\n"
+         "`start`, and its `place` counts from the text's start. Python's lock is let go: no\n"
+         "other thread may change the text meanwhile."),
     {"_check_format", check_format, METH_O, "Raises FormatError where a format is invalid."},
     {NULL, NULL, 0, NULL},
 };

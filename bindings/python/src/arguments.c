@@ -80,8 +80,8 @@ int format_of(PyObject *format, jadvolni_format *fields)
     return whole ? 0 : -1;
 }
 
-/* Why what a buffer has isn't a row of bytes, and NULL where it is. An array of texts, or of numbers
- * of several bytes, would be read as one text. */
+/* Why what a buffer has isn't a row of bytes, and NULL where it is. An array of texts, or of
+ * numbers of several bytes, would be read as one text. */
 static const char *no_bytes(const Py_buffer *view)
 {
     const char *format = view->format ? view->format : "B";

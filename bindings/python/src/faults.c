@@ -11,8 +11,9 @@ static PyObject *exception(PyObject *module, const char *name, const char *path,
 {
     PyObject *attributes = Py_BuildValue("{s:s,s:O,s:O,s:O}", "kind", "", "place", Py_None, "field",
                                          Py_None, "start", Py_None);
-    PyObject *made = attributes ? PyErr_NewExceptionWithDoc(path, text, PyExc_ValueError, attributes)
-                                : NULL;
+    PyObject *made = NULL;
+    if (attributes)
+        made = PyErr_NewExceptionWithDoc(path, text, PyExc_ValueError, attributes);
     Py_XDECREF(attributes);
     if (made && PyModule_AddObjectRef(module, name, made) < 0)
         Py_CLEAR(made);
@@ -45,9 +46,10 @@ static int set_attribute(PyObject *error, const char *name, PyObject *value)
 /* An exception of a type with a message, which it takes over, and the kind of a status. */
 static PyObject *error_of(PyObject *type, PyObject *message, uint32_t status)
 {
+    const char *kind = jadvolni_status_name(status);
     PyObject *error = message ? PyObject_CallFunctionObjArgs(type, message, NULL) : NULL;
     Py_XDECREF(message);
-    if (error && set_attribute(error, "kind", PyUnicode_FromString(jadvolni_status_name(status))) < 0)
+    if (error && set_attribute(error, "kind", PyUnicode_FromString(kind)) < 0)
         Py_CLEAR(error);
     return error;
 }
