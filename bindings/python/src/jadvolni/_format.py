@@ -75,20 +75,20 @@ class Format:
     def __post_init__(self) -> None:
         if not isinstance(self.radix, int):
             raise TypeError(f"radix has to be an int, and not {type(self.radix).__name__}")
-        for field in dataclasses.fields(self):
-            value = getattr(self, field.name)
-            if isinstance(field.default, bool) and not isinstance(value, bool):
+        given = self._given()
+        for name, value in given.items():
+            if isinstance(_DEFAULTS[name], bool) and not isinstance(value, bool):
                 kind = type(value).__name__
-                raise TypeError(f"{field.name} has to be True or False, and not {kind}")
+                raise TypeError(f"{name} has to be True or False, and not {kind}")
         _check_format(self)
         for name, needed in _NEEDED:
-            if name in self._given() and not any(getattr(self, other) for other in needed):
+            if name in given and not any(getattr(self, other) for other in needed):
                 raise ValueError(f"{name} changes nothing without {' or '.join(needed)}")
 
     def _given(self) -> dict[str, object]:
         """The fields that differ from their defaults."""
-        values = {field.name: getattr(self, field.name) for field in dataclasses.fields(self)}
-        return {name: value for name, value in values.items() if value != getattr(Format, name)}
+        values = {name: getattr(self, name) for name in _DEFAULTS}
+        return {name: value for name, value in values.items() if value is not _DEFAULTS[name]}
 
     def _byte(self, name: str) -> Optional[int]:
         """The byte of a separator, prefix or suffix, or None where the format has none."""
@@ -141,3 +141,6 @@ class Format:
 
     def __hash__(self) -> int:
         return hash(self._fields)
+
+
+_DEFAULTS = {field.name: field.default for field in dataclasses.fields(Format)}
