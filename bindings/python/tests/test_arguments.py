@@ -62,7 +62,6 @@ class Texts(unittest.TestCase):
             (texts, "which hasn't one dimension$"),
             (ctypes.c_char(b"1"), "not c_char, which hasn't one dimension$"),
             (array.array("H", b"1234"), "not array, whose items aren't bytes$"),
-            (array.array("u", "12"), "not array, whose items aren't bytes$"),
             (memoryview(b"1234").cast("H"), "not memoryview, whose items aren't bytes$"),
             (memoryview(b"12").cast("?"), "not memoryview, whose items aren't bytes$"),
             ((ctypes.c_uint16 * 2)(0x3231, 0x3433), "whose items aren't bytes$"),
