@@ -44,7 +44,6 @@ LACKING = ("char_to_digit_const",)
 VERSIONED = (
     "include/jadvolni.h", "bindings/rust/Cargo.toml", "bindings/rust/Cargo.lock",
     "bindings/rust/jadvolni/Cargo.toml", "bindings/python/pyproject.toml",
-    "bindings/python/build_wheel.py", "bindings/python/src/jadvolni/__init__.py",
 )
 
 FENCE = re.compile(r"(?ms)^(```+)[^\n]*\n.*?^\1[ \t]*$")
