@@ -28,7 +28,7 @@ import tomllib
 import warnings
 
 import formats_page
-import rows
+import row_data as rows
 
 TOP = rows.TOP
 PROGRAM = [os.path.join(TOP, "crates", "lexint", "out", "lexint")]
@@ -82,7 +82,7 @@ def literals(rng: random.Random, language: Language, count: int) -> list[str]:
 
 def ours(group: rows.Group, texts: list[str], is_signed: bool) -> Answers:
     """What the program answers under the fields of a language."""
-    fields = next(row.answer for row in group.rows if row.parser == "fields")
+    fields = group.fields or ()
     lines = [f"f {name} {program_value(name, value)}" for name, value in fields]
     lines += [f"c {'i' if is_signed else 'u'}64 {text}" for text in texts]
     said = subprocess.run(PROGRAM, input="\n".join(lines) + "\n", capture_output=True, text=True, check=True).stdout

@@ -28,7 +28,9 @@ from fuzz_edges import edge_runs
 from fuzz_lines import Lines
 from fuzz_short import short_runs
 from fuzz_shrink import smallest
-from slow_reading import STANDARD, TOP, TYPES, Session
+from row_data import TOP
+from slow_grammar import STANDARD, TYPES
+from slow_reading import Session
 
 PROGRAM = os.path.join(TOP, "crates", "lexint", "out", "lexint")
 DRIVER = os.path.join(TOP, "tools", "from_str_radix.rs")
@@ -129,7 +131,7 @@ class Comparison:
 
     def difference(self, lines: List[bytes]) -> Optional[Difference]:
         """The first difference at these lines."""
-        session = Session(self.tokens)
+        session = Session()
         expected, questions = [], []
         for number, line in enumerate(lines):
             expected.append(session.answer(line))

@@ -24,10 +24,11 @@ from typing import List, Tuple
 sys.dont_write_bytecode = True
 
 import c_calls  # noqa: E402
-import slow_reading  # noqa: E402
+import slow_grammar  # noqa: E402
 from c_calls import Library  # noqa: E402
 from fuzz_lines import CAPITALS, DOUBTFUL_BYTES, NAMES, ODD_RADIXES, RADIXES, SMALL, Lines  # noqa: E402
-from slow_reading import JSON, LITERAL, STANDARD, TYPES, Format, Session  # noqa: E402
+from slow_grammar import JSON, STANDARD, TYPES, Format  # noqa: E402
+from slow_reading import LITERAL, Session  # noqa: E402
 
 MOST_TOLD = 5
 # Under each of these all texts of up to three bytes are tried.
@@ -53,8 +54,8 @@ class Comparison:
 
     def parse(self, name: bytes, text: bytes, is_partial: bool, form: Format, made: c_calls.CFormat) -> None:
         """A parse under a format, and under none where it is the standard one."""
-        read = slow_reading.partial if is_partial else slow_reading.complete
-        answer = slow_reading.format_fault(form) or read(form, TYPES[name], text)
+        fault = slow_grammar.format_fault(form)
+        answer = fault or slow_grammar.parse(form, TYPES[name], text, is_partial)
         wanted = c_calls.expected(answer, text, is_partial)
         self.parses += 1
         self.values += wanted.status == "Ok"
@@ -65,7 +66,7 @@ class Comparison:
 
     def format(self, form: Format, made: c_calls.CFormat) -> None:
         """What is wrong with a format."""
-        fault = slow_reading.format_fault(form)
+        fault = slow_grammar.format_fault(form)
         self.formats += 1
         self.same(form, fault.name if fault else "Ok", self.library.format_error(made))
 
@@ -73,7 +74,7 @@ class Comparison:
 def random_parses(comparison: Comparison, chance: random.Random, wanted: int) -> None:
     """The lines that the program is tried with, as calls."""
     batches = Lines(chance, False)
-    session = Session(False)
+    session = Session()
     end = comparison.parses + wanted
     while comparison.parses < end and len(comparison.wrong) < MOST_TOLD:
         for line in batches.batch():
@@ -92,15 +93,15 @@ def random_formats(comparison: Comparison, chance: random.Random, wanted: int) -
         if len(comparison.wrong) >= MOST_TOLD:
             return
         made = c_calls.CFormat(mantissa_radix=chance.choice(RADIXES + ODD_RADIXES))
-        for name in slow_reading.BYTE_FIELDS:
+        for name in slow_grammar.BYTE_FIELDS:
             setattr(made, name, chance.choice((0, 0, chance.choice(chance.choice(DOUBTFUL_BYTES)))))
             setattr(made, f"{name}_is_nul", chance.choice((0, 0, 0, chance.randrange(256))))
-        for name in slow_reading.FLAG_FIELDS:
+        for name in slow_grammar.FLAG_FIELDS:
             setattr(made, name, chance.choice((0, 0, chance.randrange(256))))
         form = Format(
             mantissa_radix=made.mantissa_radix,
-            **{name: mark_of(made, name) for name in slow_reading.BYTE_FIELDS},
-            **{name: getattr(made, name) != 0 for name in slow_reading.FLAG_FIELDS})
+            **{name: mark_of(made, name) for name in slow_grammar.BYTE_FIELDS},
+            **{name: getattr(made, name) != 0 for name in slow_grammar.FLAG_FIELDS})
         comparison.format(form, made)
         text = bytes(chance.choices(b"0129+-_xhXH\0aZ", k=chance.randint(0, 6)))
         comparison.parse(chance.choice(NAMES), text, chance.random() < 0.5, form, made)
@@ -141,10 +142,11 @@ def answers_to_short_texts(form: Format) -> bytes:
     """The tables that tests/c/short_texts.c reads, for one format."""
     class_of, members = classes_under(form)
     tables = [bytes(c_calls.c_format(form)), class_of, struct.pack("=I", len(members))]
-    for name, read in itertools.product((b"i8", b"u64"), (slow_reading.complete, slow_reading.partial)):
+    for name, is_partial in itertools.product((b"i8", b"u64"), (False, True)):
         for length in range(4):
             for text in map(bytes, itertools.product(members, repeat=length)):
-                answer = c_calls.expected(read(form, TYPES[name], text), text, read is slow_reading.partial)
+                read = slow_grammar.parse(form, TYPES[name], text, is_partial)
+                answer = c_calls.expected(read, text, is_partial)
                 tables.append(struct.pack("=IIq", c_calls.NUMBERS[answer.status], answer.place, answer.number))
     return b"".join(tables)
 

@@ -8,7 +8,7 @@ from typing import Iterator, List, NamedTuple
 from fuzz_lines import CAPITALS, SMALL, as_numeral
 from fuzz_short import (BEHIND, CONSECUTIVE, INTERNAL, LEADING, LITERAL, NO_PLUS, NO_ZEROS, OCTAL, PREFIX, SEPARATOR,
                         SUFFIX, TRAILING, runs_under)
-from slow_reading import TYPES
+from slow_grammar import TYPES
 
 # longer than the digits that a type of 128 bits has in radix 10, and than any length that is read in a way of its own
 LONGEST = 43

@@ -8,7 +8,7 @@ from __future__ import annotations
 from random import Random
 from typing import Dict, List, Optional, Tuple
 
-from slow_reading import BYTE_FIELDS, FLAG_FIELDS, TYPES, IntegerType
+from slow_grammar import BYTE_FIELDS, FLAG_FIELDS, TYPES, IntegerType
 
 NAMES = tuple(TYPES)
 SMALL = b"0123456789abcdefghijklmnopqrstuvwxyz"

@@ -28,7 +28,7 @@ import re
 import sys
 
 import antt
-import rows
+import row_data as rows
 from antt import NONE, Node, Reader, children, shown
 
 UTIL = os.path.join(rows.TOP, "crates", "lexical_util", "specs")
@@ -51,10 +51,10 @@ class Worked:
 
     def format(self, words):
         """The row's format."""
-        if self.row.fields == rows.JSON:
+        if self.row.format == "json":
             return words.word("json")()
         fields = {**words.word("standard")()}
-        for name, value in self.row.fields:
+        for name, value in self.row.format:
             is_option = not isinstance(value, bool) and name != "mantissa_radix"
             fields[name] = ("Some", value) if is_option else value
         return fields
@@ -64,12 +64,12 @@ class Worked:
         if self.row.parser == "format":
             return words.word("fault")(self.format(words))
         bits, is_signed = rows.TYPES[self.row.type]
-        call = self.row.parser + ("_if_valid" if self.row.answer[0] in rows.OF_FORMATS else "")
+        call = self.row.parser + ("_if_valid" if self.row.answer.name in rows.OF_FORMATS else "")
         return words.word(call)(self.format(words), words.word("integer_type")(bits, is_signed), list(self.row.text))
 
     def wanted(self):
         """What the row says."""
-        name, numbers = self.row.answer[0], self.row.answer[1:]
+        name, numbers = self.row.answer
         if self.row.parser == "format":
             return NONE if name == "valid" else ("Some", (name,))
         if name != "Ok":
@@ -577,7 +577,7 @@ def random_row(chance):
     letters = chance.choices(list(SOME_BYTES) + marks, k=chance.choice([0, 1, 2, 3, 4, 5, 6, 9]))
     front = chance.choice([b"", b"", b"-", b"+", b"0x", b"-0b", b"0o"])
     parser = chance.choice(["complete", "partial", "partial", "format"])
-    return rows.Row(parser, tuple(fields), chance.choice(SOME_TYPES), front + bytes(letters), ("Ok",), "", False)
+    return rows.Row(parser, tuple(fields), chance.choice(SOME_TYPES), front + bytes(letters), rows.Answer("Ok", ()))
 
 
 def random_turns(chance):
@@ -602,7 +602,7 @@ def difference(change, changed, definitions, chance, tries):
         except NO_VALUE:
             new = "no value"
         if new != old:
-            found.append(f"{row.row.parser} {row.row.fields} {row.row.type} {row.row.text}: {old}, and then {new}")
+            found.append(f"{row.row.parser} {row.row.format} {row.row.type} {row.row.text}: {old}, and then {new}")
     if change.definition.name in ("HasFewTurns", "turns_bound", "digits_per_word", "overflow_digits"):
         asked = [random_turns(chance) for _ in range(tries)]
         found += [question for question in asked if definitions.value(question) != changed.value(question)]
