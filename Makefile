@@ -35,7 +35,7 @@ test-one-by-one: | toolchain ## the gate, with each edit tried alone by the tool
 	@RT=$(RT) tools/gate.py --one-by-one
 
 devices: $(PROGRAM) ## runs the program over devices that refuse; a part of the gate
-	@RT=$(RT) tools/devices.py $(PROGRAM)
+	@tools/devices.py $(PROGRAM)
 
 answers: $(PROGRAM) ## has the program answer every worked row; a part of the gate
 	@tools/run_rows.py $(PROGRAM)
