@@ -34,7 +34,7 @@ test: | toolchain ## the gate: proves everything from nothing, has every must-fa
 	@RT=$(RT) tools/gate.sh
 
 devices: $(PROGRAM) ## runs the program over devices that refuse; a part of the gate
-	@RT=$(RT) tools/devices.py $(PROGRAM)
+	@tools/devices.py $(PROGRAM)
 
 answers: $(PROGRAM) ## has the program answer every worked row; a part of the gate
 	@tools/run_rows.py $(PROGRAM)
@@ -76,10 +76,10 @@ LINES ?= 200000
 
 fuzz: $(PROGRAM) ## runs the program beside a slow reading of the grammar: SEED=1 LINES=1000000
 	@python3 tools/slow_reading.py --check
-	@python3 tools/fuzz.py --tokens --lines $(LINES) $(if $(SEED),--seed $(SEED))
+	@python3 tools/fuzz.py --lines $(LINES) $(if $(SEED),--seed $(SEED))
 
 fuzz-edges: $(PROGRAM) ## the same over each length, end of a type and place of a separator: 3 million lines
-	@python3 tools/fuzz.py --tokens --edges
+	@python3 tools/fuzz.py --edges
 
 # What bench/run.py is asked: make bench BENCH="--rounds 50 --no-counts".
 BENCH ?=

@@ -1,74 +1,62 @@
-"""Reads definitions in the prover's language, and computes them.
+"""Reads definitions in the prover's language.
 
-It knows the part of that language in which the definitions of the grammar stand (crates/*/specs/*.antt): signatures,
-equations by cases, records, `if`, `let`, functions of one parameter, lists, pairs and numbers. Types are read as text
-and not checked. A definition becomes a Python function: whole numbers are ints, truth values bools, lists lists,
-records dicts, pairs tuples, and a constructor with what it holds is a tuple that begins with its name.
-
-tools/weaken.py uses it. Needs Python 3.8 and nothing else.
+It knows the part of that language in which the definitions of the grammar stand
+(crates/*/specs/*.antt): signatures, equations by cases, records, `if`, `let`, functions of one
+parameter, lists, pairs and numbers. Types are read as text and not checked. tools/antt_values.py
+computes them. Needs Python 3.8 and nothing else.
 """
-import functools
+from __future__ import annotations
+
 import re
-from unicodedata import normalize
+from dataclasses import dataclass, field, replace
+from typing import Collection, Dict, List, NamedTuple, Tuple
 
 # ---- pieces of an expression
 
 
-class Node:
-    """A piece of an expression: its kind, and its parts, which are pieces, words and numbers.
+class Node(NamedTuple):
+    """A piece of an expression: its kind, a word of it, and the pieces that it has.
 
-        number VALUE     text STRING      name WORD      nil
-        apply F ARG..    op SIGN A B      if C A B       pair A B
-        let WORD E BODY  lambda WORD BODY field E WORD   record BASE WORDS E..
+        number DIGITS     text STRING       name WORD         nil
+        apply: F ARG..    op SIGN: A B      if: C A B         pair: A B
+        let WORD: E BODY  lambda WORD: BODY                   field WORD: E
+        record WORDS: E..                   update WORDS: BASE E..
     """
 
-    def __init__(self, kind, *parts):
-        self.kind, self.parts = kind, parts
-
-    def __eq__(self, other):
-        return isinstance(other, Node) and (self.kind, self.parts) == (other.kind, other.parts)
-
-    def __hash__(self):
-        return hash((self.kind, self.parts))
+    kind: str
+    word: str = ""
+    pieces: Tuple[Node, ...] = ()
 
 
-def children(node):
-    """The places of a piece's parts that are pieces."""
-    return [place for place, part in enumerate(node.parts) if isinstance(part, Node)]
+def name(word: str) -> Node:
+    """A word alone."""
+    return Node("name", word)
 
 
-def shown(node):
+def shown(node: Node) -> str:
     """An expression as text."""
-    kind, parts = node.kind, node.parts
-    if kind in ("number", "name"):
-        return str(parts[0])
-    if kind == "text":
-        return f'"{parts[0]}"'
-    if kind == "nil":
-        return "[]"
+    kind, word = node.kind, node.word
+    parts = [shown(piece) for piece in node.pieces]
+    inner = [bracketed(piece, part) for piece, part in zip(node.pieces, parts)]
     if kind == "apply":
-        return " ".join([shown(parts[0])] + [in_brackets(part) for part in parts[1:]])
+        return " ".join([parts[0], *inner[1:]])
+    if kind in ("record", "update"):
+        values = parts[-len(word.split()):]
+        fields = "; ".join(f"{one} = {value}" for one, value in zip(word.split(), values))
+        return f"record {parts[0] + ' ' if kind == 'update' else ''}{{ {fields} }}"
     if kind == "op":
-        return f"{in_brackets(parts[1])} {parts[0]} {in_brackets(parts[2])}"
-    if kind == "if":
-        return f"if {shown(parts[0])} then {shown(parts[1])} else {shown(parts[2])}"
-    if kind == "pair":
-        return f"({shown(parts[0])}, {shown(parts[1])})"
-    if kind == "let":
-        return f"let {parts[0]} = {shown(parts[1])} in {shown(parts[2])}"
-    if kind == "lambda":
-        return f"λ {parts[0]}. {shown(parts[1])}"
+        return f"{inner[0]} {word} {inner[1]}"
     if kind == "field":
-        return f"{in_brackets(parts[0])}.{parts[1]}"
-    fields = "; ".join(f"{name} = {shown(value)}" for name, value in zip(parts[1], parts[2:]))
-    base = shown(parts[0]) + " " if parts[0] else ""
-    return f"record {base}{{ {fields} }}"
+        return f"{inner[0]}.{word}"
+    forms = {"text": '"{0}"', "nil": "[]", "if": "if {1} then {2} else {3}", "pair": "({1}, {2})",
+             "let": "let {0} = {1} in {2}", "lambda": "λ {0}. {1}"}
+    return forms.get(kind, "{0}").format(word, *parts)
 
 
-def in_brackets(node):
-    """An expression as text, in brackets where it has more than one word."""
-    whole = node.kind in ("number", "text", "name", "nil", "pair", "field")
-    return shown(node) if whole else f"({shown(node)})"
+def bracketed(node: Node, text: str) -> str:
+    """The text of an expression, in brackets where it has more than one word."""
+    is_whole = node.kind in ("number", "text", "name", "nil", "pair", "field")
+    return text if is_whole else f"({text})"
 
 
 # ---- reading
@@ -78,152 +66,153 @@ class Bad(Exception):
     """Text that is outside the part of the language that is known here."""
 
 
-TOKEN = re.compile(r'--[^\n]*|\s+|("(?:[^"\\]|\\.)*"|\d+|\[\]|==|&&|\|\||\+\+|[-+*≤<]ℤ|\w+|[^\s\w])')
-# the operators from the loosest on, and how they group
+TOKEN = re.compile(
+    r'--[^\n]*|\s+|("(?:[^"\\]|\\.)*"|\d+|\[\]|==|&&|\|\||\+\+|[-+*≤<]ℤ|\w+|[^\s\w])')
+# the operators from the loosest on, and whether they group to the right
 LEVELS = [
-    (("→",), "right"), (("≡", "≤", "<", "≤ℤ"), "left"), (("||",), "right"), (("&&",), "right"), (("==",), "left"),
-    (("∷", "++"), "right"), (("+", "-", "+ℤ", "-ℤ"), "left"), (("*", "/", "%", "*ℤ"), "left"), (("^",), "right"),
+    (("→",), True), (("≡", "≤", "<", "≤ℤ"), False), (("||",), True), (("&&",), True),
+    (("==",), False), (("∷", "++"), True), (("+", "-", "+ℤ", "-ℤ"), False),
+    (("*", "/", "%", "*ℤ"), False), (("^",), True),
 ]
-ENDS = (")", "}", ";", ",", "then", "else", "in", "=", ".", "]")
+ENDS = {")", "}", ";", ",", "then", "else", "in", "=", ".", "]", ""}
+ENDS.update(sign for signs, _ in LEVELS for sign in signs)
 
 
 class Reader:
     """Reads an expression from its tokens."""
 
-    def __init__(self, text):
-        self.tokens = [found.group(1) for found in TOKEN.finditer(text) if found.group(1)]
+    def __init__(self, text: str) -> None:
+        """TEXT: the expression alone."""
+        self.tokens = [found[1] for found in TOKEN.finditer(text) if found[1]]
         self.place = 0
 
-    def ahead(self):
+    def ahead(self) -> str:
         """The next token, or an empty one at the end."""
         return self.tokens[self.place] if self.place < len(self.tokens) else ""
 
-    def take(self, wanted=None):
+    def take(self, wanted: str = "") -> str:
         """The next token, which is read."""
         token = self.ahead()
         if not token or (wanted and token != wanted):
-            raise Bad(f"{wanted or 'more'} is missing before {' '.join(self.tokens[self.place:self.place + 5])}")
+            behind = " ".join(self.tokens[self.place:self.place + 5])
+            raise Bad(f"{wanted or 'more'} is missing before {behind}")
         self.place += 1
         return token
 
-    def whole(self):
+    def whole(self) -> Node:
         """All tokens as one expression."""
         found = self.expression()
         if self.ahead():
             raise Bad(f"not read: {' '.join(self.tokens[self.place:])}")
         return found
 
-    def expression(self, level=0):
+    def expression(self, level: int = 0) -> Node:
         """An expression whose operators are of a level or tighter."""
         if level == len(LEVELS):
             return self.application()
-        signs, grouping = LEVELS[level]
+        signs, is_right = LEVELS[level]
         left = self.expression(level + 1)
         while self.ahead() in signs:
             sign = self.take()
-            left = Node("op", sign, left, self.expression(level if grouping == "right" else level + 1))
+            right = self.expression(level if is_right else level + 1)
+            left = Node("op", sign, (left, right))
         return left
 
-    def application(self):
-        """A function with what it is applied to, or one of the forms that begin with a word of their own."""
+    def behind(self, token: str) -> Node:
+        """The expression behind a token."""
+        self.take(token)
+        return self.expression()
+
+    def application(self) -> Node:
+        """A function with what it is applied to, or a form that begins with a word of its own."""
         if self.ahead() == "if":
-            self.take()
-            test = self.expression()
-            self.take("then")
-            first = self.expression()
-            self.take("else")
-            return Node("if", test, first, self.expression())
+            return Node("if", "", (self.behind("if"), self.behind("then"), self.behind("else")))
         if self.ahead() == "let":
             self.take()
-            name = self.take()
-            self.take("=")
-            value = self.expression()
-            self.take("in")
-            return Node("let", name, value, self.expression())
+            word = self.take()
+            return Node("let", word, (self.behind("="), self.behind("in")))
         if self.ahead() == "λ":
             return self.function()
         parts = [self.atom()]
-        while self.ahead() and self.ahead() not in ENDS and not any(self.ahead() in signs for signs, _ in LEVELS):
+        while self.ahead() not in ENDS:
             parts.append(self.atom())
-        return Node("apply", *parts) if len(parts) > 1 else parts[0]
+        return Node("apply", "", tuple(parts)) if len(parts) > 1 else parts[0]
 
-    def function(self):
+    def function(self) -> Node:
         """`λ x. body`, with or without the parameter's type."""
         self.take("λ")
-        if self.ahead() == "(":
-            self.take()
-            name = self.take()
+        word = self.take()
+        if word == "(":
+            word = self.take()
             while self.take() != ")":
                 pass
-        else:
-            name = self.take()
-        self.take(".")
-        return Node("lambda", name, self.expression())
+        return Node("lambda", word, (self.behind("."),))
 
-    def atom(self):
+    def atom(self) -> Node:
         """One word, or something in brackets, and the fields behind it."""
         token = self.take()
         if token == "(":
             found = self.expression()
             if self.ahead() == ",":
-                self.take()
-                found = Node("pair", found, self.expression())
+                found = Node("pair", "", (found, self.behind(",")))
             self.take(")")
         elif token == "record":
             found = self.record()
         elif token == "[]":
             found = Node("nil")
-        elif token.isdigit():
-            found = Node("number", int(token))
         elif token[0] == '"':
             found = Node("text", token[1:-1])
         elif re.match(r"\w", token):
-            found = Node("name", token)
+            found = Node("number" if token.isdigit() else "name", token)
         else:
             raise Bad(f"no expression: {token}")
         while self.ahead() == ".":
             self.take()
-            found = Node("field", found, self.take())
+            found = Node("field", self.take(), (found,))
         return found
 
-    def record(self):
+    def record(self) -> Node:
         """`record { .. }`, or `record base { .. }`."""
-        base = None if self.ahead() == "{" else self.atom()
+        values = [] if self.ahead() == "{" else [self.atom()]
+        kind = "update" if values else "record"
         self.take("{")
-        names, values = [], []
+        words = []
         while self.ahead() != "}":
-            names.append(self.take())
-            self.take("=")
-            values.append(self.expression())
+            words.append(self.take())
+            values.append(self.behind("="))
             if self.ahead() == ";":
                 self.take()
         self.take("}")
-        return Node("record", base, tuple(names), *values)
+        return Node(kind, " ".join(words), tuple(values))
 
 
+@dataclass
 class Equation:
     """One case of a definition: what its arguments have to be, what it is then, and its line."""
 
-    def __init__(self, patterns, body, line):
-        self.patterns, self.body, self.line = patterns, body, line
+    patterns: Tuple[Node, ...]
+    body: Node
+    line: int
 
 
+@dataclass
 class Definition:
     """A definition: its file, the types of its arguments, that of its value, and its equations."""
 
-    def __init__(self, name, file, types, result):
-        self.name, self.file, self.types, self.result, self.equations = name, file, types, result, []
+    name: str
+    file: str
+    types: List[str]
+    result: str
+    equations: List[Equation] = field(default_factory=list)
 
-    def with_body(self, number, body):
+    def with_body(self, number: int, body: Node) -> Definition:
         """The same definition with another right side of one equation."""
-        new = Definition(self.name, self.file, self.types, self.result)
-        new.equations = list(self.equations)
-        old = self.equations[number]
-        new.equations[number] = Equation(old.patterns, body, old.line)
-        return new
+        equations = list(self.equations)
+        equations[number] = replace(equations[number], body=body)
+        return replace(self, equations=equations)
 
 
-def split_type(text):
+def split_type(text: str) -> List[str]:
     """The types of a signature: those of the arguments, and the value's."""
     text = re.sub(r"\{[^}]*\}\s*→", "", " ".join(text.split()))
     parts, depth = [""], 0
@@ -236,9 +225,10 @@ def split_type(text):
     return [part.strip() for part in parts]
 
 
-def items_of(path):
-    """The items of a file, each with its first line: what begins at the left edge, and what is indented behind it."""
-    items = []
+def items_of(path: str) -> List[Tuple[int, str]]:
+    """The items of a file, each with its first line: what begins at the left edge, and what is
+    indented behind it."""
+    items: List[Tuple[int, str]] = []
     with open(path, encoding="utf-8") as file:
         for number, line in enumerate(file, 1):
             if line[0] not in " }\n" and not line.startswith("--"):
@@ -248,246 +238,34 @@ def items_of(path):
     return items
 
 
-def read_file(path, file, records, propositions):
-    """The definitions of a file, by their names. Its records go into RECORDS: each field with its type.
+class Source:
+    """The definitions of some files, by their names, and the fields of their records."""
 
-    Propositions are no values, and of them only those that are named in PROPOSITIONS are read.
-    """
-    found = {}
-    for line, text in items_of(path):
-        signature = re.match(r"(?:abbrev |unfoldable )(?:pub )?(\w+) : (.+)", text, re.S)
-        equation = re.match(r"(\w+)\b(.*?[^=])=(?!=)(.*)", text, re.S)
-        if text.startswith("pub record "):
-            records[text.split()[2]] = dict(re.findall(r"^  pub (\w+) : (.+)$", text, re.M))
-        elif signature:
-            types = split_type(signature.group(2))
-            if types[-1] != "Type 0" or signature.group(1) in propositions:
-                found[signature.group(1)] = Definition(signature.group(1), file, types[:-1], types[-1])
-        elif equation and equation.group(1) in found:
-            patterns = Reader(f"f {equation.group(2)}").whole()
-            patterns = patterns.parts[1:] if patterns.kind == "apply" else ()
-            found[equation.group(1)].equations.append(Equation(patterns, Reader(equation.group(3)).whole(), line))
-    return found
+    def __init__(self, propositions: Collection[str]) -> None:
+        """PROPOSITIONS: those to read. The others are left out, since they are no values."""
+        self.propositions = propositions
+        self.definitions: Dict[str, Definition] = {}
+        self.records: Dict[str, Dict[str, str]] = {}
 
+    def read(self, path: str, file: str) -> None:
+        """Reads a file, which is shown by the name FILE."""
+        for line, text in items_of(path):
+            signature = re.match(r"(?:abbrev |unfoldable )(?:pub )?(\w+) : (.+)", text, re.S)
+            equation = re.match(r"(\w+)\b(.*?[^=])=(?!=)(.*)", text, re.S)
+            if text.startswith("pub record "):
+                fields = re.findall(r"^  pub (\w+) : (.+)$", text, re.M)
+                self.records[text.split()[2]] = dict(fields)
+            elif signature:
+                self.declare(signature[1], file, split_type(signature[2]))
+            elif equation and equation[1] in self.definitions:
+                patterns = Reader(f"f {equation[2]}").whole().pieces[1:]
+                case = Equation(patterns, Reader(equation[3]).whole(), line)
+                self.definitions[equation[1]].equations.append(case)
 
-# ---- the words of the library
-
-def prefix_length(test, values):
-    """How many values in front pass a test."""
-    for place, value in enumerate(values):
-        if not test(value):
-            return place
-    return len(values)
-
-
-def first_that(test, values):
-    """The first value that passes a test."""
-    for value in values:
-        if test(value):
-            return ("Some", value)
-    return NONE
-
-
-NONE = ("None",)
-LIBRARY = {
-    "not": lambda value: not value,
-    "nat_lt": lambda left, right: left < right,
-    "nat_le": lambda left, right: left <= right,
-    "min": min,
-    "neg_ℤ": lambda number: -number,
-    "length": len,
-    "take": lambda count, values: values[:count],
-    "map": lambda change, values: [change(value) for value in values],
-    "filter": lambda test, values: [value for value in values if test(value)],
-    "find": first_that,
-    "slice_index": lambda values, place: values[place] if place < len(values) else 0,
-    "slice_get": lambda values, place: ("Some", values[place]) if place < len(values) else NONE,
-    "range_with_len": lambda start, length: list(range(start, start + length)),
-    "prefix_len": prefix_length,
-    "suffix_len": lambda test, values: prefix_length(test, values[::-1]),
-    "is_some": lambda option: option != NONE,
-    "option_map": lambda change, option: ("Some", change(option[1])) if option != NONE else NONE,
-    "option_and_then": lambda change, option: change(option[1]) if option != NONE else NONE,
-    "unwrap_or": lambda option, default: option[1] if option != NONE else default,
-    "MatchResult": lambda result, ok, err: ok(result[1]) if result[0] == "Ok" else err(result[1]),
-    "codes": lambda text: list(text.encode("ascii")),
-}
-ARITIES = {name: word.__code__.co_argcount if hasattr(word, "__code__") else 1 for name, word in LIBRARY.items()}
-ARITIES["min"] = 2
-SIGNS = {
-    "&&": "({} and {})", "||": "({} or {})", "==": "({} == {})", "∷": "([{}] + {})", "++": "({} + {})",
-    "+": "({} + {})", "-": "max({} - {}, 0)", "*": "({} * {})", "^": "({} ** {})",
-    "/": "quotient({}, {})", "%": "remainder({}, {})", "+ℤ": "({} + {})", "-ℤ": "({} - {})", "*ℤ": "({} * {})",
-    "→": "(not {} or {})", "≡": "({} == {})", "≤": "({} <= {})", "<": "({} < {})", "≤ℤ": "({} <= {})",
-}
-
-
-def quotient(left, right):
-    """Division of numbers from 0 up; by 0 it is 0."""
-    return left // right if right else 0
-
-
-def remainder(left, right):
-    """What division leaves; by 0 it is the number itself."""
-    return left % right if right else left
-
-
-# ---- definitions as Python functions
-
-def is_constructor(word):
-    """Whether a word makes a value."""
-    return word[0].isupper() or word in ("true", "false", "pos", "negsuc", "zero", "suc")
-
-
-def made(word, held):
-    """A constructor with what it holds, in Python."""
-    if word in ("true", "false"):
-        return word.capitalize()
-    if word == "zero":
-        return "0"
-    if word in ("pos", "negsuc", "suc"):
-        return {"pos": "({})", "negsuc": "(-1 - {})", "suc": "({} + 1)"}[word].format(*held)
-    return "(" + "".join(part + ", " for part in [repr(word)] + held) + ")"
-
-
-class Writer:
-    """Writes expressions in Python. ARITIES says of each definition how many arguments it has."""
-
-    def __init__(self, arities):
-        self.arities = arities
-
-    def expression(self, node, local):
-        """An expression, in which the words of LOCAL stand for values."""
-        kind, parts = node.kind, node.parts
-        if kind in ("number", "text"):
-            return repr(parts[0])
-        if kind == "nil":
-            return "[]"
-        if kind == "name":
-            return self.call(node, [], local)
-        if kind == "apply":
-            return self.call(parts[0], [self.expression(part, local) for part in parts[1:]], local)
-        if kind == "op":
-            return SIGNS[parts[0]].format(self.expression(parts[1], local), self.expression(parts[2], local))
-        if kind == "if":
-            test, first, second = (self.expression(part, local) for part in parts)
-            return f"({first} if {test} else {second})"
-        if kind == "pair":
-            return f"({self.expression(parts[0], local)}, {self.expression(parts[1], local)})"
-        if kind == "let":
-            body = self.expression(parts[2], local | {parts[0]})
-            return f"(lambda x_{parts[0]}: {body})({self.expression(parts[1], local)})"
-        if kind == "lambda":
-            return f"(lambda x_{parts[0]}: {self.expression(parts[1], local | {parts[0]})})"
-        if kind == "field":
-            key = parts[1] if parts[1].isdigit() else repr(parts[1])
-            return f"{self.expression(parts[0], local)}[{key}]"
-        values = ", ".join(f"{name!r}: {self.expression(value, local)}" for name, value in zip(parts[1], parts[2:]))
-        base = f"**{self.expression(parts[0], local)}, " if parts[0] else ""
-        return "{" + base + values + "}"
-
-    def call(self, function, arguments, local):
-        """A word with so many arguments, which may be none, or fewer than it takes."""
-        if function.kind != "name" or function.parts[0] in local:
-            called = f"x_{function.parts[0]}" if function.kind == "name" else self.expression(function, local)
-            return called + "".join(f"({argument})" for argument in arguments)
-        word = function.parts[0]
-        if is_constructor(word) and word not in self.arities:
-            return made(word, arguments)
-        if word not in self.arities:
-            raise Bad(f"no such word: {word}")
-        taken, behind = arguments[:self.arities[word]], arguments[self.arities[word]:]
-        if len(taken) < self.arities[word]:
-            return f"partial({', '.join(['d_' + word] + taken)})"
-        return f"d_{word}({', '.join(taken)})" + "".join(f"({argument})" for argument in behind)
-
-    def pattern(self, pattern, value):
-        """What has to be true of a value, and which words stand for its parts."""
-        kind, parts = pattern.kind, pattern.parts
-        if kind == "nil":
-            return [f"not {value}"], []
-        if kind == "op" and parts[0] == "∷":
-            first, more = self.pattern(parts[1], f"{value}[0]"), self.pattern(parts[2], f"{value}[1:]")
-            return [value] + first[0] + more[0], first[1] + more[1]
-        word = parts[0] if kind == "name" else parts[0].parts[0] if kind == "apply" else ""
-        if kind == "name" and not is_constructor(word):
-            return [], [(word, value)]
-        held = parts[1:] if kind == "apply" else ()
-        if word in ("true", "false"):
-            return [value if word == "true" else f"not {value}"], []
-        if word in ("pos", "negsuc"):
-            inner = self.pattern(held[0], value if word == "pos" else f"(-1 - {value})")
-            return [f"{value} {'>=' if word == 'pos' else '<'} 0"] + inner[0], inner[1]
-        if not word or word in ("zero", "suc"):
-            raise Bad(f"no pattern: {shown(pattern)}")
-        tests, bound = [f"{value}[0] == {word!r}"], []
-        for place, part in enumerate(held, 1):
-            inner = self.pattern(part, f"{value}[{place}]")
-            tests, bound = tests + inner[0], bound + inner[1]
-        return tests, bound
-
-    def definition(self, definition):
-        """A definition as a Python function."""
-        arguments = [f"a{place}" for place in range(len(definition.equations[0].patterns))]
-        lines = [f"def d_{definition.name}({', '.join(arguments)}):"]
-        for equation in definition.equations:
-            tests, bound = [], []
-            for pattern, argument in zip(equation.patterns, arguments):
-                inner = self.pattern(pattern, argument)
-                tests, bound = tests + inner[0], bound + inner[1]
-            lines.append(f"    if {' and '.join(tests) or 'True'}:")
-            lines += [f"        x_{word} = {value}" for word, value in bound]
-            body = self.expression(equation.body, frozenset(word for word, _ in bound))
-            lines.append(f"        return {body}")
-        return "\n".join(lines + ["    raise LookupError"]) + "\n"
-
-
-def with_numbers(node, numbers):
-    """An expression with each name of NUMBERS as its number."""
-    if node.kind == "name":
-        return numbers.get(node.parts[0], node)
-    return Node(node.kind, *(with_numbers(part, numbers) if isinstance(part, Node) else part for part in node.parts))
-
-
-class Definitions:
-    """Definitions that can be computed, and exchanged for others of the same names."""
-
-    def __init__(self, files, propositions=()):
-        """Reads FILES, pairs of a path and the name to show for it."""
-        self.records, self.by_name = {}, {}
-        for path, file in files:
-            for name, definition in read_file(path, file, self.records, propositions).items():
-                if name in self.by_name:
-                    raise Bad(f"{file}: a second definition of {name}")
-                self.by_name[name] = definition
-        self.by_name = {name: each for name, each in self.by_name.items() if each.equations}
-        self.put_numbers()
-        arities = dict(ARITIES)
-        arities.update({name: len(each.equations[0].patterns) for name, each in self.by_name.items()})
-        self.writer = Writer(arities)
-        self.words = {"partial": functools.partial, "quotient": quotient, "remainder": remainder}
-        # Python reads ℤ in a name as Z
-        self.words.update({"d_" + normalize("NFKC", name): word for name, word in LIBRARY.items()})
-        for definition in self.by_name.values():
-            self.put(definition)
-
-    def put_numbers(self):
-        """A name that is one number, as the byte `plus` is, is read as that number wherever it stands."""
-        numbers = {name: each.equations[0].body for name, each in self.by_name.items()
-                   if not each.equations[0].patterns and each.equations[0].body.kind == "number"}
-        self.by_name = {name: each for name, each in self.by_name.items() if name not in numbers}
-        for definition in self.by_name.values():
-            for equation in definition.equations:
-                equation.body = with_numbers(equation.body, numbers)
-
-    def put(self, definition):
-        """Takes a definition in place of that of its name."""
-        exec(self.writer.definition(definition), self.words)
-
-    def word(self, name):
-        """The function of a definition."""
-        return self.words["d_" + name]
-
-    def value(self, text):
-        """The value of an expression."""
-        return eval(self.writer.expression(Reader(text).whole(), frozenset()), self.words)
+    def declare(self, word: str, file: str, types: List[str]) -> None:
+        """Takes a signature."""
+        if types[-1] == "Type 0" and word not in self.propositions:
+            return
+        if word in self.definitions:
+            raise Bad(f"{file}: a second definition of {word}")
+        self.definitions[word] = Definition(word, file, types[:-1], types[-1])

@@ -2,8 +2,8 @@
 
     python3 tools/c_calls.py LIBRARY    compares the worked rows with a shared library
 
-What the struct of a format looks like, and which number each status is, is read from include/jadvolni.h, so that a header
-and a library that disagree show here.
+What the struct of a format looks like, and which number each status is, is read from
+include/jadvolni.h, so that a header and a library that disagree show here.
 """
 from __future__ import annotations
 
@@ -11,12 +11,13 @@ import ctypes
 import os
 import re
 import sys
-from typing import Dict, Iterator, List, NamedTuple, Optional, Tuple
+from typing import Callable, Iterator, NamedTuple, Optional
 
-import slow_reading
-from slow_reading import BYTE_FIELDS, FLAG_FIELDS, Fault, Format, Value
+import row_data
+from slow_grammar import BYTE_FIELDS, FLAG_FIELDS, TYPES, Fault, Format, Value
+from slow_reading import form_of
 
-TOP = os.path.dirname(os.path.dirname(os.path.abspath(__file__)))
+TOP = row_data.TOP
 HEADER = os.path.join(TOP, "include", "jadvolni.h")
 BEFORE = 77  # what stands behind the pointer before each call
 
@@ -30,9 +31,9 @@ with open(HEADER, encoding="utf-8") as header:
     DECLARED = without_comments(header.read())
 
 
-def fields_of_format() -> Iterator[Tuple[str, type]]:
+def fields_of_format() -> Iterator[tuple[str, type[ctypes.Array[ctypes.c_uint8] | ctypes.c_uint8]]]:
     """The fields of jadvolni_format, as ctypes has them."""
-    body = re.search(r"typedef struct jadvolni_format \{(.*?)\}", DECLARED, re.S).group(1)
+    body = DECLARED.split("typedef struct jadvolni_format {")[1].split("}")[0]
     for name, length in re.findall(r"uint8_t (\w+)(?:\[(\d+)\])?;", body):
         yield name, ctypes.c_uint8 * int(length) if length else ctypes.c_uint8
 
@@ -43,7 +44,7 @@ class CFormat(ctypes.Structure):
     _fields_ = list(fields_of_format())
 
 
-MISSING = {*FLAG_FIELDS, *BYTE_FIELDS} - {name for name, _ in CFormat._fields_}
+MISSING = {*FLAG_FIELDS, *BYTE_FIELDS} - {name for name, _ in fields_of_format()}
 if MISSING:  # ctypes would take a field that isn't there without a word
     raise ImportError(f"include/jadvolni.h lacks {', '.join(sorted(MISSING))}")
 
@@ -54,32 +55,12 @@ class CResult(ctypes.Structure):
     _fields_ = [("status", ctypes.c_uint32), ("place", ctypes.c_size_t)]
 
 
-class Unsigned128(ctypes.Structure):
-    """jadvolni_uint128."""
-
-    _fields_ = [("low", ctypes.c_uint64), ("high", ctypes.c_uint64)]
-
-
-class Signed128(ctypes.Structure):
-    """jadvolni_int128."""
-
-    _fields_ = [("low", ctypes.c_uint64), ("high", ctypes.c_int64)]
-
-
-STATUSES: Dict[int, str] = {
+STATUSES: dict[int, str] = {
     int(number): name.title().replace("_", "")
     for name, number in re.findall(r"JADVOLNI_(\w+) = (\d+)", DECLARED)
 }
-NUMBERS: Dict[str, int] = {name: number for number, name in STATUSES.items()}
+NUMBERS = {name: number for number, name in STATUSES.items()}
 RESERVED = len(CFormat().reserved)
-KEPT: Dict[str, type] = {f"u{bits}": getattr(ctypes, f"c_uint{bits}") for bits in (8, 16, 32, 64)}
-KEPT.update({f"i{bits}": getattr(ctypes, f"c_int{bits}") for bits in (8, 16, 32, 64)})
-KEPT.update(usize=ctypes.c_size_t, isize=ctypes.c_ssize_t, u128=Unsigned128, i128=Signed128)
-
-
-def number_of(kept) -> int:
-    """The number that is kept."""
-    return kept.value if hasattr(kept, "value") else kept.high * 2 ** 64 + kept.low
 
 
 class Answer(NamedTuple):
@@ -90,7 +71,7 @@ class Answer(NamedTuple):
     number: int
 
 
-def expected(answer: slow_reading.Answer, text: bytes, is_partial: bool) -> Answer:
+def expected(answer: Value | Fault, text: bytes, is_partial: bool) -> Answer:
     """What a call has to answer, by what the slow reading does."""
     if isinstance(answer, Value):
         return Answer("Ok", answer.stop if is_partial else len(text), answer.value)
@@ -116,57 +97,63 @@ class Library:
         """PATH: where libjadvolni.so is."""
         self.library = ctypes.CDLL(path)
         self.library.jadvolni_format_error.restype = ctypes.c_uint32
-        self.calls = {(name, form): self.call_of(f"jadvolni_{name}{form}") for name in KEPT
-                      for form in ("", "_partial", "_with_format", "_partial_with_format")}
+        forms = ("", "_partial", "_with_format", "_partial_with_format")
+        self.calls = {name.decode() + form: self.call_of(f"jadvolni_{name.decode()}{form}")
+                      for name in TYPES for form in forms}
 
-    def call_of(self, name: str):
+    def call_of(self, name: str) -> Callable[..., CResult]:
         """A call by its name."""
-        call = getattr(self.library, name)
-        call.restype = CResult
+        function = self.library[name]
+        function.restype = CResult
+        call: Callable[..., CResult] = function
         return call
 
     def format_error(self, form: CFormat) -> str:
         """The status of a format."""
         return STATUSES[self.library.jadvolni_format_error(ctypes.byref(form))]
 
-    def parse(self, name: str, text: bytes, is_partial: bool, form: Optional[CFormat] = None) -> Answer:
+    def parse(self, name: str, text: bytes, is_partial: bool,
+              form: Optional[CFormat] = None) -> Answer:
         """A parse as the type of that name, under the standard format where none is handed in."""
-        kind = KEPT[name]
-        kept = kind(BEFORE) if hasattr(kind, "value") else kind(BEFORE, 0)
+        kept = ctypes.create_string_buffer(BEFORE.to_bytes(16, "little"), 16)
         under = () if form is None else (ctypes.byref(form),)
-        call = self.calls[name, ("_partial" if is_partial else "") + ("_with_format" if under else "")]
-        result = call(text, ctypes.c_size_t(len(text)), *under, ctypes.byref(kept))
-        return Answer(STATUSES[result.status], result.place, number_of(kept))
+        call = name + ("_partial" if is_partial else "") + ("_with_format" if under else "")
+        result = self.calls[call](text, ctypes.c_size_t(len(text)), *under, kept)
+        kind = TYPES[name.encode()]
+        number = int.from_bytes(kept.raw[:kind.bits // 8], "little", signed=kind.signed)
+        return Answer(STATUSES[result.status], result.place, number)
+
+
+def answer_to(row: row_data.Row) -> Answer:
+    """What a call has to answer to a row."""
+    name, numbers = row.answer
+    if name != "Ok":
+        return Answer(name, numbers[0] if numbers else 0, BEFORE)
+    return Answer("Ok", numbers[1] if row.parser == "partial" else len(row.text), numbers[0])
+
+
+def wrong_answers(library: Library, row: row_data.Row) -> Iterator[str]:
+    """What the calls answer otherwise than a row does."""
+    form = c_format(form_of(row))
+    if row.parser == "format":
+        status = library.format_error(form)
+        wanted = "Ok" if row.answer.name == "valid" else row.answer.name
+        if status != wanted:
+            yield f"{row.question()}: {status}, and not {wanted}"
+        return
+    for under in (form, None) if row.format == () else (form,):
+        answer = library.parse(row.type, row.text, row.parser == "partial", under)
+        if answer != answer_to(row):
+            yield f"{row.question()}: {answer}, and not {answer_to(row)}"
 
 
 def compare_rows(library: Library) -> str:
     """Runs the worked rows of tools/rows.txt through the calls, and says how many there are."""
-    import rows  # its reader of the rows
-    wrong: List[str] = []
-    all_rows = [row for file in rows.read_data(rows.DATA) for group in file.groups for row in group.rows]
-    for row in all_rows:
-        changes = dict(row.fields) if row.fields != ("json",) else {}
-        form = c_format(slow_reading.JSON if row.fields == ("json",) else Format(**changes))
-        if row.parser == "format":
-            wanted = "Ok" if row.answer[0] == "valid" else row.answer[0]
-            answers = [library.format_error(form)]
-        else:
-            wanted = expected(answer_of(row), row.text, row.parser == "partial")
-            answers = [library.parse(row.type, row.text, row.parser == "partial", form)]
-            if row.fields == ():
-                answers.append(library.parse(row.type, row.text, row.parser == "partial"))
-        wrong += [f"{row.question()}: {answer}, and not {wanted}" for answer in answers if answer != wanted]
+    rows = [row for group in row_data.groups_of(row_data.DATA) for row in group.rows]
+    wrong = [said for row in rows for said in wrong_answers(library, row)]
     if wrong:
         raise AssertionError("\n".join(wrong))
-    return f"{len(all_rows)} rows"
-
-
-def answer_of(row) -> slow_reading.Answer:
-    """The answer that a row has, in the words of the slow reading."""
-    name, *numbers = row.answer
-    if name != "Ok":
-        return Fault(name, *numbers)
-    return Value(numbers[0], numbers[1] if row.parser == "partial" else len(row.text))
+    return f"{len(rows)} rows"
 
 
 if __name__ == "__main__":

@@ -1,15 +1,16 @@
 #!/usr/bin/env python3
-"""Runs the built program beside the slow reading of the grammar, and stops at the first difference.
+"""Runs the built program beside the slow reading of the grammar, until they differ.
 
-    python3 tools/fuzz.py [--program PATH] [--seed N] [--lines N] [--tokens]     random lines
-    python3 tools/fuzz.py [--program PATH] [--tokens] --all [--longest N]        all short texts under a list of formats
-    python3 tools/fuzz.py [--program PATH] [--tokens] --edges                    each length, end of a type and separator
+    python3 tools/fuzz.py [--program PATH] [--seed N] [--lines N]    random lines
+    python3 tools/fuzz.py [--program PATH] --all [--longest N]       all short texts
+    python3 tools/fuzz.py [--program PATH] --edges                   the edges of lengths and types
 
-The seed is printed, and the same seed gives the same lines. A difference is made as small as it can be and printed,
-and the status is then 1. `--tokens` says that the program knows the lines of tokens; without it they are bad lines.
+The seed is printed, and the same seed gives the same lines. A difference is made as small as it can
+be and printed, and the status is then 1.
 
-Where the format is the standard one or differs from it in the radix alone, complete parses are also compared with
-Python's `int`, and with Rust's `from_str_radix` by tools/from_str_radix.rs, where there is a rustc.
+Where the format is the standard one or differs from it in the radix alone, complete parses are also
+compared with Python's `int`, and with Rust's `from_str_radix` by tools/from_str_radix.rs, where
+there is a rustc.
 """
 from __future__ import annotations
 
@@ -28,13 +29,15 @@ from fuzz_edges import edge_runs
 from fuzz_lines import Lines
 from fuzz_short import short_runs
 from fuzz_shrink import smallest
-from slow_reading import STANDARD, TOP, TYPES, Session
+from row_data import TOP
+from slow_grammar import STANDARD, TYPES
+from slow_reading import Session
 
 PROGRAM = os.path.join(TOP, "crates", "lexint", "out", "lexint")
 DRIVER = os.path.join(TOP, "tools", "from_str_radix.rs")
-# How many lines a run of the program gets: those of a line or two meet the ends of reads, long ones full buffers.
+# How many lines a run gets: those of a line or two meet the ends of reads, long ones full buffers.
 LINES_OF_RUNS = (1, 2, 5, 50, 1000, 20000, 20000)
-SECONDS_OF_A_RUN = 20
+SECONDS = 20
 DIGITS = b"0123456789abcdefghijklmnopqrstuvwxyz"
 PLAIN = {radix: replace(STANDARD, mantissa_radix=radix) for radix in range(2, 37)}
 LONGEST_INT = 4000  # digits; newer Pythons refuse more
@@ -45,7 +48,7 @@ RUST_FAULTS = {
 
 
 class Difference(NamedTuple):
-    """An answer that is not the expected one: the line's number from 0, who expected what, and what was answered."""
+    """An answer that is not the expected one: the line's number from 0, and who expected what."""
 
     number: int
     judge: str
@@ -66,16 +69,16 @@ class Question(NamedTuple):
 # ---- the judges
 
 def source_of(lines: List[bytes]) -> bytes:
-    """The input of these lines. The last one needs no line feed: it has none where its length is odd."""
+    """The input of these lines. The last one has no line feed where its length is odd."""
     source = b"\n".join(lines)
     return source if lines and len(lines[-1]) % 2 else source + b"\n" * bool(lines)
 
 
 def int_expects(question: Question) -> Optional[str]:
-    """How the answer begins by Python's `int`; None where that reads other texts than the grammar does.
+    """How the answer begins by Python's `int`; None where that reads other texts.
 
-    `int` takes blanks, `_` and prefixes, so it is asked for digits with a sign alone. It also takes a minus where the
-    type is unsigned, and there the program has no sign, but a byte that is no digit.
+    `int` takes blanks, `_` and prefixes, so it is asked for digits with a sign alone. It also takes
+    a minus where the type is unsigned: there the program has no sign, but a byte that is no digit.
     """
     kind = TYPES[question.name]
     negative = question.text[:1] == b"-"
@@ -86,17 +89,18 @@ def int_expects(question: Question) -> Optional[str]:
         return None
     value = int(question.text, question.radix)
     # said anew here, so that the slow reading's own ends of the types are compared as well
-    least, greatest = (-2 ** (kind.bits - 1), 2 ** (kind.bits - 1) - 1) if kind.signed else (0, 2 ** kind.bits - 1)
-    if value > greatest:
+    limit = 2 ** (kind.bits - kind.signed)
+    if value >= limit:
         return "err Overflow "
-    return "err Underflow " if value < least else f"ok {value}\n"
+    return "err Underflow " if value < -limit else f"ok {value}\n"
 
 
 def rust_expects(question: Question, told: str) -> Optional[str]:
-    """How the answer begins by what `from_str_radix` told; None where it was told nothing.
+    """How the answer begins by what `from_str_radix` told; None where it told nothing.
 
-    One thing differs: a sign alone is an InvalidDigit there, and Empty behind the sign here. Both take a plus at every
-    type and a minus at the signed ones alone, both read `-0` as 0, and both tell an overflow and no byte behind it.
+    One thing differs: a sign alone is an InvalidDigit there, and Empty behind the sign here. Both
+    take a plus at every type and a minus at the signed ones alone, both read `-0` as 0, and both
+    tell an overflow and no byte behind it.
     """
     if told == "none":
         return None
@@ -111,17 +115,17 @@ def rust_expects(question: Question, told: str) -> Optional[str]:
 class Comparison:
     """The program beside its judges."""
 
-    def __init__(self, program: str, driver: Optional[str], tokens: bool) -> None:
+    def __init__(self, program: str, driver: Optional[str]) -> None:
         """DRIVER: the compiled tools/from_str_radix.rs, if there is one."""
-        self.program, self.driver, self.tokens = program, driver, tokens
-        self.compared: Counter = Counter()
+        self.program, self.driver = program, driver
+        self.compared: Counter[str] = Counter()
 
     def run(self, command: str, source: bytes) -> str:
         """What the command writes, and behind it how it ended, where that isn't well."""
         try:
-            done = subprocess.run([command], input=source, capture_output=True, timeout=SECONDS_OF_A_RUN)
+            done = subprocess.run([command], input=source, capture_output=True, timeout=SECONDS)
         except subprocess.TimeoutExpired:
-            return f"no end in {SECONDS_OF_A_RUN} seconds\n"
+            return f"no end in {SECONDS} seconds\n"
         output = done.stdout.decode("latin-1")
         if done.returncode or done.stderr:
             output += f"status {done.returncode} {done.stderr.decode('latin-1').strip()}\n"
@@ -129,8 +133,9 @@ class Comparison:
 
     def difference(self, lines: List[bytes]) -> Optional[Difference]:
         """The first difference at these lines."""
-        session = Session(self.tokens)
-        expected, questions = [], []
+        session = Session()
+        expected: List[str] = []
+        questions: List[Question] = []
         for number, line in enumerate(lines):
             expected.append(session.answer(line))
             if line.startswith(b"c ") and is_plain(session):
@@ -144,26 +149,28 @@ class Comparison:
 
     def by_int(self, questions: List[Question]) -> Optional[Difference]:
         """The first answer that isn't that of `int`."""
-        return self.first_unexpected("int", questions, map(int_expects, questions))
+        return self.unexpected("int", questions, map(int_expects, questions))
 
     def by_rust(self, questions: List[Question]) -> Optional[Difference]:
         """The first answer that isn't that of `from_str_radix`."""
         if self.driver is None:
             return None
-        asked = b"".join(b"%s %d %s\n" % (question.name, question.radix, question.text) for question in questions)
-        told = self.run(self.driver, asked).splitlines()
-        if len(told) != len(questions):
-            sys.exit(f"fuzz: from_str_radix answered {len(told)} of {len(questions)} lines, the last one {told[-1:]}")
-        return self.first_unexpected("from_str_radix", questions, map(rust_expects, questions, told))
+        asked = [b"%s %d %s\n" % (question.name, question.radix, question.text)
+                 for question in questions]
+        told = self.run(self.driver, b"".join(asked)).splitlines()
+        if len(told) != len(asked):
+            sys.exit(f"fuzz: from_str_radix answered {len(told)} of {len(asked)} lines")
+        return self.unexpected("from_str_radix", questions, map(rust_expects, questions, told))
 
-    def first_unexpected(
-            self, judge: str, questions: List[Question], expected: Iterable[Optional[str]]) -> Optional[Difference]:
+    def unexpected(self, judge: str, questions: List[Question],
+                   expected: Iterable[Optional[str]]) -> Optional[Difference]:
         """The first answer that doesn't begin as the judge expects."""
         for question, wanted in zip(questions, expected):
-            if wanted is not None:
-                self.compared[judge] += 1
-                if not question.answer.startswith(wanted):
-                    return Difference(question.number, judge, wanted, question.answer)
+            if wanted is None:
+                continue
+            self.compared[judge] += 1
+            if not question.answer.startswith(wanted):
+                return Difference(question.number, judge, wanted, question.answer)
         return None
 
 
@@ -194,17 +201,17 @@ def first_difference(expected: List[str], output: str) -> Difference:
 # ---- lines
 
 def gathered(batches: Lines, length: int) -> List[bytes]:
-    """The lines of one run of the program: batches of that length together, or the end of one for a short run."""
+    """The lines of one run: batches of that length together, or the end of one for a short run."""
     lines: List[bytes] = []
     while len(lines) < length:
         lines += batches.batch()
     return lines[-length:] if length < 50 else lines
 
 
-def random_runs(seed: int, wanted: int, tokens: bool) -> Iterator[List[bytes]]:
+def random_runs(seed: int, wanted: int) -> Iterator[List[bytes]]:
     """Runs of random batches, until there are as many lines as wanted."""
     chance = random.Random(seed)
-    batches = Lines(chance, tokens)
+    batches = Lines(chance, True)
     made = 0
     while made < wanted:
         lines = gathered(batches, min(chance.choice(LINES_OF_RUNS), wanted - made))
@@ -218,8 +225,8 @@ def reproduced(source: bytes) -> str:
     """A printf that writes the source."""
     plain = set(range(32, 127)) - set(b"\\%'")
     names = {ord("\n"): "\\n", ord("%"): "%%", ord("\\"): "\\\\"}
-    text = "".join(chr(byte) if byte in plain else names.get(byte, f"\\{byte:03o}") for byte in source)
-    return f"printf '{text}'"
+    letters = (chr(byte) if byte in plain else names.get(byte, f"\\{byte:03o}") for byte in source)
+    return f"printf '{''.join(letters)}'"
 
 
 def tell(found: Difference, lines: List[bytes], comparison: Comparison) -> None:
@@ -233,13 +240,15 @@ def tell(found: Difference, lines: List[bytes], comparison: Comparison) -> None:
     small = comparison.difference(failing)
     print(f"fuzz: {len(failing)} lines are enough for a difference:")
     print("".join(f"    {line!r}\n" for line in failing), end="")
-    if small is not None:  # a program that answers in one way once and in another then has none now
-        print(f"    line {small.number + 1}: expected by {small.judge}: {small.expected!r}, answered: {small.actual!r}")
+    if small is not None:  # a program that answers now in one way and now in another has none
+        print(f"    line {small.number + 1}: expected by {small.judge}: {small.expected!r}, "
+              f"answered: {small.actual!r}")
     print(f"    {reproduced(source_of(failing))} | {comparison.program}")
 
 
 def compiled_driver(folder: str) -> Optional[str]:
-    """The driver of from_str_radix, compiled into the folder; None where there is no rustc, or no cc, by which that links."""
+    """The driver of from_str_radix, compiled into the folder; None where there is no rustc, or no
+    cc, by which that links."""
     lacking = [name for name in ("rustc", "cc") if shutil.which(name) is None]
     if lacking:
         print(f"fuzz: there is no {lacking[0]}, so from_str_radix is left out")
@@ -257,21 +266,21 @@ def compare_all(runs: Iterable[List[bytes]], comparison: Comparison) -> int:
             tell(found, lines, comparison)
             return 1
     counts = comparison.compared
-    print(f"fuzz: {counts['slow reading']} lines and no difference; {counts['int']} of their answers were compared "
-          f"with Python's int too, and {counts['from_str_radix']} with Rust's from_str_radix")
+    print(f"fuzz: {counts['slow reading']} lines and no difference; {counts['int']} answers were "
+          f"compared with Python's int too, and {counts['from_str_radix']} with from_str_radix")
     return 0
 
 
 def arguments() -> argparse.Namespace:
     """The command line."""
-    parser = argparse.ArgumentParser(description="Runs the built program beside the slow reading of the grammar.")
+    parser = argparse.ArgumentParser(
+        description=__doc__, formatter_class=argparse.RawDescriptionHelpFormatter)
     parser.add_argument("--program", default=PROGRAM)
     parser.add_argument("--seed", type=int, default=random.SystemRandom().randrange(10 ** 9))
     parser.add_argument("--lines", type=int, default=200000)
-    parser.add_argument("--tokens", action="store_true", help="the program knows the lines of tokens")
-    parser.add_argument("--all", action="store_true", help="all short texts in the place of random lines")
-    parser.add_argument("--edges", action="store_true", help="the edges of lengths and types in the place of random lines")
-    parser.add_argument("--longest", type=int, default=5, help="how long these are at most")
+    parser.add_argument("--all", action="store_true", help="all short texts")
+    parser.add_argument("--edges", action="store_true", help="the edges of lengths and types")
+    parser.add_argument("--longest", type=int, default=5, help="how long the short texts are")
     return parser.parse_args()
 
 
@@ -286,9 +295,9 @@ def main() -> int:
         runs = edge_runs(max(LINES_OF_RUNS))
     else:
         print(f"fuzz: seed {given.seed}", flush=True)
-        runs = random_runs(given.seed, given.lines, given.tokens)
+        runs = random_runs(given.seed, given.lines)
     with tempfile.TemporaryDirectory() as folder:
-        return compare_all(runs, Comparison(given.program, compiled_driver(folder), given.tokens))
+        return compare_all(runs, Comparison(given.program, compiled_driver(folder)))
 
 
 if __name__ == "__main__":

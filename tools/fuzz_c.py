@@ -3,10 +3,11 @@
 
     python3 tools/fuzz_c.py [--parses N] [--formats N] [--seed N] [--lib FILE]
 
-Three parts: random parses under random formats, with the texts of tools/fuzz_lines.py; formats of random bytes; and all
-texts of up to three bytes under the formats of SHORT, as i8 and as u64. Each call is compared in status, place and
-number, and at a fault the number has to be the one from before. Where some differ it prints the first of them, and ends
-with status 1. The seed that it prints first gives the same run again. It needs a C compiler.
+Three parts: random parses under random formats, with the texts of tools/fuzz_lines.py; formats of
+random bytes; and all texts of up to three bytes under the formats of SHORT, as i8 and as u64. Each
+call is compared in status, place and number, and at a fault the number has to be the one from
+before. Where some differ it prints the first of them, and ends with status 1. The seed that it
+prints first gives the same run again. It needs a C compiler.
 """
 from __future__ import annotations
 
@@ -19,22 +20,24 @@ import subprocess
 import sys
 import tempfile
 from dataclasses import replace
-from typing import List, Tuple
+from typing import List, Optional, Tuple
 
-sys.dont_write_bytecode = True
-
-import c_calls  # noqa: E402
-import slow_reading  # noqa: E402
-from c_calls import Library  # noqa: E402
-from fuzz_lines import CAPITALS, DOUBTFUL_BYTES, NAMES, ODD_RADIXES, RADIXES, SMALL, Lines  # noqa: E402
-from slow_reading import JSON, LITERAL, STANDARD, TYPES, Format, Session  # noqa: E402
+from c_calls import (BEFORE, NUMBERS, RESERVED, Answer, CFormat, Library, c_format, compare_rows,
+                     expected)
+from fuzz_lines import CAPITALS, DOUBTFUL_BYTES, NAMES, ODD_RADIXES, RADIXES, SMALL, Lines
+from row_data import TOP
+from slow_grammar import (BYTE_FIELDS, FLAG_FIELDS, JSON, STANDARD, TYPES, Format, format_fault,
+                          parse)
+from slow_reading import LITERAL, Session
 
 MOST_TOLD = 5
 # Under each of these all texts of up to three bytes are tried.
 SHORT: List[Format] = [
-    STANDARD, JSON, LITERAL, replace(STANDARD, mantissa_radix=16, base_prefix=ord("x"), base_suffix=ord("h")),
-    replace(STANDARD, digit_separator=0, integer_internal_digit_separator=True, integer_trailing_digit_separator=True),
-    replace(STANDARD, mantissa_radix=3, required_mantissa_digits=False, required_mantissa_sign=True),
+    STANDARD, JSON, LITERAL,
+    Format(mantissa_radix=16, base_prefix=ord("x"), base_suffix=ord("h")),
+    Format(digit_separator=0, integer_internal_digit_separator=True,
+           integer_trailing_digit_separator=True),
+    Format(mantissa_radix=3, required_mantissa_digits=False, required_mantissa_sign=True),
 ]
 
 
@@ -51,11 +54,11 @@ class Comparison:
         if wanted != answered:
             self.wrong.append(f"{what}: {answered}, and not {wanted}")
 
-    def parse(self, name: bytes, text: bytes, is_partial: bool, form: Format, made: c_calls.CFormat) -> None:
+    def parse(self, name: bytes, text: bytes, is_partial: bool,
+              form: Format, made: CFormat) -> None:
         """A parse under a format, and under none where it is the standard one."""
-        read = slow_reading.partial if is_partial else slow_reading.complete
-        answer = slow_reading.format_fault(form) or read(form, TYPES[name], text)
-        wanted = c_calls.expected(answer, text, is_partial)
+        answer = format_fault(form) or parse(form, TYPES[name], text, is_partial)
+        wanted = expected(answer, text, is_partial)
         self.parses += 1
         self.values += wanted.status == "Ok"
         what = (name.decode(), text, is_partial, form)
@@ -63,9 +66,9 @@ class Comparison:
         if form == STANDARD:
             self.same(what, wanted, self.library.parse(name.decode(), text, is_partial))
 
-    def format(self, form: Format, made: c_calls.CFormat) -> None:
+    def format(self, form: Format, made: CFormat) -> None:
         """What is wrong with a format."""
-        fault = slow_reading.format_fault(form)
+        fault = format_fault(form)
         self.formats += 1
         self.same(form, fault.name if fault else "Ok", self.library.format_error(made))
 
@@ -73,47 +76,51 @@ class Comparison:
 def random_parses(comparison: Comparison, chance: random.Random, wanted: int) -> None:
     """The lines that the program is tried with, as calls."""
     batches = Lines(chance, False)
-    session = Session(False)
+    session = Session()
     end = comparison.parses + wanted
     while comparison.parses < end and len(comparison.wrong) < MOST_TOLD:
         for line in batches.batch():
             session.answer(line)
+            form, made = session.form, c_format(session.form, chance.randint(1, 255))
             words = line.split(b" ", 2)
             if words[0] == b"f":
-                comparison.format(session.form, c_calls.c_format(session.form, chance.randint(1, 255)))
+                comparison.format(form, made)
             elif words[0] in (b"c", b"p") and len(words) == 3 and words[1] in TYPES:
-                made = c_calls.c_format(session.form, chance.randint(1, 255))
-                comparison.parse(words[1], words[2], words[0] == b"p", session.form, made)
+                comparison.parse(words[1], words[2], words[0] == b"p", form, made)
+
+
+def mark_of(made: CFormat, name: str) -> Optional[int]:
+    """The byte of punctuation that a format asks for, by the words of the header."""
+    byte: int = getattr(made, name)
+    return byte if byte or getattr(made, f"{name}_is_nul") else None
+
+
+def random_format(chance: random.Random) -> Tuple[CFormat, Format]:
+    """A format of random bytes, and what it asks for."""
+    made = CFormat(mantissa_radix=chance.choice(RADIXES + ODD_RADIXES))
+    for name in BYTE_FIELDS:
+        setattr(made, name, chance.choice((0, 0, chance.choice(chance.choice(DOUBTFUL_BYTES)))))
+        setattr(made, f"{name}_is_nul", chance.choice((0, 0, 0, chance.randrange(256))))
+    for name in FLAG_FIELDS:
+        setattr(made, name, chance.choice((0, 0, chance.randrange(256))))
+    marks = {name: mark_of(made, name) for name in BYTE_FIELDS}
+    flags = {name: getattr(made, name) != 0 for name in FLAG_FIELDS}
+    return made, replace(Format(mantissa_radix=made.mantissa_radix, **flags), **marks)
 
 
 def random_formats(comparison: Comparison, chance: random.Random, wanted: int) -> None:
-    """Formats of random bytes, and a short text under each."""
+    """Formats of random bytes, and a short text under each, as it is and with an unknown field."""
     for _ in range(wanted):
         if len(comparison.wrong) >= MOST_TOLD:
             return
-        made = c_calls.CFormat(mantissa_radix=chance.choice(RADIXES + ODD_RADIXES))
-        for name in slow_reading.BYTE_FIELDS:
-            setattr(made, name, chance.choice((0, 0, chance.choice(chance.choice(DOUBTFUL_BYTES)))))
-            setattr(made, f"{name}_is_nul", chance.choice((0, 0, 0, chance.randrange(256))))
-        for name in slow_reading.FLAG_FIELDS:
-            setattr(made, name, chance.choice((0, 0, chance.randrange(256))))
-        form = Format(
-            mantissa_radix=made.mantissa_radix,
-            **{name: mark_of(made, name) for name in slow_reading.BYTE_FIELDS},
-            **{name: getattr(made, name) != 0 for name in slow_reading.FLAG_FIELDS})
+        made, form = random_format(chance)
         comparison.format(form, made)
         text = bytes(chance.choices(b"0129+-_xhXH\0aZ", k=chance.randint(0, 6)))
         comparison.parse(chance.choice(NAMES), text, chance.random() < 0.5, form, made)
-        made.reserved[chance.randrange(c_calls.RESERVED)] = chance.randint(1, 255)
+        made.reserved[chance.randrange(RESERVED)] = chance.randint(1, 255)
         comparison.same(form, "UnknownField", comparison.library.format_error(made))
         answered = comparison.library.parse("u8", text, chance.random() < 0.5, made)
-        comparison.same(form, c_calls.Answer("UnknownField", 0, c_calls.BEFORE), answered)
-
-
-def mark_of(made: c_calls.CFormat, name: str):
-    """The byte of punctuation that a format asks for, by the words of the header."""
-    byte, is_nul = getattr(made, name), getattr(made, f"{name}_is_nul")
-    return byte if byte or is_nul else None
+        comparison.same(form, Answer("UnknownField", 0, BEFORE), answered)
 
 
 # ---- short texts
@@ -124,41 +131,47 @@ Classes = Tuple[bytes, List[int]]
 def classes_under(form: Format) -> Classes:
     """A class for each byte, and a byte of each class.
 
-    The bytes that the grammar tells apart under the format have a class each: signs, digits, the format's own bytes and
-    the letters of literal prefixes, these in both cases. All others are one class.
+    The bytes that the grammar tells apart under the format have a class each: signs, digits, the
+    format's own bytes and the letters of literal prefixes, these in both cases. All others are one
+    class.
     """
-    marks = [byte for byte in (form.digit_separator, form.base_prefix, form.base_suffix) if byte is not None]
+    fields = (form.digit_separator, form.base_prefix, form.base_suffix)
+    marks = bytes(byte for byte in fields if byte is not None)
     radix = 16 if form.literal_prefixes else form.mantissa_radix
-    known = set(b"+-" + SMALL[:radix] + CAPITALS[:radix])
-    known |= {ord(case(chr(byte))) for byte in marks for case in (str, str.swapcase)}
+    known = set(b"+-" + SMALL[:radix] + CAPITALS[:radix] + marks + marks.swapcase())
     known |= set(b"xXoObB") if form.literal_prefixes else set()
     ranks = {byte: rank for rank, byte in enumerate(sorted(known), 1)}
     other = next(byte for byte in range(255, -1, -1) if byte not in known)
     return bytes(ranks.get(byte, 0) for byte in range(256)), [other] + sorted(known)
 
 
+def short_answer(form: Format, name: bytes, text: bytes, is_partial: bool) -> bytes:
+    """An entry of the tables that tests/c/short_texts.c reads."""
+    answer = expected(parse(form, TYPES[name], text, is_partial), text, is_partial)
+    return struct.pack("=IIq", NUMBERS[answer.status], answer.place, answer.number)
+
+
 def answers_to_short_texts(form: Format) -> bytes:
     """The tables that tests/c/short_texts.c reads, for one format."""
     class_of, members = classes_under(form)
-    tables = [bytes(c_calls.c_format(form)), class_of, struct.pack("=I", len(members))]
-    for name, read in itertools.product((b"i8", b"u64"), (slow_reading.complete, slow_reading.partial)):
-        for length in range(4):
-            for text in map(bytes, itertools.product(members, repeat=length)):
-                answer = c_calls.expected(read(form, TYPES[name], text), text, read is slow_reading.partial)
-                tables.append(struct.pack("=IIq", c_calls.NUMBERS[answer.status], answer.place, answer.number))
+    tables = [bytes(c_format(form)), class_of, struct.pack("=I", len(members))]
+    for name, is_partial, length in itertools.product((b"i8", b"u64"), (False, True), range(4)):
+        texts = map(bytes, itertools.product(members, repeat=length))
+        tables += [short_answer(form, name, text, is_partial) for text in texts]
     return b"".join(tables)
 
 
 def short_texts(comparison: Comparison, library: str) -> None:
-    """All texts of up to three bytes under each of SHORT, by a program in C, since there are many."""
-    compiler = os.environ.get("CC", "cc")
+    """All texts of up to three bytes under each of SHORT, by a program in C: there are many."""
+    words = [os.environ.get("CC", "cc"), "-std=c99", "-O2", "-Wall", "-Wextra"]
+    source = os.path.join(TOP, "tests", "c", "short_texts.c")
     with tempfile.TemporaryDirectory() as folder:
         program = os.path.join(folder, "short_texts")
-        source = os.path.join(c_calls.TOP, "tests", "c", "short_texts.c")
-        subprocess.run([compiler, "-std=c99", "-O2", "-Wall", "-Wextra", f"-I{c_calls.TOP}/include", source, library,
-                        "-o", program], check=True)
+        words += [f"-I{TOP}/include", source, library, "-o", program]
+        subprocess.run(words, check=True)
         for form in SHORT:
-            done = subprocess.run([program], input=answers_to_short_texts(form), stdout=subprocess.PIPE)
+            tables = answers_to_short_texts(form)
+            done = subprocess.run([program], input=tables, stdout=subprocess.PIPE)
             said = done.stdout.decode().strip()
             print(f"fuzz_c: {said}", flush=True)
             if done.returncode != 0:
@@ -167,22 +180,24 @@ def short_texts(comparison: Comparison, library: str) -> None:
 
 def main() -> int:
     """The command line."""
-    parser = argparse.ArgumentParser()
+    parser = argparse.ArgumentParser(
+        description=__doc__, formatter_class=argparse.RawDescriptionHelpFormatter)
     parser.add_argument("--parses", type=int, default=1_000_000)
     parser.add_argument("--formats", type=int, default=100_000)
     parser.add_argument("--seed", type=int, default=random.SystemRandom().randrange(10 ** 9))
-    parser.add_argument("--lib", default=os.path.join(c_calls.TOP, "build", "libjadvolni.so"))
+    parser.add_argument("--lib", default=os.path.join(TOP, "build", "libjadvolni.so"))
     asked = parser.parse_args()
     print(f"fuzz_c: seed {asked.seed}", flush=True)
     comparison = Comparison(Library(os.path.abspath(asked.lib)))
-    print(f"fuzz_c: {c_calls.compare_rows(comparison.library)}", flush=True)
+    print(f"fuzz_c: {compare_rows(comparison.library)}", flush=True)
     chance = random.Random(asked.seed)
     random_parses(comparison, chance, asked.parses)
     random_formats(comparison, chance, asked.formats)
-    short_texts(comparison, os.path.join(os.path.dirname(os.path.abspath(asked.lib)), "libjadvolni.a"))
+    folder = os.path.dirname(os.path.abspath(asked.lib))
+    short_texts(comparison, os.path.join(folder, "libjadvolni.a"))
     print("".join(f"fuzz_c: {line}\n" for line in comparison.wrong), end="")
-    print(f"fuzz_c: {comparison.parses} parses, of which {comparison.values} gave a number, and {comparison.formats} "
-          f"formats: {len(comparison.wrong)} differ")
+    print(f"fuzz_c: {comparison.parses} parses, of which {comparison.values} gave a number, and "
+          f"{comparison.formats} formats: {len(comparison.wrong)} differ")
     return 1 if comparison.wrong else 0
 
 

@@ -1,16 +1,16 @@
-"""Lines at the edges of what a parser decides: each length with a bad byte at each place, each end of each type in each
-radix, and separators at each place under each choice of their flags."""
+"""Lines at the edges of what a parser decides: each length with a bad byte at each place, each end
+of each type in each radix, and separators at each place under each choice of their flags."""
 from __future__ import annotations
 
 import itertools
 from typing import Iterator, List, NamedTuple
 
 from fuzz_lines import CAPITALS, SMALL, as_numeral
-from fuzz_short import (BEHIND, CONSECUTIVE, INTERNAL, LEADING, LITERAL, NO_PLUS, NO_ZEROS, OCTAL, PREFIX, SEPARATOR,
-                        SUFFIX, TRAILING, runs_under)
-from slow_reading import TYPES
+from fuzz_short import (BEHIND, INTERNAL, CONSECUTIVE, LITERAL, NO_PLUS, NO_ZEROS, OCTAL, PREFIX,
+                        SEPARATOR, SUFFIX, choices_of_flags, runs_under)
+from slow_grammar import TYPES
 
-# longer than the digits that a type of 128 bits has in radix 10, and than any length that is read in a way of its own
+# longer than the digits of a type of 128 bits, and than any length that is read in a way of its own
 LONGEST = 43
 LONGEST_PARTED = 24
 ZEROS = (0, 1, 2, 4, 8, 16, 24)
@@ -18,7 +18,7 @@ NAMES = [name for name in TYPES if name not in (b"usize", b"isize")]
 
 
 class Setting(NamedTuple):
-    """The fields of a format, what stands in front of its digits and after them, and the radix of these."""
+    """The fields of a format, what stands before and behind its digits, and their radix."""
 
     fields: List[bytes]
     head: bytes = b""
@@ -29,11 +29,13 @@ class Setting(NamedTuple):
 LENGTHS = (
     Setting([]), Setting([NO_ZEROS, NO_PLUS]), Setting([b"mantissa_radix 16"], radix=16),
     Setting([b"mantissa_radix 8"], radix=8), Setting([b"mantissa_radix 36"], radix=36),
-    Setting([SEPARATOR, INTERNAL, SUFFIX], tail=b"h"), Setting([LITERAL, SEPARATOR, INTERNAL, CONSECUTIVE]),
+    Setting([SEPARATOR, INTERNAL, SUFFIX], tail=b"h"),
+    Setting([LITERAL, SEPARATOR, INTERNAL, CONSECUTIVE]),
     Setting([LITERAL, OCTAL], b"0x", radix=16), Setting([PREFIX, SUFFIX], b"0x", b"h"),
 )
 PARTED = (
-    Setting([]), Setting([], b"-"), Setting([PREFIX, SUFFIX], b"0x", b"h"), Setting([LITERAL, BEHIND], b"-0b", radix=2),
+    Setting([]), Setting([], b"-"), Setting([PREFIX, SUFFIX], b"0x", b"h"),
+    Setting([LITERAL, BEHIND], b"-0b", radix=2),
     Setting([NO_ZEROS, b"mantissa_radix 16", SUFFIX], radix=16),
 )
 
@@ -96,7 +98,7 @@ def of_ends(radix: int) -> Iterator[bytes]:
 # ---- separators
 
 def parted(digits: bytes) -> Iterator[bytes]:
-    """The digits with separators in their place: one at each place, two side by side, and two apart."""
+    """The digits with one separator or two in their place, side by side or apart."""
     for first in range(len(digits)):
         for second in range(first, len(digits)):
             text = bytearray(digits)
@@ -111,13 +113,6 @@ def of_parted(setting: Setting) -> Iterator[bytes]:
         for digits, name in zip(numerals(length, setting.radix), names):
             for text in parted(digits):
                 yield from parses(name, setting.head + text + setting.tail)
-
-
-def choices_of_flags() -> Iterator[List[bytes]]:
-    """Each choice of the places where separators may stand."""
-    flags = (INTERNAL, LEADING, TRAILING, CONSECUTIVE)
-    for length in range(len(flags) + 1):
-        yield from map(list, itertools.combinations(flags, length))
 
 
 # ---- all of them

@@ -5,7 +5,7 @@ import itertools
 from typing import Iterator, List
 
 ALPHABET = b"019_+-xha"
-# a type whose ends three digits reach, with a minus, and one without a minus and with words of eight
+# a type whose ends three digits reach, with a minus, and one with words of eight
 NAMES = (b"i8", b"u64")
 
 SEPARATOR = b"digit_separator _"
@@ -23,36 +23,43 @@ SIGN, NO_PLUS = b"required_mantissa_sign true", b"no_positive_mantissa_sign true
 LITERAL = b"literal_prefixes true"
 OCTAL = b"literal_octal_zero true"
 
+
+def choices_of_flags() -> Iterator[List[bytes]]:
+    """Each choice of the places where separators may stand."""
+    flags = (INTERNAL, LEADING, TRAILING, CONSECUTIVE)
+    for length in range(len(flags) + 1):
+        yield from (list(chosen) for chosen in itertools.combinations(flags, length))
+
+
 PLAIN = [[b"mantissa_radix %d" % radix] for radix in (10, 2, 8, 9, 16, 36)]
 AFFIXES = [
-    [PREFIX], [PREFIX, NO_ZEROS, OPTIONAL], [b"base_prefix X", PREFIX_CASE], [SUFFIX], [b"base_suffix H", SUFFIX_CASE],
-    [PREFIX, SUFFIX], [PREFIX, SUFFIX, OPTIONAL], [PREFIX, SUFFIX, b"mantissa_radix 16"],
+    [PREFIX], [PREFIX, NO_ZEROS, OPTIONAL], [b"base_prefix X", PREFIX_CASE], [SUFFIX],
+    [b"base_suffix H", SUFFIX_CASE], [PREFIX, SUFFIX], [PREFIX, SUFFIX, OPTIONAL],
+    [PREFIX, SUFFIX, b"mantissa_radix 16"],
 ]
 SIGNS_AND_ZEROS = [
-    [NO_ZEROS], [NO_ZEROS, SUFFIX], [NO_ZEROS, NO_PLUS, INTEGER], [SIGN], [SIGN, NO_PLUS], [OPTIONAL],
-    [OPTIONAL, SUFFIX],
+    [NO_ZEROS], [NO_ZEROS, SUFFIX], [NO_ZEROS, NO_PLUS, INTEGER], [SIGN], [SIGN, NO_PLUS],
+    [OPTIONAL], [OPTIONAL, SUFFIX],
 ]
-# each choice of the places where separators may stand
-RUNS = [
-    [SEPARATOR, *flags]
-    for length in range(5)
-    for flags in itertools.combinations((INTERNAL, LEADING, TRAILING, CONSECUTIVE), length)
-]
+RUNS = [[SEPARATOR, *flags] for flags in choices_of_flags()]
 MIXED = [
     [SEPARATOR, INTERNAL, LEADING, TRAILING, CONSECUTIVE, PREFIX, SUFFIX, NO_ZEROS],
     [SEPARATOR, LEADING, PREFIX, SUFFIX, OPTIONAL], [SEPARATOR, TRAILING, SUFFIX, NO_ZEROS],
-    [SEPARATOR, INTERNAL, PREFIX, OPTIONAL, NO_ZEROS], [SEPARATOR, INTERNAL, CONSECUTIVE, PREFIX, SUFFIX],
-    [b"digit_separator x", INTERNAL, LEADING, TRAILING, SUFFIX], [b"digit_separator a", INTERNAL, CONSECUTIVE, PREFIX],
+    [SEPARATOR, INTERNAL, PREFIX, OPTIONAL, NO_ZEROS],
+    [SEPARATOR, INTERNAL, CONSECUTIVE, PREFIX, SUFFIX],
+    [b"digit_separator x", INTERNAL, LEADING, TRAILING, SUFFIX],
+    [b"digit_separator a", INTERNAL, CONSECUTIVE, PREFIX],
 ]
 LITERALS = [
     [LITERAL], [LITERAL, NO_ZEROS], [LITERAL, PREFIX_CASE, OPTIONAL], [LITERAL, SUFFIX],
-    [LITERAL, SUFFIX, SEPARATOR, INTERNAL, LEADING, TRAILING, CONSECUTIVE, NO_ZEROS], [LITERAL, PREFIX],
+    [LITERAL, SUFFIX, SEPARATOR, INTERNAL, LEADING, TRAILING, CONSECUTIVE, NO_ZEROS],
+    [LITERAL, PREFIX],
 ]
 # separators behind a prefix, by their own flag
 BEHIND_PREFIX = [
     [PREFIX, SEPARATOR, BEHIND], [PREFIX, SEPARATOR, BEHIND, INTERNAL, SUFFIX, NO_ZEROS],
-    [PREFIX, SEPARATOR, BEHIND, TRAILING, CONSECUTIVE, OPTIONAL], [LITERAL, SEPARATOR, BEHIND, INTERNAL, SUFFIX],
-    [SEPARATOR, BEHIND, OPTIONAL],
+    [PREFIX, SEPARATOR, BEHIND, TRAILING, CONSECUTIVE, OPTIONAL],
+    [LITERAL, SEPARATOR, BEHIND, INTERNAL, SUFFIX], [SEPARATOR, BEHIND, OPTIONAL],
 ]
 # a zero in front that makes a numeral octal
 OCTALS = [

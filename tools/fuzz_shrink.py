@@ -1,9 +1,9 @@
 """The smallest lines at which a difference stays."""
 from __future__ import annotations
 
-from typing import Callable, List, Sequence, TypeVar
+from typing import Callable, List, TypeVar
 
-Items = TypeVar("Items", bound=Sequence)
+Items = TypeVar("Items", bytes, List[bytes])
 Stays = Callable[[List[bytes]], bool]
 
 
@@ -31,7 +31,8 @@ def fewest(items: Items, stays: Callable[[Items], bool]) -> Items:
 def plainest(line: bytes, stays: Callable[[bytes], bool]) -> bytes:
     """The line with `0` or `1` for each byte that the difference doesn't need to be another."""
     for place, byte in enumerate(line):
-        plain = (line[:place] + other + line[place + 1:] for other in (b"0", b"1") if other[0] < byte)
+        others = [other for other in (b"0", b"1") if other[0] < byte]
+        plain = (line[:place] + other + line[place + 1:] for other in others)
         line = next(filter(stays, plain), line)
     return line
 

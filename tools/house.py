@@ -3,42 +3,49 @@
 
     python3 tools/house.py          exit status 1 where something is found
 
-- A clause (`requires`, `ensures`, an invariant, a ghost member or law) and a definition have at most 100 columns.
-  Imports, comments and proofs may be wider.
+- A clause (`requires`, `ensures`, an invariant, a ghost member or law) and a definition have at
+  most 100 columns. Imports, comments and proofs may be wider.
 - A file of source, definitions, proofs or tools has at most 800 lines.
-- A folder has at most 40 files. A `must-fail` folder has as many as there are edits, since edits can't stand deeper.
+- A folder has at most 40 files. A `must-fail` folder has as many as there are edits, since edits
+  can't stand deeper.
 
 It reads all but the folders that runs make. Needs Python 3.8 and nothing else.
 """
+from __future__ import annotations
+
 import collections
 import os
 import re
 import sys
+from typing import Iterable, Iterator, List, Tuple
 
 TOP = os.path.dirname(os.path.dirname(os.path.abspath(__file__)))
 COLUMNS, LINES, FILES = 100, 800, 40
 # The folders that no clone has.
-MADE = (".git", "out", "target", "__pycache__")
+MADE = (".git", ".mypy_cache", "__pycache__", "build", "out", "target")
 CLAUSE = re.compile(r"\s*(?:(?:requires|ensures|invariant|decreases)\b|ghost \w+\s*[:=])")
 COMMENT = re.compile(r"\s*(?:--|//)")
 IMPORT = re.compile(r"\s*(?:ghost )?(?:pub )?use ")
 
+Numbered = Tuple[int, str]
 
-def all_files():
+
+def all_files() -> List[str]:
     """The files of the repository, from its top."""
     found = []
     for at, folders, files in os.walk(TOP):
-        folders[:] = [it for it in folders if it not in MADE]
-        found += [os.path.relpath(os.path.join(at, it), TOP) for it in files if it not in MADE]
+        folders[:] = [name for name in folders if name not in MADE]
+        found += [os.path.relpath(os.path.join(at, name), TOP) for name in files]
     return sorted(found)
 
 
-def lines_of(name):
+def lines_of(name: str) -> List[str]:
+    """The lines of a file."""
     with open(os.path.join(TOP, name), encoding="utf-8") as file:
-        return file.read().split("\n")
+        return file.read().splitlines()
 
 
-def clause_lines(lines):
+def clause_lines(lines: List[str]) -> Iterator[Numbered]:
     """The numbered lines of the clauses and ghost members of a source file."""
     depth = 0
     for number, line in enumerate(lines, 1):
@@ -49,51 +56,49 @@ def clause_lines(lines):
         depth = max(0, depth + code.count("{") - code.count("}"))
 
 
-def definition_lines(lines):
-    """The numbered lines of a file of definitions that are neither imports nor comments."""
-    for number, line in enumerate(lines, 1):
-        if not IMPORT.match(line) and not COMMENT.match(line):
-            yield number, line
+def measured_lines(name: str) -> Iterable[Numbered]:
+    """The numbered lines of a file's clauses or definitions, with its imports."""
+    if name.endswith(".rt"):
+        return clause_lines(lines_of(name))
+    if not name.endswith(".antt") or "/specs/" not in name:
+        return ()
+    return [numbered for numbered in enumerate(lines_of(name), 1) if not COMMENT.match(numbered[1])]
 
 
-def wide_lines(names):
+def wide_lines(names: List[str]) -> Iterator[str]:
+    """The lines that are too wide."""
     for name in names:
-        if name.endswith(".rt"):
-            numbered = clause_lines(lines_of(name))
-        elif name.endswith(".antt") and "/specs/" in name:
-            numbered = definition_lines(lines_of(name))
-        else:
-            continue
-        for number, line in numbered:
+        for number, line in measured_lines(name):
             if len(line) > COLUMNS and not IMPORT.match(line):
                 yield f"{name}:{number}: {len(line)} columns, and {COLUMNS} are the most"
 
 
-def long_files(names):
+def long_files(names: List[str]) -> Iterator[str]:
+    """The files that are too long."""
     for name in names:
         if name.endswith((".rt", ".antt", ".py", ".sh")):
-            count = len(lines_of(name)) - 1
+            count = len(lines_of(name))
             if count > LINES:
                 yield f"{name}: {count} lines, and {LINES} are the most"
 
 
-def full_folders(names):
+def full_folders(names: List[str]) -> Iterator[str]:
+    """The folders that have too many files."""
     counts = collections.Counter(os.path.dirname(name) for name in names)
     for folder, count in sorted(counts.items()):
         if count > FILES and os.path.basename(folder) != "must-fail":
             yield f"{folder or '.'}: {count} files, and {FILES} are the most"
 
 
-def main():
+def main() -> int:
+    """Prints what is found, and answers the exit status."""
     names = all_files()
-    found = [line for part in (wide_lines, long_files, full_folders) for line in part(names)]
-    for line in found:
-        print(line)
-    clauses = sum(1 for name in names if name.endswith(".rt") for _, line in clause_lines(lines_of(name))
-                  if CLAUSE.match(line))
-    if not found:
-        print(f"{clauses} clauses and ghost members within {COLUMNS} columns, no file above {LINES} lines, "
-              f"no folder above {FILES} files")
+    found = [*wide_lines(names), *long_files(names), *full_folders(names)]
+    clauses = sum(bool(CLAUSE.match(line)) for name in names if name.endswith(".rt")
+                  for _, line in clause_lines(lines_of(name)))
+    print("\n".join(found) or (
+        f"{clauses} clauses and ghost members within {COLUMNS} columns, no file above {LINES} "
+        f"lines, no folder above {FILES} files"))
     return 1 if found else 0
 
 

@@ -1,0 +1,239 @@
+"""Reads the worked rows of tools/rows.txt and tools/languages.txt: each says how its rows look."""
+from __future__ import annotations
+
+import os
+import re
+import sys
+from dataclasses import dataclass, field
+from typing import List, NamedTuple, Optional, Tuple, Union
+
+TOP = os.path.dirname(os.path.dirname(os.path.abspath(__file__)))
+DATA = os.path.join(TOP, "tools", "rows.txt")
+LANGUAGES = os.path.join(TOP, "tools", "languages.txt")
+
+FLAGS = {
+    "internal": "integer_internal_digit_separator",
+    "leading": "integer_leading_digit_separator",
+    "trailing": "integer_trailing_digit_separator",
+    "consecutive": "integer_consecutive_digit_separator",
+    "prefix-case": "case_sensitive_base_prefix",
+    "suffix-case": "case_sensitive_base_suffix",
+    "integer-digits": "required_integer_digits",
+    "no-plus": "no_positive_mantissa_sign",
+    "sign-required": "required_mantissa_sign",
+    "no-leading-zeros": "no_integer_leading_zeros",
+    "behind-prefix": "integer_prefix_digit_separator",
+    "literal-prefixes": "literal_prefixes",
+    "octal-zero": "literal_octal_zero",
+}
+BYTES = {"separator": "digit_separator", "prefix": "base_prefix", "suffix": "base_suffix"}
+HEADING = re.compile(r"(={2,3}) (\w+): (.+)")
+# what a line of tools/languages.txt tells a user, before the rows of its language
+TOLD = re.compile(r"(reference|rule|more|less|otherwise) \| (.+)")
+TYPES = {sign + str(bits): (bits, sign == "i") for sign in "ui" for bits in (8, 16, 32, 64, 128)}
+TYPES.update(usize=(64, False), isize=(64, True))
+OF_TEXTS = [
+    "Overflow", "Underflow", "InvalidDigit", "Empty", "MissingSign", "InvalidPositiveSign",
+    "InvalidLeadingZeros",
+]
+OF_FORMATS = [
+    "InvalidMantissaRadix", "InvalidDigitSeparator", "InvalidBasePrefix", "InvalidBaseSuffix",
+    "InvalidPunctuation", "InvalidLiteralPrefixes",
+]
+
+# the setters of a format, each with its number, byte or truth value
+Fields = Tuple[Tuple[str, int], ...]
+# a ready format by its name, or the fields over the standard one
+Format = Union[str, Fields]
+
+
+class Bad(Exception):
+    """A line of the data that can't be read."""
+
+
+class Answer(NamedTuple):
+    """`Ok`, `valid` or a fault's name, and its numbers."""
+
+    name: str
+    numbers: Tuple[int, ...]
+
+
+class Row(NamedTuple):
+    """A parse by 'complete' or 'partial', or a 'format', which has no type and no text."""
+
+    parser: str
+    format: Format
+    type: str
+    text: bytes
+    answer: Answer
+    remark: str = ""
+    is_long: bool = False
+
+    def question(self) -> Tuple[str, Format, str, bytes]:
+        """The row without its answer, with its fields in one order."""
+        if isinstance(self.format, str):
+            return self.parser, self.format, self.type, self.text
+        return self.parser, tuple(sorted(self.format)), self.type, self.text
+
+
+@dataclass
+class Group:
+    """Rows that show one thing; of a language its fields, and what a user is told of it."""
+
+    name: str
+    shows: str
+    fields: Optional[Fields] = None
+    rows: List[Row] = field(default_factory=list)
+    told: List[Tuple[str, str]] = field(default_factory=list)
+
+
+@dataclass
+class File:
+    """Groups on one subject, and the name of the file of data that has them."""
+
+    name: str
+    shows: str
+    data: str
+    groups: List[Group] = field(default_factory=list)
+
+
+# ---- reading the data
+
+def read_field(word: str) -> Tuple[str, int]:
+    """A field, as the setter's name and its value."""
+    key, _, value = word.partition("=")
+    if word == "digits-optional":
+        return "required_mantissa_digits", False
+    if word in FLAGS:
+        return FLAGS[word], True
+    if key == "radix" and value.isdigit():
+        return "mantissa_radix", int(value)
+    if key in BYTES and re.fullmatch(r"0x[0-9a-f]{2}", value):
+        return BYTES[key], int(value, 16)
+    if key in BYTES and len(value) == 1:
+        return BYTES[key], ord(value)
+    raise Bad(f"no such field: {word}")
+
+
+def read_fields(column: str) -> Fields:
+    """The fields over the standard format."""
+    return () if column == "standard" else tuple(map(read_field, column.split()))
+
+
+def read_text(column: str) -> bytes:
+    """The bytes of a text: one or more quoted pieces, each repeated where *N follows it."""
+    piece = r'"((?:[^"\\]|\\.)*)"(?:\*(\d+))?'
+    if not re.fullmatch(rf"{piece}(?: {piece})*", column):
+        raise Bad(f"no text: {column}")
+    pieces = re.findall(piece, column)
+    return b"".join(unescaped(quoted) * int(times or 1) for quoted, times in pieces)
+
+
+def unescaped(quoted: str) -> bytes:
+    """The bytes of what stands between quotes."""
+    return re.sub(r"\\(x[0-9a-f]{2}|.)", unescape, quoted).encode("latin-1")
+
+
+def unescape(escape: re.Match[str]) -> str:
+    """The character of an escape."""
+    what = escape[1]
+    known = {'"': '"', "\\": "\\", "0": "\0", "t": "\t", "r": "\r"}
+    if what not in known and len(what) == 1:
+        raise Bad(f"no escape: \\{what}")
+    return known[what] if what in known else chr(int(what[1:], 16))
+
+
+def read_answer(column: str, parser: str) -> Answer:
+    """An answer of a parser or of a format."""
+    found = re.fullmatch(r"(\w+)(?:\((-?\d+)(?:, (\d+))?\))?", column)
+    if not found:
+        raise Bad(f"no answer: {column}")
+    numbers = tuple(int(number) for number in found.groups()[1:] if number is not None)
+    wanted = dict.fromkeys(OF_FORMATS, 0)
+    if parser == "format":
+        wanted["valid"] = 0
+    else:
+        wanted.update(dict.fromkeys(OF_TEXTS, 1), Ok=2 if parser == "partial" else 1)
+    if wanted.get(found[1]) != len(numbers):
+        raise Bad(f"no answer of {parser}: {column}")
+    return Answer(found[1], numbers)
+
+
+def read_row(line: str, language: str = "json") -> Row:
+    """One row, which may name the format of JSON or of a language."""
+    line, _, remark = line.partition(" # ")
+    columns = [column.strip() for column in line.split(" | ")]
+    is_long = columns[-1] == "long"
+    if len(columns) < 3 + is_long:
+        raise Bad("no row")
+    parser, named, *asked, told = columns[:-1] if is_long else columns
+    form: Format = named
+    if named not in ("json", language):
+        form = read_fields(named)
+    answer = read_answer(told, parser)
+    if parser == "format" and not asked:
+        return Row(parser, form, "", b"", answer, remark.strip(), is_long)
+    if parser in ("complete", "partial") and len(asked) == 2 and asked[0] in TYPES:
+        return Row(parser, form, asked[0], read_text(asked[1]), answer, remark.strip(), is_long)
+    raise Bad("no row")
+
+
+class Reader:
+    """Reads a file of data, line by line."""
+
+    def __init__(self, data: str) -> None:
+        """DATA: the file's name."""
+        self.data = data
+        self.files: List[File] = []
+        self.names: set[str] = set()
+        self.answers: dict[object, Answer] = {}
+
+    def line(self, line: str) -> None:
+        """Puts a file or a group behind the others, or what a line says into the last group."""
+        heading = HEADING.fullmatch(line)
+        if heading and heading[1] == "===":
+            self.files.append(File(heading[2], heading[3], self.data))
+        elif heading and heading[2] in self.names:
+            raise Bad("a second group of that name")
+        elif heading:
+            self.names.add(heading[2])
+            self.files[-1].groups.append(Group(heading[2], heading[3]))
+        elif line.strip() and not line.startswith("#"):
+            self.entry(line, self.files[-1].groups[-1])
+
+    def entry(self, line: str, group: Group) -> None:
+        """What a user is told of a language, its fields, or a row."""
+        told = TOLD.fullmatch(line)
+        if told:
+            group.told.append((told[1], told[2]))
+        elif line.startswith(f"fields | {group.name} | "):
+            group.fields = read_fields(line.split(" | ")[2])
+        else:
+            row = read_row(line, group.name)
+            if self.answers.setdefault(row.question(), row.answer) != row.answer:
+                raise Bad("the same question has another answer above")
+            group.rows.append(row)
+
+
+def read_data(path: str) -> List[File]:
+    """The files of tools/rows.txt or tools/languages.txt. It ends the program at a bad line."""
+    reader = Reader(os.path.basename(path))
+    with open(path, encoding="utf-8") as data:
+        for number, line in enumerate(data, 1):
+            try:
+                reader.line(line.rstrip("\n"))
+            except Bad as bad:
+                sys.exit(f"tools/{reader.data}:{number}: {bad}: {line.rstrip()}")
+    return reader.files
+
+
+def groups_of(*paths: str) -> List[Group]:
+    """The groups of files of data."""
+    return [group for path in paths for file in read_data(path) for group in file.groups]
+
+
+def escaped(text: bytes) -> str:
+    """A text between quotes, with the escapes that Rust and the prover's language share."""
+    known = {0: "\\0", 9: "\\t", 10: "\\n", 13: "\\r", 34: '\\"', 92: "\\\\"}
+    return "".join(known.get(byte) or (chr(byte) if 32 <= byte < 127 else f"\\x{byte:02x}")
+                   for byte in text)
