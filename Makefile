@@ -36,8 +36,9 @@ test: | toolchain ## the gate: proves everything from nothing, has every must-fa
 devices: $(PROGRAM) ## runs the program over devices that refuse; a part of the gate
 	@RT=$(RT) tools/devices.py $(PROGRAM)
 
-answers: $(PROGRAM) ## has the program answer every worked row; a part of the gate
+answers: $(PROGRAM) ## has the program answer every worked row and every stored input; a part of the gate
 	@tools/run_rows.py $(PROGRAM)
+	@tools/run_lines.py $(PROGRAM)
 
 install: install-lexint install-lib ## puts the program and the library where users look: PREFIX, DESTDIR
 

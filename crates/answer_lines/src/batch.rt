@@ -146,7 +146,7 @@ pub fn put<W: Write>(bytes: &[u8], batch: &mut Batch, out: &mut W) -> Result<(),
     put_after_sending(bytes, batch, out)
 }
 
-// The same where the bytes do not fit. It stays out of line, so that a few bytes that fit are added in place.
+// Where the bytes do not fit. It stays out of line, so that a few bytes that fit are added in place.
 #[inline(never)]
 fn put_after_sending<W: Write>(bytes: &[u8], batch: &mut Batch, out: &mut W) -> Result<(), RunError>
     ensures ok { OnOk result (Gathers (W.contents out.old) batch.old (W.contents out.new) batch.new
@@ -190,7 +190,7 @@ pub fn put_decimal<W: Write>(number: u128, batch: &mut Batch, out: &mut W) -> Re
     Ok(())
 }
 
-// The same for a number that takes more than 64 bits, or where the batch may have no room.
+// For a number that takes more than 64 bits, or where the batch may have no room.
 #[inline(never)]
 fn put_long<W: Write>(number: u128, batch: &mut Batch, out: &mut W) -> Result<(), RunError>
     ensures ok { OnOk result (Gathers (W.contents out.old) batch.old (W.contents out.new) batch.new

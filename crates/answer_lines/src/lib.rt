@@ -14,8 +14,6 @@ mod number;
 mod parse;
 mod program;
 mod settings;
-#[cfg(test)]
-mod tests;
 
 /// The tokens of a source, as the library has them.
 pub mod literals {
