@@ -3,7 +3,7 @@
 RT ?= rt
 PREFIX ?= /usr/local
 PROGRAM := crates/lexint/out/lexint
-PROGRAM_CRATES := lexint $(shell sed -n 's/^lexint: *//p' crates.txt)
+PROGRAM_CRATES := lexint answer_lines $(shell sed -n 's/^answer_lines: *//p' crates.txt)
 SOURCES := $(shell find $(addprefix crates/,$(PROGRAM_CRATES)) -name out -prune -o -type f \( -name '*.rt' -o -name '*.antt' \) -print) crates.txt
 
 .PHONY: help toolchain run check test devices answers lexint install uninstall install-lexint uninstall-lexint rows docs
@@ -36,8 +36,9 @@ test: | toolchain ## the gate: proves everything from nothing, has every must-fa
 devices: $(PROGRAM) ## runs the program over devices that refuse; a part of the gate
 	@tools/devices.py $(PROGRAM)
 
-answers: $(PROGRAM) ## has the program answer every worked row; a part of the gate
+answers: $(PROGRAM) ## has the program answer every worked row and every stored input; a part of the gate
 	@tools/run_rows.py $(PROGRAM)
+	@tools/run_lines.py $(PROGRAM)
 
 install: install-lexint install-lib ## puts the program and the library where users look: PREFIX, DESTDIR
 

@@ -74,6 +74,7 @@ part house python3 tools/house.py
 part proofs proofs 3>&1
 part devices python3 tools/devices.py
 part answers python3 tools/run_rows.py
+part lines python3 tools/run_lines.py
 part shells tools/shell_snippet.sh crates/lexint/out/lexint
 part libraries libraries
 part programs python3 "$copy/tools/must_not_compile.py"

@@ -1,29 +1,7 @@
 //! Reads all of standard input, and writes an answer line for each line of it.
 #![tactic(auto)]
 
-mod answer;
-mod batch;
-mod buffer;
-mod command;
-mod decimal;
-mod fault;
-mod field;
-mod laws;
-mod lines;
-mod number;
-mod parse;
-mod program;
-mod settings;
-#[cfg(test)]
-mod tests;
-
-/// The tokens of a source, as the library has them.
-pub mod literals {
-    pub use lexical_literals::{Kind, Token, Tokens, literal_format};
-}
-
-pub use fault::RunError;
-pub use program::{run, run_from};
+pub use answer_lines::{RunError, literals, run, run_from};
 use std::io::IsTerminal;
 use std::process::ExitCode;
 

@@ -1,6 +1,7 @@
 // A module for each library that is called.
 
 mod fields;
+mod lines;
 mod literals;
 mod parser;
 mod readers;

@@ -1,0 +1,25 @@
+//! The answer lines to the lines of an input, as the program `lexint` writes them.
+#![tactic(auto)]
+
+mod answer;
+pub mod batch;
+mod buffer;
+mod command;
+mod decimal;
+mod fault;
+mod field;
+mod laws;
+mod lines;
+mod number;
+mod parse;
+mod program;
+mod settings;
+
+/// The tokens of a source, as the library has them.
+pub mod literals {
+    pub use lexical_literals::{Kind, Token, Tokens, literal_format};
+}
+
+pub use buffer::Buffer;
+pub use fault::RunError;
+pub use program::{output_in_memory, run, run_from, run_with};

@@ -1,0 +1,98 @@
+//! What the lines so far have set.
+
+ghost use Rattle.std.specs.Prelude.{◌≡◌};
+ghost use Rattle.answer_lines.specs.Change.{with_change, with_flag, with_mark};
+ghost use Rattle.answer_lines.specs.Settings.{standard_settings};
+
+use crate::field::{Change, Flag, Mark};
+use lexical_parse_integer::{NumberFormat, NumberFormatBuilder, Options};
+use std::marker::Model;
+
+/// The format that texts are parsed by, and the options.
+#[derive(Drop)]
+pub struct Settings {
+    format: NumberFormatBuilder,
+    options: Options,
+}
+
+impl Model for Settings {
+    ghost use Rattle.answer_lines.specs.Settings.{Settings};
+
+    ghost Value = { Settings };
+
+    ghost view = { λ s. record { format = s.format; no_multi_digit = s.options.no_multi_digit } };
+}
+
+impl Settings {
+    /// The standard format and the standard options.
+    pub fn standard() -> Settings
+        ensures { result ≡ standard_settings }
+    {
+        Settings {
+            format: NumberFormatBuilder::new(),
+            options: Options::new(),
+        }
+    }
+
+    /// The format, which may be invalid.
+    pub fn format(&self) -> NumberFormat
+        ensures { result ≡ self.now.format }
+    {
+        self.format.build_unchecked()
+    }
+
+    /// The options.
+    pub fn options(&self) -> &Options
+        ensures { result.now.no_multi_digit ≡ self.now.no_multi_digit }
+    {
+        &self.options
+    }
+
+    /// Sets a field to its new value, and changes no other. No value is refused: the format may
+    /// become invalid.
+    pub fn apply(&mut self, change: Change)
+        ensures { self.new ≡ with_change change self.old }
+    {
+        let format = self.format;
+        match change {
+            Change::MantissaRadix(value) => self.format = format.mantissa_radix(value),
+            Change::Mark(mark, value) => self.format = with_mark(mark, value, format),
+            Change::Flag(flag, value) => self.format = with_flag(flag, value, format),
+            Change::RequiredDigits(value) => self.format = format.required_digits(value),
+            Change::NoMultiDigit(value) => self.options.set_no_multi_digit(value),
+        }
+    }
+}
+
+// The format with one of its bytes set.
+fn with_mark(mark: Mark, value: Option<u8>, format: NumberFormatBuilder) -> NumberFormatBuilder
+    ensures { result ≡ with_mark mark value format }
+{
+    match mark {
+        Mark::DigitSeparator => format.digit_separator(value),
+        Mark::BasePrefix => format.base_prefix(value),
+        Mark::BaseSuffix => format.base_suffix(value),
+    }
+}
+
+// The format with one of its flags set.
+fn with_flag(flag: Flag, value: bool, format: NumberFormatBuilder) -> NumberFormatBuilder
+    ensures { result ≡ with_flag flag value format }
+{
+    match flag {
+        Flag::CaseSensitiveBasePrefix => format.case_sensitive_base_prefix(value),
+        Flag::CaseSensitiveBaseSuffix => format.case_sensitive_base_suffix(value),
+        Flag::RequiredIntegerDigits => format.required_integer_digits(value),
+        Flag::RequiredMantissaDigits => format.required_mantissa_digits(value),
+        Flag::NoPositiveMantissaSign => format.no_positive_mantissa_sign(value),
+        Flag::RequiredMantissaSign => format.required_mantissa_sign(value),
+        Flag::NoIntegerLeadingZeros => format.no_integer_leading_zeros(value),
+        Flag::IntegerLeadingDigitSeparator => format.integer_leading_digit_separator(value),
+        Flag::IntegerInternalDigitSeparator => format.integer_internal_digit_separator(value),
+        Flag::IntegerTrailingDigitSeparator => format.integer_trailing_digit_separator(value),
+        Flag::IntegerConsecutiveDigitSeparator => format.integer_consecutive_digit_separator(value),
+        Flag::IntegerPrefixDigitSeparator => format.integer_prefix_digit_separator(value),
+        Flag::LiteralPrefixes => format.literal_prefixes(value),
+        Flag::LiteralOctalZero => format.literal_octal_zero(value),
+    }
+}

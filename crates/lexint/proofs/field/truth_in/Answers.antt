@@ -1,6 +1,0 @@
-use Rattle.std.proofs.Common.{arith}
-use Rattle.std.proofs.lemmas.Grind.{common_steps}
-use Rattle.lexint.proofs.field.truth_in.Goals as goal
-
-pub returns-in-false : goal.returns-in-false
-returns-in-false c = grind (arith, common_steps)

@@ -1,6 +1,0 @@
-use Rattle.lexint.proofs.Sending.{Takes}
-use Rattle.lexint.proofs.program.read_all.Given as goal
-
--- what the reader lost is what the bytes gained
-abbrev pub invariant-loop : goal.invariant-loop
-invariant-loop g l = Takes (g.R.Read.remaining l.initial.input) (g.R.Read.remaining l.input) (g.B.Buffer.contents l.initial.bytes) (g.B.Buffer.contents l.bytes)
