@@ -12,15 +12,9 @@ to know of the language stands between; tools/formats_page.py makes docs/FORMATS
 
 Each row becomes a theorem, `complete FORMAT TYPE TEXT ≡ ANSWER`, or so of `partial` or `fault`,
 with the proof `refl`; a line of fields becomes `LANGUAGE ≡ FORMAT`. The check computes the
-definitions on that text, so it refuses a row and a definition that disagree. A line of fields
-becomes a test too. tools/run_rows.py has the built program answer the rows. The files are, below
-crates/rows,
-
-    proofs/rows/FILE.antt     the theorems, and proofs/rows.antt, which declares these files
-    src/tests/languages.rt    the tests of the ready formats
-
-`rt fmt` lays the tests out behind this, so they are compared but for white space and trailing
-commas. Needs Python 3.8 and nothing else.
+definitions on that text, so it refuses a row and a definition that disagree. tools/run_rows.py
+has the built program answer the rows. The files are crates/rows/proofs/rows/FILE.antt, and
+proofs/rows.antt, which declares them. Needs Python 3.8 and nothing else.
 """
 from __future__ import annotations
 
@@ -170,39 +164,6 @@ def theorems(file: File) -> str:
     return f"{head}{imports}\n{body}"
 
 
-# ---- tests
-
-def rust_value(name: str, value: int) -> str:
-    """The value of a field."""
-    if isinstance(value, bool):
-        return str(value).lower()
-    if name == "mantissa_radix":
-        return str(value)
-    is_plain = 32 < value < 127 and chr(value) not in "'\\"
-    return f"Some(b'{chr(value)}')" if is_plain else f"Some(0x{value:02x})"
-
-
-def test_of_formats(file: File) -> str:
-    """The test of the ready formats of a file, none where it has none."""
-    code = ""
-    for group in file.groups:
-        if group.fields is not None:
-            setters = "".join(f".{name}({rust_value(name, value)})" for name, value in group.fields)
-            builder = f"NumberFormatBuilder::new(){setters}"
-            code += f"is_built_by(&rt, languages::{group.name}(), {builder});\n"
-    shows = file.shows[0].upper() + file.shows[1:]
-    head = f"// {shows}.\n#[test]\nfn {file.name}(rt: HostRuntime) "
-    return f"{head}{{\n{code}}}\n" if code else ""
-
-
-def tests(files: List[File]) -> str:
-    """The tests of the ready formats."""
-    head = (f"// The fields of the ready formats.\n// {WRITTEN.format('languages.txt')}\n"
-            "use super::is_built_by;\nuse lexical_parse_integer::NumberFormatBuilder;\n"
-            "use lexical_parse_integer::format::languages;\n")
-    return "\n".join([head, *filter(None, map(test_of_formats, files))])
-
-
 # ---- the files
 
 def all_files(files: List[File]) -> dict[str, str]:
@@ -212,14 +173,9 @@ def all_files(files: List[File]) -> dict[str, str]:
     written = WRITTEN.format("rows.txt and tools/languages.txt")
     head = f"-- Worked rows, a file for each subject.\n-- {written}\n"
     return {
-        "proofs/rows.antt": head + declared, "src/tests/languages.rt": tests(files),
+        "proofs/rows.antt": head + declared,
         **{f"proofs/rows/{file.name.capitalize()}.antt": theorems(file) for file in files},
     }
-
-
-def without_layout(text: str) -> List[str]:
-    """Its quoted pieces, and all else but white space and trailing commas."""
-    return re.findall(r'"(?:[^"\\]|\\.)*"|,(?!\s*[\])}])|[^\s,]', text)
 
 
 def is_as_written(path: str, text: str) -> bool:
@@ -227,8 +183,7 @@ def is_as_written(path: str, text: str) -> bool:
     if not os.path.isfile(path):
         return False
     with open(path, encoding="utf-8") as file:
-        there = file.read()
-    return there == text or path.endswith(".rt") and without_layout(there) == without_layout(text)
+        return file.read() == text
 
 
 def main() -> None:

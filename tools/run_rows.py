@@ -74,7 +74,7 @@ def wrong_answers(program: str, rows: List[Row], ready: Dict[str, Fields]) -> Li
     answers = answers_of(program, [line for _, line, _ in asked])
     if len(answers) != len(asked):
         return [f"{program}: {len(answers)} answers to {len(asked)} lines"]
-    return [f"{program}: {row.question()}: {line!r}: {answer!r}, and not {told!r}"
+    return [f"{program}: {row.format}: {line[:80]!r}: {answer!r}, and not {told!r}"
             for (row, line, told), answer in zip(asked, answers) if answer != told]
 
 

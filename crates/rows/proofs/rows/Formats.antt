@@ -233,6 +233,116 @@ broken_octal_zeros_14 = refl
 broken_octal_zeros_15 : fault (record standard { literal_octal_zero = true; mantissa_radix = 16; base_suffix = Some 102 }) ≡ Some InvalidBaseSuffix
 broken_octal_zeros_15 = refl
 
+-- ---- each of these bytes is no separator, no prefix and no suffix
+
+unfit_bytes_1 : fault (record standard { digit_separator = Some 48 }) ≡ Some InvalidDigitSeparator
+unfit_bytes_1 = refl
+
+unfit_bytes_2 : fault (record standard { digit_separator = Some 57 }) ≡ Some InvalidDigitSeparator
+unfit_bytes_2 = refl
+
+unfit_bytes_3 : fault (record standard { mantissa_radix = 16; digit_separator = Some 102 }) ≡ Some InvalidDigitSeparator
+unfit_bytes_3 = refl
+
+unfit_bytes_4 : fault (record standard { base_prefix = Some 53 }) ≡ Some InvalidBasePrefix
+unfit_bytes_4 = refl
+
+unfit_bytes_5 : fault (record standard { base_prefix = Some 43 }) ≡ Some InvalidBasePrefix
+unfit_bytes_5 = refl
+
+unfit_bytes_6 : fault (record standard { base_prefix = Some 45 }) ≡ Some InvalidBasePrefix
+unfit_bytes_6 = refl
+
+unfit_bytes_7 : fault (record standard { base_prefix = Some 128 }) ≡ Some InvalidBasePrefix
+unfit_bytes_7 = refl
+
+unfit_bytes_8 : fault (record standard { mantissa_radix = 16; base_prefix = Some 97 }) ≡ Some InvalidBasePrefix
+unfit_bytes_8 = refl
+
+unfit_bytes_9 : fault (record standard { mantissa_radix = 16; base_prefix = Some 70 }) ≡ Some InvalidBasePrefix
+unfit_bytes_9 = refl
+
+unfit_bytes_10 : fault (record standard { mantissa_radix = 16; base_prefix = Some 102 }) ≡ Some InvalidBasePrefix
+unfit_bytes_10 = refl
+
+unfit_bytes_11 : fault (record standard { base_suffix = Some 48 }) ≡ Some InvalidBaseSuffix
+unfit_bytes_11 = refl
+
+unfit_bytes_12 : fault (record standard { base_suffix = Some 53 }) ≡ Some InvalidBaseSuffix
+unfit_bytes_12 = refl
+
+unfit_bytes_13 : fault (record standard { base_suffix = Some 43 }) ≡ Some InvalidBaseSuffix
+unfit_bytes_13 = refl
+
+unfit_bytes_14 : fault (record standard { base_suffix = Some 45 }) ≡ Some InvalidBaseSuffix
+unfit_bytes_14 = refl
+
+unfit_bytes_15 : fault (record standard { base_suffix = Some 128 }) ≡ Some InvalidBaseSuffix
+unfit_bytes_15 = refl
+
+unfit_bytes_16 : fault (record standard { mantissa_radix = 16; base_suffix = Some 97 }) ≡ Some InvalidBaseSuffix
+unfit_bytes_16 = refl
+
+unfit_bytes_17 : fault (record standard { mantissa_radix = 16; base_suffix = Some 70 }) ≡ Some InvalidBaseSuffix
+unfit_bytes_17 = refl
+
+unfit_bytes_18 : fault (record standard { mantissa_radix = 16; base_suffix = Some 102 }) ≡ Some InvalidBaseSuffix
+unfit_bytes_18 = refl
+
+-- no digit of radix 10
+unfit_bytes_19 : fault (record standard { digit_separator = Some 97 }) ≡ None
+unfit_bytes_19 = refl
+
+unfit_bytes_20 : fault (record standard { digit_separator = Some 70 }) ≡ None
+unfit_bytes_20 = refl
+
+unfit_bytes_21 : fault (record standard { digit_separator = Some 102 }) ≡ None
+unfit_bytes_21 = refl
+
+-- ---- of two broken rules the first is the fault
+
+further_broken_rules_1 : fault (record standard { mantissa_radix = 128 }) ≡ Some InvalidMantissaRadix
+further_broken_rules_1 = refl
+
+further_broken_rules_2 : fault (record standard { mantissa_radix = 255 }) ≡ Some InvalidMantissaRadix
+further_broken_rules_2 = refl
+
+further_broken_rules_3 : fault (record standard { base_prefix = Some 0; base_suffix = Some 0 }) ≡ Some InvalidPunctuation
+further_broken_rules_3 = refl
+
+further_broken_rules_4 : fault (record standard { digit_separator = Some 43; base_prefix = Some 43 }) ≡ Some InvalidDigitSeparator
+further_broken_rules_4 = refl
+
+further_broken_rules_5 : fault (record standard { base_prefix = Some 45; base_suffix = Some 45 }) ≡ Some InvalidBasePrefix
+further_broken_rules_5 = refl
+
+further_broken_rules_6 : fault (record standard { literal_prefixes = true; digit_separator = Some 66 }) ≡ Some InvalidLiteralPrefixes
+further_broken_rules_6 = refl
+
+further_broken_rules_7 : fault (record standard { literal_prefixes = true; mantissa_radix = 37 }) ≡ Some InvalidMantissaRadix
+further_broken_rules_7 = refl
+
+further_broken_rules_8 : fault (record standard { literal_prefixes = true; digit_separator = Some 53 }) ≡ Some InvalidDigitSeparator
+further_broken_rules_8 = refl
+
+further_broken_rules_9 : fault (record standard { literal_prefixes = true; digit_separator = Some 128; base_prefix = Some 100 }) ≡ Some InvalidDigitSeparator
+further_broken_rules_9 = refl
+
+further_broken_rules_10 : fault (record standard { literal_prefixes = true; base_prefix = Some 48 }) ≡ Some InvalidBasePrefix
+further_broken_rules_10 = refl
+
+further_broken_rules_11 : fault (record standard { literal_prefixes = true; base_suffix = Some 57 }) ≡ Some InvalidBaseSuffix
+further_broken_rules_11 = refl
+
+further_broken_rules_12 : fault (record standard { literal_prefixes = true; base_prefix = Some 120; base_suffix = Some 43 }) ≡ Some InvalidBaseSuffix
+further_broken_rules_12 = refl
+
+further_broken_rules_13 : fault (record standard { literal_prefixes = true; digit_separator = Some 95; base_suffix = Some 95 }) ≡ Some InvalidPunctuation
+further_broken_rules_13 = refl
+
+further_broken_rules_14 : fault (record standard { literal_prefixes = true; digit_separator = Some 111; base_prefix = Some 79 }) ≡ Some InvalidPunctuation
+further_broken_rules_14 = refl
+
 -- ---- formats that break no rule
 
 valid_1 : fault standard ≡ None

@@ -1,10 +1,25 @@
 // Each of the 256 bytes at each place of a text, among them byte 0 and byte 255.
-use super::whole::{Whole, agrees};
-use lexical_parse_integer::{NumberFormat, NumberFormatBuilder};
+use super::compare::{Kind, agrees};
+use super::formats::{
+    BYTE_ZERO, CONSECUTIVE, INTERNAL, LEADING, LITERALS, NO_PLUS, NO_ZEROS, PREFIX, PREFIX_CASE,
+    SEPARATOR, SIGN, SUFFIX, SUFFIX_CASE, TRAILING, format_of,
+};
+use lexical_parse_integer::NumberFormat;
 use std::process::Abort;
 
 // The longest of these texts: two words and what is left of a third, behind a sign.
 const LENGTH: usize = 20;
+
+// Types of each width that is read in its own way.
+const KINDS: [Kind; 7] = [
+    Kind::U8,
+    Kind::I8,
+    Kind::U32,
+    Kind::I32,
+    Kind::U64,
+    Kind::I64,
+    Kind::I128,
+];
 
 // The text with another byte at this place.
 fn changed(text: &[u8], place: usize, byte: u8) -> [u8; LENGTH] {
@@ -18,89 +33,111 @@ fn changed(text: &[u8], place: usize, byte: u8) -> [u8; LENGTH] {
 }
 
 // Every text that differs from this one at one place.
-fn at_place<T: Whole>(rt: &impl Abort, format: &NumberFormat, text: &[u8], place: usize) {
+fn at_place(rt: &impl Abort, format: &NumberFormat, text: &[u8], place: usize) {
     for byte in 0..=255 {
         if let Some(changed) = changed(text, place, byte).get(..text.len()) {
-            agrees::<T>(rt, format, changed);
+            for kind in KINDS {
+                agrees(rt, kind, format, changed);
+            }
         }
     }
 }
 
-// As types of each width that is read in its own way.
-fn at_each_place(rt: &impl Abort, format: &NumberFormat, text: &[u8]) {
+fn each_byte(rt: &impl Abort, radix: u8, fields: u32, text: &[u8]) {
+    let format = format_of(radix, fields);
     for place in 0..text.len() {
-        at_place::<u8>(rt, format, text, place);
-        at_place::<i8>(rt, format, text, place);
-        at_place::<u32>(rt, format, text, place);
-        at_place::<i32>(rt, format, text, place);
-        at_place::<u64>(rt, format, text, place);
-        at_place::<i64>(rt, format, text, place);
-        at_place::<i128>(rt, format, text, place);
-    }
-}
-
-fn each_byte(rt: &impl Abort, builder: NumberFormatBuilder, texts: &[&[u8]]) {
-    let format = builder.build_unchecked();
-    for text in texts {
-        at_each_place(rt, &format, text);
+        at_place(rt, &format, text, place);
     }
 }
 
 // Texts that are read by words, in radixes up to 10, and one digit at a time, in greater ones.
 #[test]
 fn each_byte_among_digits(rt: HostRuntime) {
-    let standard = NumberFormatBuilder::new();
-    each_byte(&rt, standard, &[b"12345678123456781234", b"-00000000128"]);
-    each_byte(&rt, standard.mantissa_radix(2), &[b"101010101010101010"]);
-    each_byte(&rt, standard.mantissa_radix(9), &[b"888888881234"]);
-    each_byte(&rt, standard.mantissa_radix(11), &[b"A987654321"]);
-    each_byte(&rt, standard.mantissa_radix(36), &[b"zZaA09"]);
-    each_byte(
-        &rt,
-        standard
-            .no_integer_leading_zeros(true)
-            .no_positive_mantissa_sign(true)
-            .required_mantissa_sign(true),
-        &[b"-12345678", b"+1"],
-    );
+    let texts: [(u8, u32, &[u8]); 8] = [
+        (10, 0, b"12345678123456781234"),
+        (10, 0, b"-00000000128"),
+        (2, 0, b"101010101010101010"),
+        (9, 0, b"888888881234"),
+        (11, 0, b"A987654321"),
+        (36, 0, b"zZaA09"),
+        (10, NO_ZEROS | NO_PLUS | SIGN, b"-12345678"),
+        (10, NO_ZEROS | NO_PLUS | SIGN, b"+1"),
+    ];
+    for (radix, fields, text) in texts {
+        each_byte(&rt, radix, fields, text);
+    }
+}
+
+// Words of four and of eight bytes whose other bytes are `0`, or the greatest digit of the radix.
+#[test]
+fn each_byte_of_a_word(rt: HostRuntime) {
+    for radix in 2..=10_u8 {
+        for digit in [b'0', b'/'.saturating_add(radix)] {
+            each_byte(&rt, radix, 0, &[digit; 4]);
+            each_byte(&rt, radix, 0, &[digit; 8]);
+        }
+    }
 }
 
 #[test]
 fn each_byte_beside_prefix_and_suffix(rt: HostRuntime) {
-    let affixes = NumberFormatBuilder::new()
-        .base_prefix(Some(b'x'))
-        .base_suffix(Some(b'h'));
-    let texts: [&[u8]; 2] = [b"-0x12345678h", b"00h"];
-    each_byte(&rt, affixes, &texts);
-    each_byte(&rt, affixes.mantissa_radix(16), &texts);
-    each_byte(&rt, affixes.case_sensitive_base_prefix(true), &texts);
-    each_byte(&rt, affixes.case_sensitive_base_suffix(true), &texts);
-    let literals = NumberFormatBuilder::new().literal_prefixes(true);
-    each_byte(&rt, literals, &[b"0x1F", b"-0b1010", b"+0o17"]);
+    for (radix, fields) in [(10, 0), (16, 0), (10, PREFIX_CASE), (10, SUFFIX_CASE)] {
+        each_byte(&rt, radix, fields | PREFIX | SUFFIX, b"-0x12345678h");
+        each_byte(&rt, radix, fields | PREFIX | SUFFIX, b"00h");
+    }
+    let literals: [&[u8]; 3] = [b"0x1F", b"-0b1010", b"+0o17"];
+    for text in literals {
+        each_byte(&rt, 10, LITERALS, text);
+    }
 }
 
 #[test]
 fn each_byte_beside_separators(rt: HostRuntime) {
-    let separated = NumberFormatBuilder::new()
-        .digit_separator(Some(b'_'))
-        .integer_internal_digit_separator(true);
-    let everywhere = separated
-        .integer_leading_digit_separator(true)
-        .integer_trailing_digit_separator(true)
-        .integer_consecutive_digit_separator(true);
-    each_byte(&rt, separated, &[b"1_234_567", b"12345678"]);
-    each_byte(&rt, everywhere, &[b"-__1__23_"]);
+    let everywhere = SEPARATOR | INTERNAL | LEADING | TRAILING | CONSECUTIVE;
+    each_byte(&rt, 10, SEPARATOR | INTERNAL, b"1_234_567");
+    each_byte(&rt, 10, SEPARATOR | INTERNAL, b"12345678");
+    each_byte(&rt, 10, everywhere, b"-__1__23_");
 }
 
 // Byte 0 is a byte like others: it may separate, and stand in a prefix or behind the digits.
 #[test]
 fn each_byte_beside_byte_zero(rt: HostRuntime) {
-    let standard = NumberFormatBuilder::new();
-    let separated = standard
-        .digit_separator(Some(0))
-        .integer_internal_digit_separator(true)
-        .integer_trailing_digit_separator(true);
-    each_byte(&rt, separated, &[b"1\x0012\0", b"12345678\0"]);
-    each_byte(&rt, standard.base_prefix(Some(0)), &[b"0\x0012"]);
-    each_byte(&rt, standard.base_suffix(Some(0)), &[b"12345678\0"]);
+    let separated = BYTE_ZERO | SEPARATOR | INTERNAL | TRAILING;
+    each_byte(&rt, 10, separated, b"1\x0012\0");
+    each_byte(&rt, 10, separated, b"12345678\0");
+    each_byte(&rt, 10, BYTE_ZERO | PREFIX, b"0\x0012");
+    each_byte(&rt, 10, BYTE_ZERO | SUFFIX, b"12345678\0");
+}
+
+// Words of four and of eight bytes in which several are no digits: bytes next to the first digit and to the last, and
+// bytes that carry or borrow where words are added or taken away.
+fn word_of_edges(rt: &impl Abort, radix: u8, number: usize) {
+    let last = b'/'.saturating_add(radix);
+    let edges = [
+        0,
+        b'/',
+        b'0',
+        last,
+        last.saturating_add(1),
+        127,
+        128,
+        0xb0,
+        255,
+    ];
+    let a = edges[number % 9];
+    let b = edges[number / 9 % 9];
+    let c = edges[number / 81 % 9];
+    let d = edges[number / 729 % 9];
+    let format = format_of(radix, 0);
+    agrees(rt, Kind::U64, &format, &[a, b, c, d]);
+    agrees(rt, Kind::U64, &format, &[a, b, c, d, d, c, b, a]);
+}
+
+#[test]
+fn each_word_of_bytes_at_the_edges(rt: HostRuntime) {
+    for radix in 2..=10_u8 {
+        for number in 0..6561 {
+            word_of_edges(&rt, radix, number);
+        }
+    }
 }

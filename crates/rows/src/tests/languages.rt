@@ -1,282 +1,37 @@
-// The fields of the ready formats.
-// Written by tools/rows.py from tools/languages.txt: make rows writes it anew.
-use super::is_built_by;
-use lexical_parse_integer::NumberFormatBuilder;
+// Each function of `format::languages` is called. What their formats are is a theorem of proofs/rows.
 use lexical_parse_integer::format::languages;
 
-// The integers of C, and of languages that write them as C does.
 #[test]
-fn cfamily(rt: HostRuntime) {
-    is_built_by(
-        &rt,
-        languages::c(),
-        NumberFormatBuilder::new()
-            .no_positive_mantissa_sign(true)
-            .literal_prefixes(true)
-            .literal_octal_zero(true),
-    );
-    is_built_by(
-        &rt,
-        languages::c_decimal(),
-        NumberFormatBuilder::new()
-            .no_positive_mantissa_sign(true)
-            .no_integer_leading_zeros(true),
-    );
-    is_built_by(
-        &rt,
-        languages::c_octal(),
-        NumberFormatBuilder::new()
-            .no_positive_mantissa_sign(true)
-            .mantissa_radix(8),
-    );
-    is_built_by(
-        &rt,
-        languages::c_hexadecimal(),
-        NumberFormatBuilder::new()
-            .no_positive_mantissa_sign(true)
-            .mantissa_radix(16)
-            .base_prefix(Some(b'x')),
-    );
-    is_built_by(
-        &rt,
-        languages::c23(),
-        NumberFormatBuilder::new()
-            .no_positive_mantissa_sign(true)
-            .literal_prefixes(true)
-            .digit_separator(Some(0x27))
-            .integer_internal_digit_separator(true)
-            .literal_octal_zero(true),
-    );
-    is_built_by(
-        &rt,
-        languages::cpp14(),
-        NumberFormatBuilder::new()
-            .no_positive_mantissa_sign(true)
-            .literal_prefixes(true)
-            .digit_separator(Some(0x27))
-            .integer_internal_digit_separator(true)
-            .literal_octal_zero(true),
-    );
-    is_built_by(
-        &rt,
-        languages::csharp(),
-        NumberFormatBuilder::new()
-            .no_positive_mantissa_sign(true)
-            .literal_prefixes(true)
-            .digit_separator(Some(b'_'))
-            .integer_internal_digit_separator(true)
-            .integer_consecutive_digit_separator(true)
-            .integer_prefix_digit_separator(true),
-    );
-    is_built_by(
-        &rt,
-        languages::java(),
-        NumberFormatBuilder::new()
-            .no_positive_mantissa_sign(true)
-            .literal_prefixes(true)
-            .digit_separator(Some(b'_'))
-            .integer_internal_digit_separator(true)
-            .base_suffix(Some(b'l'))
-            .integer_consecutive_digit_separator(true)
-            .literal_octal_zero(true),
-    );
-    is_built_by(
-        &rt,
-        languages::kotlin(),
-        NumberFormatBuilder::new()
-            .no_positive_mantissa_sign(true)
-            .literal_prefixes(true)
-            .digit_separator(Some(b'_'))
-            .integer_internal_digit_separator(true)
-            .base_suffix(Some(b'L'))
-            .case_sensitive_base_suffix(true)
-            .integer_consecutive_digit_separator(true)
-            .no_integer_leading_zeros(true),
-    );
-}
-
-// The integers of Rust, Go, Swift, Ada and VHDL, and of assemblers.
-#[test]
-fn compiled(rt: HostRuntime) {
-    is_built_by(
-        &rt,
-        languages::rust(),
-        NumberFormatBuilder::new()
-            .no_positive_mantissa_sign(true)
-            .literal_prefixes(true)
-            .digit_separator(Some(b'_'))
-            .integer_internal_digit_separator(true)
-            .integer_trailing_digit_separator(true)
-            .integer_consecutive_digit_separator(true)
-            .case_sensitive_base_prefix(true)
-            .integer_prefix_digit_separator(true),
-    );
-    is_built_by(
-        &rt,
-        languages::go(),
-        NumberFormatBuilder::new()
-            .no_positive_mantissa_sign(true)
-            .literal_prefixes(true)
-            .digit_separator(Some(b'_'))
-            .integer_internal_digit_separator(true)
-            .integer_prefix_digit_separator(true)
-            .literal_octal_zero(true),
-    );
-    is_built_by(
-        &rt,
-        languages::swift(),
-        NumberFormatBuilder::new()
-            .no_positive_mantissa_sign(true)
-            .literal_prefixes(true)
-            .digit_separator(Some(b'_'))
-            .integer_internal_digit_separator(true)
-            .integer_trailing_digit_separator(true)
-            .integer_consecutive_digit_separator(true)
-            .case_sensitive_base_prefix(true),
-    );
-    is_built_by(
-        &rt,
+fn ready_formats_are_valid(rt: HostRuntime) {
+    for format in [
         languages::ada(),
-        NumberFormatBuilder::new()
-            .no_positive_mantissa_sign(true)
-            .digit_separator(Some(b'_'))
-            .integer_internal_digit_separator(true),
-    );
-    is_built_by(
-        &rt,
-        languages::vhdl(),
-        NumberFormatBuilder::new()
-            .no_positive_mantissa_sign(true)
-            .digit_separator(Some(b'_'))
-            .integer_internal_digit_separator(true),
-    );
-    is_built_by(
-        &rt,
         languages::assembler_hexadecimal(),
-        NumberFormatBuilder::new()
-            .no_positive_mantissa_sign(true)
-            .mantissa_radix(16)
-            .base_suffix(Some(b'h')),
-    );
-}
-
-// The integers of Python, Ruby, JavaScript and Julia.
-#[test]
-fn scripting(rt: HostRuntime) {
-    is_built_by(
-        &rt,
-        languages::python(),
-        NumberFormatBuilder::new()
-            .no_positive_mantissa_sign(true)
-            .literal_prefixes(true)
-            .digit_separator(Some(b'_'))
-            .integer_internal_digit_separator(true)
-            .integer_prefix_digit_separator(true)
-            .no_integer_leading_zeros(true),
-    );
-    is_built_by(
-        &rt,
-        languages::ruby(),
-        NumberFormatBuilder::new()
-            .literal_prefixes(true)
-            .digit_separator(Some(b'_'))
-            .integer_internal_digit_separator(true)
-            .literal_octal_zero(true),
-    );
-    is_built_by(
-        &rt,
-        languages::javascript(),
-        NumberFormatBuilder::new()
-            .no_positive_mantissa_sign(true)
-            .literal_prefixes(true)
-            .digit_separator(Some(b'_'))
-            .integer_internal_digit_separator(true)
-            .base_suffix(Some(b'n'))
-            .case_sensitive_base_suffix(true)
-            .no_integer_leading_zeros(true),
-    );
-    is_built_by(
-        &rt,
-        languages::julia(),
-        NumberFormatBuilder::new()
-            .no_positive_mantissa_sign(true)
-            .literal_prefixes(true)
-            .digit_separator(Some(b'_'))
-            .integer_internal_digit_separator(true)
-            .case_sensitive_base_prefix(true),
-    );
-}
-
-// The integers of Haskell and OCaml.
-#[test]
-fn functional(rt: HostRuntime) {
-    is_built_by(
-        &rt,
+        languages::c(),
+        languages::c23(),
+        languages::c_decimal(),
+        languages::c_hexadecimal(),
+        languages::c_octal(),
+        languages::cpp14(),
+        languages::csharp(),
+        languages::go(),
         languages::haskell(),
-        NumberFormatBuilder::new()
-            .no_positive_mantissa_sign(true)
-            .literal_prefixes(true)
-            .digit_separator(Some(b'_'))
-            .integer_internal_digit_separator(true)
-            .integer_consecutive_digit_separator(true)
-            .integer_prefix_digit_separator(true),
-    );
-    is_built_by(
-        &rt,
-        languages::ocaml(),
-        NumberFormatBuilder::new()
-            .no_positive_mantissa_sign(true)
-            .literal_prefixes(true)
-            .digit_separator(Some(b'_'))
-            .integer_internal_digit_separator(true)
-            .integer_trailing_digit_separator(true)
-            .integer_consecutive_digit_separator(true),
-    );
-}
-
-// The integers of JSON, JSON5, TOML, YAML and SQL.
-#[test]
-fn data(rt: HostRuntime) {
-    is_built_by(
-        &rt,
+        languages::java(),
+        languages::javascript(),
         languages::json(),
-        NumberFormatBuilder::new()
-            .required_integer_digits(true)
-            .no_positive_mantissa_sign(true)
-            .no_integer_leading_zeros(true),
-    );
-    is_built_by(
-        &rt,
         languages::json5(),
-        NumberFormatBuilder::new()
-            .literal_prefixes(true)
-            .no_integer_leading_zeros(true),
-    );
-    is_built_by(
-        &rt,
-        languages::toml(),
-        NumberFormatBuilder::new()
-            .literal_prefixes(true)
-            .digit_separator(Some(b'_'))
-            .integer_internal_digit_separator(true)
-            .case_sensitive_base_prefix(true)
-            .no_integer_leading_zeros(true),
-    );
-    is_built_by(
-        &rt,
-        languages::yaml(),
-        NumberFormatBuilder::new()
-            .literal_prefixes(true)
-            .case_sensitive_base_prefix(true),
-    );
-    is_built_by(&rt, languages::sql(), NumberFormatBuilder::new());
-    is_built_by(
-        &rt,
+        languages::julia(),
+        languages::kotlin(),
+        languages::ocaml(),
+        languages::python(),
+        languages::ruby(),
+        languages::rust(),
+        languages::sql(),
         languages::sql_2023(),
-        NumberFormatBuilder::new()
-            .literal_prefixes(true)
-            .digit_separator(Some(b'_'))
-            .integer_internal_digit_separator(true)
-            .integer_prefix_digit_separator(true),
-    );
+        languages::swift(),
+        languages::toml(),
+        languages::vhdl(),
+        languages::yaml(),
+    ] {
+        assert!(rt; format.is_valid(), "{format:?}");
+    }
 }

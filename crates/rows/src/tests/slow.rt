@@ -4,7 +4,7 @@
 use lexical_parse_integer::{Error, NumberFormat, Result};
 
 // The longest text that is read.
-pub(super) const LONGEST: usize = 30;
+const LONGEST: usize = 48;
 
 // A whole number: whether it is below 0, and its size.
 pub(super) type Number = (bool, u128);
@@ -244,7 +244,7 @@ impl Numeral {
 }
 
 // The radix times itself, so many times.
-pub(super) fn power(radix: u32, times: usize) -> Option<u128> {
+fn power(radix: u32, times: usize) -> Option<u128> {
     let mut product = 1_u128;
     for _ in 0..times {
         product = product.checked_mul(u128::from(radix))?;
@@ -253,7 +253,7 @@ pub(super) fn power(radix: u32, times: usize) -> Option<u128> {
 }
 
 // The size of the number of a type that is the furthest from 0, above it or below it.
-pub(super) fn greatest(width: u32, is_signed: bool, is_negative: bool) -> u128 {
+fn greatest(width: u32, is_signed: bool, is_negative: bool) -> u128 {
     let bits = width.saturating_sub(u32::from(is_signed));
     let all = u128::MAX
         .checked_shr(128_u32.saturating_sub(bits))

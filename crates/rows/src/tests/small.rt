@@ -1,22 +1,29 @@
 // Every text of up to four or five bytes out of a few, by the slow reading.
-use super::whole::{Whole, agrees};
-use lexical_parse_integer::{NumberFormat, NumberFormatBuilder};
+use super::compare::{Kind, agrees};
+use super::formats::{
+    BEHIND_PREFIX, LITERALS, NO_PLUS, NO_ZEROS, OCTAL, OPTIONAL, PREFIX, SEPARATOR, SIGN, SUFFIX,
+    format_of,
+};
+use lexical_parse_integer::NumberFormat;
 use std::process::Abort;
 
+// Nine bytes that texts are made of.
+type Bytes = [u8; 9];
+
 // Digits, a separator, signs, letters of a prefix and of a suffix, and a byte that is nothing.
-const PLAIN: [u8; 9] = *b"019_+-xh\xff";
+const PLAIN: Bytes = *b"019_+-xh\xff";
 
 // Letters that are digits of radix 16, and some that aren't.
-const HEXADECIMAL: [u8; 9] = *b"01fF_-xXh";
+const HEXADECIMAL: Bytes = *b"01fF_-xXh";
+
+// Letters of literal prefixes, which are digits behind one of them.
+const LITERAL: Bytes = *b"0178_-xob";
 
 // How many texts there are of each length.
 const POWERS: [usize; 6] = [1, 9, 81, 729, 6561, 59_049];
 
-// Letters of literal prefixes, which are digits behind one of them.
-const LITERAL: [u8; 9] = *b"0178_-xob";
-
 // The text of this number, least digit first.
-fn text_of(number: usize, bytes: &[u8; 9]) -> [u8; 5] {
+fn text_of(number: usize, bytes: &Bytes) -> [u8; 5] {
     let mut rest = number;
     let mut text = [0; 5];
     for byte in text.iter_mut() {
@@ -27,132 +34,84 @@ fn text_of(number: usize, bytes: &[u8; 9]) -> [u8; 5] {
 }
 
 // Every text of so many bytes, by the numbers of that length to the base 9.
-fn each_text<T: Whole>(rt: &impl Abort, format: &NumberFormat, bytes: &[u8; 9], length: usize) {
+fn of_length(rt: &impl Abort, kind: Kind, format: &NumberFormat, bytes: &Bytes, length: usize) {
     for number in 0..POWERS[length.min(5)] {
-        let text = text_of(number, bytes);
-        if let Some(text) = text.get(..length) {
-            agrees::<T>(rt, format, text);
+        if let Some(text) = text_of(number, bytes).get(..length) {
+            agrees(rt, kind, format, text);
         }
     }
 }
 
-fn up_to<T: Whole>(rt: &impl Abort, format: &NumberFormat, bytes: &[u8; 9], longest: usize) {
+fn up_to(rt: &impl Abort, kind: Kind, format: &NumberFormat, bytes: &Bytes, longest: usize) {
     for length in 0..=longest {
-        each_text::<T>(rt, format, bytes, length);
+        of_length(rt, kind, format, bytes, length);
     }
 }
 
-// Each set of separator flags.
-fn flagged(rt: &impl Abort, builder: NumberFormatBuilder, bytes: &[u8; 9]) {
-    for bits in 0..16_u8 {
-        let format = builder
-            .digit_separator(Some(b'_'))
-            .integer_internal_digit_separator(bits & 1 != 0)
-            .integer_leading_digit_separator(bits & 2 != 0)
-            .integer_trailing_digit_separator(bits & 4 != 0)
-            .integer_consecutive_digit_separator(bits & 8 != 0)
-            .build_unchecked();
-        up_to::<i8>(rt, &format, bytes, 4);
-        up_to::<u8>(rt, &format, bytes, 4);
-        up_to::<i64>(rt, &format, bytes, 3);
+// With a separator, under each set of its flags.
+fn with_separators(rt: &impl Abort, radix: u8, fields: u32, bytes: &Bytes) {
+    for flags in 0..16 {
+        let format = format_of(radix, fields | SEPARATOR | flags);
+        up_to(rt, Kind::I8, &format, bytes, 4);
+        up_to(rt, Kind::U8, &format, bytes, 4);
+        up_to(rt, Kind::I64, &format, bytes, 3);
     }
 }
 
-fn with_affixes() -> NumberFormatBuilder {
-    NumberFormatBuilder::new()
-        .base_prefix(Some(b'x'))
-        .base_suffix(Some(b'h'))
+// Where there is no separator, digits are taken by words: of four here, and a byte before or behind it.
+fn without_separators(rt: &impl Abort, radix: u8, fields: u32, bytes: &Bytes) {
+    let format = format_of(radix, fields);
+    up_to(rt, Kind::I8, &format, bytes, 4);
+    up_to(rt, Kind::U32, &format, bytes, 5);
 }
 
 #[test]
 fn small_texts_with_separators(rt: HostRuntime) {
-    flagged(&rt, NumberFormatBuilder::new(), &PLAIN);
-    flagged(
-        &rt,
-        NumberFormatBuilder::new().required_digits(false),
-        &PLAIN,
-    );
+    for fields in [
+        0,
+        OPTIONAL,
+        PREFIX | SUFFIX,
+        PREFIX | SUFFIX | OPTIONAL | NO_ZEROS,
+        NO_ZEROS | NO_PLUS,
+        PREFIX | SUFFIX | SIGN,
+        LITERALS | SUFFIX,
+        OCTAL | NO_ZEROS,
+    ] {
+        with_separators(&rt, 10, fields, &PLAIN);
+    }
 }
 
 #[test]
-fn small_texts_with_separators_and_affixes(rt: HostRuntime) {
-    flagged(&rt, with_affixes(), &PLAIN);
-    flagged(
-        &rt,
-        with_affixes()
-            .required_digits(false)
-            .no_integer_leading_zeros(true),
-        &PLAIN,
-    );
-}
-
-#[test]
-fn small_texts_with_separators_and_rules_of_signs_and_zeros(rt: HostRuntime) {
-    let zeros = NumberFormatBuilder::new().no_integer_leading_zeros(true);
-    flagged(&rt, zeros.no_positive_mantissa_sign(true), &PLAIN);
-    flagged(&rt, with_affixes().required_mantissa_sign(true), &PLAIN);
-}
-
-#[test]
-fn small_texts_with_separators_in_radix_16(rt: HostRuntime) {
-    flagged(&rt, with_affixes().mantissa_radix(16), &HEXADECIMAL);
-}
-
-#[test]
-fn small_texts_with_literal_prefixes(rt: HostRuntime) {
-    let literals = NumberFormatBuilder::new().literal_prefixes(true);
-    flagged(&rt, literals, &LITERAL);
-    flagged(&rt, literals.base_suffix(Some(b'h')), &PLAIN);
-}
-
-#[test]
-fn small_texts_with_separators_behind_prefixes(rt: HostRuntime) {
-    let behind = with_affixes().integer_prefix_digit_separator(true);
-    flagged(&rt, behind, &PLAIN);
-    flagged(&rt, behind.required_digits(false), &PLAIN);
-    let literals = NumberFormatBuilder::new()
-        .literal_prefixes(true)
-        .integer_prefix_digit_separator(true);
-    flagged(&rt, literals, &LITERAL);
-}
-
-#[test]
-fn small_texts_with_octal_zeros(rt: HostRuntime) {
-    let octal = NumberFormatBuilder::new().literal_octal_zero(true);
-    flagged(&rt, octal, &LITERAL);
-    flagged(&rt, octal.no_integer_leading_zeros(true), &PLAIN);
-    flagged(
-        &rt,
-        octal
-            .literal_prefixes(true)
-            .integer_prefix_digit_separator(true),
-        &LITERAL,
-    );
-    up_to_five(&rt, octal, &LITERAL);
-    up_to_five(&rt, octal.no_integer_leading_zeros(true), &PLAIN);
-}
-
-// Where there is no separator, digits are taken by words: of four here, and a byte before or behind it.
-fn up_to_five(rt: &impl Abort, builder: NumberFormatBuilder, bytes: &[u8; 9]) {
-    let format = builder.build_unchecked();
-    up_to::<i8>(rt, &format, bytes, 4);
-    up_to::<u32>(rt, &format, bytes, 5);
+fn small_texts_with_separators_and_prefixes(rt: HostRuntime) {
+    for fields in [BEHIND_PREFIX, BEHIND_PREFIX | OPTIONAL] {
+        with_separators(&rt, 10, fields | PREFIX | SUFFIX, &PLAIN);
+    }
+    for fields in [
+        LITERALS,
+        LITERALS | BEHIND_PREFIX,
+        OCTAL,
+        OCTAL | LITERALS | BEHIND_PREFIX,
+    ] {
+        with_separators(&rt, 10, fields, &LITERAL);
+    }
+    with_separators(&rt, 16, PREFIX | SUFFIX, &HEXADECIMAL);
 }
 
 #[test]
 fn small_texts_without_separators(rt: HostRuntime) {
-    let standard = NumberFormatBuilder::new();
-    up_to_five(&rt, standard, &PLAIN);
-    up_to_five(&rt, standard.required_digits(false), &PLAIN);
-    up_to_five(&rt, standard.no_integer_leading_zeros(true), &PLAIN);
-    up_to_five(&rt, standard.literal_prefixes(true), &LITERAL);
-}
-
-#[test]
-fn small_texts_with_affixes(rt: HostRuntime) {
-    let standard = NumberFormatBuilder::new();
-    up_to_five(&rt, standard.base_prefix(Some(b'x')), &PLAIN);
-    up_to_five(&rt, standard.base_suffix(Some(b'h')), &PLAIN);
-    up_to_five(&rt, with_affixes().no_integer_leading_zeros(true), &PLAIN);
-    up_to_five(&rt, with_affixes().mantissa_radix(16), &HEXADECIMAL);
+    for fields in [
+        0,
+        OPTIONAL,
+        NO_ZEROS,
+        PREFIX,
+        SUFFIX,
+        PREFIX | SUFFIX | NO_ZEROS,
+        OCTAL | NO_ZEROS,
+    ] {
+        without_separators(&rt, 10, fields, &PLAIN);
+    }
+    for fields in [LITERALS, OCTAL] {
+        without_separators(&rt, 10, fields, &LITERAL);
+    }
+    without_separators(&rt, 16, PREFIX | SUFFIX, &HEXADECIMAL);
 }

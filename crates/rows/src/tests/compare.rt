@@ -1,0 +1,201 @@
+// Comparisons of the parsers with the slow reading, as each of the integer types.
+use super::broken::first_broken;
+use super::slow::{Number, complete, partial, read};
+use lexical_parse_integer::format::STANDARD;
+use lexical_parse_integer::options::{LARGE_NUMBERS, SMALL_NUMBERS};
+use lexical_parse_integer::{FromLexicalWithOptions, NumberFormat, Options, Result};
+use std::process::Abort;
+
+// The integer types.
+#[derive(Clone, Copy, Debug, Drop)]
+pub(super) enum Kind {
+    U8,
+    U16,
+    U32,
+    U64,
+    U128,
+    Usize,
+    I8,
+    I16,
+    I32,
+    I64,
+    I128,
+    Isize,
+}
+
+pub(super) const KINDS: [Kind; 12] = [
+    Kind::U8,
+    Kind::U16,
+    Kind::U32,
+    Kind::U64,
+    Kind::U128,
+    Kind::Usize,
+    Kind::I8,
+    Kind::I16,
+    Kind::I32,
+    Kind::I64,
+    Kind::I128,
+    Kind::Isize,
+];
+
+// What both parsers answer, in whole numbers.
+type Answers = (Result<Number>, Result<(Number, usize)>);
+
+// An integer type whose values are whole numbers.
+trait Whole: FromLexicalWithOptions<Options = Options> {
+    fn number(self) -> Number;
+}
+
+// How many bits a type has, and whether it is signed: known from outside of the crates.
+fn width(kind: Kind) -> (u32, bool) {
+    match kind {
+        Kind::U8 => (8, false),
+        Kind::U16 => (16, false),
+        Kind::U32 => (32, false),
+        Kind::U64 | Kind::Usize => (64, false),
+        Kind::U128 => (128, false),
+        Kind::I8 => (8, true),
+        Kind::I16 => (16, true),
+        Kind::I32 => (32, true),
+        Kind::I64 | Kind::Isize => (64, true),
+        Kind::I128 => (128, true),
+    }
+}
+
+// What both parsers of a type answer with these options, and without any by the calls that have neither format nor
+// options.
+fn answers_as<T: Whole>(text: &[u8], format: &NumberFormat, options: Option<Options>) -> Answers {
+    let (whole, front) = match options {
+        Some(options) => (
+            T::from_lexical_with_options(text, format, &options),
+            T::from_lexical_partial_with_options(text, format, &options),
+        ),
+        None => (T::from_lexical(text), T::from_lexical_partial(text)),
+    };
+    let whole = match whole {
+        Ok(value) => Ok(value.number()),
+        Err(fault) => Err(fault),
+    };
+    match front {
+        Ok((value, place)) => (whole, Ok((value.number(), place))),
+        Err(fault) => (whole, Err(fault)),
+    }
+}
+
+fn answers(kind: Kind, text: &[u8], format: &NumberFormat, options: Option<Options>) -> Answers {
+    match kind {
+        Kind::U8 => answers_as::<u8>(text, format, options),
+        Kind::U16 => answers_as::<u16>(text, format, options),
+        Kind::U32 => answers_as::<u32>(text, format, options),
+        Kind::U64 => answers_as::<u64>(text, format, options),
+        Kind::U128 => answers_as::<u128>(text, format, options),
+        Kind::Usize => answers_as::<usize>(text, format, options),
+        Kind::I8 => answers_as::<i8>(text, format, options),
+        Kind::I16 => answers_as::<i16>(text, format, options),
+        Kind::I32 => answers_as::<i32>(text, format, options),
+        Kind::I64 => answers_as::<i64>(text, format, options),
+        Kind::I128 => answers_as::<i128>(text, format, options),
+        Kind::Isize => answers_as::<isize>(text, format, options),
+    }
+}
+
+// What the slow reading has both parsers answer.
+fn expected(kind: Kind, text: &[u8], format: &NumberFormat) -> Answers {
+    if let Some(fault) = first_broken(format) {
+        return (Err(fault), Err(fault));
+    }
+    let (bits, is_signed) = width(kind);
+    let reading = read(text, format, bits, is_signed);
+    (
+        complete(text, format, &reading),
+        partial(text, format, &reading),
+    )
+}
+
+// Both parsers answer what the slow reading does, with either kind of options, and under the standard format also by
+// the calls without options.
+pub(super) fn agrees(rt: &impl Abort, kind: Kind, format: &NumberFormat, text: &[u8]) {
+    let expected = expected(kind, text, format);
+    for options in [Some(SMALL_NUMBERS), Some(LARGE_NUMBERS), None] {
+        if options.is_some() || *format == STANDARD {
+            assert_eq!(rt;
+                answers(kind, text, format, options),
+                expected,
+                "{} as {kind:?} under {format:?}",
+                text.escape_ascii()
+            );
+        }
+    }
+}
+
+impl Whole for u8 {
+    fn number(self) -> Number {
+        (false, u128::from(self))
+    }
+}
+
+impl Whole for u16 {
+    fn number(self) -> Number {
+        (false, u128::from(self))
+    }
+}
+
+impl Whole for u32 {
+    fn number(self) -> Number {
+        (false, u128::from(self))
+    }
+}
+
+impl Whole for u64 {
+    fn number(self) -> Number {
+        (false, u128::from(self))
+    }
+}
+
+impl Whole for u128 {
+    fn number(self) -> Number {
+        (false, self)
+    }
+}
+
+impl Whole for usize {
+    fn number(self) -> Number {
+        (false, self as u128)
+    }
+}
+
+impl Whole for i8 {
+    fn number(self) -> Number {
+        (self < 0, u128::from(self.unsigned_abs()))
+    }
+}
+
+impl Whole for i16 {
+    fn number(self) -> Number {
+        (self < 0, u128::from(self.unsigned_abs()))
+    }
+}
+
+impl Whole for i32 {
+    fn number(self) -> Number {
+        (self < 0, u128::from(self.unsigned_abs()))
+    }
+}
+
+impl Whole for i64 {
+    fn number(self) -> Number {
+        (self < 0, u128::from(self.unsigned_abs()))
+    }
+}
+
+impl Whole for i128 {
+    fn number(self) -> Number {
+        (self < 0, self.unsigned_abs())
+    }
+}
+
+impl Whole for isize {
+    fn number(self) -> Number {
+        (self < 0, self.unsigned_abs() as u128)
+    }
+}
