@@ -6,6 +6,7 @@ mod fields;
 mod hostile;
 mod long;
 
+use crate::tests::answers_to;
 use lexical_fields::{Column, ColumnError, read_column};
 use lexical_parse_integer::format::STANDARD;
 use lexical_parse_integer::parse::ParseInteger;
@@ -53,10 +54,5 @@ fn reads_under<T: ParseInteger + Debug>(
     held: &[T],
 ) {
     let answer = read_column::<T>(text, separator, format, &options::LARGE_NUMBERS, room);
-    assert_eq!(rt;
-        (answer, &*room),
-        (expected, held),
-        "{}",
-        text.escape_ascii()
-    );
+    answers_to(rt, text, (answer, &*room), (expected, held));
 }

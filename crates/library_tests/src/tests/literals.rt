@@ -4,7 +4,7 @@ mod caller;
 mod formats;
 mod tokens;
 
-use crate::tests::answers;
+use crate::tests::answers_to;
 use lexical_literals::{Kind, Tokens};
 use std::process::Abort;
 
@@ -16,15 +16,15 @@ fn are_tokens(rt: &impl Abort, tokens: Tokens<'_>, source: &[u8], expected: &[Sp
     let mut tokens = tokens;
     for (kind, start, stop) in expected {
         match tokens.next() {
-            Some(token) => {
-                assert_eq!(rt; token.kind, *kind, "{}", source.escape_ascii());
-                assert_eq!(rt; token.start, *start, "{}", source.escape_ascii());
-                assert_eq!(rt; token.stop, *stop, "{}", source.escape_ascii());
-                answers(rt, source.get(*start..*stop), Some(token.text));
-            }
-            None => panic!(rt; "{} has too few tokens", source.escape_ascii()),
+            Some(token) => answers_to(
+                rt,
+                source,
+                (&token.kind, token.start, token.stop, Some(token.text)),
+                (kind, *start, *stop, source.get(*start..*stop)),
+            ),
+            None => answers_to(rt, source, None, Some((kind, *start, *stop))),
         }
     }
-    assert_eq!(rt; tokens.next(), None, "{}", source.escape_ascii());
-    assert_eq!(rt; tokens.next(), None, "{}", source.escape_ascii());
+    answers_to(rt, source, tokens.next(), None);
+    answers_to(rt, source, tokens.next(), None);
 }

@@ -1,6 +1,6 @@
 // Texts with their fields and what each stands for.
 
-use crate::tests::answers;
+use crate::tests::{answers, answers_to};
 use lexical_fields::{Field, Fields, field_length};
 use lexical_parse_integer::{Error, NumberFormatBuilder, Result as Parse, format, options};
 use std::process::Abort;
@@ -17,10 +17,10 @@ fn has_fields(rt: &impl Abort, text: &[u8], separator: u8, expected: &[Row<'_>])
             text: *bytes,
             answer: *answer,
         };
-        assert_eq!(rt; fields.next(), Some(field), "{}", text.escape_ascii());
+        answers_to(rt, text, fields.next(), Some(field));
     }
-    assert_eq!(rt; fields.next(), None, "{}", text.escape_ascii());
-    assert_eq!(rt; fields.next(), None, "{}", text.escape_ascii());
+    answers_to(rt, text, fields.next(), None);
+    answers_to(rt, text, fields.next(), None);
 }
 
 #[test]

@@ -27,13 +27,13 @@ fn a_new_cursor_shows_its_text(rt: HostRuntime) {
     let c = Cursor::new(b"+0x1_23h.", &format);
     answers(&rt, state(&c), (0, 0, 0, false));
     answers(&rt, c.buffer_length(), 9);
-    assert!(rt; !c.is_buffer_empty());
-    assert!(rt; Cursor::new(b"", &format).is_buffer_empty());
+    answers(&rt, c.is_buffer_empty(), false);
+    answers(&rt, Cursor::new(b"", &format).is_buffer_empty(), true);
     answers(&rt, c.first(), Some(b'+'));
     answers(&rt, c.radix(), 10);
     answers(&rt, c.format(), format);
-    assert!(rt; !c.is_contiguous());
-    assert!(rt; Cursor::new(b"", &STANDARD).is_contiguous());
+    answers(&rt, c.is_contiguous(), false);
+    answers(&rt, Cursor::new(b"", &STANDARD).is_contiguous(), true);
 }
 
 // A cursor is in this state.
@@ -72,7 +72,7 @@ fn a_cursor_takes_four_bytes_at_once(rt: HostRuntime) {
     c.take_digits(4);
     answers(&rt, state(&c), (4, 0, 4, false));
     answers(&rt, c.next_digit(), Some(5));
-    assert!(rt; c.is_buffer_empty());
+    answers(&rt, c.is_buffer_empty(), true);
 }
 
 // The text's first eight bytes. The cursor that lent them is gone when it returns.

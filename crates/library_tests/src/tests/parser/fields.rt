@@ -1,4 +1,5 @@
 // The first number of a column, where it is read with its end in one pass.
+use crate::tests::answers_to;
 use lexical_parse_integer::NumberFormatBuilder;
 use lexical_parse_integer::algorithm::{field_in_front, is_separated};
 use lexical_parse_integer::format::{JSON, NumberFormat, STANDARD};
@@ -19,12 +20,11 @@ fn begins_with(
     format: &NumberFormat,
     want: Option<(i16, usize)>,
 ) {
-    let found = front(text, separator, format);
-    assert_eq!(rt; found, want, "{}", text.escape_ascii());
+    answers_to(rt, text, front(text, separator, format), want);
 }
 
 fn separates(rt: &impl Abort, byte: u8, format: &NumberFormat, want: bool) {
-    assert_eq!(rt; is_separated(format, byte), want, "byte {byte}");
+    answers_to(rt, &[byte], is_separated(format, byte), want);
 }
 
 #[test]

@@ -13,11 +13,14 @@ use std::test::Fail;
 
 #[test]
 fn all_options_are_valid(rt: HostRuntime) {
-    assert!(rt; OptionsBuilder::new().is_valid());
-    assert!(rt; OptionsBuilder::new().build_unchecked().is_valid());
-    assert!(rt; OptionsBuilder::default().is_valid());
-    assert!(rt; Options::new().is_valid());
-    assert!(rt; ParseOptions::is_valid(&LARGE_NUMBERS));
+    let valid = [
+        OptionsBuilder::new().is_valid(),
+        OptionsBuilder::new().build_unchecked().is_valid(),
+        OptionsBuilder::default().is_valid(),
+        Options::new().is_valid(),
+        ParseOptions::is_valid(&LARGE_NUMBERS),
+    ];
+    answers(&rt, valid, [true; 5]);
 }
 
 #[test]
@@ -30,12 +33,15 @@ fn every_build_answers(rt: HostRuntime) {
 
 #[test]
 fn new_options_take_digits_one_at_a_time(rt: HostRuntime) {
-    assert!(rt; OptionsBuilder::new().get_no_multi_digit());
-    assert!(rt; OptionsBuilder::default().get_no_multi_digit());
-    assert!(rt; Options::new().get_no_multi_digit());
-    assert!(rt; Options::default().get_no_multi_digit());
-    assert!(rt; Options::from_radix(10).get_no_multi_digit());
-    assert!(rt; Options::from_radix(36).get_no_multi_digit());
+    let one_at_a_time = [
+        OptionsBuilder::new().get_no_multi_digit(),
+        OptionsBuilder::default().get_no_multi_digit(),
+        Options::new().get_no_multi_digit(),
+        Options::default().get_no_multi_digit(),
+        Options::from_radix(10).get_no_multi_digit(),
+        Options::from_radix(36).get_no_multi_digit(),
+    ];
+    answers(&rt, one_at_a_time, [true; 6]);
 }
 
 #[test]
@@ -53,16 +59,19 @@ fn what_was_set_stands_after_a_build(rt: HostRuntime) {
 fn setters_of_options(rt: HostRuntime) {
     let mut options = Options::new();
     options.no_multi_digit(false);
-    assert!(rt; !options.get_no_multi_digit());
+    answers(&rt, options.get_no_multi_digit(), false);
     options.set_no_multi_digit(true);
-    assert!(rt; options.get_no_multi_digit());
+    answers(&rt, options.get_no_multi_digit(), true);
 }
 
 #[test]
 fn ready_made_options(rt: HostRuntime) {
-    assert!(rt; STANDARD.get_no_multi_digit());
-    assert!(rt; SMALL_NUMBERS.get_no_multi_digit());
-    assert!(rt; !LARGE_NUMBERS.get_no_multi_digit());
+    let one_at_a_time = [
+        STANDARD.get_no_multi_digit(),
+        SMALL_NUMBERS.get_no_multi_digit(),
+        LARGE_NUMBERS.get_no_multi_digit(),
+    ];
+    answers(&rt, one_at_a_time, [true, true, false]);
 }
 
 // ---- the derives: the clauses are the laws, and the calls below only run them
@@ -126,10 +135,13 @@ fn cloned_builder(builder: &OptionsBuilder) -> std::result::Result<OptionsBuilde
 
 #[test]
 fn options_compare_by_their_field(rt: HostRuntime) -> std::result::Result<(), Fail> {
-    assert!(rt; are_equal(&STANDARD, &SMALL_NUMBERS));
-    assert!(rt; !are_equal(&LARGE_NUMBERS, &SMALL_NUMBERS));
-    assert!(rt; is_less(&LARGE_NUMBERS, &SMALL_NUMBERS));
-    assert!(rt; !is_less(&SMALL_NUMBERS, &LARGE_NUMBERS));
+    let tests = [
+        are_equal(&STANDARD, &SMALL_NUMBERS),
+        are_equal(&LARGE_NUMBERS, &SMALL_NUMBERS),
+        is_less(&LARGE_NUMBERS, &SMALL_NUMBERS),
+        is_less(&SMALL_NUMBERS, &LARGE_NUMBERS),
+    ];
+    answers(&rt, tests, [true, false, true, false]);
     let less = (Ordering::Less, Some(Ordering::Less));
     answers(&rt, compared(&LARGE_NUMBERS, &SMALL_NUMBERS), less);
     answers(&rt, cloned(&LARGE_NUMBERS)?, LARGE_NUMBERS);
@@ -140,10 +152,13 @@ fn options_compare_by_their_field(rt: HostRuntime) -> std::result::Result<(), Fa
 fn builders_compare_by_their_field(rt: HostRuntime) -> std::result::Result<(), Fail> {
     let new = OptionsBuilder::new();
     let large = LARGE_NUMBERS.rebuild();
-    assert!(rt; are_equal_builders(&new, &Options::builder()));
-    assert!(rt; !are_equal_builders(&large, &new));
-    assert!(rt; is_less_builder(&large, &new));
-    assert!(rt; !is_less_builder(&new, &large));
+    let tests = [
+        are_equal_builders(&new, &Options::builder()),
+        are_equal_builders(&large, &new),
+        is_less_builder(&large, &new),
+        is_less_builder(&new, &large),
+    ];
+    answers(&rt, tests, [true, false, true, false]);
     let less = (Ordering::Less, Some(Ordering::Less));
     answers(&rt, compared_builders(&large, &new), less);
     answers(&rt, cloned_builder(&large)?, large);

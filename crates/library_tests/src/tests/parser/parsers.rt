@@ -73,43 +73,6 @@ fn partial_answers_of_signed_types(rt: HostRuntime) {
     );
 }
 
-// The complete parser of a type in a radix, with either kind of options.
-fn read_in<T: ParseInteger + Debug>(rt: &impl Abort, radix: u8, rows: &[(&[u8], Result<T>)]) {
-    let format = NumberFormatBuilder::from_radix(radix);
-    assert!(rt; format.is_valid());
-    for (text, expected) in rows {
-        for options in [SMALL_NUMBERS, LARGE_NUMBERS] {
-            let answer = T::parse_complete(text, &format, &options);
-            assert_eq!(rt;
-                answer,
-                *expected,
-                "{} in radix {radix}",
-                text.escape_ascii()
-            );
-        }
-    }
-}
-
-// The last radix of which a byte has room for two digits, and the greatest radix, in which it has room for one.
-#[test]
-fn ends_in_large_radixes(rt: HostRuntime) {
-    read_in::<u8>(&rt, 16, &[(b"FF", Ok(255))]);
-    read_in::<i8>(
-        &rt,
-        16,
-        &[
-            (b"7F", Ok(127)),
-            (b"80", Err(Error::Overflow(1))),
-            (b"-80", Ok(-128)),
-        ],
-    );
-    read_in::<u8>(
-        &rt,
-        36,
-        &[(b"73", Ok(255)), (b"74", Err(Error::Overflow(1)))],
-    );
-}
-
 #[test]
 fn parsers_of_a_type(rt: HostRuntime) {
     let answer = u64::parse_complete(b"18446744073709551616", &STANDARD, &LARGE_NUMBERS);

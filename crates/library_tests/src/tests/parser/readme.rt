@@ -15,10 +15,10 @@ fn shown(rt: HostRuntime) {
         .build_strict();
     let byte = u8::from_lexical_with_options(b"0x1F", &hexadecimal, &options::STANDARD); // Ok(31)
 
-    assert_eq!(rt; whole, Ok(1234));
-    assert_eq!(rt; fault, Err(Error::Overflow(19)));
-    assert_eq!(rt; front, Ok((1234, 4)));
-    assert_eq!(rt; byte, Ok(31));
+    assert_eq!(rt;
+        (whole, fault, front, byte),
+        (Ok(1234), Err(Error::Overflow(19)), Ok((1234, 4)), Ok(31))
+    );
 }
 
 #[test]
@@ -27,7 +27,8 @@ fn crate_shown(rt: HostRuntime) {
     let front = u64::from_lexical_partial(b"1234 }, {\"Key\""); // Ok((1234, 4))
     let fault = i8::from_lexical(b"-129"); // Err(Error::Underflow(3))
 
-    assert_eq!(rt; whole, Ok(1234));
-    assert_eq!(rt; front, Ok((1234, 4)));
-    assert_eq!(rt; fault, Err(Error::Underflow(3)));
+    assert_eq!(rt;
+        (whole, front, fault),
+        (Ok(1234), Ok((1234, 4)), Err(Error::Underflow(3)))
+    );
 }

@@ -9,82 +9,99 @@ use lexical_parse_integer::algorithm::{
 };
 use lexical_parse_integer::cursor::Cursor;
 use lexical_parse_integer::format::STANDARD;
-use std::process::Abort;
 
-// The value of a word that has to be all digits.
-fn value_of_4(rt: &impl Abort, v: u32, radix: u32) -> u32
+// The value of a word, and `None` where its bytes are not all digits.
+fn value_of_4(v: u32, radix: u32) -> Option<u32>
     requires least { 2 ≤ radix }
     requires greatest { radix ≤ 10 }
 {
-    assert!(rt; is_4digits(v, radix), "{v:x} in radix {radix}");
-    parse_4digits(v, radix)
+    if is_4digits(v, radix) {
+        Some(parse_4digits(v, radix))
+    } else {
+        None
+    }
 }
 
-fn value_of_8(rt: &impl Abort, v: u64, radix: u32) -> u64
+fn value_of_8(v: u64, radix: u32) -> Option<u64>
     requires least { 2 ≤ radix }
     requires greatest { radix ≤ 10 }
 {
-    assert!(rt; is_8digits(v, radix), "{v:x} in radix {radix}");
-    parse_8digits(v, radix)
+    if is_8digits(v, radix) {
+        Some(parse_8digits(v, radix))
+    } else {
+        None
+    }
 }
 
 #[test]
 fn four_bytes_that_are_digits(rt: HostRuntime) {
-    assert!(rt; is_4digits(0x3132_3334, 5));
-    assert!(rt; is_4digits(0x3132_3334, 10));
-    assert!(rt; is_4digits(0x3132_3339, 10));
+    let all_digits = [
+        is_4digits(0x3132_3334, 5),
+        is_4digits(0x3132_3334, 10),
+        is_4digits(0x3132_3339, 10),
+    ];
+    answers(&rt, all_digits, [true; 3]);
 }
 
 #[test]
 fn four_bytes_that_are_not(rt: HostRuntime) {
-    assert!(rt; !is_4digits(0x3132_3334, 4));
-    assert!(rt; !is_4digits(0x3132_3339, 9));
-    assert!(rt; !is_4digits(0x2930_3938, 10));
-    assert!(rt; !is_4digits(0x3132_3340, 10));
-    assert!(rt; !is_4digits(0x3132_33ff, 10));
-    assert!(rt; !is_4digits(0x3132_b334, 10));
+    let all_digits = [
+        is_4digits(0x3132_3334, 4),
+        is_4digits(0x3132_3339, 9),
+        is_4digits(0x2930_3938, 10),
+        is_4digits(0x3132_3340, 10),
+        is_4digits(0x3132_33ff, 10),
+        is_4digits(0x3132_b334, 10),
+    ];
+    answers(&rt, all_digits, [false; 6]);
 }
 
 #[test]
 fn eight_bytes_that_are_digits(rt: HostRuntime) {
-    assert!(rt; is_8digits(0x3132_3334_3536_3738, 10));
-    assert!(rt; is_8digits(0x3132_3334_3536_3739, 10));
+    let all_digits = [
+        is_8digits(0x3132_3334_3536_3738, 10),
+        is_8digits(0x3132_3334_3536_3739, 10),
+    ];
+    answers(&rt, all_digits, [true; 2]);
 }
 
 #[test]
 fn eight_bytes_that_are_not(rt: HostRuntime) {
-    assert!(rt; !is_8digits(0x3132_3334_3536_3738, 4));
-    assert!(rt; !is_8digits(0x3132_3334_3536_3738, 5));
-    assert!(rt; !is_8digits(0x3132_3334_3536_3739, 9));
-    assert!(rt; !is_8digits(0x2930_3132_3334_3536, 10));
-    assert!(rt; !is_8digits(0x3031_3233_3435_3640, 10));
-    assert!(rt; !is_8digits(0x8030_3030_3030_3030, 10));
+    let all_digits = [
+        is_8digits(0x3132_3334_3536_3738, 4),
+        is_8digits(0x3132_3334_3536_3738, 5),
+        is_8digits(0x3132_3334_3536_3739, 9),
+        is_8digits(0x2930_3132_3334_3536, 10),
+        is_8digits(0x3031_3233_3435_3640, 10),
+        is_8digits(0x8030_3030_3030_3030, 10),
+    ];
+    answers(&rt, all_digits, [false; 6]);
 }
 
 #[test]
 fn four_digits_are_worth(rt: HostRuntime) {
-    answers(&rt, value_of_4(&rt, 0x3132_3334, 10), 4321);
-    answers(&rt, value_of_4(&rt, 0x3132_3334, 5), 586);
-    answers(&rt, value_of_4(&rt, 0x3637_3839, 10), 9876);
+    answers(&rt, value_of_4(0x3132_3334, 10), Some(4321));
+    answers(&rt, value_of_4(0x3132_3334, 5), Some(586));
+    answers(&rt, value_of_4(0x3637_3839, 10), Some(9876));
 }
 
 #[test]
 fn eight_digits_are_worth(rt: HostRuntime) {
-    answers(&rt, value_of_8(&rt, 0x3030_3030_3030_3031, 10), 10_000_000);
-    answers(&rt, value_of_8(&rt, 0x3030_3030_3030_3031, 5), 78_125);
-    answers(&rt, value_of_8(&rt, 0x3031_3030_3030_3030, 10), 10);
-    answers(&rt, value_of_8(&rt, 0x3031_3030_3030_3030, 5), 5);
+    answers(&rt, value_of_8(0x3030_3030_3030_3031, 10), Some(10_000_000));
+    answers(&rt, value_of_8(0x3030_3030_3030_3031, 5), Some(78_125));
+    answers(&rt, value_of_8(0x3031_3030_3030_3030, 10), Some(10));
+    answers(&rt, value_of_8(0x3031_3030_3030_3030, 5), Some(5));
 }
 
 #[test]
 fn one_text_in_six_radixes(rt: HostRuntime) {
     let word = 0x3132_3334_3433_3231;
-    answers(&rt, value_of_8(&rt, word, 10), 12_344_321);
-    answers(&rt, value_of_8(&rt, word, 9), 6_052_420);
-    answers(&rt, value_of_8(&rt, word, 8), 2_738_385);
-    answers(&rt, value_of_8(&rt, word, 7), 1_120_400);
-    answers(&rt, value_of_8(&rt, word, 6), 402_745);
-    answers(&rt, value_of_8(&rt, word, 5), 121_836);
+    answers(&rt, value_of_8(word, 10), Some(12_344_321));
+    answers(&rt, value_of_8(word, 9), Some(6_052_420));
+    answers(&rt, value_of_8(word, 8), Some(2_738_385));
+    answers(&rt, value_of_8(word, 7), Some(1_120_400));
+    answers(&rt, value_of_8(word, 6), Some(402_745));
+    answers(&rt, value_of_8(word, 5), Some(121_836));
 }
 
 // What a cursor at a text's front gives of a word, and where it then stands.

@@ -1,13 +1,13 @@
 // Prices and rates in units of the last digit, and texts that have none.
 
-use crate::tests::answers;
+use crate::tests::{answers, answers_to};
 use lexical_parse_integer::Error;
 use std::process::Abort;
 use uses::fixed_point::{FixedPointError, fixed_point};
 
 // What a text with two digits behind its point is worth, and where it ends.
 fn reads(rt: &impl Abort, text: &[u8], expected: Result<(i64, usize), FixedPointError>) {
-    assert_eq!(rt; fixed_point(text, 2), expected, "{}", text.escape_ascii());
+    answers_to(rt, text, fixed_point(text, 2), expected);
 }
 
 #[test]

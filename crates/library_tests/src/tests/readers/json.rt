@@ -3,7 +3,7 @@
 ghost use Rattle.std.specs.Prelude.{◌≡◌, ◌<◌, Some, length};
 ghost use Rattle.uses.specs.Json.{settled_at};
 
-use crate::tests::answers;
+use crate::tests::{answers, answers_to};
 use lexical_parse_integer::Error;
 use std::process::Abort;
 use uses::json::{NumberError, Part, integer_part};
@@ -30,7 +30,7 @@ fn a_cut_behind_the_place_changes_nothing(rt: HostRuntime) {
 
 // What a reader makes of the bytes that it has.
 fn reads(rt: &impl Abort, read: &[u8], expected: Result<Part, NumberError>) {
-    assert_eq!(rt; integer_part(read), expected, "{}", read.escape_ascii());
+    answers_to(rt, read, integer_part(read), expected);
 }
 
 #[test]

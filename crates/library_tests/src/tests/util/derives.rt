@@ -59,16 +59,25 @@ fn cloned_builder(builder: &NumberFormatBuilder) -> Result<NumberFormatBuilder, 
 
 #[test]
 fn equality_and_copies(rt: HostRuntime) -> Result<(), Fail> {
-    assert!(rt; are_equal_faults(Error::Empty(1), Error::Empty(1)));
-    assert!(rt; !are_equal_faults(Error::Empty(1), Error::Empty(2)));
-    assert!(rt; !are_equal_faults(Error::Empty(1), Error::InvalidDigit(1)));
-    assert!(rt; are_equal_formats(&NumberFormatBuilder::from_radix(10), &STANDARD));
-    assert!(rt; !are_equal_formats(&JSON, &STANDARD));
+    let faults = [
+        are_equal_faults(Error::Empty(1), Error::Empty(1)),
+        are_equal_faults(Error::Empty(1), Error::Empty(2)),
+        are_equal_faults(Error::Empty(1), Error::InvalidDigit(1)),
+    ];
+    answers(&rt, faults, [true, false, false]);
+    let formats = [
+        are_equal_formats(&NumberFormatBuilder::from_radix(10), &STANDARD),
+        are_equal_formats(&JSON, &STANDARD),
+    ];
+    answers(&rt, formats, [true, false]);
     let builder = NumberFormatBuilder::new();
-    assert!(rt; are_equal_builders(&builder, &NumberFormatBuilder::new()));
-    assert!(rt; !are_equal_builders(&builder, &builder.base_suffix(Some(b'h'))));
+    let builders = [
+        are_equal_builders(&builder, &NumberFormatBuilder::new()),
+        are_equal_builders(&builder, &builder.base_suffix(Some(b'h'))),
+    ];
+    answers(&rt, builders, [true, false]);
     let copies = copied(&Error::Empty(1), &JSON, &builder);
-    assert!(rt; copies == (Error::Empty(1), JSON, builder));
+    answers(&rt, copies, (Error::Empty(1), JSON, builder));
     answers(&rt, cloned_fault(&Error::Empty(1))?, Error::Empty(1));
     answers(&rt, cloned_format(&JSON)?, JSON);
     answers(&rt, cloned_builder(&builder)?, builder);

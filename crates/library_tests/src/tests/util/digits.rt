@@ -1,5 +1,6 @@
 // Digits of a radix, as they are known from outside.
 
+use crate::tests::answers_to;
 use lexical_util::digit::{char_is_digit, char_to_digit};
 use std::process::Abort;
 
@@ -7,11 +8,12 @@ use std::process::Abort;
 fn is_worth(rt: &impl Abort, byte: u8, radix: u32, want: Option<u32>) {
     assert!(rt; 2 <= radix && radix <= 36);
     let digit = char_to_digit(byte, radix);
-    assert_eq!(rt; digit, want, "byte {byte}, radix {radix}");
-    assert_eq!(rt;
-        char_is_digit(byte, radix),
-        want.is_some(),
-        "byte {byte}, radix {radix}"
+    let is_digit = char_is_digit(byte, radix);
+    answers_to(
+        rt,
+        &[byte],
+        (radix, digit, is_digit),
+        (radix, want, want.is_some()),
     );
 }
 

@@ -29,7 +29,7 @@ fn tests_of(fault: &Error) -> [bool; 13] {
 }
 
 #[test]
-fn faults_and_their_places(rt: HostRuntime) -> Result<(), Fail> {
+fn faults_and_their_places(rt: HostRuntime) {
     for (fault, place, variant) in [
         (Error::Overflow(19), Some(19), 0),
         (Error::Underflow(3), Some(3), 1),
@@ -45,12 +45,11 @@ fn faults_and_their_places(rt: HostRuntime) -> Result<(), Fail> {
         (Error::InvalidPunctuation, None, 11),
         (Error::InvalidLiteralPrefixes, None, 12),
     ] {
-        assert_eq!(rt; fault.index(), place, "{fault:?}");
+        answers(&rt, (fault, fault.index()), (fault, place));
         for (i, holds) in tests_of(&fault).iter().enumerate() {
-            assert_eq!(rt; *holds, i == variant, "{fault:?}, test {i}");
+            answers(&rt, (fault, i, *holds), (fault, i, i == variant));
         }
     }
-    Ok(())
 }
 
 // A caller knows the text of a fault by the contract of `Display`.

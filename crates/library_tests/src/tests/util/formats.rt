@@ -4,7 +4,6 @@ use crate::tests::answers;
 use lexical_util::error::Error;
 use lexical_util::format::{JSON, NumberFormat, NumberFormatBuilder, STANDARD};
 use std::process::Abort;
-use std::test::Fail;
 
 // The flags of a format, in the order of the setters below.
 fn flags_of(format: &NumberFormat) -> [bool; 14] {
@@ -27,10 +26,10 @@ fn flags_of(format: &NumberFormat) -> [bool; 14] {
 }
 
 #[test]
-fn each_flag_alone(rt: HostRuntime) -> Result<(), Fail> {
+fn each_flag_alone(rt: HostRuntime) {
     let bare = NumberFormatBuilder::new().required_digits(false);
     answers(&rt, flags_of(&bare.build_strict()), [false; 14]);
-    assert!(rt; !bare.build_strict().required_digits());
+    answers(&rt, bare.build_strict().required_digits(), false);
     for (i, builder) in [
         bare.case_sensitive_base_prefix(true),
         bare.case_sensitive_base_suffix(true),
@@ -53,10 +52,12 @@ fn each_flag_alone(rt: HostRuntime) -> Result<(), Fail> {
         let mut want = [false; 14];
         want[i] = true;
         let format = builder.build_unchecked();
-        assert_eq!(rt; flags_of(&format), want, "flag {i}");
-        assert_eq!(rt; format.required_digits(), i == 2 || i == 3, "flag {i}");
+        answers(
+            &rt,
+            (i, flags_of(&format), format.required_digits()),
+            (i, want, i == 2 || i == 3),
+        );
     }
-    Ok(())
 }
 
 #[test]
@@ -71,7 +72,7 @@ fn other_setters(rt: HostRuntime) {
     answers(&rt, format.radix(), 16);
     answers(&rt, format.digit_separator(), Some(b'_'));
     answers(&rt, format.base_prefix(), Some(b'x'));
-    assert!(rt; format.has_base_prefix());
+    answers(&rt, format.has_base_prefix(), true);
     answers(&rt, format.base_suffix(), Some(b'h'));
 
     let builder = NumberFormatBuilder::new();
@@ -118,7 +119,7 @@ fn ready_made_formats(rt: HostRuntime) {
         answers(&rt, flags_of(&format), digits_required);
         answers(&rt, format.digit_separator(), None);
         answers(&rt, format.base_prefix(), None);
-        assert!(rt; !format.has_base_prefix());
+        answers(&rt, format.has_base_prefix(), false);
         answers(&rt, format.base_suffix(), None);
     }
     let json = NumberFormatBuilder::new()
@@ -142,9 +143,17 @@ fn marked((radix, separator, prefix, suffix): Marks) -> NumberFormatBuilder {
 // The first rule that the builder's format breaks.
 fn builder_breaks(rt: &impl Abort, builder: NumberFormatBuilder, want: Option<Error>) {
     let format = builder.build_unchecked();
-    assert_eq!(rt; format.error(), want, "{builder:?}");
-    assert_eq!(rt; format.is_valid(), want.is_none(), "{builder:?}");
-    assert_eq!(rt; builder.is_valid(), want.is_none(), "{builder:?}");
+    let valid = want.is_none();
+    answers(
+        rt,
+        (
+            builder,
+            format.error(),
+            format.is_valid(),
+            builder.is_valid(),
+        ),
+        (builder, want, valid, valid),
+    );
 }
 
 fn breaks(rt: &impl Abort, marks: Marks, want: Option<Error>) {
@@ -195,7 +204,7 @@ fn the_separator_is_judged_next(rt: HostRuntime) {
     breaks(&rt, (10, Some(b'+'), Some(b'0'), None), separator);
     breaks(&rt, (10, Some(b'5'), Some(b'x'), Some(b'X')), separator);
     let flag_alone = NumberFormatBuilder::new().integer_internal_digit_separator(true);
-    assert!(rt; flag_alone.is_valid());
+    answers(&rt, flag_alone.is_valid(), true);
 }
 
 #[test]

@@ -8,7 +8,6 @@ use crate::tests::answers;
 use lexical_util::num::Integer;
 use std::fmt::Debug;
 use std::process::Abort;
-use std::test::Fail;
 
 fn room<T: Integer>(radix: u32) -> usize
     requires { IsRadix radix }
@@ -16,37 +15,38 @@ fn room<T: Integer>(radix: u32) -> usize
     T::overflow_digits(radix)
 }
 
+// That of each of the twelve types.
+fn rooms(radix: u32) -> [usize; 12]
+    requires { IsRadix radix }
+{
+    [
+        room::<u8>(radix),
+        room::<i8>(radix),
+        room::<u16>(radix),
+        room::<i16>(radix),
+        room::<u32>(radix),
+        room::<i32>(radix),
+        room::<u64>(radix),
+        room::<i64>(radix),
+        room::<usize>(radix),
+        room::<isize>(radix),
+        room::<u128>(radix),
+        room::<i128>(radix),
+    ]
+}
+
 #[test]
-fn digits_that_never_overflow(rt: HostRuntime) -> Result<(), Fail> {
+fn digits_that_never_overflow(rt: HostRuntime) {
     for radix in 2..=16 {
-        answers(&rt, room::<u8>(radix), 2);
-        answers(&rt, room::<i8>(radix), 1);
-        answers(&rt, room::<u16>(radix), 4);
-        answers(&rt, room::<i16>(radix), 3);
-        answers(&rt, room::<u32>(radix), 8);
-        answers(&rt, room::<i32>(radix), 7);
-        answers(&rt, room::<u64>(radix), 16);
-        answers(&rt, room::<i64>(radix), 15);
-        answers(&rt, room::<usize>(radix), 16);
-        answers(&rt, room::<isize>(radix), 15);
-        answers(&rt, room::<u128>(radix), 32);
-        answers(&rt, room::<i128>(radix), 31);
+        answers(
+            &rt,
+            rooms(radix),
+            [2, 1, 4, 3, 8, 7, 16, 15, 16, 15, 32, 31],
+        );
     }
     for radix in 17..=36 {
-        answers(&rt, room::<u8>(radix), 1);
-        answers(&rt, room::<i8>(radix), 1);
-        answers(&rt, room::<u16>(radix), 2);
-        answers(&rt, room::<i16>(radix), 2);
-        answers(&rt, room::<u32>(radix), 4);
-        answers(&rt, room::<i32>(radix), 4);
-        answers(&rt, room::<u64>(radix), 8);
-        answers(&rt, room::<i64>(radix), 8);
-        answers(&rt, room::<usize>(radix), 8);
-        answers(&rt, room::<isize>(radix), 8);
-        answers(&rt, room::<u128>(radix), 16);
-        answers(&rt, room::<i128>(radix), 16);
+        answers(&rt, rooms(radix), [1, 1, 2, 2, 4, 4, 8, 8, 8, 8, 16, 16]);
     }
-    Ok(())
 }
 
 // A decimal digit behind the front leads to the end of the type, and the next greater one out of it.

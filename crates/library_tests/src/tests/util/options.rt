@@ -1,5 +1,6 @@
 // A caller's own options, by the bound that parsers ask of them.
 
+use crate::tests::answers;
 use lexical_util::options::ParseOptions;
 
 struct EvenOnly(u8);
@@ -20,6 +21,6 @@ fn may_be_given<O: ParseOptions>(options: &O) -> bool {
 
 #[test]
 fn options_by_their_bound(rt: HostRuntime) {
-    assert!(rt; may_be_given(&EvenOnly(4)));
-    assert!(rt; !may_be_given(&EvenOnly(5)));
+    let given = [may_be_given(&EvenOnly(4)), may_be_given(&EvenOnly(5))];
+    answers(&rt, given, [true, false]);
 }
