@@ -6,8 +6,8 @@ PROGRAM := crates/lexint/out/lexint
 PROGRAM_CRATES := lexint $(shell sed -n 's/^lexint: *//p' crates.txt)
 SOURCES := $(shell find $(addprefix crates/,$(PROGRAM_CRATES)) -name out -prune -o -type f \( -name '*.rt' -o -name '*.antt' \) -print) crates.txt
 
-.PHONY: help toolchain run test test-one-by-one devices answers lexint install uninstall install-lexint uninstall-lexint rows docs
-.PHONY: check-docs check-languages bench judge test-judge must-not-compile fuzz fuzz-edges
+.PHONY: help toolchain run check test devices answers lexint install uninstall install-lexint uninstall-lexint rows docs
+.PHONY: check-docs check-languages bench flake8 mypy must-not-compile fuzz fuzz-edges
 
 # A target is listed by the words after its two number signs.
 help:
@@ -28,11 +28,10 @@ $(PROGRAM): $(SOURCES)
 	@RT=$(RT) tools/build.py lexint
 	@touch $@
 
-test: | toolchain ## the gate: proves everything from nothing, runs every test, and has every must-fail edit refused
-	@RT=$(RT) tools/gate.py
+check: answers test-c ## proves and builds what one uses, and runs the worked rows and the callers of the library
 
-test-one-by-one: | toolchain ## the gate, with each edit tried alone by the toolchain: slower, and without the judge
-	@RT=$(RT) tools/gate.py --one-by-one
+test: | toolchain ## the gate: proves everything from nothing, has every must-fail edit refused, runs every test
+	@RT=$(RT) tools/gate.sh
 
 devices: $(PROGRAM) ## runs the program over devices that refuse; a part of the gate
 	@tools/devices.py $(PROGRAM)
@@ -58,22 +57,12 @@ rows: | toolchain ## writes the theorems of the worked rows from tools/rows.txt 
 	@python3 tools/rows.py
 	@cd crates/rows && $(RT) fmt
 
-docs: ## writes what documents have from the source: docs/MAP.md, docs/CONTRACTS.md, docs/FORMATS.md, code blocks
+docs: ## writes what documents have from the source: docs/CONTRACTS.md, docs/FORMATS.md, code blocks
 	@python3 tools/documents.py
 
 check-docs: ## checks these, and every link, file name and word count; a part of the gate
 	@python3 tools/test_documents.py
 	@python3 tools/documents.py --check
-
-# What judge_edits.py is asked: make judge JUDGE="--crate lexical_util --jobs 2".
-JUDGE ?=
-
-judge: | toolchain ## tries the must-fail edits alone: JUDGE="--crate CRATE --only EDIT"
-	@RT=$(RT) tools/judge_edits.py $(JUDGE)
-
-test-judge: | toolchain ## tests the judge and the gate; a part of the gate
-	@tools/test_gate.py
-	@RT=$(RT) tools/test_judge.py
 
 must-not-compile: | toolchain ## checks that wrong programs over the libraries are refused; a part of the gate
 	@RT=$(RT) tools/must_not_compile.py

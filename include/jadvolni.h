@@ -7,7 +7,7 @@
  *     uint16_t port;
  *     jadvolni_result r = jadvolni_u16(text, len, &port);
  *     if (r.status != JADVOLNI_OK)
- *         fprintf(stderr, "%s at byte %zu\n", jadvolni_status_name(r.status), r.place);
+ *         fprintf(stderr, "%s at byte %zu\n", jadvolni_status_message(r.status), r.place);
  *
  * THE CALLS. Each of the twelve types u8, u16, u32, u64, u128, usize, i8, i16, i32, i64, i128 and
  * isize has four, shown here for u64:
@@ -72,7 +72,7 @@ extern "C" {
 #define JADVOLNI_VERSION_PATCH 0
 #define JADVOLNI_VERSION_STRING "0.1.0"
 
-/* The same as one number: 10000 * major + 100 * minor + patch. */
+/* The version as one number: 10000 * major + 100 * minor + patch. */
 #define JADVOLNI_VERSION 100
 
 /* The version of the library that the program was linked with, as such a number. */
@@ -144,16 +144,18 @@ typedef struct jadvolni_result {
 /* ---- formats ---- */
 
 /*
- * What a text may look like. Start from one of the three formats below, and change what differs:
+ * What a text may look like. Begin with jadvolni_format_of_radix, and change what differs:
  *
- *     jadvolni_format hexadecimal = JADVOLNI_FORMAT_STANDARD;
- *     hexadecimal.mantissa_radix = 16;
+ *     jadvolni_format hexadecimal = jadvolni_format_of_radix(16);
  *     hexadecimal.base_prefix = 'x';
  *
+ * DON'T BEGIN WITH {0}: that takes away the digit that a number requires, and then an empty text, or
+ * an empty line of a column, is 0 and no fault.
+ *
  * A flag is set by every byte but 0. A separator, prefix or suffix of 0 is none; to have the byte 0
- * itself (as in texts of UTF-16), set the flag `.._is_nul` beside it. A format needs no call to
- * make it or to free it. Any bytes may be in one: each call refuses a format that breaks a rule,
- * whatever the text is, and jadvolni_format_error tells beforehand.
+ * itself, set the flag `.._is_nul` beside it. A format is plain bytes, and nothing has to free it.
+ * Any bytes may be in one: each call refuses a format that breaks a rule, whatever the text is, and
+ * jadvolni_format_error tells beforehand.
  */
 typedef struct jadvolni_format {
     /* The radix, from 2 to 36. Digits above 9 are letters, in either case. */
@@ -176,7 +178,8 @@ typedef struct jadvolni_format {
     /* Flag: the suffix is matched exactly. Else a letter is matched in either case. */
     uint8_t case_sensitive_base_suffix;
 
-    /* Flags: a digit is required where either is set. Else a text without digits is 0. */
+    /* Flags: a digit is required where either is set. Else a text without digits is 0: so it is
+     * under a format that began with {0}. */
     uint8_t required_integer_digits;
     uint8_t required_mantissa_digits;
 
@@ -232,11 +235,21 @@ typedef struct jadvolni_format {
 #define JADVOLNI_FORMAT_STANDARD \
     {10, 0, 0, 0, 0, 0, 0, 1, 0, 0, 0, 0, 0, 0, 0, 0, 0, 0, 0, 0, 0, {0, 0, 0}}
 
+/* The standard format with digits of a radix from 2 to 36. One of any other radix is refused by each
+ * call, with JADVOLNI_INVALID_MANTISSA_RADIX. */
+static inline jadvolni_format jadvolni_format_of_radix(int radix)
+{
+    jadvolni_format format = JADVOLNI_FORMAT_STANDARD;
+    format.mantissa_radix = radix >= 2 && radix <= 36 ? (uint8_t)radix : 0;
+    return format;
+}
+
 /* Integers as JSON has them (RFC 8259): no "+", and no zero before another digit. */
 #define JADVOLNI_FORMAT_JSON \
     {10, 0, 0, 0, 0, 0, 1, 1, 1, 0, 1, 0, 0, 0, 0, 0, 0, 0, 0, 0, 0, {0, 0, 0}}
 
-/* Literals as sources of programs have them: "1_000", "0xFF", "0o17", "0b1". */
+/* The format of the project's tokenizer, and of no language: "1_000", "0xFF", "0o17", "0b1". "0777",
+ * which is 511 in C, is 777 unless `literal_octal_zero` is set, and a sign is taken, as in "+1". */
 #define JADVOLNI_FORMAT_LITERAL \
     {10, '_', 0, 0, 0, 0, 0, 1, 0, 0, 0, 0, 1, 0, 1, 0, 1, 0, 0, 0, 0, {0, 0, 0}}
 
@@ -316,6 +329,22 @@ JADVOLNI_CALLS_(isize, ptrdiff_t);
  * Any byte may be the separator, also one that the format gives a meaning: the text is cut first, and
  * then each field is read whole. "2026-11-23" as u16 between '-' is 2026, 11 and 23.
  *
+ * A FILE IN BLOCKS. The end of a text ends its last field, so a file that is handed over block by
+ * block GIVES WRONG NUMBERS, WITH JADVOLNI_OK: "12" and "34\n" are 12 and 34, where the file has 1234.
+ * Hand over whole lines, and keep what follows the last line feed for the next block:
+ *
+ *     size_t kept = 0, got;
+ *     while ((got = fread(block + kept, 1, size - kept, file)) > 0) {
+ *         size_t whole = jadvolni_field_start(block, kept + got, '\n');
+ *         read_lines(block, whole);
+ *         kept += got - whole;
+ *         memmove(block, block + whole, kept);
+ *     }
+ *     if (ferror(file) || kept == size) return 0; // or a line is longer than the block
+ *     read_lines(block, kept);                    // a last line without a line feed
+ *
+ * `read_lines` stands for a loop of jadvolni_i64_column until it has read all of its text.
+ *
  * Beside what the head of this file says, `values` points to `capacity` numbers that may be written,
  * and may be NULL where `capacity` is 0; `count` is not NULL. Neither lies in the text, in the format
  * or in the other.
@@ -361,7 +390,38 @@ static inline const char *jadvolni_status_name(uint32_t status)
     }
 }
 
-/* Where the field of a column starts that has its fault at `place`. */
+/* What a status says, as "missing digit", or "the radix has to be 2 to 36" for a fault of a format. */
+static inline const char *jadvolni_status_message(uint32_t status)
+{
+    switch (status) {
+    case JADVOLNI_OK: return "no fault";
+    case JADVOLNI_OVERFLOW: return "overflow";
+    case JADVOLNI_UNDERFLOW: return "underflow";
+    case JADVOLNI_INVALID_DIGIT: return "invalid digit";
+    case JADVOLNI_EMPTY: return "missing digit";
+    case JADVOLNI_MISSING_SIGN: return "missing sign";
+    case JADVOLNI_INVALID_POSITIVE_SIGN: return "forbidden plus sign";
+    case JADVOLNI_INVALID_LEADING_ZEROS: return "forbidden leading zero";
+    case JADVOLNI_INVALID_MANTISSA_RADIX: return "the radix has to be 2 to 36";
+    case JADVOLNI_INVALID_DIGIT_SEPARATOR:
+        return "the separator has to be ASCII, and no sign and no digit of the radix";
+    case JADVOLNI_INVALID_BASE_PREFIX:
+        return "the prefix has to be ASCII, and no sign and no digit of the radix";
+    case JADVOLNI_INVALID_BASE_SUFFIX:
+        return "the suffix has to be ASCII, and no sign and no digit of the radix";
+    case JADVOLNI_INVALID_PUNCTUATION:
+        return "separator, prefix and suffix have to be different bytes, and no letter in two "
+               "cases";
+    case JADVOLNI_INVALID_LITERAL_PREFIXES:
+        return "literal prefixes and octal zeros need the radix 10, and literal prefixes no "
+               "prefix, and no separator or suffix that may be a part of 0x, 0o, 0b or of their "
+               "digits";
+    case JADVOLNI_UNKNOWN_FIELD: return "the reserved bytes of the format have to be 0";
+    default: return "a status that only a later library has";
+    }
+}
+
+/* Where the field of a column starts that has its fault at `place`, or that is cut there. */
 static inline size_t jadvolni_field_start(const char *text, size_t place, uint8_t separator)
 {
     while (place > 0 && (uint8_t)text[place - 1] != separator)

@@ -3,7 +3,7 @@
 //     if (auto port = jadvolni::parse<std::uint16_t>(text))
 //         use(*port);
 //     else
-//         std::cerr << port.name() << " at byte " << port.place() << '\n';
+//         std::cerr << port.message() << " at byte " << port.place() << '\n';
 //
 //     auto [ptr, ec] = jadvolni::from_chars(first, last, value); // as std::from_chars
 //
@@ -54,7 +54,14 @@ inline const char *name(status of) noexcept
     return jadvolni_status_name(static_cast<std::uint32_t>(of));
 }
 
-// What a text may look like. Copy one of the three and change its fields.
+// What is wrong, as a sentence that says what the text or the format's field has to be.
+inline const char *message(status of) noexcept
+{
+    return jadvolni_status_message(static_cast<std::uint32_t>(of));
+}
+
+// What a text may look like. Begin with jadvolni_format_of_radix, or copy one of the three, and change
+// fields. A format{} requires no digit: under it an empty text is 0.
 using format = jadvolni_format;
 inline constexpr format standard = JADVOLNI_FORMAT_STANDARD;
 inline constexpr format json = JADVOLNI_FORMAT_JSON;
@@ -93,9 +100,10 @@ public:
         return has_value() ? std::optional<T>(number_) : std::nullopt;
     }
 
-    // What is wrong, and its name.
+    // What is wrong, its name, and what has to be instead.
     jadvolni::status status() const noexcept { return status_; }
     const char *name() const noexcept { return jadvolni::name(status_); }
+    const char *message() const noexcept { return jadvolni::message(status_); }
 
     // How many bytes were read, or the place of the fault.
     std::size_t place() const noexcept { return place_; }
@@ -236,9 +244,10 @@ public:
     // How many numbers were read. At a fault that is the index of the field that has it, from 0.
     std::size_t count() const noexcept { return count_; }
 
-    // What is wrong with that field or with the format, and its name.
+    // What is wrong with that field or with the format, its name, and what has to be instead.
     jadvolni::status status() const noexcept { return status_; }
     const char *name() const noexcept { return jadvolni::name(status_); }
+    const char *message() const noexcept { return jadvolni::message(status_); }
 
     // Where reading stopped, so that the next call goes on there; or the place of the fault.
     std::size_t place() const noexcept { return place_; }
@@ -251,6 +260,7 @@ private:
 
 // The numbers of the text's fields between a separator, which may be any byte, read into an array, as
 // far as it has room. The numbers before a fault stand, and the rest of the array is as it was.
+// Of a file that is read in blocks hand over whole lines, as jadvolni.h shows.
 template <class T>
 [[nodiscard]] column_result column(std::string_view text, char separator, T *values,
                                    std::size_t capacity, const format &under = standard) noexcept
@@ -264,7 +274,7 @@ template <class T>
     return {count, answer};
 }
 
-// The same into what has its numbers in a row: a std::vector, a std::array, a std::span, an array.
+// A column into what has its numbers in a row: a std::vector, a std::array, a std::span, an array.
 template <class Values>
 [[nodiscard]] auto column(std::string_view text, char separator, Values &&values,
                           const format &under = standard) noexcept
@@ -273,28 +283,15 @@ template <class Values>
     return column(text, separator, std::data(values), std::size(values), under);
 }
 
-// The front of [first, last) as a T, under a format. At std::errc() `ptr` is where reading stopped.
-// A number that the type hasn't is std::errc::result_out_of_range, and `ptr` is at the digit with
-// which it leaves the type. Every other fault is std::errc::invalid_argument at `first`, also that of
-// an invalid format. `value` changes at std::errc() alone.
-template <class T>
-std::from_chars_result from_chars(const char *first, const char *last, T &value,
-                                  const format &under) noexcept
-{
-    auto read = parse_partial<T>({first, static_cast<std::size_t>(last - first)}, under);
-    switch (read.status()) {
-    case status::ok:
-        value = *read;
-        return {first + read.place(), std::errc()};
-    case status::overflow:
-    case status::underflow:
-        return {first + read.place(), std::errc::result_out_of_range};
-    default:
-        return {first, std::errc::invalid_argument};
-    }
-}
-
 namespace detail {
+
+// Whether a front that was read as 0 has a digit: as a whole text that needs one it is a number.
+template <class T>
+bool has_digit(std::string_view front, format under) noexcept
+{
+    under.required_mantissa_digits = 1;
+    return parse<T>(front, under).has_value();
+}
 
 // What a byte is worth as a digit: 0 to 35, and 36 where it is none.
 inline int digit_value(char byte) noexcept
@@ -307,37 +304,46 @@ inline int digit_value(char byte) noexcept
 
 } // namespace detail
 
-// std::from_chars, with its answers: the front of [first, last) as a T in a base from 2 to 36, with no
-// plus. `ptr` is after the digits, also where the type hasn't the number; where there are no digits
-// it is `first`, with std::errc::invalid_argument.
+// The front of [first, last) as a T, under a format. At std::errc() `ptr` is where reading stopped,
+// and a digit was read, whatever the format requires; the zero of a prefix such as "0x" is none.
+// A number that the type hasn't is std::errc::result_out_of_range, and `ptr` is at the digit with
+// which it leaves the type. All else is std::errc::invalid_argument at `first`: a front without a
+// digit, every other fault, and an invalid format. `value` changes at std::errc() alone.
+template <class T>
+std::from_chars_result from_chars(const char *first, const char *last, T &value,
+                                  const format &under) noexcept
+{
+    auto read = parse_partial<T>({first, static_cast<std::size_t>(last - first)}, under);
+    if (read.status() == status::overflow || read.status() == status::underflow)
+        return {first + read.place(), std::errc::result_out_of_range};
+    if (!read || (*read == 0 && !detail::has_digit<T>({first, read.place()}, under)))
+        return {first, std::errc::invalid_argument};
+    value = *read;
+    return {first + read.place(), std::errc()};
+}
+
+// std::from_chars, with its answers: the front of [first, last) as a T in a base, with no plus. `ptr`
+// is after the digits, also where the type hasn't the number; where there are no digits it is `first`,
+// with std::errc::invalid_argument. So is a base that isn't 2 to 36, which std::from_chars leaves
+// undefined.
 template <class T>
 std::from_chars_result from_chars(const char *first, const char *last, T &value,
                                   int base = 10) noexcept
 {
     if (first == last || *first == '+') return {first, std::errc::invalid_argument};
-    T number{};
-    std::from_chars_result read{};
-    if (base == 10) {
-        auto answer = parse_partial<T>({first, static_cast<std::size_t>(last - first)});
-        number = answer.value_or(T{});
-        read.ptr = first + answer.place();
-        read.ec = answer                              ? std::errc()
-                  : answer.status() == status::empty  ? std::errc::invalid_argument
-                                                      : std::errc::result_out_of_range;
-    } else {
-        format in_base = standard;
-        in_base.mantissa_radix = static_cast<std::uint8_t>(base);
-        read = from_chars(first, last, number, in_base);
-    }
-    if (read.ec == std::errc::result_out_of_range) {
-        while (read.ptr != last && detail::digit_value(*read.ptr) < base) ++read.ptr;
-        return read;
+    std::string_view text{first, static_cast<std::size_t>(last - first)};
+    auto read = base == 10 ? parse_partial<T>(text)
+                           : parse_partial<T>(text, jadvolni_format_of_radix(base));
+    const char *stop = first + read.place();
+    if (read.status() == status::overflow || read.status() == status::underflow) {
+        while (stop != last && detail::digit_value(*stop) < base) ++stop;
+        return {stop, std::errc::result_out_of_range};
     }
     // A front without digits is 0 to jadvolni_*_partial, at the start or after the minus.
-    bool is_empty = read.ptr == first || (read.ptr == first + 1 && *first == '-');
-    if (read.ec != std::errc() || is_empty) return {first, std::errc::invalid_argument};
-    value = number;
-    return read;
+    if (!read || stop == first || (stop == first + 1 && *first == '-'))
+        return {first, std::errc::invalid_argument};
+    value = *read;
+    return {stop, std::errc()};
 }
 
 } // namespace jadvolni

@@ -1,5 +1,7 @@
 """The library's C calls from Python, by the shared library and the header, for tests alone.
 
+    python3 tools/c_calls.py LIBRARY    compares the worked rows with a shared library
+
 What the struct of a format looks like, and which number each status is, is read from
 include/jadvolni.h, so that a header and a library that disagree show here.
 """
@@ -8,6 +10,7 @@ from __future__ import annotations
 import ctypes
 import os
 import re
+import sys
 from typing import Callable, Iterator, NamedTuple, Optional
 
 import row_data
@@ -151,3 +154,7 @@ def compare_rows(library: Library) -> str:
     if wrong:
         raise AssertionError("\n".join(wrong))
     return f"{len(rows)} rows"
+
+
+if __name__ == "__main__":
+    print(compare_rows(Library(sys.argv[1])))

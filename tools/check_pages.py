@@ -1,12 +1,17 @@
-"""What `tools/documents.py --check` asks of the pages: links that lead somewhere, files that are there, true runs, few words.
+"""What `tools/documents.py --check` asks of pages: names of what is there, true runs, few words.
 
-- A link has to lead to a file of the repository, and its anchor to a heading there. Links to the web aren't followed.
-- A name in backquotes that looks like a file or a folder has to be the end of the path of one. What runs and installers
-  make is in MADE.
-- A run of the program over what `printf` gives it has to answer as the slow reading of the grammar does.
-- A page has at most as many words as BUDGETS says, and those of BUDGETS have at most MOST_WORDS together. What a tool
-  takes from the source or compares with it (blocks, worked rows) and what a measurement writes doesn't count.
-  `tools/documents.py --words` prints the counts.
+- A link has to lead to a file of the repository, and its anchor to a heading there. Links to the
+  web aren't followed.
+- A name in backquotes that looks like a file or a folder has to be the end of the path of one. What
+  runs and installers make is in MADE.
+- A name in backquotes that looks like a function has to stand in the code, and not in the comment
+  at a line's end alone. What the Rust crate has, and this repository lacks, is in LACKING. `T`
+  stands for the name of a type.
+- A run of the program over what `printf` gives it has to answer as the slow reading of the grammar
+  does.
+- A page has at most as many words as BUDGETS says, and those of BUDGETS have at most MOST_WORDS
+  together. What a tool takes from the source or compares with it (blocks, worked rows) and what a
+  measurement writes doesn't count. `tools/documents.py --words` prints the counts.
 - The newest version of the changelog is that of the header and of the packages.
 """
 from __future__ import annotations
@@ -20,20 +25,26 @@ import slow_reading
 
 MOST_WORDS = 10000
 BUDGETS = {
-    "README.md": 800, "CONTRIBUTING.md": 820, "CHANGELOG.md": 300, "docs/ARCHITECTURE.md": 1100,
-    "docs/DECISIONS.md": 2000, "docs/DIFFERENCES.md": 1200, "docs/GRAMMAR.md": 2000, "docs/PROOFS.md": 1310,
-    "docs/SPEED.md": 500,
+    "README.md": 720, "CONTRIBUTING.md": 820, "CHANGELOG.md": 300, "docs/ARCHITECTURE.md": 1100,
+    "docs/DECISIONS.md": 2000, "docs/DIFFERENCES.md": 1200, "docs/GRAMMAR.md": 2000,
+    "docs/PROOFS.md": 1420, "docs/SPEED.md": 500,
 }
 # The pages that a tool writes whole. A further page of docs/ has to be in one of the two lists.
-WRITTEN = ("docs/CONTRACTS.md", "docs/FORMATS.md", "docs/MAP.md")
+WRITTEN = ("docs/CONTRACTS.md", "docs/FORMATS.md")
 # The most words of any other page: of a crate, a binding, an example.
 OF_OTHERS = 1000
-MADE = ("out/*", "*/out/*", "build/*", "dist/*", "venv/*", "libjadvolni.*", "liblexical*", "Proof.antt", "ledger.txt")
-# Where the version is written.
-VERSIONS = {
-    "CHANGELOG.md": r"(?m)^## (\S+)", "include/jadvolni.h": r'JADVOLNI_VERSION_STRING "(.*?)"',
-    "bindings/rust/Cargo.toml": r'(?m)^version = "(.*?)"', "bindings/python/pyproject.toml": r'(?m)^version = "(.*?)"',
-}
+MADE = ("out/*", "*/out/*", "build/*", "dist/*", "venv/*", "libjadvolni.*", "liblexical*",
+        "Proof.antt", "ledger.txt")
+# The folders of the code that pages speak of, and what begins a comment in its files.
+CODE_FOLDERS = ("bench/", "bindings/", "crates/", "examples/", "include/", "tests/")
+CODE_COMMENTS = {".rt": "//", ".antt": "--", ".rs": "//", ".h": "//", ".hpp": "//", ".c": "//",
+                 ".cpp": "//", ".py": "#", ".pyi": "#"}
+LACKING = ("char_to_digit_const",)
+# The files with the version, in quotes, at every place where it is written.
+VERSIONED = (
+    "include/jadvolni.h", "bindings/rust/Cargo.toml", "bindings/rust/Cargo.lock",
+    "bindings/rust/jadvolni/Cargo.toml", "bindings/python/pyproject.toml",
+)
 
 FENCE = re.compile(r"(?ms)^(```+)[^\n]*\n.*?^\1[ \t]*$")
 CODE = re.compile(r"`([^`\n]+)`")
@@ -43,8 +54,11 @@ MEASURED = re.compile(r"(?s)<!-- measured: .*?<!-- end of what was measured -->"
 COMMENT = re.compile(r"(?s)<!--.*?-->")
 EXAMPLES = re.compile(r"(?m)^\| Parser \| Fields \|.*\n(?:\|.*\n)+")
 RUN = re.compile(r"(?ms)^\$ printf '([^'\n]*)' \| (?:make run|lexint)\n(.*?)(?=^\$ |^```)")
-FILE = re.compile(r"(?:[\w.*-]+/)*[\w*-][\w.*-]*\.(?:md|rt|antt|py|sh|txt|mk|edit|c|h|hpp|cpp|rs|toml|json|tsv|svg|in|a|so|log)")
+FILE = re.compile(r"(?:[\w.*-]+/)*[\w*-][\w.*-]*\."
+                  r"(?:md|rt|antt|py|sh|txt|mk|edit|c|h|hpp|cpp|rs|toml|json|tsv|svg|in|a|so|log)")
 FOLDER = re.compile(r"(?:[\w.*-]+/)+")
+# Several words, or a module or a type before the name, or brackets behind it.
+FUNCTION = re.compile(r"(?=\w+_|.*\W)(?:\w+::)*\w+(?:\(\))?")
 
 
 def prose_of(text: str) -> str:
@@ -59,7 +73,8 @@ def anchors_of(text: str) -> set[str]:
         shown = re.sub(r"\[([^\]]*)\]\([^)]*\)", r"\1", title).lower()
         anchor = re.sub(r"[^\w\- ]", "", shown).replace(" ", "-")
         found[anchor] = found.get(anchor, 0) + 1
-    return {anchor + (f"-{number}" if number else "") for anchor, count in found.items() for number in range(count)}
+    return {anchor + (f"-{number}" if number else "")
+            for anchor, count in found.items() for number in range(count)}
 
 
 def words_of(text: str) -> int:
@@ -104,7 +119,32 @@ def is_there(name: str, files: set[str]) -> bool:
 
 def wrong_names(page: str, text: str, files: set[str]) -> list[str]:
     """The names of a page that no file has."""
-    return [f"{page}: no file is named `{name}`" for name in names_in(text) if not is_there(name, files)]
+    return [f"{page}: no file is named `{name}`"
+            for name in names_in(text) if not is_there(name, files)]
+
+
+def code_words(top: str, names: list[str]) -> set[str]:
+    """The words of the code, but for those of comments."""
+    found: set[str] = set()
+    for name in names:
+        mark = CODE_COMMENTS.get(posixpath.splitext(name)[1])
+        if mark and name.startswith(CODE_FOLDERS):
+            with open(os.path.join(top, name), encoding="utf-8") as file:
+                found.update(re.findall(r"\w+", re.sub(f"{mark}.*", "", file.read())))
+    return found
+
+
+def has_parts(code: str, words: set[str]) -> bool:
+    """Whether the code has every part of a name. Half a name, as `_with_options`, is none."""
+    parts = re.findall(r"\w+", re.sub(r"_T(?=_|$)", "_u8", code))
+    return all(it in words or it != it.strip("_") for it in parts)
+
+
+def wrong_functions(page: str, text: str, words: set[str]) -> list[str]:
+    """The names of a page that look like functions, and that no code has."""
+    names = filter(FUNCTION.fullmatch, CODE.findall(prose_of(text)))
+    return [f"{page}: no code has `{name}`"
+            for name in names if name not in LACKING and not has_parts(name, words)]
 
 
 def wrong_runs(page: str, text: str) -> list[str]:
@@ -119,7 +159,7 @@ def wrong_runs(page: str, text: str) -> list[str]:
 
 
 def too_long(words: dict[str, int]) -> list[str]:
-    """The pages with too many words, and a page of docs/ of which nobody says how many it may have."""
+    """The pages with too many words, and those of docs/ without a number in BUDGETS."""
     found = []
     for page, count in words.items():
         if page.startswith("docs/") and page not in BUDGETS:
@@ -129,20 +169,21 @@ def too_long(words: dict[str, int]) -> list[str]:
             found.append(f"{page}: {count} words by hand, and {most} are the most")
     in_all = sum(words.get(page, 0) for page in BUDGETS)
     if in_all > MOST_WORDS:
-        found.append(f"{in_all} words by hand in README.md, CONTRIBUTING.md, CHANGELOG.md and docs/, "
-                     f"and {MOST_WORDS} are the most")
+        found.append(f"{in_all} words by hand in the pages of BUDGETS, and {MOST_WORDS} at most")
     return found
 
 
 def wrong_versions(top: str) -> list[str]:
     """The files whose version isn't that of the changelog."""
-    found = {}
-    for name, pattern in VERSIONS.items():
+    def text_of(name: str) -> str:
         with open(os.path.join(top, name), encoding="utf-8") as file:
-            version = re.search(pattern, file.read())
-        found[name] = version[1] if version else "none"
-    wanted = found["CHANGELOG.md"]
-    return [f"{name}: its version is {it}, and that of CHANGELOG.md {wanted}" for name, it in found.items() if it != wanted]
+            return file.read()
+
+    wanted = set(re.findall(r"(?m)^## (\S+)", text_of("CHANGELOG.md"))[:1])
+    found = {name: set(re.findall(r'"(\d+\.\d+\.\d+)"', text_of(name))) for name in VERSIONED}
+    return [f"{name}: its version is {' and '.join(sorted(it)) or 'missing'}, "
+            f"and that of CHANGELOG.md {' '.join(wanted) or 'missing'}"
+            for name, it in found.items() if it != wanted or not it]
 
 
 def counts_of(pages: dict[str, str]) -> dict[str, int]:
@@ -150,13 +191,15 @@ def counts_of(pages: dict[str, str]) -> dict[str, int]:
     return {page: words_of(text) for page, text in sorted(pages.items()) if page not in WRITTEN}
 
 
-def faults(pages: dict[str, str], names: list[str]) -> list[str]:
-    """What is wrong with the pages, among the files of the repository."""
+def faults(pages: dict[str, str], names: list[str], words: set[str]) -> list[str]:
+    """What is wrong with the pages, among the files of the repository and the words of its code."""
     files = {*(name.replace(os.sep, "/") for name in names), *pages}
     found = []
     for page, text in sorted(pages.items()):
         found += wrong_links(page, text, pages, files)
-        found += [] if page in WRITTEN else wrong_names(page, text, files) + wrong_runs(page, text)
+        if page not in WRITTEN:
+            found += wrong_names(page, text, files) + wrong_functions(page, text, words)
+            found += wrong_runs(page, text)
     return found + too_long(counts_of(pages))
 
 
@@ -164,6 +207,8 @@ def said(pages: dict[str, str]) -> str:
     """How much was looked at, in one line."""
     links = sum(len(LINK.findall(CODE.sub("", prose_of(text)))) for text in pages.values())
     names = sum(len(names_in(text)) for page, text in pages.items() if page not in WRITTEN)
-    runs = sum(len(RUN.findall(block[0])) for text in pages.values() for block in FENCE.finditer(text))
+    runs = sum(len(RUN.findall(block[0]))
+               for text in pages.values() for block in FENCE.finditer(text))
     words = sum(count for page, count in counts_of(pages).items() if page in BUDGETS)
-    return f"{links} links and {names} names of files, {runs} runs, {words} of {MOST_WORDS} words by hand"
+    return (f"{links} links and {names} names of files, {runs} runs, "
+            f"{words} of {MOST_WORDS} words by hand")

@@ -1,20 +1,22 @@
 #!/usr/bin/env python3
 """Writes the documents that are made from the source, or says where they aren't as written.
 
-    tools/documents.py           writes docs/MAP.md, docs/CONTRACTS.md, docs/FORMATS.md, and the marked code blocks of
-                                 other documents
-    tools/documents.py --check   writes nothing, and ends with status 1 where one of them isn't as it would write it, or
-                                 where check_pages.py finds something wrong
+    tools/documents.py           writes docs/CONTRACTS.md, docs/FORMATS.md, and the marked code
+                                 blocks of other documents
+    tools/documents.py --check   writes nothing, and ends with status 1 where one of them isn't as
+                                 it would write it, or where check_pages.py finds something wrong
     tools/documents.py --words   prints how many words of each page were written by hand
 
-A block is marked in a document by the line before it, which names a source file and what is taken of it:
+A block is marked in a document by the line before it, which names a source file and what is taken
+of it:
 
     <!-- block: crates/uses/src/ledger.rt: Entry::of, total -->
 
-Functions are taken whole, with their doc comments. `all` takes the file's text from its first `ghost use` or `use` to
-its first test; `body of NAME` what stands between a function's braces, up to its first assertion; `imports and body of
-NAME` the file's `use` lines too; and `whole` the file's text after the comment that it begins with. With `as CRATE` at
-the end, `crate::` is that crate's name, as a caller elsewhere writes it.
+Functions are taken whole, with their doc comments. `all` takes the file's text from its first
+`ghost use` or `use` to its first test; `body of NAME` what stands between a function's braces, up
+to its first assertion; `imports and body of NAME` the file's `use` lines too; and `whole` the
+file's text after the comment that it begins with. With `as CRATE` at the end, `crate::` is that
+crate's name, as a caller elsewhere writes it.
 """
 from __future__ import annotations
 
@@ -25,13 +27,13 @@ import sys
 
 import check_pages
 import contracts_page
-import edit_files
 import formats_page
-import map_page
+import source
 
 TOP = os.path.dirname(os.path.dirname(os.path.abspath(__file__)))
-BLOCK = re.compile(r"(?m)^(<!-- block: (?P<file>[^:\n]+): (?P<what>[^\n]*?)(?: as (?P<crate>\w+))? -->\n```(?P<language>\w+)\n)"
-                   r"(?s:.*?)^```$")
+BLOCK = re.compile(
+    r"(?m)^(<!-- block: (?P<file>[^:\n]+): (?P<what>[^\n]*?)(?: as (?P<crate>\w+))? -->\n"
+    r"```\w+\n)(?s:.*?)^```$")
 
 
 class Unfit(Exception):
@@ -41,8 +43,12 @@ class Unfit(Exception):
 def files_of(top: str) -> list[str]:
     """Every file of the repository, but what .gitignore leaves out."""
     with open(os.path.join(top, ".gitignore"), encoding="utf-8") as file:
-        ignored = [".git", *(line.strip().strip("/") for line in file if line.strip() and not line.startswith("#"))]
-    is_ours = lambda name: not any(fnmatch.fnmatch(name, pattern) for pattern in ignored)
+        lines = [line.strip().strip("/") for line in file if not line.startswith("#")]
+    ignored = [".git", *filter(None, lines)]
+
+    def is_ours(name: str) -> bool:
+        return not any(fnmatch.fnmatch(name, pattern) for pattern in ignored)
+
     found = []
     for at, folders, names in os.walk(top):
         folders[:] = filter(is_ours, folders)
@@ -57,79 +63,101 @@ def crates_of(top: str) -> list[str]:
     return [line.split(":")[0].split()[0] for line in lines if line]
 
 
-def function_text(file: str, text: str, name: str) -> str:
-    """A function with its doc comment, without the indentation that it has."""
-    found = [it for it in edit_files.items_of("src/lib.rt", text) if "::".join([*it.owner, it.name]) == name]
+def only_function(file: str, text: str, name: str) -> source.Function:
+    """The function of this name: a method by its block's name too, as `Entry::of`."""
+    found = [it for it in source.functions_of("src/lib.rt", text)
+             if it.path() == name or it.name == name]
     if len(found) != 1:
         raise Unfit(f"{file} has {len(found)} functions `{name}`, and not one")
-    begin = text.rfind("\n", 0, found[0].head) + 1
+    return found[0]
+
+
+def function_text(file: str, text: str, name: str) -> str:
+    """A function with its doc comment, without the indentation that it has."""
+    function = only_function(file, text, name)
+    begin = text.rfind("\n", 0, function.head) + 1
     while re.search(r"\n\s*(?:///|#\[)[^\n]*\n\Z", text[:begin]):
         begin = text.rfind("\n", 0, begin - 1) + 1
-    return contracts_page.undented(text[begin:found[0].end])
+    return contracts_page.undented(text[begin:function.end])
 
 
 def body_text(file: str, text: str, name: str) -> str:
     """What stands between the braces of a function, up to its first assertion."""
-    found = [it for it in edit_files.items_of("src/lib.rt", text) if it.name == name]
-    if len(found) != 1:
-        raise Unfit(f"{file} has {len(found)} functions `{name}`, and not one")
-    body = re.split(r"(?m)^\s*assert", text[found[0].body + 1:found[0].end - 1])[0]
+    function = only_function(file, text, name)
+    body = re.split(r"(?m)^\s*assert", text[function.body + 1:function.end - 1])[0]
     return contracts_page.undented(body.strip("\n"))
 
 
-def block_text(top: str, marker: re.Match[str]) -> str:
+def block_text(top: str, file: str, what: str) -> str:
     """The code that a marker stands for."""
-    file, what, crate = marker["file"], marker["what"].strip(), marker["crate"]
     path = os.path.join(top, file)
     if not os.path.isfile(path):
         raise Unfit(f"there is no file {file}")
-    text = edit_files.read(path)
+    text = source.read(path)
     if what == "whole":
-        code = re.sub(r"\A(?:/\*(?s:.*?)\*/\n|(?://[^\n]*\n)+)", "", text).strip("\n")
-    elif what == "all":
-        begin = re.search(r"(?m)^(?:ghost )?use ", text)
-        end = re.search(r"(?m)^#\[test\]", text)
-        code = "#![tactic(auto)]\n\n" + text[begin.start():end.start() if end else len(text)].strip()
-    elif what.startswith("imports and body of "):
-        imports = re.findall(r"(?m)^use [^;]*;", text)
-        code = "\n".join(imports) + "\n\n" + body_text(file, text, what[len("imports and body of "):])
-    elif what.startswith("body of "):
-        code = body_text(file, text, what[len("body of "):])
-    else:
-        code = "\n\n".join(function_text(file, text, name.strip()) for name in what.split(","))
-    return code.replace("crate::", f"{crate}::") if crate else code
+        return re.sub(r"\A(?:/\*(?s:.*?)\*/\n|(?://[^\n]*\n)+)", "", text).strip("\n")
+    if what == "all":
+        code = re.split(r"(?m)^#\[test\]", text)[0]
+        code = re.split(r"(?m)^(?=(?:ghost )?use )", code, maxsplit=1)[-1]
+        return "#![tactic(auto)]\n\n" + code.strip()
+    if what.startswith("imports and body of "):
+        imports = "\n".join(re.findall(r"(?m)^use [^;]*;", text))
+        return imports + "\n\n" + body_text(file, text, what.removeprefix("imports and body of "))
+    if what.startswith("body of "):
+        return body_text(file, text, what.removeprefix("body of "))
+    return "\n\n".join(function_text(file, text, name.strip()) for name in what.split(","))
 
 
 def with_blocks(top: str, path: str, faults: list[str]) -> str:
     """A document with its marked blocks as the source has them."""
     def fill(marker: re.Match[str]) -> str:
         try:
-            return f"{marker[1]}{block_text(top, marker)}\n```"
+            code = block_text(top, marker["file"], marker["what"].strip())
         except Unfit as fault:
             faults.append(f"{path}: {fault}")
             return marker[0]
+        code = code.replace("crate::", f"{marker['crate']}::") if marker["crate"] else code
+        return f"{marker[1]}{code}\n```"
 
-    return BLOCK.sub(fill, edit_files.read(os.path.join(top, path)))
+    return BLOCK.sub(fill, source.read(os.path.join(top, path)))
 
 
 def documents(top: str, faults: list[str]) -> dict[str, str]:
     """The text of each document that is made from the source, wholly or in part."""
-    files, crates = files_of(top), crates_of(top)
+    whole = {"docs/CONTRACTS.md": contracts_page.page(top, crates_of(top))}
     formats = formats_page.page(top)
-    pages = {"docs/MAP.md", "docs/CONTRACTS.md", *(["docs/FORMATS.md"] if formats else [])}
-    found = {path: with_blocks(top, path, faults) for path in files if path.endswith(".md") and path not in pages}
-    found["docs/CONTRACTS.md"] = contracts_page.page(top, crates)
     if formats:
-        found["docs/FORMATS.md"] = formats
-    faults += contracts_page.unnamed(top, crates, found["docs/CONTRACTS.md"])
-    found["docs/MAP.md"] = map_page.page(top, sorted({*files, *pages}), crates, faults)
-    return found
+        whole["docs/FORMATS.md"] = formats
+    pages = [path for path in files_of(top) if path.endswith(".md") and path not in whole]
+    return {**{path: with_blocks(top, path, faults) for path in pages}, **whole}
 
 
 def old_ones(top: str, found: dict[str, str]) -> list[str]:
     """The documents that aren't as the source has them."""
-    place = {path: os.path.join(top, path) for path in found}
-    return [path for path, text in found.items() if not os.path.isfile(place[path]) or edit_files.read(place[path]) != text]
+    def is_old(path: str, text: str) -> bool:
+        place = os.path.join(top, path)
+        return not os.path.isfile(place) or source.read(place) != text
+
+    return [path for path, text in found.items() if is_old(path, text)]
+
+
+def checked(found: dict[str, str], faults: list[str]) -> str:
+    """Adds what is wrong with the documents, and says in a line what was looked at."""
+    old = old_ones(TOP, found)
+    faults += [f"{path}: it isn't as the source has it: make docs writes it anew" for path in old]
+    files = files_of(TOP)
+    faults += check_pages.faults(found, files, check_pages.code_words(TOP, files))
+    faults += check_pages.wrong_versions(TOP)
+    return f"{len(found)} documents looked at, {len(old)} old; {check_pages.said(found)}"
+
+
+def written(found: dict[str, str]) -> str:
+    """Writes what is old, and says how many documents that were."""
+    old = old_ones(TOP, found)
+    for path in old:
+        with open(os.path.join(TOP, path), "w", encoding="utf-8") as file:
+            file.write(found[path])
+    return f"{len(found)} documents looked at, {len(old)} written"
 
 
 def main(arguments: list[str]) -> int:
@@ -139,17 +167,10 @@ def main(arguments: list[str]) -> int:
     faults: list[str] = []
     found = documents(TOP, faults)
     if arguments == ["--words"]:
-        print("\n".join(f"{count:6} {page}" for page, count in check_pages.counts_of(found).items()))
+        counts = check_pages.counts_of(found)
+        print("\n".join(f"{count:6} {page}" for page, count in counts.items()))
         return 0
-    old = old_ones(TOP, found)
-    if arguments:
-        faults += [f"{path}: it isn't as the source has it: make docs writes it anew" for path in old]
-        faults += check_pages.faults(found, files_of(TOP)) + check_pages.wrong_versions(TOP)
-    else:
-        for path in old:
-            with open(os.path.join(TOP, path), "w", encoding="utf-8") as file:
-                file.write(found[path])
-    said = f"{len(found)} documents looked at, {len(old)} " + (f"old; {check_pages.said(found)}" if arguments else "written")
+    said = checked(found, faults) if arguments else written(found)
     print("\n".join([*faults, said]))
     return 1 if faults else 0
 

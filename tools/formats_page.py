@@ -8,12 +8,13 @@ from row_data import Answer, Group, escaped, groups_of
 from rows import rust_value
 
 DATA = os.path.join("tools", "languages.txt")
-HEADINGS = {"more": "Reads more", "less": "Reads less", "otherwise": "Another value"}
+# A wrong number harms more than a fault, so texts with another value come first.
+HEADINGS = {"otherwise": "Another value", "more": "Reads more", "less": "Reads less"}
 UNLIKE = "unlike: "
 FRONT = (
     "# Formats\n\n"
-    "The integers of programming languages, of data formats and of other notations, each by a "
-    "function of `format::languages` that makes its format.\n\n"
+    "The integers of programming languages, of assemblers and of data formats, each by a function "
+    "of `format::languages` that makes its format.\n\n"
     "```rust\n"
     "use lexical_parse_integer::format::languages;\n"
     "use lexical_parse_integer::{FromLexicalWithOptions, options};\n\n"

@@ -4,8 +4,7 @@
 set -eu
 cd "$(dirname "$0")/../crates/lexical_parse_integer/src/algorithm"
 
-readers="multi.rt lanes.rt"
-if grep -nE '(^|[^_a-z0-9])(is|parse)_[48]digits' $readers; then
+if grep -nE '(^|[^_a-z0-9])(is|parse)_[48]digits' multi.rt lanes.rt; then
     echo "tools/lanes.sh: a word reader names a function on whole words" >&2
     exit 1
 fi

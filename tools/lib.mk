@@ -4,6 +4,8 @@ CC ?= cc
 INCLUDEDIR ?= $(PREFIX)/include
 LIBDIR ?= $(PREFIX)/lib
 MANDIR ?= $(PREFIX)/share/man
+DOCDIR := $(PREFIX)/share/doc/jadvolni
+LICENCES := $(wildcard LICENSE-APACHE LICENSE-MIT NOTICE)
 # The version stands in the header alone. Programs that were linked with one SOVERSION run with each library of it.
 VERSION := $(shell sed -n 's/.*JADVOLNI_VERSION_STRING "\(.*\)"/\1/p' include/jadvolni.h)
 SOVERSION := 0
@@ -25,7 +27,7 @@ build/libjadvolni.a: $(LIBRARY_SOURCES)
 # It needs no other library, not even that of C: -nostdlib leaves it out, and -z defs fails if anything is missing.
 build/libjadvolni.so: build/libjadvolni.a
 	@command -v $(CC) >/dev/null || { echo "there is no $(CC) to link build/libjadvolni.so with" >&2; exit 1; }
-	@$(CC) -shared -nostdlib -o $@ -Wl,-soname,libjadvolni.so.$(SOVERSION) \
+	@$(CC) $(CFLAGS) $(LDFLAGS) -shared -nostdlib -o $@ -Wl,-soname,libjadvolni.so.$(SOVERSION) \
 	    -Wl,-z,defs,-z,relro,-z,now,-z,noexecstack -Wl,--whole-archive $< -Wl,--no-whole-archive
 
 # What the templates of pkg-config, CMake and man leave open.
@@ -34,7 +36,7 @@ FILL = sed -e 's|@PREFIX@|$(PREFIX)|; s|@LIBDIR@|$(LIBDIR)|; s|@INCLUDEDIR@|$(IN
 
 install-lib: $(LIBRARIES) ## puts the library where compilers look: PREFIX, LIBDIR, DESTDIR
 	install -d $(DESTDIR)$(INCLUDEDIR) $(DESTDIR)$(LIBDIR)/pkgconfig $(DESTDIR)$(LIBDIR)/cmake/jadvolni
-	install -d $(DESTDIR)$(MANDIR)/man3
+	install -d $(DESTDIR)$(MANDIR)/man3 $(DESTDIR)$(DOCDIR)
 	install -m 644 include/jadvolni.h include/jadvolni.hpp $(DESTDIR)$(INCLUDEDIR)
 	install -m 644 build/libjadvolni.a $(DESTDIR)$(LIBDIR)
 	install -m 755 build/libjadvolni.so $(DESTDIR)$(LIBDIR)/libjadvolni.so.$(VERSION)
@@ -44,13 +46,14 @@ install-lib: $(LIBRARIES) ## puts the library where compilers look: PREFIX, LIBD
 	$(FILL) packaging/jadvolniConfig.cmake.in > $(DESTDIR)$(LIBDIR)/cmake/jadvolni/jadvolniConfig.cmake
 	$(FILL) packaging/jadvolniConfigVersion.cmake.in > $(DESTDIR)$(LIBDIR)/cmake/jadvolni/jadvolniConfigVersion.cmake
 	$(FILL) packaging/jadvolni.3.in > $(DESTDIR)$(MANDIR)/man3/jadvolni.3
+	install -m 644 $(LICENCES) $(DESTDIR)$(DOCDIR)
 
 uninstall-lib: ## takes the library away
 	rm -f $(DESTDIR)$(INCLUDEDIR)/jadvolni.h $(DESTDIR)$(INCLUDEDIR)/jadvolni.hpp
 	rm -f $(DESTDIR)$(LIBDIR)/libjadvolni.a $(DESTDIR)$(LIBDIR)/libjadvolni.so
 	rm -f $(DESTDIR)$(LIBDIR)/libjadvolni.so.$(SOVERSION) $(DESTDIR)$(LIBDIR)/libjadvolni.so.$(VERSION)
 	rm -f $(DESTDIR)$(LIBDIR)/pkgconfig/jadvolni.pc $(DESTDIR)$(MANDIR)/man3/jadvolni.3
-	rm -rf $(DESTDIR)$(LIBDIR)/cmake/jadvolni
+	rm -rf $(DESTDIR)$(LIBDIR)/cmake/jadvolni $(DESTDIR)$(DOCDIR)
 
 # Without a compiler of C there is no shared library; check_c.py says what it skips then.
 test-c: build/libjadvolni.a $(SHARED) ## runs the callers in C, C++, Rust and Python; a part of the gate

@@ -1,15 +1,20 @@
 #!/usr/bin/env python3
-"""Tests of documents.py and of the files that it stands on, over a small repository that it writes.
+"""Tests of documents.py and of what it stands on, over a small repository that they write.
 
-Each of its breaks has to be seen: a document that is old, a file that doesn't say what it is, a marker that names
-nothing, a link that leads nowhere, a page that is too long. Its last line is `N passed, M failed`.
+Each break has to be seen: a document that is old, a marker that names nothing, a link that leads
+nowhere, a page that is too long.
 """
+from __future__ import annotations
+
 import os
 import sys
 import tempfile
+import unittest
 
-import check_pages
-import documents
+sys.dont_write_bytecode = True
+
+import check_pages  # noqa: E402
+import documents  # noqa: E402
 
 SOURCE = """//! Halves of numbers.
 #![tactic(auto)]
@@ -62,16 +67,27 @@ FILES = {
     "crates.txt": "# The crates.\nsmall:\n",
     "crates/small/src/lib.rt": SOURCE,
     "crates/small/src/inner.rt": "// Inside.\npub fn inner() {}\n",
-    "crates/small/out/lib.rt": "no comment\n",
-    "made.o": "no comment\n",
-    "crates/small/proofs/half/Answers.antt": "use nothing\n",
-    "crates/small/must-fail/half_is_a_third.edit": "file: src/lib.rt\nold:     x / 2\nnew:     x / 3\n",
-    "crates/small/must-fail/hidden_adds_two.edit": "file: src/lib.rt\nold:     x + 1\nnew:     x + 2\n",
-    "crates/small/must-fail/halved_is_whole.edit": "file: src/lib.rt\nold:         *self / 2\nnew:         *self\n",
+    "crates/small/out/README.md": "made\n",
+    "crates/small/must-fail/half_is_a_third.edit": "",
     "crates/small/ten.c": "/* Ten. */\nint ten = 10;\n",
-    "docs/GUIDE.md": "# Guide\n\nHow to halve. And more.\n\n<!-- block: crates/small/src/lib.rt: half -->\n```rust\nold\n```\n\n"
-                     "<!-- block: crates/small/src/lib.rt: imports and body of shown as small -->\n```rust\n```\n\n"
-                     "<!-- block: crates/small/ten.c: whole -->\n```c\nold\n```\n",
+    "docs/GUIDE.md": """# Guide
+
+How to halve. And more.
+
+<!-- block: crates/small/src/lib.rt: half -->
+```rust
+old
+```
+
+<!-- block: crates/small/src/lib.rt: imports and body of shown as small -->
+```rust
+```
+
+<!-- block: crates/small/ten.c: whole -->
+```c
+old
+```
+""",
 }
 LANGUAGES = """# Literals.
 === small: small languages
@@ -92,95 +108,13 @@ pub fn half(x: u32) -> u32
     x / 2
 }"""
 
-FORMATS = "docs/FORMATS.md"
-passed, failed = 0, 0
-
-
-def holds(what, is_so):
-    global passed, failed
-    passed, failed = passed + bool(is_so), failed + (not is_so)
-    if not is_so:
-        print(f"not so: {what}")
-
-
-def write(top, files):
-    for path, text in files.items():
-        os.makedirs(os.path.dirname(os.path.join(top, path)), exist_ok=True)
-        with open(os.path.join(top, path), "w", encoding="utf-8") as file:
-            file.write(text)
-
-
-def section(text, title):
-    return text.partition(f"`{title}`\n")[2].partition("\n#")[0]
-
-
-def test_pages(top):
-    faults = []
-    found = documents.documents(top, faults)
-    holds("no fault", faults == [])
-    contracts, page, guide = found["docs/CONTRACTS.md"], found["docs/MAP.md"], found["docs/GUIDE.md"]
-    half = section(contracts, "half")
-    holds("a public call has its clauses", "pub fn half(x: u32) -> u32\n    ensures { result ≡ x / 2 }\n```" in half)
-    holds("and the first paragraph of its comment", "Half of a number, rounded down.\n" in half and "gives 1" not in half)
-    holds("and its edits", "`half_is_a_third`" in half and "hidden_adds_two" not in half)
-    holds("no body stands there", "x / 2\n}" not in contracts)
-    inside = contracts.partition("### Inside")[2]
-    holds("what is private comes behind", "fn hidden" in inside and "`hidden_adds_two`" in inside and "fn half" not in inside)
-    holds("a private module's function isn't public", "inner()" not in contracts)
-    holds("a trait has its ghost items", "ghost whole: { Self → ℕ };" in section(contracts, "trait Halved"))
-    holds("a trait's call is public", "result ≡ whole self.now / 2" in section(contracts, "Halved::halved"))
-    holds("an edit of an impl is named", "`halved_is_whole`" in inside)
-    holds("the map has the first sentence", "| `docs/GUIDE.md` | How to halve |" in page and "| `src/inner.rt` | Inside |" in page)
-    holds("the map names proofs by function", "`proofs/PATH/` holds what is written of the proof of the function `PATH`: `half`." in page)
-    holds("the map has nothing that git ignores", "`out/" not in page and "made.o" not in page)
-    holds("a block is the function", f"```rust\n{HALF}\n```" in guide)
-    holds("a block is a test's body", "```rust\nuse small::other::Other;\n\nlet one = half(3); // 1\n```" in guide)
-    holds("a block is a file's text", "```c\nint ten = 10;\n```" in guide)
-    holds("all of them are old", set(documents.old_ones(top, found)) == {"docs/CONTRACTS.md", "docs/MAP.md", "docs/GUIDE.md"})
-    write(top, found)
-    faults = []
-    holds("written ones are not", documents.old_ones(top, documents.documents(top, faults)) == [] and faults == [])
-
-
-def test_formats(top):
-    holds("no data, no page of formats", FORMATS not in documents.documents(top, []))
-    write(top, {"tools/languages.txt": LANGUAGES})
-    page = documents.documents(top, [])[FORMATS]
-    holds("a language is told", "## Tally\n\n`languages::tally()`\n\nDigits alone.\n\nReference: The Book of Tally, 1.\n" in page)
-    holds("with its builder", ".no_positive_mantissa_sign(true)\n    .digit_separator(Some(b'\\''))\n" in page)
-    holds("with its rows", "| `\"1'2\"` | u8 | `Ok(12)` |  |\n| `\"1t\"` | u8 | `InvalidDigit(1)` | 1 |\n" in page)
-    holds("with what it can't say, and not the pattern", "- Reads less: An end such as `t`.\n" in page and "[tT]" not in page)
-    write(top, {FORMATS: page.replace("12", "13")})
-    holds("an old page is seen", FORMATS in documents.old_ones(top, documents.documents(top, [])))
-
-
-def test_breaks(top):
-    broken = {
-        "a changed clause": ({"crates/small/src/lib.rt": SOURCE.replace("≡ x / 2", "≡ x / 2 + 0")}, ["docs/CONTRACTS.md", "docs/GUIDE.md"]),
-        "a new edit": ({"crates/small/must-fail/more.edit": "file: src/lib.rt\nold:     x / 2\nnew:     x\n"},
-                       ["docs/CONTRACTS.md", "docs/MAP.md"]),
-        "a changed block": ({"docs/GUIDE.md": FILES["docs/GUIDE.md"]}, ["docs/GUIDE.md"]),
-    }
-    for what, (files, wanted) in broken.items():
-        with tempfile.TemporaryDirectory() as room:
-            write(room, FILES)
-            write(room, documents.documents(room, []))
-            write(room, files)
-            holds(what, sorted(documents.old_ones(room, documents.documents(room, []))) == wanted)
-    for what, path, text in (("a file without a comment", "crates/small/src/inner.rt", "pub fn inner() {}\n"),
-                             ("a marker that names nothing", "docs/GUIDE.md", FILES["docs/GUIDE.md"].replace(": half", ": third"))):
-        write(top, {path: text})
-        faults = []
-        documents.documents(top, faults)
-        holds(what, len(faults) == 1 and faults[0].startswith(path))
-        write(top, {path: FILES[path]})
-
-
+CONTRACTS, GUIDE, FORMATS = "docs/CONTRACTS.md", "docs/GUIDE.md", "docs/FORMATS.md"
 GOOD_PAGE = """# A page, with `code`
 
-[there](#a-page-with-code), [again](#twice-1), [below](docs/GUIDE.md#guide), [a folder](crates/small), [out](https://a.b/c)
+[there](#a-page-with-code), [again](#twice-1), [below](docs/GUIDE.md#guide), [out](https://a.b/c)
 
-`src/inner.rt`, `crates/small/`, `must-fail/half_*.edit`, `python3 crates/small/src/lib.rt`, `out/made.log`, `a.field`
+`src/inner.rt`, `crates/small/`, `must-fail/half_*.edit`, `python3 crates/small/src/lib.rt`,
+[a folder](crates/small), `out/made.log`, `a.field`
 
 ## Twice
 ## Twice
@@ -194,46 +128,140 @@ $ true
 """
 
 
-def test_checks():
-    files = {*FILES, "README.md"}
-    wrong = lambda text: check_pages.faults({"README.md": text, "docs/GUIDE.md": FILES["docs/GUIDE.md"]}, files)
-    holds("a run that is another one", len(wrong(GOOD_PAGE.replace("ok 7", "ok 8"))) == 2)
-    budget = check_pages.too_long({"docs/GUIDE.md": 1})
-    holds("a page without budget", len(budget) == 1 and budget[0].startswith("docs/GUIDE.md: say in"))
-    holds("a good page", wrong(GOOD_PAGE) == budget)
-    for what, text in (("a link to no file", "[a](docs/GONE.md)"), ("a link to no heading", "[a](docs/GUIDE.md#gone)"),
-                       ("a link to no heading here", "[a](#gone)"), ("a name of no file", "`src/gone.rt`"),
-                       ("a name of no file in a command", "`make src/gone.rt`"), ("a name of no folder", "`gone/`")):
-        holds(what, len(wrong(GOOD_PAGE + text)) == 1 + len(budget))
-    holds("a page that is too long", len(wrong(GOOD_PAGE + "word " * check_pages.BUDGETS["README.md"])) == 1 + len(budget))
-    counted = {page: most for page, most in check_pages.BUDGETS.items()}
-    holds("pages that are too long together", (len(check_pages.too_long(counted)) == 1)
-          == (sum(counted.values()) > check_pages.MOST_WORDS))
-    made = "<!-- block: a.rt: all -->\n```rust\nmade by a tool\n```\n<!-- measured: x -->\n1 2 3\n<!-- end of what was measured -->\n"
-    holds("words by hand", check_pages.words_of("one, two - `three`\n" + made + "| four |\n") == 4)
+def write(top: str, files: dict[str, str]) -> None:
+    for path, text in files.items():
+        os.makedirs(os.path.dirname(os.path.join(top, path)), exist_ok=True)
+        with open(os.path.join(top, path), "w", encoding="utf-8") as file:
+            file.write(text)
 
 
-def test_versions(top):
-    files = {"CHANGELOG.md": "# Changelog\n\n## 1.2.0\n\n## 1.1.0\n", "include/jadvolni.h": '#define JADVOLNI_VERSION_STRING "1.2.0"\n',
-             "bindings/rust/Cargo.toml": '[package]\nversion = "1.2.0"\n', "bindings/python/pyproject.toml": 'version = "1.2.0"\n'}
-    write(top, files)
-    holds("one version", check_pages.wrong_versions(top) == [])
-    write(top, {"include/jadvolni.h": '#define JADVOLNI_VERSION_STRING "1.1.0"\n'})
-    holds("another version", len(check_pages.wrong_versions(top)) == 1)
+def section(text: str, title: str) -> str:
+    return text.partition(f"`{title}`\n")[2].partition("\n#")[0]
 
 
-def main():
-    test_checks()
-    with tempfile.TemporaryDirectory() as top:
-        test_versions(top)
-    with tempfile.TemporaryDirectory() as top:
-        write(top, FILES)
-        test_pages(top)
-        test_breaks(top)
-        test_formats(top)
-    print(f"{passed} passed, {failed} failed")
-    return 1 if failed else 0
+class OverRepository(unittest.TestCase):
+    """Tests over the small repository, in a folder of their own."""
+
+    def setUp(self) -> None:
+        room = tempfile.TemporaryDirectory(prefix="test-documents-")
+        self.addCleanup(room.cleanup)
+        self.top = room.name
+        write(self.top, FILES)
+
+    def documents(self) -> dict[str, str]:
+        """The documents, which have no fault."""
+        faults: list[str] = []
+        found = documents.documents(self.top, faults)
+        self.assertEqual(faults, [])
+        return found
+
+    def old(self) -> list[str]:
+        return sorted(documents.old_ones(self.top, self.documents()))
+
+    def test_contracts(self) -> None:
+        page = self.documents()[CONTRACTS]
+        half = section(page, "half")
+        self.assertIn("pub fn half(x: u32) -> u32\n    ensures { result ≡ x / 2 }\n```", half)
+        self.assertIn("Half of a number, rounded down.\n", half)
+        self.assertNotIn("gives 1", half)
+        self.assertNotIn("x / 2\n}", page)
+        self.assertNotIn("hidden", page)
+        self.assertNotIn("inner", page)
+        self.assertIn("ghost whole: { Self → ℕ };", section(page, "trait Halved"))
+        self.assertIn("result ≡ whole self.now / 2", section(page, "Halved::halved"))
+
+    def test_blocks(self) -> None:
+        guide = self.documents()[GUIDE]
+        half = SOURCE[SOURCE.index("/// Half"):SOURCE.index("// Nobody")].strip()
+        self.assertIn(f"```rust\n{half}\n```", guide)
+        self.assertIn("```rust\nuse small::other::Other;\n\nlet one = half(3); // 1\n```", guide)
+        self.assertIn("```c\nint ten = 10;\n```", guide)
+
+    def test_old_documents(self) -> None:
+        self.assertEqual(self.old(), [CONTRACTS, GUIDE])
+        write(self.top, self.documents())
+        self.assertEqual(self.old(), [])
+        write(self.top, {"crates/small/src/lib.rt": SOURCE.replace("≡ x / 2", "≡ x / 2 + 0")})
+        self.assertEqual(self.old(), [CONTRACTS, GUIDE])
+
+    def test_a_marker_that_names_nothing(self) -> None:
+        write(self.top, {GUIDE: FILES[GUIDE].replace(": half", ": third")})
+        faults: list[str] = []
+        documents.documents(self.top, faults)
+        self.assertEqual(len(faults), 1)
+        self.assertTrue(faults[0].startswith(GUIDE))
+
+    def test_formats(self) -> None:
+        self.assertNotIn(FORMATS, self.documents())
+        write(self.top, {"tools/languages.txt": LANGUAGES})
+        page = self.documents()[FORMATS]
+        self.assertIn("## Tally\n\n`languages::tally()`\n\nDigits alone.\n", page)
+        self.assertIn("Reference: The Book of Tally, 1.\n", page)
+        self.assertIn(".no_positive_mantissa_sign(true)\n", page)
+        self.assertIn(".digit_separator(Some(b'\\''))\n", page)
+        self.assertIn("| `\"1t\"` | u8 | `InvalidDigit(1)` | 1 |\n", page)
+        self.assertIn("- Reads less: An end such as `t`.\n", page)
+        self.assertNotIn("[tT]", page)
+        write(self.top, {FORMATS: page.replace("12", "13")})
+        self.assertIn(FORMATS, self.old())
+
+    def test_versions(self) -> None:
+        text = 'least = "1.81"\nversion = "1.2.0"\nagain = "1.2.0"\n'
+        good = {name: text for name in check_pages.VERSIONED}
+        write(self.top, {"CHANGELOG.md": "# Changelog\n\n## 1.2.0\n\n## 1.1.0\n", **good})
+        self.assertEqual(check_pages.wrong_versions(self.top), [])
+        for name in check_pages.VERSIONED:
+            for other in (text.replace("1.2.0", "1.1.0", 1), "none\n"):
+                write(self.top, {**good, name: other})
+                wrong = check_pages.wrong_versions(self.top)
+                self.assertEqual([it.partition(":")[0] for it in wrong], [name])
+
+    def test_names_of_functions(self) -> None:
+        code = {
+            "crates/small/src/lib.rt": "pub fn half_of(x: u32) -> u32 // and not third_of\n",
+            "include/a.h": "half_u8(x);\n",
+            "tools/a.py": "def fourth_of(x): pass\n",
+        }
+        write(self.top, code)
+        words = check_pages.code_words(self.top, [*code, "README.md"])
+
+        def wrong(name: str) -> list[str]:
+            return check_pages.wrong_functions("README.md", f"# A\n`{name}`\n", words)
+
+        for name in ("half_of", "half_of()", "u32::half_of", "half_T", "a half_of", "_of", "half_",
+                     "half", check_pages.LACKING[0]):
+            self.assertEqual(wrong(name), [])
+        for name in ("third_of", "fourth_of", "third()", "third::half_of", "half_T_of"):
+            self.assertEqual(len(wrong(name)), 1)
+
+
+class OfPages(unittest.TestCase):
+    """Tests of what is asked of a page."""
+
+    def faults(self, text: str) -> list[str]:
+        """What is wrong with a page, but that nobody says how many words its neighbour may have."""
+        pages = {"README.md": text, GUIDE: FILES[GUIDE]}
+        found = check_pages.faults(pages, [*FILES, "README.md"], {"half_of"})
+        return [it for it in found if not it.startswith(f"{GUIDE}: say in")]
+
+    def test_a_good_page(self) -> None:
+        self.assertEqual(self.faults(GOOD_PAGE), [])
+
+    def test_wrong_pages(self) -> None:
+        wrong = ["[a](docs/GONE.md)", "[a](docs/GUIDE.md#gone)", "[a](#gone)", "`src/gone.rt`",
+                 "`make src/gone.rt`", "`gone/`", "`half_of` and `third_of`",
+                 "word " * check_pages.BUDGETS["README.md"]]
+        for text in wrong:
+            self.assertEqual(len(self.faults(GOOD_PAGE + text)), 1, text[:40])
+        self.assertEqual(len(self.faults(GOOD_PAGE.replace("ok 7", "ok 8"))), 1)
+
+    def test_words(self) -> None:
+        made = ("<!-- block: a.rt: all -->\n```rust\nmade by a tool\n```\n"
+                "<!-- measured: x -->\n1 2 3\n<!-- end of what was measured -->\n")
+        text = "one, two - `three`\n" + made + "| four |\n"
+        self.assertEqual(check_pages.words_of(text), 4)
+        self.assertEqual(len(check_pages.too_long({GUIDE: 1})), 1)
 
 
 if __name__ == "__main__":
-    sys.exit(main())
+    unittest.main()

@@ -1,11 +1,13 @@
-"""Makes the wheel of the binding: compiles `src/_core.c` over the library and packs the files.
+"""Makes the wheel of the binding: compiles `src/*.c` over the library and packs the files.
 
-pip calls `build_wheel` and `build_sdist` as `pyproject.toml` says. What it needs is a C compiler, Python's
-headers, and the library, which `make lib` at the top of the repository makes:
+pip calls `build_wheel` and `build_sdist` as `pyproject.toml` says. What it needs is a C compiler,
+Python's headers, and the library, which `make lib` at the top of the repository makes:
 
     JADVOLNI_INCLUDE   the folder of jadvolni.h, if not ../../include
     JADVOLNI_LIBRARY   the static library, if not ../../crates/jadvolni/out/libjadvolni.a
     CC                 the compiler, if not cc
+    CPPFLAGS, CFLAGS, LDFLAGS
+                       further words for the compiler, which come after those of FLAGS
 """
 
 from __future__ import annotations
@@ -13,19 +15,25 @@ from __future__ import annotations
 import base64
 import hashlib
 import os
+import shlex
 import subprocess
 import sys
 import sysconfig
 import tempfile
+import tomllib
 import zipfile
 from pathlib import Path
 from typing import Optional
 
 HERE = Path(__file__).resolve().parent
 TOP = HERE.parent.parent
-NAME, VERSION = "jadvolni", "0.1.0"
+PROJECT = tomllib.loads((HERE / "pyproject.toml").read_text(encoding="utf-8"))["project"]
+NAME, VERSION = PROJECT["name"], PROJECT["version"]
 FLAGS = ["-std=c11", "-O2", "-Wall", "-Wextra", "-fPIC", "-shared", "-fvisibility=hidden"]
-SOURCES = ["__init__.py", "_format.py", "_numpy.py", "_core.pyi", "py.typed"]
+# The extension exports nothing of the library: else the calls of another one of that name, loaded
+# before, would take the place of those that it was linked with.
+LINK_FLAGS = ["-Wl,--exclude-libs,ALL"]
+MODULES = ["__init__.py", "_format.py", "_numpy.py", "_core.pyi", "py.typed"]
 
 
 def tag() -> str:
@@ -37,26 +45,31 @@ def found(variable: str, default: Path) -> Path:
     """A path that the environment names, or the default, which has to be there."""
     path = Path(os.environ.get(variable) or default).resolve()
     if not path.exists():
-        sys.exit(f"{path} isn't there: run `make lib` at the top of the repository, or set {variable}")
+        sys.exit(f"{path} isn't there: run `make lib` at the repository's top, or set {variable}")
     return path
 
 
-def compiled(folder: Path) -> Path:
-    """The extension, made in a folder."""
+def words(variable: str) -> list[str]:
+    """The words of a variable of the environment, as a shell reads them."""
+    return shlex.split(os.environ.get(variable, ""))
+
+
+def command(target: Path) -> list[str]:
+    """The call of the compiler that makes the extension."""
     include = found("JADVOLNI_INCLUDE", TOP / "include")
     library = found("JADVOLNI_LIBRARY", TOP / "crates" / "jadvolni" / "out" / "libjadvolni.a")
-    target = folder / "_core.abi3.so"
     headers = [f"-I{include}", f"-I{sysconfig.get_paths()['include']}"]
-    command = [os.environ.get("CC") or "cc", *FLAGS, *headers, str(HERE / "src" / "_core.c"), str(library)]
-    subprocess.run([*command, "-o", str(target)], check=True)
-    return target
+    sources = sorted(str(path) for path in (HERE / "src").glob("*.c"))
+    compiler = [*(words("CC") or ["cc"]), *FLAGS, *words("CPPFLAGS"), *words("CFLAGS"), *headers]
+    return [*compiler, *sources, str(library), *LINK_FLAGS, *words("LDFLAGS"), "-o", str(target)]
 
 
 def metadata() -> str:
     """The wheel's METADATA."""
     readme = (HERE / "README.md").read_text(encoding="utf-8")
-    head = f"Metadata-Version: 2.1\nName: {NAME}\nVersion: {VERSION}\nRequires-Python: >=3.11\n"
-    return f"{head}Description-Content-Type: text/markdown\n\n{readme}"
+    head = f"Metadata-Version: 2.1\nName: {NAME}\nVersion: {VERSION}\n"
+    needed = f"Requires-Python: {PROJECT['requires-python']}\n"
+    return f"{head}{needed}Description-Content-Type: text/markdown\n\n{readme}"
 
 
 def line_of(name: str, content: bytes) -> str:
@@ -65,21 +78,36 @@ def line_of(name: str, content: bytes) -> str:
     return f"{name},sha256={digest},{len(content)}\n"
 
 
-def build_wheel(wheel_directory: str, config_settings: object = None, metadata_directory: Optional[str] = None) -> str:
-    """Writes the wheel, and answers its name."""
+def contents() -> dict[str, bytes]:
+    """The files of the wheel but its RECORD, by their names."""
     info = f"{NAME}-{VERSION}.dist-info"
-    files = {f"{NAME}/{name}": (HERE / "src" / NAME / name).read_bytes() for name in SOURCES}
+    files = {f"{NAME}/{name}": (HERE / "src" / NAME / name).read_bytes() for name in MODULES}
     with tempfile.TemporaryDirectory() as folder:
-        files[f"{NAME}/_core.abi3.so"] = compiled(Path(folder)).read_bytes()
+        target = Path(folder) / "_core.abi3.so"
+        subprocess.run(command(target), check=True)
+        files[f"{NAME}/{target.name}"] = target.read_bytes()
     wheel = f"Wheel-Version: 1.0\nGenerator: {NAME}\nRoot-Is-Purelib: false\nTag: {tag()}\n"
     files[f"{info}/METADATA"] = metadata().encode()
     files[f"{info}/WHEEL"] = wheel.encode()
-    record = "".join(line_of(name, content) for name, content in files.items())
-    files[f"{info}/RECORD"] = f"{record}{info}/RECORD,,\n".encode()
+    for licence in sorted([*TOP.glob("LICENSE-*"), *TOP.glob("NOTICE*")]):
+        files[f"{info}/{licence.name}"] = licence.read_bytes()
+    return files
+
+
+def build_wheel(
+    wheel_directory: str,
+    config_settings: object = None,
+    metadata_directory: Optional[str] = None,
+) -> str:
+    """Writes the wheel, and answers its name."""
+    files = contents()
+    record = f"{NAME}-{VERSION}.dist-info/RECORD"
+    lines = "".join(line_of(name, content) for name, content in files.items())
     target = f"{NAME}-{VERSION}-{tag()}.whl"
     with zipfile.ZipFile(Path(wheel_directory) / target, "w", zipfile.ZIP_DEFLATED) as archive:
         for name, content in files.items():
             archive.writestr(name, content)
+        archive.writestr(record, f"{lines}{record},,\n")
     return target
 
 

@@ -11,8 +11,8 @@ static int cell(const char *line, size_t len, size_t *start, size_t *stop)
         const char *end = memchr(line + *start, ',', len - *start);
         *stop = end ? (size_t)(end - line) : len;
         if (left == 1) return 1;
+        *start = end ? *stop + 1 : len;
         if (!end) return 0;
-        *start = *stop + 1;
     }
 }
 

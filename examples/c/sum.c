@@ -1,24 +1,24 @@
 /* Adds up the integers of standard input, one a line, and says where a line is wrong. */
 #include <jadvolni.h>
+#include <err.h>
 #include <stdio.h>
-#include <string.h>
+#include <stdlib.h>
 
 int main(void)
 {
-    char line[4096];
+    char *line = NULL;
+    size_t room = 0, number = 0;
     int64_t sum = 0, value;
-    for (unsigned long number = 1; fgets(line, sizeof line, stdin); number++) {
-        jadvolni_result r = jadvolni_i64(line, strcspn(line, "\n"), &value);
-        if (r.status != JADVOLNI_OK) {
-            fprintf(stderr, "line %lu, byte %zu: %s\n", number, r.place, jadvolni_status_name(r.status));
-            return 1;
-        }
-        if (value > 0 ? sum > INT64_MAX - value : sum < INT64_MIN - value) {
-            fprintf(stderr, "line %lu: the sum leaves the type\n", number);
-            return 1;
-        }
-        sum += value;
+    for (ssize_t len; (len = getline(&line, &room, stdin)) > 0; sum += value) {
+        jadvolni_result r = jadvolni_i64(line, (size_t)len - (line[len - 1] == '\n'), &value);
+        number++;
+        if (r.status != JADVOLNI_OK)
+            errx(1, "line %zu, byte %zu: %s", number, r.place, jadvolni_status_message(r.status));
+        if (value > 0 ? sum > INT64_MAX - value : sum < INT64_MIN - value)
+            errx(1, "line %zu: the sum leaves the type", number);
     }
-    printf("%lld\n", (long long)sum);
+    if (!feof(stdin)) err(2, "standard input");
+    if (printf("%lld\n", (long long)sum) < 0 || fflush(stdout) != 0) err(2, "standard output");
+    free(line);
     return 0;
 }

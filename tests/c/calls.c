@@ -2,6 +2,8 @@
 #include "jadvolni.h"
 #include "check.h"
 
+#include <limits.h>
+
 /* Checks what a call answers, and what is then behind the pointer, where 77 was. */
 #define EXPECT(call, type, format_argument, text, wanted_status, wanted_place, wanted_number)      \
     do {                                                                                           \
@@ -109,7 +111,6 @@ static void faults_of_formats(void)
 static void formats(void)
 {
     jadvolni_format literal = JADVOLNI_FORMAT_LITERAL, hexadecimal = JADVOLNI_FORMAT_STANDARD;
-    jadvolni_format utf16 = JADVOLNI_FORMAT_STANDARD;
     EXPECT(jadvolni_u64_with_format, uint64_t, UNDER(literal), "0xFF_FF", JADVOLNI_OK, 7, 65535);
     EXPECT(jadvolni_u64_partial_with_format, uint64_t, UNDER(literal), "0b102", JADVOLNI_OK, 4, 2);
     EXPECT(jadvolni_u64_with_format, uint64_t, UNDER(literal), "0o8", JADVOLNI_INVALID_DIGIT, 2, 77);
@@ -117,6 +118,7 @@ static void formats(void)
     literal.integer_prefix_digit_separator = 1;
     EXPECT(jadvolni_u64_with_format, uint64_t, UNDER(literal), "0x_1F", JADVOLNI_OK, 5, 31);
     EXPECT(jadvolni_u64_with_format, uint64_t, UNDER(literal), "0777", JADVOLNI_OK, 4, 777);
+    EXPECT(jadvolni_u64_with_format, uint64_t, UNDER(literal), "+1", JADVOLNI_OK, 2, 1);
     literal.literal_octal_zero = 1;
     EXPECT(jadvolni_u64_with_format, uint64_t, UNDER(literal), "0777", JADVOLNI_OK, 4, 511);
     hexadecimal.mantissa_radix = 16;
@@ -124,21 +126,45 @@ static void formats(void)
     EXPECT(jadvolni_i64_with_format, int64_t, UNDER(hexadecimal), "-0XfF", JADVOLNI_OK, 5, -255);
     EXPECT(jadvolni_u8_with_format, uint8_t, UNDER(hexadecimal), "0x", JADVOLNI_EMPTY, 2, 77);
     EXPECT(jadvolni_u8_with_format, uint8_t, UNDER(hexadecimal), "0x1F", JADVOLNI_OK, 4, 31);
-    /* A NUL behind each digit: 0 alone is no separator, and with the flag beside it it is. */
-    utf16.integer_internal_digit_separator = 1;
-    utf16.integer_trailing_digit_separator = 1;
-    EXPECT(jadvolni_u16_with_format, uint16_t, UNDER(utf16), "1\0002\0003\0", JADVOLNI_INVALID_DIGIT, 1, 77);
-    utf16.digit_separator_is_nul = 255;
-    EXPECT(jadvolni_u16_partial_with_format, uint16_t, UNDER(utf16), "1\0002 3", JADVOLNI_OK, 3, 12);
-    utf16.digit_separator_is_nul = 1;
-    EXPECT(jadvolni_u16_with_format, uint16_t, UNDER(utf16), "1\0002\0003\0", JADVOLNI_OK, 6, 123);
-    utf16.base_suffix_is_nul = 1;
-    CHECK(jadvolni_format_error(&utf16) == JADVOLNI_INVALID_PUNCTUATION);
-    utf16.digit_separator_is_nul = 0;
-    EXPECT(jadvolni_u16_with_format, uint16_t, UNDER(utf16), "12\0", JADVOLNI_OK, 3, 12);
-    utf16.base_suffix_is_nul = 0;
-    utf16.base_prefix_is_nul = 1;
-    EXPECT(jadvolni_u16_with_format, uint16_t, UNDER(utf16), "0\00012", JADVOLNI_OK, 4, 12);
+}
+
+/* 0 alone is no separator, prefix or suffix, and with the flag beside it it is. */
+static void nul_as_punctuation(void)
+{
+    jadvolni_format nul = JADVOLNI_FORMAT_STANDARD;
+    nul.integer_internal_digit_separator = 1;
+    nul.integer_trailing_digit_separator = 1;
+    EXPECT(jadvolni_u16_with_format, uint16_t, UNDER(nul), "1\0002\0003\0", JADVOLNI_INVALID_DIGIT, 1, 77);
+    nul.digit_separator_is_nul = 255;
+    EXPECT(jadvolni_u16_partial_with_format, uint16_t, UNDER(nul), "1\0002 3", JADVOLNI_OK, 3, 12);
+    nul.digit_separator_is_nul = 1;
+    EXPECT(jadvolni_u16_with_format, uint16_t, UNDER(nul), "1\0002\0003\0", JADVOLNI_OK, 6, 123);
+    /* That reads no UTF-16: the bytes 31 31, there the one letter U+3131, are two digits. */
+    EXPECT(jadvolni_u16_with_format, uint16_t, UNDER(nul), "\x31\x31", JADVOLNI_OK, 2, 11);
+    nul.base_suffix_is_nul = 1;
+    CHECK(jadvolni_format_error(&nul) == JADVOLNI_INVALID_PUNCTUATION);
+    nul.digit_separator_is_nul = 0;
+    EXPECT(jadvolni_u16_with_format, uint16_t, UNDER(nul), "12\0", JADVOLNI_OK, 3, 12);
+    nul.base_suffix_is_nul = 0;
+    nul.base_prefix_is_nul = 1;
+    EXPECT(jadvolni_u16_with_format, uint16_t, UNDER(nul), "0\00012", JADVOLNI_OK, 4, 12);
+}
+
+/* A format that begins with {0} requires no digit, and one of jadvolni_format_of_radix does. */
+static void formats_of_a_radix(void)
+{
+    jadvolni_format zeroed = {0}, standard = JADVOLNI_FORMAT_STANDARD;
+    jadvolni_format decimal = jadvolni_format_of_radix(10), sixteen = jadvolni_format_of_radix(16);
+    static const int wrong[] = {INT_MIN, -254, -1, 0, 1, 37, 256 + 10, INT_MAX};
+    zeroed.mantissa_radix = 10;
+    EXPECT(jadvolni_i64_with_format, int64_t, UNDER(zeroed), "", JADVOLNI_OK, 0, 0);
+    EXPECT(jadvolni_i64_with_format, int64_t, UNDER(decimal), "", JADVOLNI_EMPTY, 0, 77);
+    EXPECT(jadvolni_i64_with_format, int64_t, UNDER(sixteen), "-fF", JADVOLNI_OK, 3, -255);
+    CHECK(memcmp(&decimal, &standard, sizeof standard) == 0);
+    for (size_t k = 0; k < sizeof wrong / sizeof *wrong; k++) {
+        decimal = jadvolni_format_of_radix(wrong[k]);
+        CHECK(jadvolni_format_error(&decimal) == JADVOLNI_INVALID_MANTISSA_RADIX);
+    }
 }
 
 /* Each byte as the radix of a format that is else the standard one: "10" and "1" with the radix as a digit. */
@@ -222,6 +248,7 @@ static void names(void)
         CHECK(strcmp(jadvolni_status_name(status), known[status]) == 0);
     CHECK(strcmp(jadvolni_status_name(JADVOLNI_UNKNOWN_FIELD), "UnknownField") == 0);
     CHECK(strcmp(jadvolni_status_name(65), "Unknown") == 0);
+    CHECK(strcmp(jadvolni_status_name(UINT32_MAX), "Unknown") == 0);
 }
 
 int main(void)
@@ -231,6 +258,8 @@ int main(void)
     faults_of_texts();
     faults_of_formats();
     formats();
+    nul_as_punctuation();
+    formats_of_a_radix();
     each_radix();
     halves();
     null_texts();

@@ -204,6 +204,62 @@ static void large(void)
     free(values);
 }
 
+/* What a file holds, read block by block. */
+static struct numbers {
+    size_t count;
+    int64_t sum;
+} numbers;
+
+static void read_lines(const char *text, size_t len)
+{
+    int64_t values[1000];
+    size_t at = 0, count;
+    while (at < len) {
+        jadvolni_result r =
+            jadvolni_i64_column(text + at, len - at, '\n', &STANDARD, values, 1000, &count);
+        if (r.status != JADVOLNI_OK) return;
+        for (size_t k = 0; k < count; k++) numbers.sum += values[k];
+        numbers.count += count;
+        at += r.place;
+    }
+}
+
+/* The loop of the header. Answers whether the file could be read. */
+static int read_in_blocks(FILE *file, char *block, size_t size)
+{
+    size_t kept = 0, got;
+    while ((got = fread(block + kept, 1, size - kept, file)) > 0) {
+        size_t whole = jadvolni_field_start(block, kept + got, '\n');
+        read_lines(block, whole);
+        kept += got - whole;
+        memmove(block, block + whole, kept);
+    }
+    if (ferror(file) || kept == size) return 0; // or a line is longer than the block
+    read_lines(block, kept);                    // a last line without a line feed
+    return 1;
+}
+
+/* A file of 100,000 lines in blocks of 64 KiB, and in those of a few bytes, is each line once. */
+static void blocks(void)
+{
+    static const size_t sizes[] = {1, 2, 5, 6, 7, 8, 9, 64, 4096, 65535, 65536, 1 << 20};
+    static char block[1 << 20];
+    enum { LINES = 100000 };
+    FILE *file = tmpfile();
+    if (!file) abort();
+    for (int line = 1; line < LINES; line++) fprintf(file, "%d\n", line);
+    fprintf(file, "%d", LINES); /* without a line feed */
+    for (size_t k = 0; k < sizeof sizes / sizeof *sizes; k++) {
+        rewind(file);
+        numbers.count = 0;
+        numbers.sum = 0;
+        int fits = read_in_blocks(file, block, sizes[k]);
+        CHECK(fits == (sizes[k] > 6)); /* the last line has six bytes */
+        CHECK(!fits || (numbers.count == LINES && numbers.sum == (int64_t)LINES * (LINES + 1) / 2));
+    }
+    fclose(file);
+}
+
 int main(void)
 {
     each_type();
@@ -214,5 +270,6 @@ int main(void)
     pieces();
     each_field_wrong();
     large();
+    blocks();
     return checked();
 }

@@ -28,7 +28,8 @@ template <class T>
 static bool is_fault(const jadvolni::result<T> &read, status wanted, std::size_t place)
 {
     return !read && read.status() == wanted && read.place() == place && !read.optional()
-        && read.value_or(5) == 5 && std::strcmp(read.name(), jadvolni::name(wanted)) == 0;
+        && read.value_or(5) == 5 && std::strcmp(read.name(), jadvolni::name(wanted)) == 0
+        && std::strcmp(read.message(), jadvolni::message(wanted)) == 0;
 }
 
 static void faults_of_texts()
@@ -102,6 +103,42 @@ static void fronts_under_a_format()
     CHECK(read.ec == std::errc::invalid_argument && read.ptr == first && value == 1000000);
 }
 
+// Whether from_chars finds no number, by its answer and by the value that it leaves.
+template <class... Under>
+static bool has_no_number(std::string_view text, const Under &...under)
+{
+    int value = 77;
+    auto read = jadvolni::from_chars(text.data(), text.data() + text.size(), value, under...);
+    return read.ec == std::errc::invalid_argument && read.ptr == text.data() && value == 77;
+}
+
+// A front without a digit is no number, also where the format requires none, and a prefix is no digit.
+static void fronts_without_a_digit()
+{
+    auto optional = jadvolni::standard, prefixed = jadvolni::json, suffixed = jadvolni::json;
+    optional.required_mantissa_digits = 0;
+    prefixed.base_prefix = 'x';
+    suffixed.base_suffix = 'h';
+    CHECK(has_no_number("abc", jadvolni::json) && has_no_number("-x", jadvolni::json));
+    CHECK(has_no_number("abc", jadvolni::literal) && has_no_number("0xg", jadvolni::literal));
+    CHECK(has_no_number("", optional) && has_no_number("-", optional) && has_no_number({}, optional));
+    CHECK(has_no_number("0xg", prefixed) && has_no_number("h", suffixed));
+    for (const char *text : {"0", "-0h", "00 ", "0_0"}) {
+        int value = 77;
+        auto read = jadvolni::from_chars(text, text + std::strlen(text), value, optional);
+        CHECK(read.ec == std::errc() && read.ptr > text && value == 0);
+    }
+}
+
+// A base that isn't 2 to 36 reads nothing: 272 isn't 16.
+static void wrong_bases()
+{
+    for (int base : {INT_MIN, -246, -1, 0, 1, 37, 255, 256, 266, 272, INT_MAX}) {
+        CHECK(has_no_number("10", base) && has_no_number("-1", base) && has_no_number("", base));
+        CHECK(has_no_number("99999999999999999999", base));
+    }
+}
+
 template <class T>
 static void beside_std(const std::string &text, int base)
 {
@@ -149,6 +186,7 @@ static void columns()
     CHECK(read && read.count() == 2 && read.place() == 4 && values == std::vector<int>{8, 9, 77});
     read = jadvolni::column("3,x", ',', values);
     CHECK(!read && read.status() == status::invalid_digit && read.place() == 2 && read.count() == 1);
+    CHECK(std::strcmp(read.message(), "invalid digit") == 0);
     CHECK(std::strcmp(read.name(), "InvalidDigit") == 0 && values == std::vector<int>{3, 9, 77});
     std::array<unsigned char, 2> bytes{};
     auto hexadecimal = jadvolni::standard;
@@ -200,6 +238,8 @@ int main()
     faults_of_formats();
     numbers();
     fronts_under_a_format();
+    fronts_without_a_digit();
+    wrong_bases();
     columns();
     columns_beside_from_chars();
     beside_from_chars(25000);

@@ -1,51 +1,215 @@
-"""Tests of the examples: each on a file that is right, and on one that is wrong at a known byte."""
+"""Tests of the examples, as commands: right files, wrong ones, and inputs that are hardly any."""
 
+import os
 import pathlib
 import subprocess
 import sys
 import tempfile
+import threading
 import unittest
 
 EXAMPLES = pathlib.Path(__file__).resolve().parents[3] / "examples" / "columns"
+# Each example with the words after its file.
+COMMANDS = (("ledger.py",), ("csv_column.py", "2"), ("big_file.py", "3"))
 
 
-class Examples(unittest.TestCase):
-    """Each example as a command."""
+def answer_of(name, path, *words, **settings):
+    """What an example says of a path: its status, its output and its errors, without the path."""
+    command = [sys.executable, str(EXAMPLES / name), str(path), *words]
+    settings = {"stdout": subprocess.PIPE, "stderr": subprocess.PIPE, **settings}
+    run = subprocess.run(command, text=True, timeout=60, **settings)
+    return run.returncode, run.stdout, run.stderr.replace(f"{path}: ", "")
 
-    def answer(self, name, content, *arguments):
-        """What an example writes of a file with this content: its status, its output and its errors."""
-        with tempfile.TemporaryDirectory() as folder:
-            path = pathlib.Path(folder) / "input"
-            path.write_bytes(content)
-            command = [sys.executable, str(EXAMPLES / name), str(path), *arguments]
-            run = subprocess.run(command, capture_output=True, text=True, timeout=60)
-            return run.returncode, run.stdout, run.stderr.replace(f"{path}: ", "")
 
-    def test_ledger(self):
-        self.assertEqual(self.answer("ledger.py", b"rent -80000\nfood 1200\n"), (0, "-78800\n", ""))
-        wrong = "line 2, column 8, byte 19: InvalidDigit in b'food 12x'\n"
-        self.assertEqual(self.answer("ledger.py", b"rent -80000\nfood 12x\nwine x\n"), (1, "", wrong))
+class Case(unittest.TestCase):
+    """A case that gives examples their input."""
 
-    def test_csv_column(self):
+    def setUp(self):
+        folder = tempfile.TemporaryDirectory()
+        self.addCleanup(folder.cleanup)
+        self.folder = pathlib.Path(folder.name)
+
+    def answer(self, name, content, *words):
+        """What an example says of a file with this content."""
+        path = self.folder / "input"
+        path.write_bytes(content)
+        return answer_of(name, path, *words)
+
+
+class Ledger(Case):
+    """ledger.py."""
+
+    def test_right_files(self):
+        for content, total in (
+            (b"rent -80000\nfood 1200\n", -78800),
+            (b"rent -80000\nfood 1200", -78800),
+            (b"", 0),
+            (b"two words 7\n", 7),
+            (b"a\0b 7\n", 7),
+            (b"a 9223372036854775807\nb 1", 2**63),
+            (b"x" * 100_000 + b" 7\n", 7),
+            (b"zeros " + b"0" * 100_000 + b"7\n", 7),
+        ):
+            with self.subTest(content=content[:40]):
+                self.assertEqual(self.answer("ledger.py", content), (0, f"{total}\n", ""))
+
+    def test_wrong_files(self):
+        wrong, great = b"food 12x", b"a 9223372036854775808"
+        for content, told in (
+            (
+                b"rent -80000\n%s\nwine x\n" % wrong,
+                f"line 2, column 8, byte 19: InvalidDigit in {wrong}",
+            ),
+            (b"rent 1\r\nfood 2\r\n", "line 1, column 7, byte 6: InvalidDigit in b'rent 1\\r'"),
+            (b"rent 1\rfood 2", "byte 6: a carriage return without a line feed"),
+            (b"rent 1\0\n", "line 1, column 7, byte 6: InvalidDigit in b'rent 1\\x00'"),
+            (b"rent 1\0002\n", "line 1, column 7, byte 6: InvalidDigit in b'rent 1\\x002'"),
+            (b"\n", "line 1, column 1, byte 0: Empty in b''"),
+            (b"a 1\n\n", "line 2, column 1, byte 4: Empty in b''"),
+            (b"a 1\nb ", "line 2, column 3, byte 6: Empty in b'b '"),
+            (great, f"line 1, column 21, byte 20: Overflow in {great}"),
+        ):
+            with self.subTest(content=content):
+                self.assertEqual(self.answer("ledger.py", content), (1, "", f"{told}\n"))
+
+
+class CsvColumn(Case):
+    """csv_column.py."""
+
+    def test_right_files(self):
+        for content, count, total in (
+            (b"name,count\na,12\nb,30\n", 2, 42),
+            (b"name,count\na,12\nb,30", 2, 42),
+            (b"name,count\r\na,12,x\r\n", 1, 12),
+            (b"name,count", 0, 0),
+            (b"", 0, 0),
+            (b"name,count\n" + b"x" * 100_000 + b",7\n", 1, 7),
+        ):
+            with self.subTest(content=content[:40]):
+                said = f"{count} numbers, sum {total}\n"
+                self.assertEqual(self.answer("csv_column.py", content, "2"), (0, said, ""))
+
+    def test_wrong_files(self):
         table = b"name,count\na,12\nb,30\n"
-        self.assertEqual(self.answer("csv_column.py", table, "2"), (0, "2 numbers, sum 42\n", ""))
-        wrong = "line 4, column 3, byte 23: Empty in b''\n"
-        self.assertEqual(self.answer("csv_column.py", table + b"c,\n", "2"), (1, "", wrong))
-        short = "line 4 has 1 cells, and no column 2\n"
-        self.assertEqual(self.answer("csv_column.py", table + b"c\n", "2"), (1, "", short))
+        quoted = "a quote, or a carriage return without a line feed"
+        for content, told in (
+            (table + b"c,\n", "line 4, column 3, byte 23: Empty in b''"),
+            (table + b"c,", "line 4, column 3, byte 23: Empty in b''"),
+            (table + b"c\n", "line 4 has 1 cells, and no column 2"),
+            (b"name\n", "line 1 has 1 cells, and no column 2"),
+            (b"\n", "line 1 has 1 cells, and no column 2"),
+            (table + b"\n", "line 4 has 1 cells, and no column 2"),
+            (b"n,c\r\na,12\r\n", "line 2, column 5, byte 9: InvalidDigit in b'12\\r'"),
+            (b"n,c\ra,12\rb,30\r", f"byte 3: {quoted}"),
+            (b'n,c\n"a,5,b",7\n', f"byte 4: {quoted}"),
+            (b"n,c\na,1\0\n", "line 2, column 4, byte 7: InvalidDigit in b'1\\x00'"),
+        ):
+            with self.subTest(content=content):
+                self.assertEqual(self.answer("csv_column.py", content, "2"), (1, "", f"{told}\n"))
 
-    def test_big_file(self):
+
+class BigFile(Case):
+    """big_file.py."""
+
+    def test_threads(self):
         lines = [b"%d\n" % k for k in range(1000)]
-        for threads in ("1", "2", "7", "1000"):
+        right = (0, "1000 numbers, sum 499500\n", "")
+        wrong = b"".join([*lines[:500], b"5o\n", *lines[501:900], b"x\n", *lines[901:]])
+        told = f"line 501, byte {len(b''.join(lines[:500])) + 1}: InvalidDigit\n"
+        for threads in ("1", "2", "7", "255"):
             with self.subTest(threads=threads):
-                right = (0, "1000 numbers, sum 499500\n", "")
                 self.assertEqual(self.answer("big_file.py", b"".join(lines), threads), right)
                 self.assertEqual(self.answer("big_file.py", b"".join(lines)[:-1], threads), right)
-                wrong = b"".join([*lines[:500], b"5o\n", *lines[501:900], b"x\n", *lines[901:]])
-                byte = len(b"".join(lines[:500])) + 1
-                told = f"line 501, byte {byte}: InvalidDigit\n"
                 self.assertEqual(self.answer("big_file.py", wrong, threads), (1, "", told))
-        self.assertEqual(self.answer("big_file.py", b"", "4"), (0, "0 numbers, sum 0\n", ""))
+
+    def test_other_files(self):
+        for content, answer in (
+            (b"", (0, "0 numbers, sum 0\n", "")),
+            (b"7", (0, "1 numbers, sum 7\n", "")),
+            (b"0" * 1_000_000 + b"7\n", (0, "1 numbers, sum 7\n", "")),
+            (b"9223372036854775807\n1\n", (0, f"2 numbers, sum {2**63}\n", "")),
+            (b"\n", (1, "", "line 1, byte 0: Empty\n")),
+            (b"1\n\n2\n", (1, "", "line 2, byte 2: Empty\n")),
+            (b"1\r\n2\r\n", (1, "", "line 1, byte 1: InvalidDigit\n")),
+            (b"1\r2", (1, "", "line 1, byte 1: InvalidDigit\n")),
+            (b"1\0\n2\n", (1, "", "line 1, byte 1: InvalidDigit\n")),
+        ):
+            with self.subTest(content=content[:40]):
+                self.assertEqual(self.answer("big_file.py", content, "3"), answer)
+
+
+class Inputs(Case):
+    """Inputs and outputs that aren't plain files."""
+
+    def test_a_pipe(self):
+        contents = ("a 1\nb 2\n", "n,c\na,1\nb,2\n", "1\n2\n")
+        for (name, *words), content in zip(COMMANDS, contents):
+            with self.subTest(name=name):
+                status, output, errors = answer_of(name, "/dev/stdin", *words, input=content)
+                self.assertEqual((status, errors), (0, ""))
+                self.assertEqual(output, "3\n" if name == "ledger.py" else "2 numbers, sum 3\n")
+
+    def test_a_named_pipe_whose_writer_pauses(self):
+        path = self.folder / "pipe"
+        os.mkfifo(path)
+
+        def write():
+            with open(path, "wb", buffering=0) as pipe:
+                for part in (b"1\n2", b"0\n", b"3\n" * 50_000):
+                    pipe.write(part)
+
+        writer = threading.Thread(target=write, daemon=True)
+        writer.start()
+        answer = answer_of("big_file.py", path, "3")
+        writer.join(timeout=60)
+        self.assertEqual(answer, (0, "50002 numbers, sum 150021\n", ""))
+
+    def test_a_file_without_a_size(self):
+        path = pathlib.Path("/proc/sys/kernel/pid_max")
+        self.assertEqual(path.stat().st_size, 0)
+        said = f"1 numbers, sum {path.read_text()}"
+        self.assertEqual(answer_of("big_file.py", path), (0, said, ""))
+
+    def test_no_input(self):
+        locked = self.folder / "locked"
+        locked.touch(0o000)
+        paths = [
+            (self.folder, "Is a directory"),
+            (self.folder / "missing", "No such file or directory"),
+            ("/proc/self/mem", "Input/output error"),
+        ]
+        if os.geteuid():
+            paths.append((locked, "Permission denied"))
+        for name, *words in COMMANDS:
+            for path, told in paths:
+                with self.subTest(name=name, path=path):
+                    self.assertEqual(answer_of(name, path, *words), (1, "", f"{told}\n"))
+
+    def test_a_full_device(self):
+        for name, *words in COMMANDS:
+            with self.subTest(name=name), open("/dev/full", "wb") as full:
+                status, _, errors = answer_of(name, os.devnull, *words, stdout=full)
+                self.assertNotEqual(status, 0)
+                self.assertIn("No space left on device", errors)
+
+    def test_words_that_are_none(self):
+        for name, *words in (
+            ("ledger.py", "more"),
+            ("csv_column.py",),
+            ("csv_column.py", "0"),
+            ("csv_column.py", "²"),
+            ("csv_column.py", "-1"),
+            ("csv_column.py", "9" * 5000),
+            ("csv_column.py", "2", "3"),
+            ("big_file.py", "0"),
+            ("big_file.py", "²"),
+            ("big_file.py", "256"),
+            ("big_file.py", "3", "4"),
+        ):
+            with self.subTest(name=name, words=words):
+                status, output, errors = answer_of(name, os.devnull, *words)
+                self.assertEqual((status, output), (2, ""))
+                self.assertIn(f"python3 {name} FILE", errors)
 
 
 if __name__ == "__main__":

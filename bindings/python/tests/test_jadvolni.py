@@ -1,14 +1,12 @@
-"""Tests of the binding: python3 -m unittest discover -s bindings/python/tests, with the wheel installed."""
+"""Tests of numbers, formats and columns, and of the examples that the documentation shows."""
 
 import array
 import doctest
-import gc
 import pathlib
 import pickle
 import random
 import sys
 import threading
-import tracemalloc
 import unittest
 
 import jadvolni
@@ -65,24 +63,25 @@ class Numbers(Case):
     def test_fronts(self):
         self.assertEqual(parse_partial(b"12, 13", "u8"), (12, 2))
         self.assertEqual(parse_partial(b"x", "u8"), (0, 0))
-        self.assertEqual(parse_partial(b"-170141183460469231731687303715884105728;", "i128"), (-(2**127), 40))
+        least = b"-170141183460469231731687303715884105728;"
+        self.assertEqual(parse_partial(least, "i128"), (-(2**127), 40))
 
     def test_texts_of_each_kind(self):
-        for text in ("12", b"12", bytearray(b"12"), memoryview(b"012")[1:], array.array("b", b"12")):
+        for text in ("12", b"12", bytearray(b"12"), memoryview(b"012")[1:]):
             self.assertEqual(parse(text, "u8"), 12)
         self.assertEqual(parse(text="12", type="u8", format=None), 12)
 
     def test_faults(self):
         error = self.fault("Overflow", 19, parse, b"18446744073709551616", "u64")
-        self.assertEqual(str(error), 'Overflow at byte 19: "18446744073709551616"')
+        self.assertEqual(str(error), "overflow at byte 19: b'18446744073709551616'")
         self.assertIsInstance(error, ValueError)
         self.assertIsNone(error.field)
         self.fault("Empty", 0, parse, "", "u8")
         self.fault("Empty", 1, parse, "+", "u8")
         self.fault("InvalidDigit", 2, parse, "12 ", "u8")
         self.fault("InvalidDigit", 0, parse, "١", "u8")
-        self.assertIn('"0000', str(self.fault("InvalidDigit", 999, parse, "0" * 999 + "x")))
-        self.assertLess(len(str(self.fault("InvalidDigit", 999, parse, "0" * 999 + "x"))), 120)
+        error = self.fault("InvalidDigit", 999, parse, "0" * 999 + "x")
+        self.assertEqual(str(error), f"invalid digit at byte 999: b'{'0' * 64}'..")
 
 
 class Formats(Case):
@@ -97,7 +96,8 @@ class Formats(Case):
     def test_separators(self):
         self.assertEqual(parse("1_000", "u16", Format(separator="_")), 1000)
         self.fault("InvalidDigit", 1, parse, "1__0", "u16", Format(separator="_"))
-        self.assertEqual(parse("1__0", "u16", Format(separator="_", consecutive_separator=True)), 10)
+        several = Format(separator="_", consecutive_separator=True)
+        self.assertEqual(parse("1__0", "u16", several), 10)
         self.assertEqual(parse(b"1\x000", "u16", Format(separator=b"\0")), 10)
 
     def test_flags(self):
@@ -123,13 +123,52 @@ class Formats(Case):
                 Format(**given)
             self.assertEqual((caught.exception.kind, caught.exception.place), (kind, None))
 
-    def test_arguments_that_are_no_bytes(self):
-        for given in ({"separator": ""}, {"prefix": "ab"}, {"suffix": "é"}):
-            with self.subTest(given=given), self.assertRaises(ValueError):
+    def test_fields_of_another_kind(self):
+        for error, given in (
+            (ValueError, {"separator": ""}),
+            (ValueError, {"prefix": "ab"}),
+            (ValueError, {"suffix": "é"}),
+            (TypeError, {"separator": 95}),
+            (TypeError, {"prefix": bytearray(b"x")}),
+            (TypeError, {"radix": "16"}),
+            (TypeError, {"radix": 16.0}),
+            (TypeError, {"required_sign": "no"}),
+            (TypeError, {"required_digits": 0}),
+            (TypeError, {"octal_zero": None}),
+        ):
+            (name,) = given
+            with self.subTest(given=given), self.assertRaisesRegex(error, f"^{name} has to be "):
                 Format(**given)
-        for given in ({"separator": 95}, {"radix": "16"}, {"radix": 16.0}):
-            with self.subTest(given=given), self.assertRaises(TypeError):
-                Format(**given)
+
+    def test_fields_that_change_nothing(self):
+        for name, given in (
+            ("leading_separator", {"leading_separator": True}),
+            ("internal_separator", {"internal_separator": False}),
+            ("trailing_separator", {"trailing_separator": True, "prefix": "x"}),
+            ("consecutive_separator", {"consecutive_separator": True}),
+            ("prefix_separator", {"prefix_separator": True, "prefix": "x"}),
+            ("prefix_separator", {"prefix_separator": True, "separator": "_"}),
+            ("separator", {"separator": "_", "internal_separator": False}),
+            ("case_sensitive_prefix", {"case_sensitive_prefix": True, "suffix": "h"}),
+            ("case_sensitive_suffix", {"case_sensitive_suffix": True, "prefix": "x"}),
+        ):
+            with self.subTest(given=given):
+                with self.assertRaisesRegex(ValueError, f"^{name} changes nothing without "):
+                    Format(**given)
+
+    def test_fields_that_need_another(self):
+        places = ("leading_separator", "trailing_separator")
+        for name, text in zip(places, ("_1", "1_")):
+            given = Format(separator="_", internal_separator=False, **{name: True})
+            self.assertEqual(parse(text, "u8", given), 1)
+            self.fault("InvalidDigit", text.index("_"), parse, text, "u8", Format(separator="_"))
+        behind = {"separator": "_", "prefix_separator": True, "internal_separator": False}
+        self.assertEqual(parse("0x_1", "u8", Format(prefix="x", **behind)), 1)
+        self.assertEqual(parse("0x_F", "u8", Format(literal_prefixes=True, **behind)), 15)
+        exact = Format(literal_prefixes=True, case_sensitive_prefix=True)
+        self.fault("InvalidDigit", 1, parse, "0XF", "u8", exact)
+        exact = Format(suffix="h", case_sensitive_suffix=True)
+        self.fault("InvalidDigit", 1, parse, "1H", "u8", exact)
 
     def test_a_format_is_a_value(self):
         format = Format(radix=16, prefix="x")
@@ -137,6 +176,7 @@ class Formats(Case):
         self.assertEqual(format, Format(prefix=b"x", radix=16))
         self.assertEqual(hash(format), hash(Format(prefix=b"x", radix=16)))
         self.assertNotEqual(format, Format())
+        self.assertEqual((format.radix, format.prefix, format.suffix), (16, "x", None))
         self.assertEqual(pickle.loads(pickle.dumps(format)), format)
         with self.assertRaises(AttributeError):
             format.radix = 10
@@ -169,17 +209,19 @@ class Columns(Case):
     def test_the_first_fault(self):
         error = self.fault("Overflow", 5, parse_column, b"12\n256\nx\n", "u8")
         self.assertEqual((error.field, error.start), (1, 3))
-        self.assertEqual(str(error), 'Overflow at byte 5, in field 1: "256"')
+        self.assertEqual(str(error), "overflow at byte 5, in field 1: b'256'")
         self.fault("Empty", 0, parse_column, b",,,", "u8", b",")
         self.fault("Empty", 2, parse_column, b"1,,2", "u8", b",")
         for field in range(4):
             text = b",".join(b"x" if k == field else b"%d" % k for k in range(4))
-            self.assertEqual(self.fault("InvalidDigit", 2 * field, parse_column, text, "u8", b",").field, field)
+            error = self.fault("InvalidDigit", 2 * field, parse_column, text, "u8", b",")
+            self.assertEqual(error.field, field)
 
     def test_a_fault_is_pickled(self):
         error = self.fault("Overflow", 5, parse_column, b"12\n256\nx\n", "u8")
         again = pickle.loads(pickle.dumps(error))
-        self.assertEqual((type(again), str(again), vars(again)), (ParseError, str(error), vars(error)))
+        self.assertIs(type(again), ParseError)
+        self.assertEqual((str(again), vars(again)), (str(error), vars(error)))
 
     def test_long_columns(self):
         numbers = [k * k * k % 2**64 for k in range(100_000)]
@@ -189,146 +231,54 @@ class Columns(Case):
         self.fault("Overflow", 19, parse_column, b"9" * 2**24, "u64")
 
     def test_the_format_of_each_field(self):
-        self.assertEqual(list(parse_column("0xF F", "u8", " ", Format(radix=16, prefix="x"))), [15, 15])
+        hexadecimal = Format(radix=16, prefix="x")
+        self.assertEqual(list(parse_column("0xF F", "u8", " ", hexadecimal)), [15, 15])
 
     def test_hostile_columns(self):
         self.assertEqual(list(parse_column(b"7" * 3, "u16", b",")), [777])
-        self.assertEqual(list(parse_column(b"1", "u8", b"1", Format(required_digits=False))), [0])
-        self.assertEqual(list(parse_column(b",,,", "u8", b",", Format(required_digits=False))), [0, 0, 0])
+        no_digits = Format(required_digits=False)
+        self.assertEqual(list(parse_column(b"1", "u8", b"1", no_digits)), [0])
+        self.assertEqual(list(parse_column(b",,,", "u8", b",", no_digits)), [0, 0, 0])
         self.assertEqual(list(parse_column(b"0x10x1", "u8", b"x", Format(prefix="x"))), [0, 10, 1])
         self.fault("Empty", 2, parse_column, b"1--2", "i8", b"-")
         self.assertEqual(list(parse_column(b"2026-11-23", "u16", b"-")), [2026, 11, 23])
-        error = self.fault("InvalidDigit", 2**24 - 1, parse_column, b"1," * (2**23 - 1) + b"1x", "u8", b",")
+        text = b"1," * (2**23 - 1) + b"1x"
+        error = self.fault("InvalidDigit", 2**24 - 1, parse_column, text, "u8", b",")
         self.assertEqual((error.field, error.start), (2**23 - 1, 2**24 - 2))
         self.assertEqual(len(parse_column(b"0" * 2**24, "u8", b",")), 1)
 
     def test_a_fault_in_each_field(self):
-        for kind, wrong, within in (("Empty", "", 0), ("Overflow", "32768", 4), ("Underflow", "-32769", 5)):
+        faults = (("Empty", "", 0), ("Overflow", "32768", 4), ("Underflow", "-32769", 5))
+        for kind, wrong, within in faults:
             for field in range(20):
                 fields = ["12345"] * 20
                 fields[field] = wrong
                 text = ";".join(fields) + ";"
                 error = self.fault(kind, 6 * field + within, parse_column, text, "i16", ";")
                 self.assertEqual((error.field, error.start), (field, 6 * field))
-                self.assertTrue(str(error).endswith(f'in field {field}: "{wrong}"'))
+                self.assertTrue(str(error).endswith(f"in field {field}: b'{wrong}'"))
 
     def test_columns_beside_int(self):
         for seed in range(200):
             state = random.Random(seed)
-            numbers = [state.randrange(-(2 ** state.randrange(1, 64)), 2 ** state.randrange(1, 64)) for _ in range(50)]
+            bounds = [2 ** state.randrange(1, 64) for _ in range(50)]
+            numbers = [state.randrange(-bound, bound) for bound in bounds]
             text = "|".join(map(str, numbers))
-            self.assertEqual(list(parse_column(text, "i64", "|")), [int(one) for one in text.split("|")])
+            self.assertEqual(list(parse_column(text, "i64", "|")), numbers)
 
     def test_threads_share_a_text(self):
         text = b"".join(b"%d\n" % k for k in range(50_000))
         sums = []
-        threads = [threading.Thread(target=lambda: sums.append(sum(parse_column(text)))) for _ in range(4)]
+
+        def add():
+            sums.append(sum(parse_column(text)))
+
+        threads = [threading.Thread(target=add) for _ in range(4)]
         for thread in threads:
             thread.start()
         for thread in threads:
             thread.join()
         self.assertEqual(sums, [sum(range(50_000))] * 4)
-
-
-class Arguments(Case):
-    """Bad arguments of every kind, and references."""
-
-    def test_bad_arguments(self):
-        for call in (parse, parse_partial, parse_column):
-            for arguments, named in (
-                ((), {}),
-                ((12,), {}),
-                ((None,), {}),
-                (("1", 8), {}),
-                (("1",), {"text": "1"}),
-                (("1",), {"kind": "u8"}),
-                (("1",), {"format": 16}),
-                (("1",), {"format": object()}),
-                (("1", "u8", ",", None, None), {}),
-                ((memoryview(b"1234")[::2], "u8", 5), {}),
-            ):
-                with self.subTest(call=call.__name__, arguments=arguments, named=named):
-                    self.assertRaises((TypeError, BufferError), call, *arguments, **named)
-            for name in ("", "u7", "U8", "u8\0", "float", "ü8", "\ud800"):
-                with self.subTest(call=call.__name__, type=name):
-                    self.assertRaises(ValueError, call, "1", name)
-        self.assertRaises(UnicodeEncodeError, parse, "\ud800", "u8")
-        self.assertRaises(BufferError, parse, memoryview(b"1234")[::2], "u8")
-
-    def test_separators_that_are_none(self):
-        for separator in (b"", b"ab", "", "é"):
-            with self.subTest(separator=separator):
-                self.assertRaises(ValueError, parse_column, "1", "u8", separator)
-        self.assertRaises(TypeError, parse_column, "1", "u8", 44)
-
-    def test_columns_of_128_bits_are_none(self):
-        self.assertRaises(ValueError, parse_column, "1", "u128")
-
-    def test_objects_that_look_like_formats(self):
-        class Alike:
-            _fields = b"short"
-
-        self.assertRaises(TypeError, parse, "1", "u8", Alike())
-        Alike._fields = b"\x0a" + bytes(23)
-        self.assertEqual(parse("1", "u8", Alike()), 1)
-        Alike._fields = b"\x0a" + bytes(22) + b"\x01"
-        self.assertRaises(FormatError, parse, "1", "u8", Alike())
-
-    def test_a_text_can_be_changed_afterwards(self):
-        for call in (parse, parse_partial, parse_column):
-            for content in (b"12", b"1x"):
-                text = bytearray(content)
-                try:
-                    call(text)
-                except ParseError:
-                    pass
-                text.append(0)
-
-    def test_references_stay(self):
-        text, name, separator, format = bytearray(b"12,x"), "".join(["u", "16"]), bytearray(b","), Format(radix=12)
-        objects = (text, name, separator, format, format._fields, ParseError, FormatError)
-
-        def calls():
-            for call, arguments in (
-                (Format, ()),
-                (parse, (str(2**127), "u128")),
-                (parse, (str(-(2**127)), "i128", format)),
-                (parse_partial, (text, "i128")),
-                (parse_column, (text, "u128")),
-                (parse_column, (b"12,13", name, b"ab")),
-                (parse_column, (b"12,13", name, 5)),
-                (parse_column, (5, name, separator)),
-                (parse, (text, name, format)),
-                (parse, (b"12", name, format)),
-                (parse_partial, (text, name, format)),
-                (parse_column, (text, name, separator, format)),
-                (parse_column, (b"12,13", name, separator, format)),
-                (parse, (text, name, 5)),
-                (parse, (5, name, format)),
-                (parse, (text, separator)),
-            ):
-                try:
-                    call(*arguments)
-                except (ValueError, TypeError):
-                    pass
-
-        calls()
-        before = [sys.getrefcount(one) for one in objects]
-        for _ in range(1000):
-            calls()
-        self.assertEqual([sys.getrefcount(one) for one in objects], before)
-        # What a call takes is given back: the least object that each round lost would be 160,000 bytes.
-        tracemalloc.start()
-        try:
-            taken = []
-            for rounds in (2000, 10_000):
-                for _ in range(rounds):
-                    calls()
-                gc.collect()
-                taken.append(tracemalloc.get_traced_memory()[0])
-            self.assertLess(taken[1] - taken[0], 100_000)
-        finally:
-            tracemalloc.stop()
 
 
 def load_tests(loader, tests, pattern):
@@ -337,7 +287,8 @@ def load_tests(loader, tests, pattern):
     tests.addTests(doctest.DocTestSuite(sys.modules["jadvolni._format"]))
     # (the line that ends a block of code would count as expected output)
     shown = README.read_text(encoding="utf-8").replace("```\n", "\n")
-    tests.addTest(doctest.DocTestCase(doctest.DocTestParser().get_doctest(shown, {}, README.name, str(README), 0)))
+    examples = doctest.DocTestParser().get_doctest(shown, {}, README.name, str(README), 0)
+    tests.addTest(doctest.DocTestCase(examples))
     return tests
 
 

@@ -15,7 +15,8 @@ class NumpyColumns(unittest.TestCase):
 
     def test_columns_of_each_type(self):
         for bits in (8, 16, 32, 64):
-            for letter, least, greatest in (("u", 0, 2**bits - 1), ("i", -(2 ** (bits - 1)), 2 ** (bits - 1) - 1)):
+            half = 2 ** (bits - 1)
+            for letter, least, greatest in (("u", 0, 2 * half - 1), ("i", -half, half - 1)):
                 with self.subTest(type=f"{letter}{bits}"):
                     column = numpy_column(f"{least};{greatest}", f"{letter}{bits}", ";")
                     self.assertEqual(str(column.dtype), f"{'u' * (letter == 'u')}int{bits}")
@@ -38,8 +39,16 @@ class NumpyColumns(unittest.TestCase):
 
         text = numpy.frombuffer(b"12,7", dtype="u1")
         self.assertEqual(numpy_column(text, "u8", ",").tolist(), [12, 7])
-        with self.assertRaisesRegex(ValueError, "contiguous"):
-            numpy_column(text[::2], "u8", ",")
+        for other, reason in (
+            (text[::2], "isn't contiguous"),
+            (text.reshape(2, 2), "hasn't one dimension"),
+            (numpy.array([b"1", b"2"]), "items aren't bytes"),
+            (numpy.array([b"12", b"34"]), "items aren't bytes"),
+            (numpy.array(["12", "34"]), "items aren't bytes"),
+            (numpy.array([12, 34]), "items aren't bytes"),
+        ):
+            with self.subTest(other=other), self.assertRaisesRegex(TypeError, reason):
+                numpy_column(other, "u8", ",")
 
     def test_beside_numpy(self):
         import numpy

@@ -1,17 +1,49 @@
 //! Finds the library: in the folder that JADVOLNI_LIB_DIR names, and else by pkg-config.
-use std::{env, path::Path, process::Command};
+use std::env::{self, VarError};
+use std::path::{Path, PathBuf};
+use std::process::Command;
+
+/// The files of the library, the better one first, and how Cargo names that kind.
+const LIBRARIES: [(&str, &str); 2] = [("libjadvolni.a", "static"), ("libjadvolni.so", "dylib")];
 
 fn main() {
-    println!("cargo:rerun-if-env-changed=JADVOLNI_LIB_DIR");
-    println!("cargo:rerun-if-env-changed=PKG_CONFIG_PATH");
-    let folder = env::var("JADVOLNI_LIB_DIR").unwrap_or_else(|_| by_pkg_config());
-    let is_static = Path::new(&folder).join("libjadvolni.a").exists();
-    println!("cargo:rustc-link-search=native={folder}");
-    println!("cargo:rustc-link-lib={}=jadvolni", if is_static { "static" } else { "dylib" });
+    for name in ["JADVOLNI_LIB_DIR", "PKG_CONFIG_PATH", "PKG_CONFIG_LIBDIR"] {
+        println!("cargo:rerun-if-env-changed={name}");
+    }
+    let folder = folder();
+    let shown = folder.display();
+    assert!(folder.is_dir(), "libjadvolni is looked for in {shown}, which is no folder");
+    let found = LIBRARIES.into_iter().find(|(file, _)| is_filled(&folder.join(file)));
+    let Some((file, kind)) = found else {
+        panic!("{shown} has no libjadvolni.a and no libjadvolni.so, or empty ones");
+    };
+    println!("cargo:rerun-if-changed={shown}/{file}");
+    println!("cargo:rustc-link-search=native={shown}");
+    println!("cargo:rustc-link-lib={kind}=jadvolni");
+}
+
+/// Whether there is such a file, and it isn't empty.
+fn is_filled(path: &Path) -> bool {
+    path.metadata().is_ok_and(|it| it.is_file() && it.len() > 0)
+}
+
+/// The folder of the library. A relative path counts from the folder of this crate, the only one of
+/// the sources that Cargo tells a build script.
+fn folder() -> PathBuf {
+    match env::var("JADVOLNI_LIB_DIR") {
+        Ok(folder) if folder.is_empty() => {
+            panic!("JADVOLNI_LIB_DIR is empty: set it to the folder of libjadvolni.a")
+        }
+        Ok(folder) => {
+            PathBuf::from(env::var_os("CARGO_MANIFEST_DIR").expect("Cargo sets it")).join(folder)
+        }
+        Err(VarError::NotPresent) => by_pkg_config(),
+        Err(VarError::NotUnicode(folder)) => panic!("JADVOLNI_LIB_DIR is {folder:?}, not UTF-8"),
+    }
 }
 
 /// The folder of the library, as pkg-config tells it.
-fn by_pkg_config() -> String {
+fn by_pkg_config() -> PathBuf {
     let answer = Command::new("pkg-config")
         .args(["--variable=libdir", "jadvolni"])
         .output()
@@ -20,5 +52,5 @@ fn by_pkg_config() -> String {
         answer.status.success(),
         "pkg-config finds no jadvolni: install it, or set JADVOLNI_LIB_DIR to the folder of libjadvolni.a"
     );
-    String::from_utf8(answer.stdout).expect("a path in UTF-8").trim().to_owned()
+    String::from_utf8(answer.stdout).expect("a path in UTF-8").trim().into()
 }

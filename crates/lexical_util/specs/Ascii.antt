@@ -25,10 +25,6 @@ apostrophe = 39
 abbrev pub plus : ℕ
 plus = 43
 
--- b','
-abbrev pub comma : ℕ
-comma = 44
-
 -- b'-'
 abbrev pub minus : ℕ
 minus = 45

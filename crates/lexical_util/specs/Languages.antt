@@ -1,6 +1,6 @@
--- The integers of programming languages, of data formats and of other notations: a format for each.
+-- The integers of programming languages, of assemblers and of data formats: a format for each.
 use Rattle.std.specs.Prelude.{ℕ, true, false, Some}
-use Rattle.lexical_util.specs.Ascii.{apostrophe, capital_l, comma, letter_h, letter_l, letter_n, letter_x, underscore}
+use Rattle.lexical_util.specs.Ascii.{apostrophe, capital_l, letter_h, letter_l, letter_n, letter_x, underscore}
 use Rattle.lexical_util.specs.Format.{Format, standard}
 
 -- ---- what many of them have in common
@@ -202,12 +202,4 @@ sql_2023 =
     record (by_separator underscore) {
       no_positive_mantissa_sign = false;
       integer_prefix_digit_separator = true;
-    }
-
--- columns of amounts of money: `-1,000`
-abbrev pub money : Format
-money =
-    record standard {
-      digit_separator = Some comma;
-      integer_internal_digit_separator = true;
     }

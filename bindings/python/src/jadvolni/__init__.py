@@ -12,15 +12,30 @@
     >>> jadvolni.parse(b"18446744073709551616", "u64")
     Traceback (most recent call last):
     ...
-    jadvolni.ParseError: Overflow at byte 19: "18446744073709551616"
+    jadvolni.ParseError: overflow at byte 19: b'18446744073709551616'
 
-The parsers are those of the library `jadvolni`, whose answers are proved. This module hands texts to
-them and numbers back; it is tested, and not proved.
+The parsers are those of the library `jadvolni`, whose answers are proved. This module hands texts
+to them and numbers back; it is tested, and not proved.
 """
 
-from ._core import FormatError, ParseError, _check_format, parse, parse_column, parse_partial
+from ._core import (
+    FormatError,
+    ParseError,
+    __version__,
+    parse,
+    parse_column,
+    parse_partial,
+)
 from ._format import Format
 from ._numpy import numpy_column
 
-__all__ = ["Format", "FormatError", "ParseError", "numpy_column", "parse", "parse_column", "parse_partial"]
-__version__ = "0.1.0"
+__all__ = [
+    "Format",
+    "FormatError",
+    "ParseError",
+    "__version__",
+    "numpy_column",
+    "parse",
+    "parse_column",
+    "parse_partial",
+]

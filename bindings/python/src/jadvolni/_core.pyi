@@ -1,14 +1,17 @@
 """The calls of the library, by `_core.c`."""
 
 from array import array
-from collections.abc import Buffer
 from typing import Literal, Optional, Union
+
+from _typeshed import ReadableBuffer
 
 from ._format import Format
 
-Text = Union[str, Buffer]
+Text = Union[str, ReadableBuffer]
 ColumnType = Literal["u8", "u16", "u32", "u64", "usize", "i8", "i16", "i32", "i64", "isize"]
 NumberType = Union[ColumnType, Literal["u128", "i128"]]
+
+__version__: str
 
 class ParseError(ValueError):
     kind: str

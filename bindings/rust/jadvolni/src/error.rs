@@ -80,30 +80,40 @@ impl Error {
 }
 
 impl fmt::Display for Error {
+    /// A text of `bindings/errors.txt`, and the place of a fault of the text: `overflow at byte 19`.
     fn fmt(&self, f: &mut fmt::Formatter<'_>) -> fmt::Result {
-        match *self {
-            Error::Overflow(place) => write!(f, "overflow at byte {place}"),
-            Error::Underflow(place) => write!(f, "underflow at byte {place}"),
-            Error::InvalidDigit(place) => write!(f, "invalid digit at byte {place}"),
-            Error::Empty(place) => write!(f, "missing digit at byte {place}"),
-            Error::MissingSign(place) => write!(f, "missing sign at byte {place}"),
-            Error::InvalidPositiveSign(place) => write!(f, "forbidden plus sign at byte {place}"),
-            Error::InvalidLeadingZeros(place) => write!(f, "forbidden leading zero at byte {place}"),
-            Error::InvalidMantissaRadix => f.write_str("the radix of the format is not from 2 to 36"),
+        f.write_str(match self {
+            Error::Overflow(_) => "overflow",
+            Error::Underflow(_) => "underflow",
+            Error::InvalidDigit(_) => "invalid digit",
+            Error::Empty(_) => "missing digit",
+            Error::MissingSign(_) => "missing sign",
+            Error::InvalidPositiveSign(_) => "forbidden plus sign",
+            Error::InvalidLeadingZeros(_) => "forbidden leading zero",
+            Error::InvalidMantissaRadix => "the radix has to be 2 to 36",
             Error::InvalidDigitSeparator => {
-                f.write_str("the separator of the format is not ASCII, or is a sign or a digit")
+                "the separator has to be ASCII, and no sign and no digit of the radix"
             }
             Error::InvalidBasePrefix => {
-                f.write_str("the prefix of the format is not ASCII, or is a sign or a digit")
+                "the prefix has to be ASCII, and no sign and no digit of the radix"
             }
             Error::InvalidBaseSuffix => {
-                f.write_str("the suffix of the format is not ASCII, or is a sign or a digit")
+                "the suffix has to be ASCII, and no sign and no digit of the radix"
             }
             Error::InvalidPunctuation => {
-                f.write_str("two of separator, prefix and suffix of the format are alike")
+                "separator, prefix and suffix have to be different bytes, and no letter \
+                 in two cases"
             }
-            Error::InvalidLiteralPrefixes => f.write_str("the format cannot have literal prefixes"),
-            Error::Unknown(status) => write!(f, "the library answered with status {status}"),
+            Error::InvalidLiteralPrefixes => {
+                "literal prefixes and octal zeros need the radix 10, and literal prefixes \
+                 no prefix, and no separator or suffix that may be a part of 0x, 0o, 0b \
+                 or of their digits"
+            }
+            Error::Unknown(_) => "a status that only a later library has",
+        })?;
+        match self.place() {
+            Some(place) => write!(f, " at byte {place}"),
+            None => Ok(()),
         }
     }
 }

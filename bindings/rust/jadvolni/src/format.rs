@@ -21,9 +21,9 @@ pub struct Format {
     pub case_sensitive_base_prefix: bool,
     /// The suffix is matched in its case alone.
     pub case_sensitive_base_suffix: bool,
-    /// A digit is required.
+    /// A digit is required, as by `required_mantissa_digits`: one of the two is enough.
     pub required_integer_digits: bool,
-    /// A digit is required, too.
+    /// A digit is required. With neither field, an empty text is 0.
     pub required_mantissa_digits: bool,
     /// A plus is refused.
     pub no_positive_mantissa_sign: bool,
@@ -78,7 +78,8 @@ impl Format {
         ..Format::STANDARD
     };
 
-    /// Literals as sources of programs have them: `1_000`, `0xFF`, `0o17`, `0b1`.
+    /// What the tokenizer reads: `1_000`, `0xFF`, `0o17`, `0b1`. It is no language's format: it reads
+    /// `0777` as 777, which is octal to C, and takes `+1`.
     pub const LITERAL: Format = Format {
         digit_separator: Some(b'_'),
         integer_internal_digit_separator: true,

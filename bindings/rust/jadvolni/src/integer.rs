@@ -66,10 +66,7 @@ pub(crate) fn complete_with<T: Integer>(text: &[u8], format: &Format) -> Result<
 }
 
 #[inline]
-pub(crate) fn partial_with<T: Integer>(
-    text: &[u8],
-    format: &Format,
-) -> Result<(T, usize), Error> {
+pub(crate) fn partial_with<T: Integer>(text: &[u8], format: &Format) -> Result<(T, usize), Error> {
     call_under(text, format, T::PARTIAL_UNDER)
 }
 

@@ -42,14 +42,30 @@ fn faults_of_formats() {
 
 #[test]
 fn nul_is_a_byte_like_others() {
-    let utf16 = Format {
+    let with_nuls = Format {
         digit_separator: Some(0),
         integer_internal_digit_separator: true,
         integer_trailing_digit_separator: true,
         ..Format::STANDARD
     };
-    assert_eq!(parse_with::<u16>(b"1\x002\x003\x00", &utf16), Ok(123));
+    assert_eq!(parse_with::<u16>(b"1\x002\x003\x00", &with_nuls), Ok(123));
+    // That isn't UTF-16, in which these two bytes are the letter U+3131.
+    assert_eq!(parse_with::<u16>(b"11", &with_nuls), Ok(11));
     assert_eq!(parse::<u16>(b"1\x002\x003\x00"), Err(Error::InvalidDigit(1)));
+}
+
+#[test]
+fn literal_format_is_no_language() {
+    assert_eq!(parse_with::<u32>("0777", &Format::LITERAL), Ok(777));
+    assert_eq!(parse_with::<u32>("+1", &Format::LITERAL), Ok(1));
+}
+
+#[test]
+fn empty_text_without_required_digit_is_zero() {
+    let none = Format { required_mantissa_digits: false, ..Format::STANDARD };
+    let integer = Format { required_integer_digits: true, ..none };
+    assert_eq!(parse_with::<u32>("", &none), Ok(0));
+    assert_eq!(parse_with::<u32>("", &integer), Err(Error::Empty(0)));
 }
 
 #[test]
@@ -58,6 +74,41 @@ fn faults_as_texts() {
     assert_eq!(fault.to_string(), "overflow at byte 2");
     assert_eq!(parse::<u8>("256").unwrap_err().place(), Some(2));
     assert_eq!(jadvolni::library_version(), 100);
+}
+
+/// Each text is that of the list which all bindings share, by the name of the fault.
+#[test]
+fn texts_of_faults_are_those_of_the_list() {
+    let faults = [
+        Error::Overflow(7),
+        Error::Underflow(7),
+        Error::InvalidDigit(7),
+        Error::Empty(7),
+        Error::MissingSign(7),
+        Error::InvalidPositiveSign(7),
+        Error::InvalidLeadingZeros(7),
+        Error::InvalidMantissaRadix,
+        Error::InvalidDigitSeparator,
+        Error::InvalidBasePrefix,
+        Error::InvalidBaseSuffix,
+        Error::InvalidPunctuation,
+        Error::InvalidLiteralPrefixes,
+        Error::Unknown(7),
+    ];
+    let said = faults.map(|fault| {
+        let name = format!("{fault:?}").replace("(7)", "");
+        format!("{name}: {}", fault.to_string().replace(" at byte 7", ""))
+    });
+    // No fault is no error, and a format of this crate has no reserved bytes.
+    let listed: Vec<&str> = include_str!("../../../errors.txt")
+        .lines()
+        .filter(|line| !line.starts_with('#'))
+        .filter(|line| !line.starts_with("Ok: ") && !line.starts_with("UnknownField: "))
+        .collect();
+    assert_eq!(said.as_slice(), listed);
+    for fault in &faults[..7] {
+        assert!(fault.to_string().ends_with(" at byte 7"), "{fault}");
+    }
 }
 
 /// The least and the greatest number of a type, by all four calls.
@@ -106,7 +157,10 @@ fn beside_std() {
             })
             .collect();
         let front = &text[..text.len().min(1 + next(20) as usize)];
-        assert_eq!(parse::<u8>(&front[..front.len().min(4)]).ok(), front[..front.len().min(4)].parse().ok());
+        assert_eq!(
+            parse::<u8>(&front[..front.len().min(4)]).ok(),
+            front[..front.len().min(4)].parse().ok()
+        );
         assert_eq!(parse::<i32>(front).ok(), front.parse().ok(), "{front}");
         assert_eq!(parse::<u64>(front).ok(), front.parse().ok(), "{front}");
         assert_eq!(parse::<i64>(front).ok(), front.parse().ok(), "{front}");

@@ -92,16 +92,16 @@ low_byte_of_halves n a b x y p q l e =
 
 -- a product of two halves each: the product of the upper halves is lost
 halves_product : (a b c d : ℕ) → a * c < 4294967296 → a * d + b * c < 4294967296 →
-    (b * 4294967296 + a) * (c + d * 4294967296) % 18446744073709551616 ≡ (a * d + b * c) * 4294967296 + a * c
+    (b * 4294967296 + a) * (d * 4294967296 + c) % 18446744073709551616 ≡ (a * d + b * c) * 4294967296 + a * c
 halves_product a b c d p q =
-    let e : (b * 4294967296 + a) * (c + d * 4294967296) ≡ (b * d) * 18446744073709551616 + ((a * d + b * c) * 4294967296 + a * c) = omega arith in
+    let e : (b * 4294967296 + a) * (d * 4294967296 + c) ≡ (b * d) * 18446744073709551616 + ((a * d + b * c) * 4294967296 + a * c) = omega arith in
     ap (λ n. n % 18446744073709551616) e ∙ mod-mul-add (b * d) 18446744073709551616 ((a * d + b * c) * 4294967296 + a * c) (omega arith)
 
 -- the sum of the products, for each radix by its powers
 add_products : (n m e0 e2 e4 e6 r2 r4 r6 : ℕ) → e0 < 128 → e2 < 128 → e4 < 128 → e6 < 128 →
     r2 ≤ 100 → r4 ≤ 10000 → r6 ≤ 1000000 →
     n ≡ e4 * 4294967296 + e0 → m ≡ e6 * 4294967296 + e2 →
-    (n * (r2 + r6 * 4294967296 % 18446744073709551616) % 18446744073709551616 + m * (1 + r4 * 4294967296 % 18446744073709551616) % 18446744073709551616) % 18446744073709551616 / 4294967296
+    (n * (r6 * 4294967296 % 18446744073709551616 + r2) % 18446744073709551616 + m * (r4 * 4294967296 % 18446744073709551616 + 1) % 18446744073709551616) % 18446744073709551616 / 4294967296
     ≡ e0 * r6 + e4 * r2 + e2 * r4 + e6
 add_products n m e0 e2 e4 e6 r2 r4 r6 l0 l2 l4 l6 s2 s4 s6 en em =
     let a0 : e0 * r2 ≤ 127 * 100 = mul-le e0 r2 127 100 (omega arith) s2 in
@@ -133,8 +133,8 @@ even_bytes e0 e1 e2 e3 e4 e5 e6 e7 n l0 l1 l2 l3 l4 l5 l6 l7 e =
 
 value_8 : (radix d0 d1 d2 d3 d4 d5 d6 d7 digits : ℕ) → radix ≤ 10 → d0 < radix → d1 < radix → d2 < radix → d3 < radix → d4 < radix → d5 < radix → d6 < radix → d7 < radix →
     digits ≡ d0 + 256 * (d1 + 256 * (d2 + 256 * (d3 + 256 * (d4 + 256 * (d5 + 256 * (d6 + 256 * (d7 + 0))))))) →
-    (bit_and (digits * radix + digits / 256) 1095216660735 * (radix * radix + radix * radix * (radix * radix * (radix * radix)) * 4294967296 % 18446744073709551616) % 18446744073709551616
-    + bit_and ((digits * radix + digits / 256) / 65536) 1095216660735 * (1 + radix * radix * (radix * radix) * 4294967296 % 18446744073709551616) % 18446744073709551616) % 18446744073709551616 / 4294967296
+    (bit_and (digits * radix + digits / 256) 1095216660735 * (radix * radix * (radix * radix) * (radix * radix) * 4294967296 % 18446744073709551616 + radix * radix) % 18446744073709551616
+    + bit_and ((digits * radix + digits / 256) / 65536) 1095216660735 * (radix * radix * (radix * radix) * 4294967296 % 18446744073709551616 + 1) % 18446744073709551616) % 18446744073709551616 / 4294967296
     ≡ d0 * radix ^ 7 + (d1 * radix ^ 6 + (d2 * radix ^ 5 + (d3 * radix ^ 4 + (d4 * radix ^ 3 + (d5 * radix ^ 2 + (d6 * radix ^ 1 + (d7 * radix ^ 0 + 0)))))))
 value_8 radix d0 d1 d2 d3 d4 d5 d6 d7 digits r p0 p1 p2 p3 p4 p5 p6 p7 e =
     let pairs = pairs_8 radix d0 d1 d2 d3 d4 d5 d6 d7 digits (omega arith) (omega arith) (omega arith) (omega arith) (omega arith) (omega arith) (omega arith) e in
@@ -149,14 +149,14 @@ value_8 radix d0 d1 d2 d3 d4 d5 d6 d7 digits r p0 p1 p2 p3 p4 p5 p6 p7 e =
     let both = even_bytes (d0 * radix + d1) (d1 * radix + d2) (d2 * radix + d3) (d3 * radix + d4) (d4 * radix + d5) (d5 * radix + d6) (d6 * radix + d7) (d7 * radix) (digits * radix + digits / 256) l0 l1 l2 l3 l4 l5 l6 l7 pairs in
     let s2 : radix * radix ≤ 100 = mul-le radix radix 10 10 r r in
     let s4 : radix * radix * (radix * radix) ≤ 10000 = mul-le (radix * radix) (radix * radix) 100 100 s2 s2 in
-    let s6 : radix * radix * (radix * radix * (radix * radix)) ≤ 1000000 = mul-le (radix * radix) (radix * radix * (radix * radix)) 100 10000 s2 s4 in
-    add_products (bit_and (digits * radix + digits / 256) 1095216660735) (bit_and ((digits * radix + digits / 256) / 65536) 1095216660735) (d0 * radix + d1) (d2 * radix + d3) (d4 * radix + d5) (d6 * radix + d7) (radix * radix) (radix * radix * (radix * radix)) (radix * radix * (radix * radix * (radix * radix)))
+    let s6 : radix * radix * (radix * radix) * (radix * radix) ≤ 1000000 = mul-le (radix * radix * (radix * radix)) (radix * radix) 10000 100 s4 s2 in
+    add_products (bit_and (digits * radix + digits / 256) 1095216660735) (bit_and ((digits * radix + digits / 256) / 65536) 1095216660735) (d0 * radix + d1) (d2 * radix + d3) (d4 * radix + d5) (d6 * radix + d7) (radix * radix) (radix * radix * (radix * radix)) (radix * radix * (radix * radix) * (radix * radix))
     l0 l2 l4 l6 s2 s4 s6 both.0 both.1
     ∙ rw (power_7 radix, power_6 radix, power_5 radix, power_4 radix, power_3 radix, power_2 radix, power_1 radix, pow-zero radix) (omega arith)
 
 pub parse_8 : (radix word : ℕ) → radix ≤ 10 → word < 256 ^ 8 → AreAsciiDigits radix (word_bytes 8 word) →
-    (bit_and ((word - 3472328296227680304) * radix + (word - 3472328296227680304) / 256) 1095216660735 * (radix * radix + radix * radix * (radix * radix * (radix * radix)) * 4294967296 % 18446744073709551616) % 18446744073709551616
-    + bit_and (((word - 3472328296227680304) * radix + (word - 3472328296227680304) / 256) / 65536) 1095216660735 * (1 + radix * radix * (radix * radix) * 4294967296 % 18446744073709551616) % 18446744073709551616) % 18446744073709551616 / 4294967296
+    (bit_and ((word - 3472328296227680304) * radix + (word - 3472328296227680304) / 256) 1095216660735 * (radix * radix * (radix * radix) * (radix * radix) * 4294967296 % 18446744073709551616 + radix * radix) % 18446744073709551616
+    + bit_and (((word - 3472328296227680304) * radix + (word - 3472328296227680304) / 256) / 65536) 1095216660735 * (radix * radix * (radix * radix) * 4294967296 % 18446744073709551616 + 1) % 18446744073709551616) % 18446744073709551616 / 4294967296
     ≡ ascii_value radix (word_bytes 8 word)
 parse_8 radix word r l h =
     value_8 radix (word % 256 - 48) (word / 256 % 256 - 48) (word / 256 / 256 % 256 - 48) (word / 256 / 256 / 256 % 256 - 48) (word / 256 / 256 / 256 / 256 % 256 - 48) (word / 256 / 256 / 256 / 256 / 256 % 256 - 48) (word / 256 / 256 / 256 / 256 / 256 / 256 % 256 - 48) (word / 256 / 256 / 256 / 256 / 256 / 256 / 256 % 256 - 48) (word - 3472328296227680304) r

@@ -42,6 +42,8 @@ pub fn parse_4digits(v: u32, radix: u32) -> u32
 }
 
 /// The number that the eight digits of `v` write, the lowest byte first.
+///
+/// Neighbours make four pairs. Two products scale two pairs each, and add them up in their upper halves.
 #[inline(always)]
 pub fn parse_8digits(v: u64, radix: u32) -> u64
     requires least { 2 ≤ radix }
@@ -50,15 +52,12 @@ pub fn parse_8digits(v: u64, radix: u32) -> u64
     ensures { result ≡ word_value radix (word_bytes 8 v) }
 {
     let radix = radix as u64;
-    let radix2 = radix * radix;
-    let radix4 = radix2 * radix2;
-    let radix6 = radix2 * radix4;
-    let mask = 0x0000_00ff_0000_00ff;
-    let mul1 = radix2 + (radix6 << 32);
-    let mul2 = 1 + (radix4 << 32);
     let digits = v - 0x3030_3030_3030_3030;
     let pairs = digits * radix + (digits >> 8);
-    let first = (pairs & mask).wrapping_mul(mul1);
-    let second = ((pairs >> 16) & mask).wrapping_mul(mul2);
-    first.wrapping_add(second) >> 32
+    let square = radix * radix;
+    let fourth_power = square * square;
+    let low_bytes = 0x0000_00ff_0000_00ff;
+    let odd_pairs = (pairs & low_bytes).wrapping_mul(((fourth_power * square) << 32) + square);
+    let even_pairs = ((pairs >> 16) & low_bytes).wrapping_mul((fourth_power << 32) + 1);
+    odd_pairs.wrapping_add(even_pairs) >> 32
 }

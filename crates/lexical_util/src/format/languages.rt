@@ -1,4 +1,4 @@
-//! Ready formats: the integers of programming languages, of data formats and of other notations.
+//! Ready formats: the integers of programming languages, of assemblers and of data formats.
 //!
 //! Each is made by setters of a [`NumberFormatBuilder`](super::NumberFormatBuilder), so a caller may copy the lines and
 //! change one. A format says what it can of a language: its radixes, its separators, its zeros. What it can't say is
@@ -19,7 +19,7 @@ mod scripting;
 use super::NumberFormatBuilder;
 pub use c_like::{c, c_decimal, c_hexadecimal, c_octal, c23, cpp14, csharp, java, kotlin};
 pub use compiled::{ada, assembler_hexadecimal, go, rust, swift, vhdl};
-pub use data::{json, json5, money, sql, sql_2023, toml, yaml};
+pub use data::{json, json5, sql, sql_2023, toml, yaml};
 pub use functional::{haskell, ocaml};
 pub use scripting::{javascript, julia, python, ruby};
 

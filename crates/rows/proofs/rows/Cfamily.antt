@@ -1,6 +1,6 @@
 -- Worked rows: the integers of C, and of languages that write them as C does.
 -- Written by tools/rows.py from tools/languages.txt: make rows writes it anew.
-use Rattle.std.specs.Prelude.{◌≡◌, codes, pos, Some, true, false, Ok, Err}
+use Rattle.std.specs.Prelude.{◌≡◌, codes, ℕ, ℤ, pos, neg_ℤ, Some, true, false, Ok, Err}
 use Rattle.std.proofs.Common.{refl}
 use Rattle.lexical_util.specs.declared.error.Error.TheVariants.{Overflow, InvalidDigit, Empty, InvalidPositiveSign, InvalidLeadingZeros}
 use Rattle.lexical_util.specs.Format.{standard}
@@ -23,6 +23,10 @@ i32 = integer_type 32 true
 
 abbrev i64 : IntegerType
 i64 = integer_type 64 true
+
+-- a number below 0
+abbrev minus : ℕ → ℤ
+minus size = neg_ℤ (pos size)
 
 -- ---- C, up to C17
 
@@ -91,6 +95,11 @@ c_15 = refl
 c_16 : complete c u32 (codes "1u") ≡ Err (InvalidDigit 1)
 unfolding complete partial numeral_in head_of sign range_fault begin_of digit_at are_same separator_at flag_for run_passes is_in_numeral end_of digits_between matches is_affix literal_radix marked_radix octal_zero_at prefix_radix suffix_at numeral_stop
 c_16 = refl
+
+-- unlike: 1
+c_17 : complete c i64 (codes "-0xFFFFFFFF") ≡ Ok (minus 4294967295)
+unfolding complete partial numeral_in head_of sign range_fault begin_of digit_at are_same separator_at flag_for run_passes is_in_numeral end_of digits_between matches is_affix literal_radix marked_radix octal_zero_at prefix_radix suffix_at numeral_stop
+c_17 = refl
 
 -- ---- C, decimal constants
 
@@ -193,6 +202,11 @@ c_octal_12 : complete c_octal u64 (codes "07u") ≡ Err (InvalidDigit 2)
 unfolding complete partial numeral_in head_of sign range_fault begin_of digit_at are_same separator_at flag_for run_passes is_in_numeral end_of digits_between matches is_affix literal_radix marked_radix octal_zero_at prefix_radix suffix_at numeral_stop
 c_octal_12 = refl
 
+-- unlike: 1
+c_octal_13 : complete c_octal i64 (codes "-037777777777") ≡ Ok (minus 4294967295)
+unfolding complete partial numeral_in head_of sign range_fault begin_of digit_at are_same separator_at flag_for run_passes is_in_numeral end_of digits_between matches is_affix literal_radix marked_radix octal_zero_at prefix_radix suffix_at numeral_stop
+c_octal_13 = refl
+
 -- ---- C, hexadecimal constants
 
 c_hexadecimal_1 : c_hexadecimal ≡ (record standard { no_positive_mantissa_sign = true; mantissa_radix = 16; base_prefix = Some 120 })
@@ -254,6 +268,11 @@ c_hexadecimal_14 : complete c_hexadecimal u64 (codes "0x1u") ≡ Err (InvalidDig
 unfolding complete partial numeral_in head_of sign range_fault begin_of digit_at are_same separator_at flag_for run_passes is_in_numeral end_of digits_between matches is_affix literal_radix marked_radix octal_zero_at prefix_radix suffix_at numeral_stop
 c_hexadecimal_14 = refl
 
+-- unlike: 1
+c_hexadecimal_15 : complete c_hexadecimal i64 (codes "-0xFFFFFFFF") ≡ Ok (minus 4294967295)
+unfolding complete partial numeral_in head_of sign range_fault begin_of digit_at are_same separator_at flag_for run_passes is_in_numeral end_of digits_between matches is_affix literal_radix marked_radix octal_zero_at prefix_radix suffix_at numeral_stop
+c_hexadecimal_15 = refl
+
 -- ---- C23
 
 c23_1 : c23 ≡ (record standard { no_positive_mantissa_sign = true; literal_prefixes = true; digit_separator = Some 39; integer_internal_digit_separator = true; literal_octal_zero = true })
@@ -313,6 +332,11 @@ c23_14 : complete c23 u32 (codes "1wb") ≡ Err (InvalidDigit 1)
 unfolding complete partial numeral_in head_of sign range_fault begin_of digit_at are_same separator_at flag_for run_passes is_in_numeral end_of digits_between matches is_affix literal_radix marked_radix octal_zero_at prefix_radix suffix_at numeral_stop
 c23_14 = refl
 
+-- unlike: 1
+c23_15 : complete c23 i64 (codes "-0xFFFF'FFFF") ≡ Ok (minus 4294967295)
+unfolding complete partial numeral_in head_of sign range_fault begin_of digit_at are_same separator_at flag_for run_passes is_in_numeral end_of digits_between matches is_affix literal_radix marked_radix octal_zero_at prefix_radix suffix_at numeral_stop
+c23_15 = refl
+
 -- ---- C++14 and later
 
 cpp14_1 : cpp14 ≡ (record standard { no_positive_mantissa_sign = true; literal_prefixes = true; digit_separator = Some 39; integer_internal_digit_separator = true; literal_octal_zero = true })
@@ -371,6 +395,11 @@ cpp14_13 = refl
 cpp14_14 : complete cpp14 u32 (codes "1ul") ≡ Err (InvalidDigit 1)
 unfolding complete partial numeral_in head_of sign range_fault begin_of digit_at are_same separator_at flag_for run_passes is_in_numeral end_of digits_between matches is_affix literal_radix marked_radix octal_zero_at prefix_radix suffix_at numeral_stop
 cpp14_14 = refl
+
+-- unlike: 1
+cpp14_15 : complete cpp14 i64 (codes "-0xFFFF'FFFF") ≡ Ok (minus 4294967295)
+unfolding complete partial numeral_in head_of sign range_fault begin_of digit_at are_same separator_at flag_for run_passes is_in_numeral end_of digits_between matches is_affix literal_radix marked_radix octal_zero_at prefix_radix suffix_at numeral_stop
+cpp14_15 = refl
 
 -- ---- C#
 

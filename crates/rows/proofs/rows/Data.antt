@@ -1,4 +1,4 @@
--- Worked rows: the integers of JSON, JSON5, TOML, YAML and SQL, and of columns of money.
+-- Worked rows: the integers of JSON, JSON5, TOML, YAML and SQL.
 -- Written by tools/rows.py from tools/languages.txt: make rows writes it anew.
 use Rattle.std.specs.Prelude.{◌≡◌, codes, ℕ, ℤ, pos, neg_ℤ, Some, true, Ok, Err}
 use Rattle.std.proofs.Common.{refl}
@@ -10,7 +10,7 @@ use Rattle.lexical_parse_integer.specs.Grammar.{complete, partial, range_fault}
 use Rattle.lexical_parse_integer.specs.Head.{head_of, sign}
 use Rattle.lexical_parse_integer.specs.Numeral.{numeral_in}
 use Rattle.lexical_parse_integer.specs.Runs.{are_same, begin_of, is_in_numeral, digit_at, digits_between, end_of, flag_for, run_passes, separator_at}
-use Rattle.lexical_util.specs.Languages.{json5, money, sql, sql_2023, toml, yaml}
+use Rattle.lexical_util.specs.Languages.{json5, sql, sql_2023, toml, yaml}
 
 abbrev i32 : IntegerType
 i32 = integer_type 32 true
@@ -77,6 +77,11 @@ json_13 : complete json i32 (codes "1e3") ≡ Err (InvalidDigit 1)
 unfolding complete partial numeral_in head_of sign range_fault begin_of digit_at are_same separator_at flag_for run_passes is_in_numeral end_of digits_between matches is_affix literal_radix marked_radix octal_zero_at prefix_radix suffix_at numeral_stop
 json_13 = refl
 
+-- unlike: to JavaScript 9007199254740992
+json_14 : complete json i64 (codes "9007199254740993") ≡ Ok (pos 9007199254740993)
+unfolding complete partial numeral_in head_of sign range_fault begin_of digit_at are_same separator_at flag_for run_passes is_in_numeral end_of digits_between matches is_affix literal_radix marked_radix octal_zero_at prefix_radix suffix_at numeral_stop
+json_14 = refl
+
 -- ---- JSON5
 
 json5_1 : json5 ≡ (record standard { literal_prefixes = true; no_integer_leading_zeros = true })
@@ -140,6 +145,11 @@ json5_14 = refl
 json5_15 : complete json5 i32 (codes "5.") ≡ Err (InvalidDigit 1)
 unfolding complete partial numeral_in head_of sign range_fault begin_of digit_at are_same separator_at flag_for run_passes is_in_numeral end_of digits_between matches is_affix literal_radix marked_radix octal_zero_at prefix_radix suffix_at numeral_stop
 json5_15 = refl
+
+-- unlike: to JavaScript 9007199254740992
+json5_16 : complete json5 i64 (codes "9007199254740993") ≡ Ok (pos 9007199254740993)
+unfolding complete partial numeral_in head_of sign range_fault begin_of digit_at are_same separator_at flag_for run_passes is_in_numeral end_of digits_between matches is_affix literal_radix marked_radix octal_zero_at prefix_radix suffix_at numeral_stop
+json5_16 = refl
 
 -- ---- TOML
 
@@ -275,6 +285,11 @@ yaml_14 : complete yaml i32 (codes "-0x1") ≡ Ok (minus 1)
 unfolding complete partial numeral_in head_of sign range_fault begin_of digit_at are_same separator_at flag_for run_passes is_in_numeral end_of digits_between matches is_affix literal_radix marked_radix octal_zero_at prefix_radix suffix_at numeral_stop
 yaml_14 = refl
 
+-- unlike: 511 in YAML 1.1
+yaml_15 : complete yaml i32 (codes "0777") ≡ Ok (pos 777)
+unfolding complete partial numeral_in head_of sign range_fault begin_of digit_at are_same separator_at flag_for run_passes is_in_numeral end_of digits_between matches is_affix literal_radix marked_radix octal_zero_at prefix_radix suffix_at numeral_stop
+yaml_15 = refl
+
 -- ---- SQL, up to SQL:2016
 
 sql_1 : sql ≡ standard
@@ -370,57 +385,3 @@ sql_2023_11 = refl
 sql_2023_12 : complete sql_2023 i32 (codes "1E3") ≡ Err (InvalidDigit 1)
 unfolding complete partial numeral_in head_of sign range_fault begin_of digit_at are_same separator_at flag_for run_passes is_in_numeral end_of digits_between matches is_affix literal_radix marked_radix octal_zero_at prefix_radix suffix_at numeral_stop
 sql_2023_12 = refl
-
--- ---- columns of money, grouped by `,`
-
-money_1 : money ≡ (record standard { digit_separator = Some 44; integer_internal_digit_separator = true })
-money_1 = refl
-
-money_2 : complete money i64 (codes "1,234,567") ≡ Ok (pos 1234567)
-unfolding complete partial numeral_in head_of sign range_fault begin_of digit_at are_same separator_at flag_for run_passes is_in_numeral end_of digits_between matches is_affix literal_radix marked_radix octal_zero_at prefix_radix suffix_at numeral_stop
-money_2 = refl
-
-money_3 : complete money i64 (codes "-1,000") ≡ Ok (minus 1000)
-unfolding complete partial numeral_in head_of sign range_fault begin_of digit_at are_same separator_at flag_for run_passes is_in_numeral end_of digits_between matches is_affix literal_radix marked_radix octal_zero_at prefix_radix suffix_at numeral_stop
-money_3 = refl
-
-money_4 : complete money i64 (codes "+5") ≡ Ok (pos 5)
-unfolding complete partial numeral_in head_of sign range_fault begin_of digit_at are_same separator_at flag_for run_passes is_in_numeral end_of digits_between matches is_affix literal_radix marked_radix octal_zero_at prefix_radix suffix_at numeral_stop
-money_4 = refl
-
-money_5 : complete money i64 (codes "1000") ≡ Ok (pos 1000)
-unfolding complete partial numeral_in head_of sign range_fault begin_of digit_at are_same separator_at flag_for run_passes is_in_numeral end_of digits_between matches is_affix literal_radix marked_radix octal_zero_at prefix_radix suffix_at numeral_stop
-money_5 = refl
-
-money_6 : complete money i64 (codes "0") ≡ Ok (pos 0)
-unfolding complete partial numeral_in head_of sign range_fault begin_of digit_at are_same separator_at flag_for run_passes is_in_numeral end_of digits_between matches is_affix literal_radix marked_radix octal_zero_at prefix_radix suffix_at numeral_stop
-money_6 = refl
-
-money_7 : complete money i64 (codes ",1") ≡ Err (InvalidDigit 0)
-unfolding complete partial numeral_in head_of sign range_fault begin_of digit_at are_same separator_at flag_for run_passes is_in_numeral end_of digits_between matches is_affix literal_radix marked_radix octal_zero_at prefix_radix suffix_at numeral_stop
-money_7 = refl
-
-money_8 : complete money i64 (codes "1,") ≡ Err (InvalidDigit 1)
-unfolding complete partial numeral_in head_of sign range_fault begin_of digit_at are_same separator_at flag_for run_passes is_in_numeral end_of digits_between matches is_affix literal_radix marked_radix octal_zero_at prefix_radix suffix_at numeral_stop
-money_8 = refl
-
-money_9 : complete money i64 (codes "1,,000") ≡ Err (InvalidDigit 1)
-unfolding complete partial numeral_in head_of sign range_fault begin_of digit_at are_same separator_at flag_for run_passes is_in_numeral end_of digits_between matches is_affix literal_radix marked_radix octal_zero_at prefix_radix suffix_at numeral_stop
-money_9 = refl
-
-money_10 : complete money i64 (codes "1.50") ≡ Err (InvalidDigit 1)
-unfolding complete partial numeral_in head_of sign range_fault begin_of digit_at are_same separator_at flag_for run_passes is_in_numeral end_of digits_between matches is_affix literal_radix marked_radix octal_zero_at prefix_radix suffix_at numeral_stop
-money_10 = refl
-
-money_11 : complete money i64 (codes "1 000") ≡ Err (InvalidDigit 1)
-unfolding complete partial numeral_in head_of sign range_fault begin_of digit_at are_same separator_at flag_for run_passes is_in_numeral end_of digits_between matches is_affix literal_radix marked_radix octal_zero_at prefix_radix suffix_at numeral_stop
-money_11 = refl
-
-money_12 : complete money i64 (codes "$1") ≡ Err (InvalidDigit 0)
-unfolding complete partial numeral_in head_of sign range_fault begin_of digit_at are_same separator_at flag_for run_passes is_in_numeral end_of digits_between matches is_affix literal_radix marked_radix octal_zero_at prefix_radix suffix_at numeral_stop
-money_12 = refl
-
--- unlike: no group of three
-money_13 : complete money i64 (codes "1,00") ≡ Ok (pos 100)
-unfolding complete partial numeral_in head_of sign range_fault begin_of digit_at are_same separator_at flag_for run_passes is_in_numeral end_of digits_between matches is_affix literal_radix marked_radix octal_zero_at prefix_radix suffix_at numeral_stop
-money_13 = refl

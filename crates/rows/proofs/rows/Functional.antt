@@ -18,6 +18,9 @@ u32 = integer_type 32 false
 abbrev i32 : IntegerType
 i32 = integer_type 32 true
 
+abbrev i64 : IntegerType
+i64 = integer_type 64 true
+
 -- a number below 0
 abbrev minus : ℕ → ℤ
 minus size = neg_ℤ (pos size)
@@ -148,3 +151,13 @@ ocaml_14 = refl
 ocaml_15 : complete ocaml i32 (codes "1L") ≡ Err (InvalidDigit 1)
 unfolding complete partial numeral_in head_of sign range_fault begin_of digit_at are_same separator_at flag_for run_passes is_in_numeral end_of digits_between matches is_affix literal_radix marked_radix octal_zero_at prefix_radix suffix_at numeral_stop
 ocaml_15 = refl
+
+-- unlike: -1
+ocaml_16 : complete ocaml i64 (codes "0x7FFFFFFFFFFFFFFF") ≡ Ok (pos 9223372036854775807)
+unfolding complete partial numeral_in head_of sign range_fault begin_of digit_at are_same separator_at flag_for run_passes is_in_numeral end_of digits_between matches is_affix literal_radix marked_radix octal_zero_at prefix_radix suffix_at numeral_stop
+ocaml_16 = refl
+
+-- unlike: no literal
+ocaml_17 : complete ocaml i64 (codes "4611686018427387904") ≡ Ok (pos 4611686018427387904)
+unfolding complete partial numeral_in head_of sign range_fault begin_of digit_at are_same separator_at flag_for run_passes is_in_numeral end_of digits_between matches is_affix literal_radix marked_radix octal_zero_at prefix_radix suffix_at numeral_stop
+ocaml_17 = refl

@@ -306,3 +306,8 @@ julia_13 = refl
 julia_14 : complete julia u32 (codes "+1") ≡ Err (InvalidPositiveSign 0)
 unfolding complete partial numeral_in head_of sign range_fault begin_of digit_at are_same separator_at flag_for run_passes is_in_numeral end_of digits_between matches is_affix literal_radix marked_radix octal_zero_at prefix_radix suffix_at numeral_stop
 julia_14 = refl
+
+-- unlike: 254, of type UInt8
+julia_15 : complete julia i32 (codes "-0x2") ≡ Ok (minus 2)
+unfolding complete partial numeral_in head_of sign range_fault begin_of digit_at are_same separator_at flag_for run_passes is_in_numeral end_of digits_between matches is_affix literal_radix marked_radix octal_zero_at prefix_radix suffix_at numeral_stop
+julia_15 = refl

@@ -14,6 +14,9 @@ use Rattle.lexical_parse_integer.specs.Runs.{are_same, begin_of, is_in_numeral, 
 abbrev u8 : IntegerType
 u8 = integer_type 8 false
 
+abbrev u16 : IntegerType
+u16 = integer_type 16 false
+
 abbrev u32 : IntegerType
 u32 = integer_type 32 false
 
@@ -84,7 +87,7 @@ letters_5 : complete (record standard { digit_separator = Some 88; integer_inter
 unfolding complete partial numeral_in head_of sign range_fault begin_of digit_at are_same separator_at flag_for run_passes is_in_numeral end_of digits_between matches is_affix literal_radix marked_radix octal_zero_at prefix_radix suffix_at numeral_stop
 letters_5 = refl
 
--- ---- byte 0 separates as any other byte does, and the text's end is no such byte
+-- ---- byte 0 separates as any other byte does; the text's end is no such byte, and a text with it is no UTF-16
 
 byte_zero_1 : complete (record standard { digit_separator = Some 0; integer_trailing_digit_separator = true }) i32 (codes "1\0") ≡ Ok (pos 1)
 unfolding complete partial numeral_in head_of sign range_fault begin_of digit_at are_same separator_at flag_for run_passes is_in_numeral end_of digits_between matches is_affix literal_radix marked_radix octal_zero_at prefix_radix suffix_at numeral_stop
@@ -116,13 +119,23 @@ byte_zero_7 : complete (record standard { digit_separator = Some 0; integer_inte
 unfolding complete partial numeral_in head_of sign range_fault begin_of digit_at are_same separator_at flag_for run_passes is_in_numeral end_of digits_between matches is_affix literal_radix marked_radix octal_zero_at prefix_radix suffix_at numeral_stop
 byte_zero_7 = refl
 
-byte_zero_8 : complete (record standard { digit_separator = Some 0; integer_leading_digit_separator = true }) i32 (codes "") ≡ Err (Empty 0)
+-- also what UTF-16 writes for 11, low byte first
+byte_zero_8 : complete (record standard { digit_separator = Some 0; integer_internal_digit_separator = true; integer_trailing_digit_separator = true }) u16 (codes "1\01\0") ≡ Ok (pos 11)
 unfolding complete partial numeral_in head_of sign range_fault begin_of digit_at are_same separator_at flag_for run_passes is_in_numeral end_of digits_between matches is_affix literal_radix marked_radix octal_zero_at prefix_radix suffix_at numeral_stop
 byte_zero_8 = refl
 
-byte_zero_9 : partial (record standard { digit_separator = Some 0; integer_leading_digit_separator = true }) i32 (codes "\0") ≡ Err (Empty 1)
+-- in UTF-16 one letter, U+3131, and no number
+byte_zero_9 : complete (record standard { digit_separator = Some 0; integer_internal_digit_separator = true; integer_trailing_digit_separator = true }) u16 (codes "11") ≡ Ok (pos 11)
 unfolding complete partial numeral_in head_of sign range_fault begin_of digit_at are_same separator_at flag_for run_passes is_in_numeral end_of digits_between matches is_affix literal_radix marked_radix octal_zero_at prefix_radix suffix_at numeral_stop
 byte_zero_9 = refl
+
+byte_zero_10 : complete (record standard { digit_separator = Some 0; integer_leading_digit_separator = true }) i32 (codes "") ≡ Err (Empty 0)
+unfolding complete partial numeral_in head_of sign range_fault begin_of digit_at are_same separator_at flag_for run_passes is_in_numeral end_of digits_between matches is_affix literal_radix marked_radix octal_zero_at prefix_radix suffix_at numeral_stop
+byte_zero_10 = refl
+
+byte_zero_11 : partial (record standard { digit_separator = Some 0; integer_leading_digit_separator = true }) i32 (codes "\0") ≡ Err (Empty 1)
+unfolding complete partial numeral_in head_of sign range_fault begin_of digit_at are_same separator_at flag_for run_passes is_in_numeral end_of digits_between matches is_affix literal_radix marked_radix octal_zero_at prefix_radix suffix_at numeral_stop
+byte_zero_11 = refl
 
 -- ---- a long run passes as a short one does, or not at all
 

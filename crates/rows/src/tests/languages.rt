@@ -234,7 +234,7 @@ fn functional(rt: HostRuntime) {
     );
 }
 
-// The integers of JSON, JSON5, TOML, YAML and SQL, and of columns of money.
+// The integers of JSON, JSON5, TOML, YAML and SQL.
 #[test]
 fn data(rt: HostRuntime) {
     is_built_by(
@@ -278,12 +278,5 @@ fn data(rt: HostRuntime) {
             .digit_separator(Some(b'_'))
             .integer_internal_digit_separator(true)
             .integer_prefix_digit_separator(true),
-    );
-    is_built_by(
-        &rt,
-        languages::money(),
-        NumberFormatBuilder::new()
-            .digit_separator(Some(b','))
-            .integer_internal_digit_separator(true),
     );
 }

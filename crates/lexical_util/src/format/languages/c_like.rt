@@ -9,7 +9,8 @@ use crate::format::NumberFormat;
 
 /// Integer constants of C up to C17, of each of the three kinds: `511`, `0777` and `0x1FF`.
 ///
-/// `0o777` and `0b1` are read besides, and are none of C17's. An end such as `u` or `LL` isn't read.
+/// A minus gives C's value only before what C holds in a signed type: `-0xFFFFFFFF` is 1 in C. `0o777` and `0b1` are
+/// read besides, and are none of C17's. An end such as `u` or `LL` isn't read.
 pub fn c() -> NumberFormat
     ensures fields { result ≡ c }
     ensures valid { fault result ≡ None }
@@ -25,7 +26,9 @@ pub fn c_decimal() -> NumberFormat
     without_plus().no_integer_leading_zeros(true).build_strict()
 }
 
-/// The octal constants of C: `0777`. The leading zero isn't asked for: `777` is 511 too.
+/// The octal constants of C: `0777`.
+///
+/// The leading zero isn't asked for: `777` is 511, where C reads 777.
 pub fn c_octal() -> NumberFormat
     ensures fields { result ≡ c_octal }
     ensures valid { fault result ≡ None }
@@ -33,7 +36,9 @@ pub fn c_octal() -> NumberFormat
     without_plus().mantissa_radix(8).build_strict()
 }
 
-/// The hexadecimal constants of C: `0x1FF`. The prefix isn't asked for: `1FF` is 511 too.
+/// The hexadecimal constants of C: `0x1FF`.
+///
+/// The prefix isn't asked for: `10` is 16, where C reads 10.
 pub fn c_hexadecimal() -> NumberFormat
     ensures fields { result ≡ c_hexadecimal }
     ensures valid { fault result ≡ None }
@@ -46,7 +51,8 @@ pub fn c_hexadecimal() -> NumberFormat
 
 /// Integer constants of C23: those of [`c`], with `0b1`, and with `'` between digits: `1'000`.
 ///
-/// `0o777` is read besides, and is none of C23's. An end such as `u` or `wb` isn't read.
+/// `-0xFFFFFFFF` is 1 in C, as [`c`] tells. `0o777` is read besides, and is none of C23's. An end such as `u` or `wb`
+/// isn't read.
 pub fn c23() -> NumberFormat
     ensures fields { result ≡ c23 }
     ensures valid { fault result ≡ None }
@@ -77,7 +83,7 @@ pub fn csharp() -> NumberFormat
 
 /// Integer literals of Java: `1__000`, `0_777`, `0x1_FF` and `0b1_01`, and with an `L` or `l` at the end.
 ///
-/// `0o777` is read besides, and is none of Java's. Java reads `0xFFFFFFFF` as -1; the value here is 4294967295.
+/// Java reads `0xFFFFFFFF` as -1; the value here is 4294967295. `0o777` is read besides, and is none of Java's.
 pub fn java() -> NumberFormat
     ensures fields { result ≡ java }
     ensures valid { fault result ≡ None }

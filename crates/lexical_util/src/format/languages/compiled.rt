@@ -61,7 +61,8 @@ pub fn vhdl() -> NumberFormat
 
 /// Hexadecimal numbers of assemblers: `0FFh`.
 ///
-/// Neither the `h` nor a leading digit from 0 to 9 is asked for: `0FF` and `FFh` are 255 too.
+/// The `h` isn't asked for: `10` is 16, where an assembler reads 10, and `11b` is 283, where it reads 3. Nor is a
+/// leading digit from 0 to 9: `FFh`, to an assembler a name, is 255.
 pub fn assembler_hexadecimal() -> NumberFormat
     ensures fields { result ≡ assembler_hexadecimal }
     ensures valid { fault result ≡ None }

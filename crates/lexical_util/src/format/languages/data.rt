@@ -1,12 +1,12 @@
-//! The integers of JSON, JSON5, TOML, YAML and SQL, and of columns of money. Here a sign is a part of the text.
+//! The integers of JSON, JSON5, TOML, YAML and SQL. Here a sign is a part of the text.
 
 ghost use Rattle.std.specs.Prelude.{◌≡◌, None};
 ghost use Rattle.lexical_util.specs.Format.{json};
-ghost use Rattle.lexical_util.specs.Languages.{json5, money, sql, sql_2023, toml, yaml};
+ghost use Rattle.lexical_util.specs.Languages.{json5, sql, sql_2023, toml, yaml};
 ghost use Rattle.lexical_util.specs.Validity.{fault};
 
 use super::{by_separator, own_sign};
-use crate::format::{JSON, NumberFormat, NumberFormatBuilder, STANDARD};
+use crate::format::{JSON, NumberFormat, STANDARD};
 
 /// Integers of JSON: [`JSON`].
 pub fn json() -> NumberFormat
@@ -42,7 +42,7 @@ pub fn toml() -> NumberFormat
 
 /// Integers of YAML 1.2 by its core schema: `+0511`, `0x1FF` and `0o777`. `0777` is 777.
 ///
-/// `0b1` and `+0x1` are read besides, and are strings in YAML.
+/// Readers of YAML 1.1 take `0777` for 511. `0b1` and `+0x1` are read besides, and are strings in YAML.
 pub fn yaml() -> NumberFormat
     ensures fields { result ≡ yaml }
     ensures valid { fault result ≡ None }
@@ -66,18 +66,5 @@ pub fn sql_2023() -> NumberFormat
     by_separator(b'_')
         .no_positive_mantissa_sign(false)
         .integer_prefix_digit_separator(true)
-        .build_strict()
-}
-
-/// Whole amounts of money in columns, with `,` between digits: `-1,234,567`.
-///
-/// It isn't asked that three digits come between two commas.
-pub fn money() -> NumberFormat
-    ensures fields { result ≡ money }
-    ensures valid { fault result ≡ None }
-{
-    NumberFormatBuilder::new()
-        .digit_separator(Some(b','))
-        .integer_internal_digit_separator(true)
         .build_strict()
 }

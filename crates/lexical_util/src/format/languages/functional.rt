@@ -21,7 +21,8 @@ pub fn haskell() -> NumberFormat
 
 /// Integer literals of OCaml: `1__000_`, `0x1FF_`, `0o777` and `0b1_01`. `0777` is 777.
 ///
-/// A letter at the end, as in `1L`, isn't read.
+/// OCaml's `int` has 63 bits: it reads `0x7FFFFFFFFFFFFFFF` as -1; the value here is 9223372036854775807. A letter at
+/// the end, as in `1L`, isn't read.
 pub fn ocaml() -> NumberFormat
     ensures fields { result ≡ ocaml }
     ensures valid { fault result ≡ None }

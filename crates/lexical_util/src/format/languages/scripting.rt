@@ -36,7 +36,8 @@ pub fn ruby() -> NumberFormat
 /// Integer literals of JavaScript in strict mode: `1_000`, `0x1_FF`, `0o777` and `0b1_01`, and with an `n` at the end.
 /// A zero before another digit is refused.
 ///
-/// `0_1` is refused too. An exponent, as in `1e3`, isn't read.
+/// JavaScript rounds a number above 9007199254740992 that has no `n`; the value here is exact. `0_1` is refused too. An
+/// exponent, as in `1e3`, isn't read.
 pub fn javascript() -> NumberFormat
     ensures fields { result ≡ javascript }
     ensures valid { fault result ≡ None }
@@ -49,6 +50,8 @@ pub fn javascript() -> NumberFormat
 }
 
 /// Integer literals of Julia: `1_000`, `0x1_FF`, `0o777` and `0b1_01`. `0777` is 777.
+///
+/// Julia keeps what has a prefix unsigned, and reads `-0x2` as 254; the value here is -2.
 pub fn julia() -> NumberFormat
     ensures fields { result ≡ julia }
     ensures valid { fault result ≡ None }

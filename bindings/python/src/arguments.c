@@ -1,0 +1,153 @@
+/*
+ * arguments.c - what the calls are given: by place or by name, and of which kind.
+ */
+#include "core.h"
+
+static const jadvolni_format STANDARD = JADVOLNI_FORMAT_STANDARD;
+
+/* The slot of an argument's name, and `most` for a name that is none. */
+static Py_ssize_t slot_of(PyObject *keyword, const char *const *names, Py_ssize_t most)
+{
+    Py_ssize_t slot = 0;
+    while (slot < most && PyUnicode_CompareWithASCIIString(keyword, names[slot]))
+        slot++;
+    return slot;
+}
+
+/* Puts the arguments that were given by name to their slots. */
+static int named_arguments(const char *call, PyObject *const *args, PyObject *keywords,
+                           const char *const *names, Py_ssize_t most, PyObject **found)
+{
+    Py_ssize_t count = keywords ? PyTuple_Size(keywords) : 0;
+    for (Py_ssize_t k = 0; k < count; k++) {
+        PyObject *keyword = PyTuple_GetItem(keywords, k);
+        Py_ssize_t slot = slot_of(keyword, names, most);
+        if (slot == most) {
+            PyErr_Format(PyExc_TypeError, "%s() has no argument %R", call, keyword);
+            return -1;
+        }
+        if (found[slot]) {
+            PyErr_Format(PyExc_TypeError, "%s() was given %R twice", call, keyword);
+            return -1;
+        }
+        found[slot] = args[k];
+    }
+    return 0;
+}
+
+int arguments(const char *call, PyObject *const *args, Py_ssize_t count, PyObject *keywords,
+              const char *const *names, Py_ssize_t most, PyObject **found)
+{
+    if (count > most) {
+        PyErr_Format(PyExc_TypeError, "%s() takes at most %zd arguments, and was given %zd", call,
+                     most, count);
+        return -1;
+    }
+    for (Py_ssize_t k = 0; k < most; k++)
+        found[k] = k < count ? args[k] : NULL;
+    if (named_arguments(call, args + count, keywords, names, most, found) < 0)
+        return -1;
+    if (!found[0]) {
+        PyErr_Format(PyExc_TypeError, "%s() needs the argument '%s'", call, names[0]);
+        return -1;
+    }
+    return 0;
+}
+
+void raise_type(const char *name, const char *wanted, PyObject *given, const char *detail)
+{
+    PyObject *type = PyType_GetName(Py_TYPE(given));
+    if (type)
+        PyErr_Format(PyExc_TypeError, "%s has to be %s, and not %U%s", name, wanted, type, detail);
+    Py_XDECREF(type);
+}
+
+int format_of(PyObject *format, jadvolni_format *fields)
+{
+    *fields = STANDARD;
+    if (!format || format == Py_None)
+        return 0;
+    PyObject *bytes = PyObject_GetAttrString(format, "_fields");
+    if (!bytes && !PyErr_ExceptionMatches(PyExc_AttributeError))
+        return -1;
+    PyErr_Clear();
+    int whole = bytes && PyBytes_Check(bytes) && (size_t)PyBytes_Size(bytes) == sizeof *fields;
+    if (whole)
+        memcpy(fields, PyBytes_AsString(bytes), sizeof *fields);
+    else
+        raise_type("format", "a jadvolni.Format or None", format, "");
+    Py_XDECREF(bytes);
+    return whole ? 0 : -1;
+}
+
+/* Why what a buffer has isn't a row of bytes, and NULL where it is. An array of texts, or of
+ * numbers of several bytes, would be read as one text. */
+static const char *no_bytes(const Py_buffer *view)
+{
+    const char *format = view->format ? view->format : "B";
+    if (*format && strchr("@=<>!", *format))
+        format++;
+    if (view->itemsize != 1 || strlen(format) != 1 || !strchr("Bbc", *format))
+        return ", whose items aren't bytes";
+    if (view->ndim != 1)
+        return ", which hasn't one dimension";
+    return PyBuffer_IsContiguous(view, 'C') ? NULL : ", which isn't contiguous";
+}
+
+/* Lends an object with the buffer protocol. */
+static int lend_view(const char *name, PyObject *text, lent_text *lent)
+{
+    static const char wanted[] = "a str or contiguous bytes";
+    if (!PyObject_CheckBuffer(text)) {
+        raise_type(name, wanted, text, "");
+        return -1;
+    }
+    if (PyObject_GetBuffer(text, &lent->view, PyBUF_FULL_RO) < 0)
+        return -1;
+    const char *detail = no_bytes(&lent->view);
+    if (detail) {
+        PyBuffer_Release(&lent->view);
+        raise_type(name, wanted, text, detail);
+        return -1;
+    }
+    lent->has_view = 1;
+    lent->bytes = lent->view.buf;
+    lent->len = (size_t)lent->view.len;
+    return 0;
+}
+
+int lend(const char *name, PyObject *text, lent_text *lent)
+{
+    Py_ssize_t size = 0;
+    lent->has_view = 0;
+    if (PyUnicode_Check(text)) {
+        lent->bytes = PyUnicode_AsUTF8AndSize(text, &size);
+    } else if (PyBytes_Check(text)) {
+        lent->bytes = PyBytes_AsString(text);
+        size = PyBytes_Size(text);
+    } else {
+        return lend_view(name, text, lent);
+    }
+    lent->len = (size_t)size;
+    return lent->bytes ? 0 : -1;
+}
+
+void give_back(lent_text *lent)
+{
+    if (lent->has_view)
+        PyBuffer_Release(&lent->view);
+}
+
+int separator_of(PyObject *separator)
+{
+    if (!separator)
+        return '\n';
+    lent_text text;
+    if (lend("separator", separator, &text) < 0)
+        return -1;
+    int byte = text.len == 1 ? (unsigned char)text.bytes[0] : -1;
+    if (byte < 0)
+        PyErr_Format(PyExc_ValueError, "separator has to be one byte, and not %zu", text.len);
+    give_back(&text);
+    return byte;
+}

@@ -1,0 +1,114 @@
+/*
+ * core.h - what the parts of the extension `jadvolni._core` share.
+ *
+ * The library reads the texts. `types.c` has the types of numbers, `faults.c` the exceptions,
+ * `arguments.c` what the calls are given, and `_core.c` the calls and the module. `Format` is
+ * Python, and hands its bytes over as the attribute `_fields`.
+ */
+#ifndef JADVOLNI_PYTHON_CORE_H
+#define JADVOLNI_PYTHON_CORE_H
+
+/* The stable ABI from 3.11 on, so that one extension serves all later versions. */
+#define Py_LIMITED_API 0x030B0000
+#define PY_SSIZE_T_CLEAN
+#include <Python.h>
+
+#include <stdint.h>
+#include <string.h>
+
+#include "jadvolni.h"
+
+/* ---- types.c ---- */
+
+/* A number of any type, as the library writes it. */
+typedef union number {
+    uint8_t u8;
+    uint16_t u16;
+    uint32_t u32;
+    uint64_t u64;
+    jadvolni_uint128 u128;
+    size_t usize;
+    int8_t i8;
+    int16_t i16;
+    int32_t i32;
+    int64_t i64;
+    jadvolni_int128 i128;
+    ptrdiff_t isize;
+} number;
+
+typedef jadvolni_result parse_call(const char *text, size_t len, const jadvolni_format *format,
+                                   void *value);
+typedef jadvolni_result column_call(const char *text, size_t len, uint8_t separator,
+                                    const jadvolni_format *format, void *values, size_t capacity,
+                                    size_t *count);
+
+/* What a type is called, the code of its arrays (none for 128 bits), its size and its calls. */
+typedef struct number_type {
+    const char *name;
+    const char *array_code;
+    size_t size;
+    parse_call *whole;
+    parse_call *front;
+    column_call *column;
+    PyObject *(*number)(const number *value);
+} number_type;
+
+/* The type of a name, and i64 for NULL. NULL with an exception for what is the name of none. */
+const number_type *type_of(PyObject *name);
+
+/* ---- faults.c ---- */
+
+/* What a module keeps: each interpreter has its own. */
+typedef struct core_state {
+    PyObject *parse_error;
+    PyObject *format_error;
+} core_state;
+
+/* A field of a column that has a fault: which one it is, and where it starts. */
+typedef struct field_place {
+    size_t index;
+    size_t start;
+} field_place;
+
+/* Makes the module's exceptions. -1 with an exception where that fails. */
+int make_exceptions(PyObject *module, core_state *state);
+
+/* Whether a status is that of a format, which has no place. */
+int is_of_format(uint32_t status);
+
+/* Raises FormatError for a fault of a format. */
+void raise_format(const core_state *state, uint32_t status);
+
+/* Raises the fault of a text, or of a field of a column, whose bytes are the `len` at `text`. */
+void raise_fault(const core_state *state, jadvolni_result answer, const char *text, size_t len,
+                 const field_place *field);
+
+/* ---- arguments.c ---- */
+
+/* A text that was lent: a str, which is read as UTF-8, or an object of contiguous bytes. */
+typedef struct lent_text {
+    const char *bytes;
+    size_t len;
+    Py_buffer view;
+    int has_view;
+} lent_text;
+
+/* Puts arguments, by place and by name, to the slots of their names. The first has to be there. */
+int arguments(const char *call, PyObject *const *args, Py_ssize_t count, PyObject *keywords,
+              const char *const *names, Py_ssize_t most, PyObject **found);
+
+/* Raises TypeError: the argument of a name has to be what is wanted, and was something else. */
+void raise_type(const char *name, const char *wanted, PyObject *given, const char *detail);
+
+/* The fields of a format, and the standard ones for None and NULL. -1 with an exception. */
+int format_of(PyObject *format, jadvolni_format *fields);
+
+/* Lends the text that an argument of a name is, to be given back. -1 with an exception. */
+int lend(const char *name, PyObject *text, lent_text *lent);
+
+void give_back(lent_text *lent);
+
+/* The byte of a separator, and a line feed for NULL. -1 with an exception. */
+int separator_of(PyObject *separator);
+
+#endif

@@ -1,0 +1,102 @@
+/*
+ * faults.c - the exceptions that tell what is wrong with a text or a format.
+ */
+#include "core.h"
+
+/* How many bytes of a text a message shows. */
+enum { SHOWN = 64 };
+
+/* Makes an exception of the module, with the attributes that it has where nothing sets them. */
+static PyObject *exception(PyObject *module, const char *name, const char *path, const char *text)
+{
+    PyObject *attributes = Py_BuildValue("{s:s,s:O,s:O,s:O}", "kind", "", "place", Py_None, "field",
+                                         Py_None, "start", Py_None);
+    PyObject *made = NULL;
+    if (attributes)
+        made = PyErr_NewExceptionWithDoc(path, text, PyExc_ValueError, attributes);
+    Py_XDECREF(attributes);
+    if (made && PyModule_AddObjectRef(module, name, made) < 0)
+        Py_CLEAR(made);
+    return made;
+}
+
+int make_exceptions(PyObject *module, core_state *state)
+{
+    state->parse_error = exception(
+        module, "ParseError", "jadvolni.ParseError",
+        "A text is no number of its type, or none under its format.\n\n"
+        "kind: what is wrong, as \"Overflow\". place: at which byte of the text.\n"
+        "field, start: in a column the field's index and its first byte.");
+    if (!state->parse_error)
+        return -1;
+    state->format_error = exception(
+        module, "FormatError", "jadvolni.FormatError",
+        "A format is invalid. kind: the rule that it breaks, as \"InvalidMantissaRadix\".");
+    return state->format_error ? 0 : -1;
+}
+
+/* Sets an attribute of an exception, and lets go of its value. */
+static int set_attribute(PyObject *error, const char *name, PyObject *value)
+{
+    int set = value ? PyObject_SetAttrString(error, name, value) : -1;
+    Py_XDECREF(value);
+    return set;
+}
+
+/* An exception of a type with a message, which it takes over, and the kind of a status. */
+static PyObject *error_of(PyObject *type, PyObject *message, uint32_t status)
+{
+    const char *kind = jadvolni_status_name(status);
+    PyObject *error = message ? PyObject_CallFunctionObjArgs(type, message, NULL) : NULL;
+    Py_XDECREF(message);
+    if (error && set_attribute(error, "kind", PyUnicode_FromString(kind)) < 0)
+        Py_CLEAR(error);
+    return error;
+}
+
+int is_of_format(uint32_t status)
+{
+    return status >= JADVOLNI_INVALID_MANTISSA_RADIX;
+}
+
+void raise_format(const core_state *state, uint32_t status)
+{
+    PyObject *message = PyUnicode_FromString(jadvolni_status_message(status));
+    PyObject *error = error_of(state->format_error, message, status);
+    if (error)
+        PyErr_SetObject(state->format_error, error);
+    Py_XDECREF(error);
+}
+
+/* What is wrong, where, and in which bytes, of which the first are shown. */
+static PyObject *message_of(jadvolni_result answer, const char *text, size_t len,
+                            const field_place *field)
+{
+    const char *fault = jadvolni_status_message(answer.status);
+    const char *cut = len > SHOWN ? ".." : "";
+    PyObject *bytes = PyBytes_FromStringAndSize(text, (Py_ssize_t)(len > SHOWN ? SHOWN : len));
+    PyObject *message = NULL;
+    if (bytes && field)
+        message = PyUnicode_FromFormat("%s at byte %zu, in field %zu: %R%s", fault, answer.place,
+                                       field->index, bytes, cut);
+    else if (bytes)
+        message = PyUnicode_FromFormat("%s at byte %zu: %R%s", fault, answer.place, bytes, cut);
+    Py_XDECREF(bytes);
+    return message;
+}
+
+void raise_fault(const core_state *state, jadvolni_result answer, const char *text, size_t len,
+                 const field_place *field)
+{
+    if (is_of_format(answer.status)) {
+        raise_format(state, answer.status);
+        return;
+    }
+    PyObject *message = message_of(answer, text, len, field);
+    PyObject *error = error_of(state->parse_error, message, answer.status);
+    if (error && set_attribute(error, "place", PyLong_FromSize_t(answer.place)) == 0
+        && (!field || (set_attribute(error, "field", PyLong_FromSize_t(field->index)) == 0
+                       && set_attribute(error, "start", PyLong_FromSize_t(field->start)) == 0)))
+        PyErr_SetObject(state->parse_error, error);
+    Py_XDECREF(error);
+}

@@ -1,0 +1,149 @@
+"""Tests of the extension: its exports, whose calls it makes, where it loads, how it is built."""
+
+import os
+import pathlib
+import shutil
+import stat
+import subprocess
+import sys
+import tempfile
+import textwrap
+import tomllib
+import unittest
+
+import jadvolni
+
+BINDING = pathlib.Path(__file__).resolve().parents[1]
+EXTENSION = jadvolni._core.__file__
+
+# A library of calls by the names of ours, which answer 42 whatever the text is.
+OTHER = """
+#include <stddef.h>
+#include <stdint.h>
+typedef struct result { uint32_t status; size_t place; } result;
+result jadvolni_u64_with_format(const char *text, size_t len, const void *format, uint64_t *value)
+{ (void)text; (void)format; *value = 42; return (result){0, len}; }
+result jadvolni_u64_column(const char *text, size_t len, uint8_t separator, const void *format,
+                           uint64_t *values, size_t capacity, size_t *count)
+{ (void)text; (void)separator; (void)format; *values = 42; *count = capacity;
+  return (result){0, len}; }
+uint32_t jadvolni_format_error(const void *format) { (void)format; return 8; }
+"""
+
+
+def interpreters():
+    """The module that makes interpreters, and None where this Python has none of 3.12 or later."""
+    if sys.version_info >= (3, 13):
+        import _interpreters
+
+        return _interpreters
+    if sys.version_info >= (3, 12):
+        import _xxsubinterpreters
+
+        return _xxsubinterpreters
+    return None
+
+
+class Symbols(unittest.TestCase):
+    """What the extension exports, and whose calls it makes."""
+
+    @unittest.skipUnless(shutil.which("nm"), "there is no nm")
+    def test_it_exports_its_own_start_alone(self):
+        command = ["nm", "-D", "--defined-only", "--format=just-symbols", EXTENSION]
+        said = subprocess.run(command, capture_output=True, text=True, check=True)
+        self.assertEqual(said.stdout.split(), ["PyInit__core"])
+
+    @unittest.skipUnless(shutil.which("cc"), "there is no cc")
+    def test_another_library_of_the_name_changes_nothing(self):
+        program = """
+            import jadvolni
+            hexadecimal = jadvolni.Format(radix=16)
+            column = jadvolni.parse_column("7", "u64").tolist()
+            print(jadvolni.parse("7", "u64"), column, jadvolni.parse("f", "u64", hexadecimal))
+        """
+        with tempfile.TemporaryDirectory() as folder:
+            source, other = pathlib.Path(folder, "other.c"), pathlib.Path(folder, "other.so")
+            source.write_text(OTHER, encoding="utf-8")
+            subprocess.run(["cc", "-shared", "-fPIC", str(source), "-o", str(other)], check=True)
+            command = [sys.executable, "-c", textwrap.dedent(program)]
+            where = {**os.environ, "LD_PRELOAD": str(other)}
+            run = subprocess.run(command, capture_output=True, text=True, env=where, timeout=60)
+        self.assertEqual((run.stdout, run.stderr), ("7 [7] 15\n", ""))
+
+
+class Interpreters(unittest.TestCase):
+    """The extension in more than one interpreter."""
+
+    @unittest.skipUnless(interpreters(), "this Python has no interpreters with a lock of their own")
+    def test_it_loads_in_each(self):
+        made = interpreters()
+        program = f"""
+            import sys
+            sys.path[:] = {sys.path!r}
+            import jadvolni
+            assert jadvolni.parse("7") == 7
+            assert id(jadvolni.ParseError) != {id(jadvolni.ParseError)}
+            try:
+                jadvolni.parse("7x")
+            except jadvolni.ParseError as error:
+                assert error.place == 1
+            else:
+                raise AssertionError
+        """
+        for _ in range(3):
+            one = made.create()
+            try:
+                self.assertIsNone(made.run_string(one, textwrap.dedent(program)))
+            finally:
+                made.destroy(one)
+        self.assertRaises(jadvolni.ParseError, jadvolni.parse, "7x")
+
+    def test_it_loads_anew(self):
+        ours = sys.modules.pop("jadvolni._core")
+        try:
+            import jadvolni._core as again
+
+            self.assertIsNot(again.ParseError, ours.ParseError)
+            self.assertRaises(again.ParseError, again.parse, "x")
+            self.assertRaises(ours.ParseError, ours.parse, "x")
+        finally:
+            sys.modules["jadvolni._core"] = jadvolni._core = ours
+
+
+class Build(unittest.TestCase):
+    """How the wheel is built."""
+
+    def test_the_version_is_that_of_the_project(self):
+        project = tomllib.loads((BINDING / "pyproject.toml").read_text(encoding="utf-8"))["project"]
+        self.assertEqual(jadvolni.__version__, project["version"])
+
+    def test_flags_of_the_environment(self):
+        with tempfile.TemporaryDirectory() as folder:
+            compiler, said = pathlib.Path(folder, "compiler"), pathlib.Path(folder, "said")
+            compiler.write_text(f'#!/bin/sh\nprintf "%s\\n" "$@" > {said}\nexit 7\n')
+            compiler.chmod(compiler.stat().st_mode | stat.S_IXUSR)
+            given = {
+                "CC": f"{compiler} --first",
+                "CPPFLAGS": "-D_FORTIFY_SOURCE=3",
+                "CFLAGS": "-O3 -DTEXT='a b'",
+                "LDFLAGS": "-Wl,-z,now",
+                "JADVOLNI_LIBRARY": str(compiler),
+            }
+            program = "import build_wheel; build_wheel.build_wheel('.')"
+            command = [sys.executable, "-c", program]
+            where = {**os.environ, **given, "PYTHONDONTWRITEBYTECODE": "1"}
+            run = subprocess.run(command, cwd=BINDING, env=where, capture_output=True, timeout=60)
+            words = said.read_text().splitlines()
+        self.assertNotEqual(run.returncode, 0)
+        self.assertEqual(words[0], "--first")
+        for earlier, later in (
+            ("-O2", "-D_FORTIFY_SOURCE=3"),
+            ("-O2", "-O3"),
+            ("-O3", "-DTEXT=a b"),
+            (str(compiler.resolve()), "-Wl,-z,now"),
+        ):
+            self.assertLess(words.index(earlier), words.index(later))
+
+
+if __name__ == "__main__":
+    unittest.main()

@@ -1,0 +1,76 @@
+"""Tests of messages: each fault says what the one list of texts says of its kind."""
+
+import pathlib
+import unittest
+
+from jadvolni import Format, FormatError, ParseError, parse, parse_column
+
+LIST = pathlib.Path(__file__).resolve().parents[2] / "errors.txt"
+
+
+class Reserved:
+    """A format with a field of a later version."""
+
+    _fields = b"\x0a" + bytes(22) + b"\x01"
+
+
+# How each kind of fault comes about: of a text its place, the text, and the format that it has.
+OF_TEXTS = {
+    "Overflow": (2, "256", {}),
+    "Underflow": (3, "-129", {}),
+    "InvalidDigit": (1, "1x", {}),
+    "Empty": (1, "+", {}),
+    "MissingSign": (0, "1", {"required_sign": True}),
+    "InvalidPositiveSign": (0, "+1", {"no_positive_sign": True}),
+    "InvalidLeadingZeros": (1, "-01", {"no_leading_zeros": True}),
+}
+OF_FORMATS = {
+    "InvalidMantissaRadix": {"radix": 37},
+    "InvalidDigitSeparator": {"separator": "7"},
+    "InvalidBasePrefix": {"prefix": "+"},
+    "InvalidBaseSuffix": {"suffix": b"\x80"},
+    "InvalidPunctuation": {"prefix": "x", "suffix": "X"},
+    "InvalidLiteralPrefixes": {"radix": 8, "octal_zero": True},
+}
+
+
+def listed():
+    """The text of each kind."""
+    lines = LIST.read_text(encoding="utf-8").splitlines()
+    return dict(line.split(": ", 1) for line in lines if line and not line.startswith("#"))
+
+
+class Messages(unittest.TestCase):
+    """The messages of the exceptions."""
+
+    def test_each_kind_is_tried(self):
+        tried = {*OF_TEXTS, *OF_FORMATS, "UnknownField"}
+        self.assertEqual(tried, {*listed()} - {"Ok", "Unknown"})
+
+    def test_faults_of_texts(self):
+        for kind, (place, text, format) in OF_TEXTS.items():
+            with self.subTest(kind=kind):
+                with self.assertRaises(ParseError) as caught:
+                    parse(text, "i8", Format(**format))
+                message = f"{listed()[kind]} at byte {place}: {text.encode()!r}"
+                self.assertEqual((caught.exception.kind, str(caught.exception)), (kind, message))
+                with self.assertRaises(ParseError) as caught:
+                    parse_column(f"-0,{text}", "i8", ",", Format(**format))
+                message = f"{listed()[kind]} at byte {place + 3}, in field 1: {text.encode()!r}"
+                self.assertEqual((caught.exception.kind, str(caught.exception)), (kind, message))
+
+    def test_faults_of_formats(self):
+        for kind, given in OF_FORMATS.items():
+            with self.subTest(kind=kind), self.assertRaises(FormatError) as caught:
+                Format(**given)
+            message = listed()[kind]
+            self.assertEqual((caught.exception.kind, str(caught.exception)), (kind, message))
+
+    def test_a_field_of_a_later_version(self):
+        with self.assertRaises(FormatError) as caught:
+            parse_column("1", format=Reserved())
+        self.assertEqual(str(caught.exception), listed()["UnknownField"])
+
+
+if __name__ == "__main__":
+    unittest.main()

@@ -1,0 +1,167 @@
+"""The examples in C and C++, run as hostile users run them: a part of make test-c.
+
+Each program is built by each compiler, as users build it and under sanitizers. It is given long
+lines, NUL bytes, no last line feed, an empty file, line ends of CR and LF, a folder as input and a
+full device as output.
+"""
+from __future__ import annotations
+
+import os
+import subprocess
+from functools import partial
+from typing import Dict, Iterator, List, NamedTuple, Tuple
+
+from callers import (C_COMPILERS, CXX17, CXX_COMPILERS, OPTIMISED, SANITIZED, Failed, Place, Step,
+                     build, source)
+
+FOLDER, FULL = "< /", "> /dev/full"
+IS_FOLDER = "standard input: Is a directory"
+IS_FULL = "standard output: No space left on device"
+USAGE = "usage: csv_column COLUMN < FILE"
+NO_CELL = "the line has no such cell"
+SUM_LEAVES = "the sum leaves the type"
+GREATEST = b"9223372036854775807"
+Words = Tuple[str, ...]
+
+
+class Case(NamedTuple):
+    """A run: what the program is given, what it says to standard output, its status, what it tells
+    standard error, its arguments, and what the shell redirects."""
+
+    program: str
+    given: bytes = b""
+    said: str = ""
+    status: int = 0
+    told: str = ""
+    words: Words = ()
+    redirected: str = ""
+
+
+def adds_up(program: str, front: bytes = b"", words: Words = ()) -> Iterator[Case]:
+    """What a program has to withstand that adds up numbers, each of them behind a front."""
+    for block in (4096, 65536, 131072):
+        # Where a program cuts lines into blocks, it cuts this number in two.
+        long = front + b"0" * (block - 5 - len(front)) + b"123456789\n"
+        yield Case(program, long * 2 + front + b"3", "246913581\n", words=words)
+    numbers = [GREATEST, b"-9223372036854775808", b"-1"]
+    yield Case(program, b"".join(front + one + b"\n" for one in numbers), "-2\n", words=words)
+    yield Case(program, front + b"1\n" + front + b"2", "3\n", words=words)
+    yield Case(program, b"", "0\n", words=words)
+    yield Case(program, b"", "", 2, f"{program}: {IS_FOLDER}", words, FOLDER)
+    yield Case(program, front + b"1\n", "", 2, f"{program}: {IS_FULL}", words, FULL)
+
+
+def faults(program: str, told: Dict[bytes, str], words: Words = ()) -> Iterator[Case]:
+    """Inputs, each with what the program tells of it."""
+    for given, fault in told.items():
+        yield Case(program, given, "", 1, f"{program}: {fault}", words)
+
+
+SUM_FAULTS = {
+    b"1\0\n2\n": "line 1, byte 1: invalid digit",
+    b"\0": "line 1, byte 0: invalid digit",
+    b"1\r\n2\r\n": "line 1, byte 1: invalid digit",
+    b"1\n\n2\n": "line 2, byte 0: missing digit",
+    b"1\n" + b"9" * 70000: "line 2, byte 18: overflow",
+    GREATEST + b"\n1": f"line 2: {SUM_LEAVES}",
+    b"-1\n-" + GREATEST + b"\n-1\n-1": f"line 3: {SUM_LEAVES}",
+}
+LEDGER_FAULTS = {
+    b"rent " + GREATEST + b"\nx 1": f"line 2, column 3, byte 27: {SUM_LEAVES}",
+    b"rent " + GREATEST + b"\nx 1\n": f"line 2, column 3, byte 27: {SUM_LEAVES}",
+    b"rent " + GREATEST + b"\n" + b"x 1\n" * 501: f"line 2, column 3, byte 27: {SUM_LEAVES}",
+    b"x 0\n" * 1500 + GREATEST + b"\n1\n": f"line 1502, column 1, byte 6020: {SUM_LEAVES}",
+    b"rent -80000\nfood 12x\nwine x\n": "line 2, column 8, byte 19: invalid digit",
+    b"x 1\n" * 3000 + b"x \n": "line 3001, column 3, byte 12002: missing digit",
+    b"x 1\n\nx 1\n": "line 2, column 1, byte 4: missing digit",
+    b"x 1\0\n": "line 1, column 4, byte 3: invalid digit",
+    b"x 1\r\n": "line 1, column 4, byte 3: invalid digit",
+    b"a" * 70000 + b" 1x": "line 1, column 70003, byte 70002: invalid digit",
+}
+COLUMN_FAULTS = {
+    b"1," + GREATEST + b"\n1,1": f"line 2, column 3, byte 24: {SUM_LEAVES}",
+    b"a,12,x\nb,9223372036854775808,x\n": "line 2, column 21, byte 27: overflow",
+    b"a,12\nb\n": f"line 2, column 2, byte 6: {NO_CELL}",
+    b"\n": f"line 1, column 1, byte 0: {NO_CELL}",
+    b"a,x\nb\n": "line 1, column 3, byte 2: invalid digit",
+    b"a,\n": "line 1, column 3, byte 2: missing digit",
+    b"a,1\r\n": "line 1, column 4, byte 3: invalid digit",
+    b"a,1\0,2": "line 1, column 4, byte 3: invalid digit",
+}
+COLOUR_FAULTS = {
+    "0#": "invalid digit",
+    "": "missing digit",
+    "FFFFFFFFF": "overflow",
+    "+1e90F": "forbidden plus sign",
+    "-1e90F": "invalid digit",
+    "fff": "a colour has six digits",
+    "1FFFFFF": "a colour has six digits",
+}
+
+
+def of_columns() -> Iterator[Case]:
+    """The programs that add up numbers."""
+    yield from adds_up("sum")
+    yield from faults("sum", SUM_FAULTS)
+    yield from adds_up("ledger", b"rent ")
+    yield from adds_up("ledger")
+    yield from faults("ledger", LEDGER_FAULTS)
+    yield from adds_up("csv_column", b"a,", ("2",))
+    yield from adds_up("csv_column", b"", ("1",))
+    yield from faults("csv_column", COLUMN_FAULTS, ("2",))
+    beyond = {b"1,2\n": f"line 1, column 4, byte 3: {NO_CELL}"}
+    yield from faults("csv_column", beyond, ("18446744073709551615",))
+    for words in ((), ("1", "2"), ("0",), ("",), ("x",), ("-1",), ("18446744073709551616",)):
+        yield Case("csv_column", b"1\n", "", 2, USAGE, words)
+
+
+def of_words() -> Iterator[Case]:
+    """The programs that read no input."""
+    yield Case("ten_lines", said="err Overflow 19\n")
+    yield Case("ten_lines", status=1, told=IS_FULL, redirected=FULL)
+    yield Case("colour")
+    yield Case("colour", said="30 144 255\n0 1 2\n", words=("1e90FF", "000102"))
+    yield Case("colour", status=2, told=f"colour: {IS_FULL}", words=("1e90FF",), redirected=FULL)
+    for word, fault in COLOUR_FAULTS.items():
+        told = f"colour: {word}: {fault}"
+        yield Case("colour", b"", "30 144 255\n", 1, told, ("1e90FF", word))
+
+
+CASES = [*of_columns(), *of_words()]
+
+
+def check(place: Place, case: Case, program: str) -> None:
+    """Runs a case. What a sanitizer says is told too, and fails it."""
+    command = ["sh", "-c", f'exec "$@" {case.redirected}', "sh", program, *case.words]
+    done = subprocess.run(command, input=case.given, stdout=subprocess.PIPE,
+                          stderr=subprocess.PIPE, timeout=60, env=place.environment())
+    told = case.told and case.told + "\n"
+    wanted = (case.status, case.said.encode(), told.encode())
+    answered = (done.returncode, done.stdout, done.stderr)
+    if answered != wanted:
+        raise Failed(f"{case.program} {' '.join(case.words)} {case.redirected}, given "
+                     f"{case.given[:60]!r}:\n{answered}, and not {wanted}")
+
+
+def check_folder(place: Place, folder: str, compiler: str, flags: List[str]) -> str:
+    """Builds the examples of a folder, and runs their cases."""
+    names = [name for name in os.listdir(source("examples", folder)) if not name.endswith(".h")]
+    programs = {name.partition(".")[0]: build(place, compiler, f"examples/{folder}/{name}", flags)
+                for name in names}
+    cases = [case for case in CASES if case.program in programs]
+    without = programs.keys() - {case.program for case in cases}
+    if without:
+        raise Failed(f"no case runs {', '.join(without)}")
+    for case in cases:
+        check(place, case, programs[case.program])
+    return f"{len(programs)} programs, {len(cases)} runs"
+
+
+def steps(place: Place) -> Iterator[Step]:
+    """Each folder of examples, by each of its compilers."""
+    for compiler in (*C_COMPILERS, *CXX_COMPILERS):
+        is_cxx = compiler in CXX_COMPILERS
+        front = [CXX17] if is_cxx else []
+        step = partial(check_folder, place, "cpp" if is_cxx else "c", compiler)
+        yield f"examples, {compiler}", partial(step, [*front, *OPTIMISED])
+        yield f"examples under sanitizers, {compiler}", partial(step, [*front, *SANITIZED])

@@ -1,0 +1,82 @@
+#!/bin/sh
+# The gate, `make test`: the toolchain's own gate from nothing, and then what no prover does.
+#
+# Each part is a command. What it says goes to build/PART.log, and its last line is shown. All parts
+# run, also behind one that fails; the last line counts them.
+set -u
+cd "$(dirname "$0")/.." || exit 1
+export RT="${RT:-rt}" PYTHONUNBUFFERED=1
+begin=$(date +%s) passed=0 failed=0
+copy=$(mktemp -d)
+trap 'rm -rf "$copy"' EXIT
+mkdir -p build
+
+say() { printf '%5d s  %s\n' $(($(date +%s) - begin)) "$1"; }
+
+part() { # NAME COMMAND..
+    name=$1 log=build/$1.log start=$(date +%s)
+    shift
+    if "$@" > "$log" 2>&1; then
+        passed=$((passed + 1)) ended=passed
+    else
+        failed=$((failed + 1)) ended=FAILED
+        tail -n 40 "$log"
+    fi
+    say "$name $ended after $(($(date +%s) - start)) s: $(tail -n 1 "$log")"
+}
+
+# Of Debian's two checkers of Python each one that is there.
+lint() {
+    said=
+    for checker in flake8 mypy; do
+        if ! command -v "$checker" > /dev/null; then
+            said="$said, there is no $checker"
+        elif ! make -s "$checker"; then
+            return 1
+        fi
+    done
+    echo "Python is clean$said"
+}
+
+# `rt ci` has to count every crate and every edit. An edit that is refused because a proof names what
+# it took away says nothing of a contract; `rt ci` marks most of these, and the rest break off at a
+# record or a module of proofs/.
+proofs() {
+    edits=$(find crates/*/must-fail -name '*.edit' | wc -l)
+    wanted=$(($(grep -c '^[a-z]' crates.txt) + edits))
+    "$RT" ci 2>&1 | tee build/ci.log | grep --line-buffered '^rt: ' >&3
+    if grep -E 'only because a proof file names|must be: \./proofs/.*: (record|module) `' build/ci.log
+    then
+        echo "an edit is refused for a lost name"
+        return 1
+    fi
+    tail -n 1 build/ci.log | tee /dev/stderr | grep -qx "$wanted passed, 0 failed"
+}
+
+# `rt ci` leaves the programs that it builds, but no library that another command takes. So what
+# callers need is proved once more, in a copy and beside it.
+git ls-files -z | xargs -0 cp --parents -t "$copy"
+nice make -C "$copy" -s build/libjadvolni.a > "$copy/libraries.log" 2>&1 &
+made=$!
+libraries() {
+    wait "$made"
+    status=$?
+    cat "$copy/libraries.log"
+    return "$status"
+}
+
+part lint lint
+part rows python3 tools/rows.py --check
+part lanes tools/lanes.sh
+part tests-of-documents python3 tools/test_documents.py
+part documents python3 tools/documents.py --check
+part house python3 tools/house.py
+part proofs proofs 3>&1
+part devices python3 tools/devices.py
+part answers python3 tools/run_rows.py
+part shells tools/shell_snippet.sh crates/lexint/out/lexint
+part libraries libraries
+part programs python3 "$copy/tools/must_not_compile.py"
+part callers make -C "$copy" -s test-c
+echo "$passed parts passed, $failed failed"
+test "$failed" = 0
