@@ -8,7 +8,7 @@ import subprocess
 import sys
 import tempfile
 
-import callers
+import loops
 
 HERE = os.path.dirname(os.path.abspath(__file__))
 TOP = os.path.dirname(HERE)
@@ -81,7 +81,7 @@ def library(room: str) -> None:
     write(os.path.join(tree, "crates.txt"), "lexical_util:\nlexical_parse_integer: lexical_util\n"
           "bench_calls staticlib: lexical_util lexical_parse_integer\n")
     folder = os.path.join(tree, "crates", "bench_calls")
-    write(os.path.join(folder, "src", "lib.rt"), callers.source())
+    write(os.path.join(folder, "src", "lib.rt"), loops.source())
     run([os.environ.get("RT", "rt"), "lib"], folder)
     shutil.copy(os.path.join(folder, "out", "libbench_calls.a"), os.path.join(room, "driver"))
 
