@@ -3,14 +3,18 @@
 
     bench/columns.py [--numbers N] [--rounds N] [--seed N]
 
-A column has 1,000,000 numbers of u64, a line feed after each. The C call and a loop of std::from_chars take turns in one
-run, so that their ratio holds on a busy machine too; the others have runs of their own. Of each the least time counts.
-All have to read the same numbers before their time counts. It needs the library of `make lib`, a C++ compiler and Python's
-headers; rustc and NumPy are taken where they are there. It writes bench/columns.tsv and a table of docs/SPEED.md, and prints
-what it sees. The gate runs none of this.
+A column has 1,000,000 numbers of u64, a line feed after each. The C call and a loop of
+std::from_chars take turns in one run, so that their ratio holds on a busy machine too; the others
+have runs of their own. Of each the least time counts. All have to read the same numbers before
+their time counts. It needs the library of `make lib`, a C++ compiler and Python's headers; rustc
+and NumPy are taken where they are there. It writes bench/columns.tsv and a table of docs/SPEED.md,
+and prints what it sees. The gate runs none of this.
 """
 from __future__ import annotations
 
+import importlib
+import importlib.util
+import io
 import os
 import random
 import shutil
@@ -18,6 +22,9 @@ import subprocess
 import sys
 import tempfile
 import time
+from pathlib import Path
+from types import ModuleType
+from typing import Callable, Iterable
 
 import page
 
@@ -27,19 +34,22 @@ PYTHON = os.path.join(TOP, "bindings", "python")
 FLAGS = ["-std=c++17", "-O3", "-march=x86-64-v2", f"-I{os.path.join(TOP, 'include')}"]
 
 
+Reader = Callable[[], Iterable[int]]
+
+
 def digits(random_: random.Random, count: int) -> int:
     """A number of so many digits."""
     return random_.randrange(10 ** (count - 1) if count > 1 else 0, 10 ** count)
 
 
 def realistic(random_: random.Random) -> int:
-    """A number as counts, sizes and times are: most are short, as in the sets of driver/texts.rs."""
+    """A number as counts, sizes and times are: most are short."""
     kind = random_.randrange(100)
     least, most = (1, 4) if kind < 70 else (5, 10) if kind < 95 else (11, 18)
     return digits(random_, random_.randint(least, most))
 
 
-SETS = {
+SETS: dict[str, Callable[[random.Random], int]] = {
     "realistic": realistic,
     "1 to 3 digits": lambda random_: digits(random_, random_.randint(1, 3)),
     "7 digits": lambda random_: digits(random_, 7),
@@ -53,34 +63,32 @@ def built(folder: str) -> list[list[str]]:
     subprocess.run(["make", "-s", "lib"], cwd=TOP, check=True, stdout=subprocess.DEVNULL)
     driver = os.path.join(folder, "columns_cpp")
     library = os.path.join(TOP, "build", "libjadvolni.a")
-    subprocess.run(["c++", *FLAGS, os.path.join(HERE, "driver", "columns.cpp"), library, "-o", driver], check=True)
+    source = os.path.join(HERE, "driver", "columns.cpp")
+    subprocess.run(["c++", *FLAGS, source, library, "-o", driver], check=True)
     found = [[driver]]
     if shutil.which("rustc"):
         peer = os.path.join(folder, "columns_rs")
-        subprocess.run(["rustc", "-O", "-Ctarget-cpu=x86-64-v2", os.path.join(HERE, "driver", "columns.rs"), "-o", peer],
-                       check=True)
+        source = os.path.join(HERE, "driver", "columns.rs")
+        subprocess.run(["rustc", "-O", "-Ctarget-cpu=x86-64-v2", source, "-o", peer], check=True)
         found.append([peer])
     return found
 
 
-def binding(folder: str):
+def binding(folder: str) -> ModuleType:
     """The module for Python, made in a folder."""
     sys.path.insert(0, PYTHON)
-    sys.dont_write_bytecode = True
     os.environ.setdefault("JADVOLNI_LIBRARY", os.path.join(TOP, "build", "libjadvolni.a"))
-    import build_wheel
-    from pathlib import Path
+    build_wheel = importlib.import_module("build_wheel")
     package = Path(folder) / "jadvolni"
     package.mkdir()
     for name in build_wheel.SOURCES:
         shutil.copy(build_wheel.HERE / "src" / build_wheel.NAME / name, package)
     build_wheel.compiled(package)
     sys.path.insert(0, folder)
-    import jadvolni
-    return jadvolni
+    return importlib.import_module("jadvolni")
 
 
-def least_time(read, count: int, rounds: int) -> float:
+def least_time(read: Reader, count: int, rounds: int) -> float:
     """Nanoseconds a number."""
     least = float("inf")
     for _ in range(rounds):
@@ -90,26 +98,32 @@ def least_time(read, count: int, rounds: int) -> float:
     return least
 
 
-def readers(jadvolni, text: bytes) -> dict:
+def readers(jadvolni: ModuleType, text: bytes) -> dict[str, Reader]:
     """Python's readers of a text."""
-    found = {"Python: parse_column": lambda: jadvolni.parse_column(text, "u64"),
-             "Python: int over split": lambda: [int(one) for one in text.split()]}
-    try:
-        import io
-        import numpy
-    except ImportError:
-        return found
-    return {**found, "NumPy: fromstring": lambda: numpy.fromstring(text, dtype="u8", sep="\n"),
-            "NumPy: loadtxt": lambda: numpy.loadtxt(io.BytesIO(text), dtype="u8")}
+    parse_column: Callable[..., list[int]] = jadvolni.parse_column
+    found: dict[str, Reader] = {
+        "Python: parse_column": lambda: parse_column(text, "u64"),
+        "Python: int over split": lambda: [int(one) for one in text.split()],
+    }
+    if importlib.util.find_spec("numpy"):
+        numpy = importlib.import_module("numpy")
+        fromstring: Callable[..., Iterable[int]] = numpy.fromstring
+        loadtxt: Callable[..., Iterable[int]] = numpy.loadtxt
+        found["NumPy: fromstring"] = lambda: fromstring(text, dtype="u8", sep="\n")
+        found["NumPy: loadtxt"] = lambda: loadtxt(io.BytesIO(text), dtype="u8")
+    return found
 
 
-def measured(drivers: list[list[str]], jadvolni, numbers: list[int], rounds: int) -> dict[str, float]:
+def measured(drivers: list[list[str]], jadvolni: ModuleType, numbers: list[int],
+             rounds: int) -> dict[str, float]:
     """Nanoseconds a number of each reader of a column."""
     text = "".join(f"{number}\n" for number in numbers).encode()
-    found = {}
+    found: dict[str, float] = {}
     for driver in drivers:
-        said = subprocess.run([*driver, str(rounds)], input=text, capture_output=True, check=True).stdout
-        found.update((peer, float(taken)) for peer, taken in (line.split("\t") for line in said.decode().splitlines()))
+        ran = subprocess.run([*driver, str(rounds)], input=text, capture_output=True, check=True)
+        for line in ran.stdout.decode().splitlines():
+            peer, taken = line.split("\t")
+            found[peer] = float(taken)
     for peer, read in readers(jadvolni, text).items():
         if list(read()) != numbers:
             sys.exit(f"bench: {peer} reads other numbers")
@@ -129,8 +143,10 @@ def lines_of(seen: Seen) -> list[str]:
 def table(seen: Seen) -> list[str]:
     """The same as a table: what a reader takes where from_chars takes 1."""
     peers = [peer for peer in next(iter(seen.values())) if peer != "from_chars"]
-    rows = [[name, f"{found['from_chars']:.1f}", *(f"{found[peer] / found['from_chars']:.2f}" for peer in peers)]
-            for name, found in seen.items()]
+    rows = []
+    for name, found in seen.items():
+        unit = found["from_chars"]
+        rows.append([name, f"{unit:.1f}", *(f"{found[peer] / unit:.2f}" for peer in peers)])
     return page.table(["numbers", "from_chars, ns", *peers], rows)
 
 
@@ -143,12 +159,14 @@ def write(seen: Seen, asked: page.Asked) -> None:
             "\t".join(("numbers", "reader", "ns a number", "to from_chars"))]
     with open(os.path.join(HERE, "columns.tsv"), "w", encoding="utf-8") as file:
         file.write("\n".join([*head, *lines_of(seen)]) + "\n")
-    said = [f"Measured on {on}", *left_out, "", "The numbers are of `u64`, with a line feed after each. In the table a loop of "
-            "`from_chars` takes 1. [columns.tsv](../bench/columns.tsv) has the nanoseconds.", "", *table(seen), ""]
+    about = ("The numbers are of `u64`, with a line feed after each. In the table a loop of "
+             "`from_chars` takes 1. [columns.tsv](../bench/columns.tsv) has the nanoseconds.")
+    said = [f"Measured on {on}", *left_out, "", about, "", *table(seen), ""]
     page.write("bench/columns.py", said)
 
 
 def main() -> int:
+    """The command line."""
     asked = page.asked(__doc__, "numbers", size=1_000_000, rounds=25)
     page.need("make", "cc", "c++")
     seen: Seen = {}

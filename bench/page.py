@@ -1,4 +1,4 @@
-"""docs/SPEED.md, of which each script here writes a part, and what every script may be asked for."""
+"""docs/SPEED.md, of which each script here writes a part, and what each may be asked for."""
 from __future__ import annotations
 
 import argparse
@@ -6,6 +6,7 @@ import datetime
 import os
 import re
 import shutil
+import subprocess
 import sys
 from dataclasses import dataclass
 
@@ -20,9 +21,20 @@ def need(*programs: str) -> None:
         sys.exit(f"bench: it needs {', '.join(lacking)}")
 
 
+def instructions(words: list[str]) -> int:
+    """How many instructions a run has, from the program's start to its end."""
+    callgrind = ["valgrind", "--tool=callgrind", "--callgrind-out-file=/dev/null"]
+    ran = subprocess.run([*callgrind, *words], capture_output=True, text=True)
+    found = re.search(r"Collected : (\d+)", ran.stderr)
+    if not found:
+        sys.exit(f"bench: callgrind counted nothing: {ran.stderr.strip()[-300:]}")
+    return int(found[1])
+
+
 def options(about: str, rounds: int) -> argparse.ArgumentParser:
     """The options that all scripts have: how often each reads, and what its texts come from."""
-    parser = argparse.ArgumentParser(description=about, formatter_class=argparse.RawDescriptionHelpFormatter)
+    parser = argparse.ArgumentParser(
+        description=about, formatter_class=argparse.RawDescriptionHelpFormatter)
     parser.add_argument("--rounds", type=int, default=rounds, help="how often each text is read")
     parser.add_argument("--seed", type=int, default=1, help="what the texts come from")
     return parser
@@ -40,12 +52,13 @@ class Asked:
 
     def measured_on(self) -> str:
         """What a page says of this: the day, the machine and what was asked for."""
-        return (f"{datetime.date.today().isoformat()}: {os.cpu_count()} processors, load {self.load:.1f} at the start; "
+        day = datetime.date.today().isoformat()
+        return (f"{day}: {os.cpu_count()} processors, load {self.load:.1f} at the start; "
                 f"{self.size} {self.unit}, seed {self.seed}, {self.rounds} rounds.")
 
 
 def asked(about: str, unit: str, size: int, rounds: int) -> Asked:
-    """What the command line asks of a script, which else reads so many bytes, lines or numbers so often."""
+    """What the command line asks of a script, which else reads so many units so often."""
     parser = options(about, rounds)
     parser.add_argument(f"--{unit}", type=int, default=size, help=f"how many {unit} a text has")
     found = parser.parse_args()

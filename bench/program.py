@@ -3,17 +3,17 @@
 
     bench/program.py [--lines N] [--rounds N] [--seed N]
 
-The lines are `c u64 TEXT`. The programs are driver/program.rs, once with `writeln!` and once with digits of its own.
-All take turns, read the lines from a file, and write to /dev/null; of each the least processor time counts, of the user
-and of the system together. All have to answer alike before their time counts. Callgrind counts instructions, where it
-is there. It needs the toolchain and `rustc`, writes bench/program.tsv and a table of docs/SPEED.md, and prints what it
-sees. The gate runs none of this.
+The lines are `c u64 TEXT`. The programs are driver/program.rs, once with `writeln!` and once with
+digits of its own. All take turns, read the lines from a file, and write to /dev/null; of each the
+least processor time counts, of the user and of the system together. All have to answer alike before
+their time counts. Callgrind counts instructions, where it is there. It needs the toolchain and
+`rustc`, writes bench/program.tsv and a table of docs/SPEED.md, and prints what it sees. The gate
+runs none of this.
 """
 from __future__ import annotations
 
 import os
 import random
-import re
 import resource
 import shutil
 import subprocess
@@ -52,15 +52,14 @@ def processor_time(words: list[str], path: str) -> float:
     return after.ru_utime - before.ru_utime + after.ru_stime - before.ru_stime
 
 
-def instructions(words: list[str], path: str, folder: str) -> int | None:
-    """The instructions of a run over a file, where callgrind is there."""
-    if not shutil.which("valgrind"):
-        return None
+def instructions(words: list[str], path: str, folder: str) -> int:
+    """The instructions of a run over a file."""
     kept = os.path.join(folder, "callgrind.out")
     with open(path, "rb") as lines:
-        said = subprocess.run(["valgrind", "--tool=callgrind", f"--callgrind-out-file={kept}", *words], stdin=lines,
-                              stdout=subprocess.DEVNULL, stderr=subprocess.PIPE, text=True, check=True).stderr
-    return int(re.search(r"Collected : (\d+)", said)[1])
+        ran = subprocess.run(
+            ["valgrind", "--tool=callgrind", f"--callgrind-out-file={kept}", *words], stdin=lines,
+            stdout=subprocess.DEVNULL, stderr=subprocess.PIPE, text=True, check=True)
+    return int(ran.stderr.split("Collected : ")[1].split()[0])
 
 
 def write_lines(path: str, name: str, count: int, seed: int) -> None:
@@ -90,10 +89,12 @@ def row(found: Programs, name: str, folder: str, asked: page.Asked) -> str:
     for _ in range(asked.rounds):
         for peer, words in found.items():
             least[peer] = min(least[peer], processor_time(words, path))
-    counts = {peer: instructions(words, few, folder) for peer, words in found.items()}
     peers = [peer for peer in found if peer != OURS]
     cells = [name, f"{least[OURS]:.3f}", *(f"{least[OURS] / least[peer]:.2f}" for peer in peers)]
-    cells += [f"{counts[OURS] / counts[peer]:.2f}" if counts[OURS] else "" for peer in peers]
+    if not shutil.which("valgrind"):
+        return "\t".join([*cells, *("" for _ in peers)])
+    counts = {peer: instructions(words, few, folder) for peer, words in found.items()}
+    cells += [f"{counts[OURS] / counts[peer]:.2f}" for peer in peers]
     return "\t".join(cells)
 
 
@@ -110,6 +111,7 @@ def write(rows: list[str], asked: page.Asked) -> None:
 
 
 def main() -> int:
+    """The command line."""
     asked = page.asked(__doc__, "lines", size=2_000_000, rounds=15)
     page.need("make", "rustc")
     rows = []

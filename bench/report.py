@@ -11,8 +11,10 @@ import page
 HERE = os.path.dirname(os.path.abspath(__file__))
 OURS = ("ours", "ours, constant", "C call")
 PEERS = (*OURS, "from_chars", "strtoull", "lexical-core")
-COLOURS = {"ours": "#1f6f5c", "ours, constant": "#7fb8a8", "C call": "#4f9a86", "from_chars": "#c77d2e",
-           "strtoull": "#b8a27a", "lexical-core": "#6b6fae"}
+COLOURS = {"ours": "#1f6f5c", "ours, constant": "#7fb8a8", "C call": "#4f9a86",
+           "from_chars": "#c77d2e", "strtoull": "#b8a27a", "lexical-core": "#6b6fae"}
+# of the picture: where its bars begin, how long and thick they are, and where it cuts them
+LEFT, TOP, UNIT, BAR, GAP, GREATEST = 250, 60, 260, 7, 9, 2.5
 
 Numbers = dict[str, dict[str, float]]
 
@@ -37,10 +39,12 @@ def ratio(numbers: Numbers, name: str, peer: str) -> float | None:
 
 
 def shown(number: float | None, digits: int = 2) -> str:
+    """A number with so many digits behind the point, or nothing."""
     return "" if number is None else f"{number:.{digits}f}"
 
 
 def peers_of(seen: Seen) -> list[str]:
+    """The peers that were measured."""
     return [peer for peer in PEERS if any(peer in row for row in seen.small.values())]
 
 
@@ -51,18 +55,21 @@ def table(seen: Seen) -> str:
     head += ["instructions: std / ours / from_chars"] if seen.counts else []
     rows = []
     for name, row in seen.small.items():
-        cells = [name, shown(row["std"], 1), *(shown(ratio(seen.small, name, peer)) for peer in peers)]
+        cells = [name, shown(row["std"], 1)]
+        cells += [shown(ratio(seen.small, name, peer)) for peer in peers]
         cells += [shown(ratio(seen.large, name, peer)) for peer in ("ours", "from_chars")]
         if seen.counts:
-            cells.append(" / ".join(shown(seen.counts[name].get(peer), 0) or "–" for peer in ("std", "ours", "from_chars")))
+            counts = [seen.counts[name].get(peer) for peer in ("std", "ours", "from_chars")]
+            cells.append(" / ".join(shown(count, 0) or "–" for count in counts))
         rows.append(cells)
     return "\n".join(page.table(head, rows))
 
 
 def numbers(seen: Seen) -> str:
     """The numbers, a line for each set and peer."""
-    lines = [f"# Measured by make bench on {seen.date}: {seen.machine}; seed {seen.asked.seed}, {seen.asked.rounds} rounds.",
-             "\t".join(("texts", "peer", "ns of 4096", "to std", "ns of 60000", "to std", "instructions"))]
+    lines = [f"# Measured by make bench on {seen.date}: {seen.machine}; seed {seen.asked.seed}, "
+             f"{seen.asked.rounds} rounds.",
+             "texts\tpeer\tns of 4096\tto std\tns of 60000\tto std\tinstructions"]
     for name, row in seen.small.items():
         for peer in row:
             cells = [name, peer, shown(row[peer], 3), shown(ratio(seen.small, name, peer), 3),
@@ -72,50 +79,75 @@ def numbers(seen: Seen) -> str:
     return "\n".join(lines) + "\n"
 
 
-def picture(seen: Seen) -> str:
-    """A bar for each peer of each set, as long as what it takes, with std as the line at 1."""
-    peers = [peer for peer in peers_of(seen)]
-    left, unit, bar, gap, top = 250, 260, 7, 9, 60
-    greatest = 2.5
-    place, body = top, []
-    for name, row in seen.small.items():
-        own = [peer for peer in peers if peer in row]
-        body.append(f'<text x="{left - 8}" y="{place + bar * len(own) / 2 + 4:.0f}" text-anchor="end">{escape(name)}</text>')
-        for peer in own:
-            taken = ratio(seen.small, name, peer) or 0
-            width = min(taken, greatest) * unit
-            body.append(f'<rect x="{left}" y="{place}" width="{width:.1f}" height="{bar - 1}" fill="{COLOURS[peer]}">'
-                        f"<title>{escape(name)}, {peer}: {taken:.2f}</title></rect>")
-            if taken > greatest:
-                body.append(f'<text x="{left + width + 4:.0f}" y="{place + bar - 1}" class="small">{taken:.1f}</text>')
-            place += bar
-        place += gap
-    width, height = left + greatest * unit + 60, place + 20
-    legend, at = [], left
+def label(x: float, y: float, text: str, more: str = "") -> str:
+    """A text of the picture."""
+    return f'<text x="{x:.0f}" y="{y:.0f}"{more}>{escape(text)}</text>'
+
+
+def bars(name: str, ratios: dict[str, float], place: int) -> list[str]:
+    """The bars of a set, from a place on: as long as what each peer takes."""
+    lines = [label(LEFT - 8, place + BAR * len(ratios) / 2 + 4, name, ' text-anchor="end"')]
+    for peer, taken in ratios.items():
+        width = min(taken, GREATEST) * UNIT
+        lines.append(f'<rect x="{LEFT}" y="{place}" width="{width:.1f}" height="{BAR - 1}" '
+                     f'fill="{COLOURS[peer]}"><title>{escape(name)}, {peer}: {taken:.2f}</title>'
+                     "</rect>")
+        if taken > GREATEST:
+            more = ' class="small"'
+            lines.append(label(LEFT + width + 4, place + BAR - 1, f"{taken:.1f}", more))
+        place += BAR
+    return lines
+
+
+def legend(peers: list[str]) -> list[str]:
+    """The colours of the peers."""
+    lines, at = [], LEFT
     for peer in peers:
-        legend.append(f'<rect x="{at}" y="30" width="10" height="10" fill="{COLOURS[peer]}"/>'
-                      f'<text x="{at + 15}" y="39">{peer}</text>')
+        lines.append(f'<rect x="{at}" y="30" width="10" height="10" fill="{COLOURS[peer]}"/>'
+                     + label(at + 15, 39, peer))
         at += 30 + 7 * len(peer)
-    lines = [f'<line x1="{left + unit * step / 2:.0f}" y1="{top - 8}" x2="{left + unit * step / 2:.0f}" y2="{place}" '
-             f'stroke="{"#333" if step == 2 else "#ddd"}"/>'
-             f'<text x="{left + unit * step / 2:.0f}" y="{place + 12}" text-anchor="middle" class="small">{step / 2:g}</text>'
-             for step in range(0, 6)]
+    return lines
+
+
+def axis(bottom: int) -> list[str]:
+    """The lines at 0, 0.5 and so on, that at 1 a dark one."""
+    lines = []
+    for step in range(0, 6):
+        x, colour = LEFT + UNIT * step / 2, "#333" if step == 2 else "#ddd"
+        lines.append(f'<line x1="{x:.0f}" y1="{TOP - 8}" x2="{x:.0f}" y2="{bottom}" '
+                     f'stroke="{colour}"/>'
+                     + label(x, bottom + 12, f"{step / 2:g}",
+                             ' text-anchor="middle" class="small"'))
+    return lines
+
+
+def picture(seen: Seen) -> str:
+    """A bar for each peer of each set, with std as the line at 1."""
+    peers = peers_of(seen)
+    place, body = TOP, []
+    for name, row in seen.small.items():
+        ratios = {peer: ratio(seen.small, name, peer) or 0 for peer in peers if peer in row}
+        body += bars(name, ratios, place)
+        place += BAR * len(ratios) + GAP
+    width, height = LEFT + GREATEST * UNIT + 60, place + 20
+    title = "Time to read a text, where Rust's std takes 1 (shorter is faster)"
     return "\n".join([
         "<!-- What make bench saw, as a picture. -->",
-        f'<svg xmlns="http://www.w3.org/2000/svg" width="{width:.0f}" height="{height}" viewBox="0 0 {width:.0f} {height}" '
-        'font-family="sans-serif" font-size="11" fill="#222">',
+        f'<svg xmlns="http://www.w3.org/2000/svg" width="{width:.0f}" height="{height}" '
+        f'viewBox="0 0 {width:.0f} {height}" font-family="sans-serif" font-size="11" fill="#222">',
         "<style>.small { font-size: 9px; }</style>",
         '<rect width="100%" height="100%" fill="#fff"/>',
-        f'<text x="{left}" y="18" font-size="13">Time to read a text, where Rust\'s std takes 1 (shorter is faster)</text>',
-        *legend, *lines, *body, "</svg>", ""])
+        label(LEFT, 18, title, ' font-size="13"'),
+        *legend(peers), *axis(place), *body, "</svg>", ""])
 
 
 def part(seen: Seen) -> list[str]:
     """What docs/SPEED.md says of what was measured."""
-    said = [f"Measured on {seen.date} by `make bench`: {seen.machine}. Seed {seen.asked.seed}, {seen.asked.rounds} rounds.", ""]
+    said = [f"Measured on {seen.date} by `make bench`: {seen.machine}. Seed {seen.asked.seed}, "
+            f"{seen.asked.rounds} rounds.", ""]
     said += [f"Not measured: {what}." for what in seen.left_out] + ([""] if seen.left_out else [])
-    return said + ["![What each takes, where std takes 1](../bench/results.svg)", "", table(seen), "", slower(seen), "",
-                   cost_of_call(seen), ""]
+    return said + ["![What each takes, where std takes 1](../bench/results.svg)", "", table(seen),
+                   "", slower(seen), "", cost_of_call(seen), ""]
 
 
 def slower(seen: Seen) -> str:
@@ -131,14 +163,16 @@ def slower(seen: Seen) -> str:
 
 
 def cost_of_call(seen: Seen) -> str:
-    """What the call from C takes beside the inlined one, and the rows in which from_chars is faster than it."""
+    """What the call from C takes beside the inlined one, and where from_chars is faster than it."""
     rows = {name: row for name, row in seen.small.items() if "C call" in row}
     costs = sorted((row["C call"] - row["ours"], name) for name, row in rows.items())
     (least, at_least), (middle, _), (most, at_most) = costs[0], costs[len(costs) // 2], costs[-1]
-    faster = [name for name, row in rows.items() if row.get("from_chars", row["C call"]) < row["C call"]]
-    return (f"Beside the inlined call, that from C takes {middle:+.1f} ns in the median row, {least:+.1f} ns at least "
-            f"({at_least}) and {most:+.1f} ns at most ({at_most}). `from_chars` is faster than it "
-            f"{'in these rows: ' + '; '.join(faster) if faster else 'in no row'}.")
+    faster = [name for name, row in rows.items()
+              if row.get("from_chars", row["C call"]) < row["C call"]]
+    where = "in these rows: " + "; ".join(faster) if faster else "in no row"
+    return (f"Beside the inlined call, that from C takes {middle:+.1f} ns in the median row, "
+            f"{least:+.1f} ns at least ({at_least}) and {most:+.1f} ns at most ({at_most}). "
+            f"`from_chars` is faster than it {where}.")
 
 
 def write_all(seen: Seen) -> None:

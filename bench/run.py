@@ -1,13 +1,14 @@
 #!/usr/bin/env python3
-"""Measures the parsers beside Rust's std, C++'s from_chars, C's strtoull and lexical-core, and writes what it saw.
+"""Measures the parsers beside Rust's std, C++'s from_chars, C's strtoull and lexical-core.
 
     bench/run.py [--rounds N] [--seed N] [--small N] [--large N] [--no-counts]
 
-Every peer reads the same texts in one run, in turn: of each the least time counts, with that of an empty loop taken
-off. A loop's time hangs on where it stands, so that the driver is linked four times, each time sixteen bytes further
-on, and the least of all counts. There are two sizes of each set: 4,096 texts, whose branches a processor learns, and
-60,000, whose it doesn't. Where callgrind is installed, instructions are counted too. It writes bench/results.tsv,
-bench/results.svg and the table of docs/SPEED.md, and prints the table. The gate runs none of this.
+Every peer reads the same texts in one run, in turn: of each the least time counts, with that of an
+empty loop taken off. A loop's time hangs on where it stands, so that the driver is linked four
+times, each time sixteen bytes further on, and the least of all counts. There are two sizes of each
+set: 4,096 texts, whose branches a processor learns, and 60,000, whose it doesn't. Where callgrind
+is installed, instructions are counted too. It writes bench/results.tsv, bench/results.svg and the
+table of docs/SPEED.md, and prints the table. The gate runs none of this.
 """
 from __future__ import annotations
 
@@ -19,50 +20,48 @@ import shutil
 import subprocess
 import sys
 
-import build
+import drivers
 import page
 import report
 
 COUNTED = 500
 
 
-def measured(drivers: list[str], count: int, rounds: int, seed: int) -> dict[str, dict[str, float]]:
+def said_by(driver: str, *words: str) -> list[list[str]]:
+    """The lines that a driver prints, as their columns."""
+    ran = subprocess.run([driver, *words], capture_output=True, text=True)
+    if ran.returncode:
+        sys.exit(f"bench: the driver failed: {ran.stderr.strip()}")
+    return [line.split("\t") for line in ran.stdout.splitlines()]
+
+
+def measured(built: list[str], count: int, rounds: int, seed: int) -> report.Numbers:
     """Nanoseconds a text, without the loop, by set and peer: the least of all drivers."""
     least: dict[tuple[str, str], tuple[float, float]] = {}
-    for driver in drivers:
-        ran = subprocess.run([driver, "time", str(count), str(rounds), str(seed)], capture_output=True, text=True)
-        if ran.returncode:
-            sys.exit(f"bench: the driver failed: {ran.stderr.strip()}")
-        for line in ran.stdout.splitlines():
-            name, peer, taken, empty = line.split("\t")
+    for driver in built:
+        for name, peer, taken, empty in said_by(driver, "time", str(count), str(rounds), str(seed)):
             before = least.get((name, peer), (float("inf"), float("inf")))
             least[name, peer] = min(before[0], float(taken)), min(before[1], float(empty))
-    found: dict[str, dict[str, float]] = {}
-    for (name, peer), (taken, empty) in least.items():
-        found.setdefault(name, {})[peer] = max(taken - empty, 0.01)
+    found: report.Numbers = {}
+    for (name, peer), (of_texts, of_loop) in least.items():
+        found.setdefault(name, {})[peer] = max(of_texts - of_loop, 0.01)
     return found
 
 
 def instructions(driver: str, seed: int, name: str, peer: str) -> int:
     """How many instructions a run of one loop has, from the program's start to its end."""
-    ran = subprocess.run(["valgrind", "--tool=callgrind", "--callgrind-out-file=/dev/null", driver, "once", str(COUNTED),
-                          str(seed), name, peer], capture_output=True, text=True)
-    found = re.search(r"Collected : (\d+)", ran.stderr)
-    if not found:
-        sys.exit(f"bench: callgrind counted nothing: {ran.stderr.strip()[-300:]}")
-    return int(found[1])
+    return page.instructions([driver, "once", str(COUNTED), str(seed), name, peer])
 
 
-def counted(driver: str, seed: int) -> dict[str, dict[str, float]]:
+def counted(driver: str, seed: int) -> report.Numbers:
     """Instructions a text, without the loop, by set and peer."""
-    lines = subprocess.run([driver, "list"], capture_output=True, text=True, check=True).stdout.splitlines()
-    rows = [tuple(line.split("\t")) for line in lines]
-    runs = {(name, peer) for name, peer, _ in rows} | {(name, f"loop of {own}") for name, _, own in rows}
+    rows = [(name, peer, f"loop of {own}") for name, peer, own in said_by(driver, "list")]
+    runs = list({(name, one) for name, peer, loop in rows for one in (peer, loop)})
     with concurrent.futures.ThreadPoolExecutor(os.cpu_count() or 1) as pool:
         totals = dict(zip(runs, pool.map(lambda it: instructions(driver, seed, *it), runs)))
-    found: dict[str, dict[str, float]] = {}
-    for name, peer, own in rows:
-        found.setdefault(name, {})[peer] = (totals[name, peer] - totals[name, f"loop of {own}"]) / COUNTED
+    found: report.Numbers = {}
+    for name, peer, loop in rows:
+        found.setdefault(name, {})[peer] = (totals[name, peer] - totals[name, loop]) / COUNTED
     return found
 
 
@@ -79,22 +78,23 @@ def machine() -> str:
 
 
 def main() -> int:
+    """The command line."""
     parser = page.options(__doc__, rounds=400)
     parser.add_argument("--small", type=int, default=4096, help="texts in a small set")
     parser.add_argument("--large", type=int, default=60000, help="texts in a large set")
     parser.add_argument("--no-counts", action="store_true", help="count no instructions")
     asked = parser.parse_args()
-    page.need(*build.NEEDED)
-    drivers, left_out = build.drivers()
+    page.need(*drivers.NEEDED)
+    built, left_out = drivers.drivers()
     on = machine()
-    rounds = max(asked.rounds // len(drivers), 5)
-    small = measured(drivers, asked.small, rounds, asked.seed)
-    large = measured(drivers, asked.large, max(rounds // 4, 5), asked.seed)
+    rounds = max(asked.rounds // len(built), 5)
+    small = measured(built, asked.small, rounds, asked.seed)
+    large = measured(built, asked.large, max(rounds // 4, 5), asked.seed)
     counts = {}
     if asked.no_counts:
         left_out.append("instructions: they were not asked for")
     elif shutil.which("valgrind"):
-        counts = counted(drivers[0], asked.seed)
+        counts = counted(built[0], asked.seed)
     else:
         left_out.append("instructions: valgrind is not installed")
     seen = report.Seen(on, datetime.date.today().isoformat(), asked, small, large, counts, left_out)

@@ -3,20 +3,21 @@
 
     bench/tokens.py [--bytes N] [--rounds N] [--seed N]
 
-A source has 10,000,000 bytes. The two take turns in one run, and have to find the same tokens before any time counts; of
-each the least time counts. Where callgrind is installed, instructions are counted too, on a shorter source. It needs the
-toolchain and rustc. It writes a table of docs/SPEED.md, and prints it. The gate runs none of this.
+A source has 10,000,000 bytes. The two take turns in one run, and have to find the same tokens
+before any time counts; of each the least time counts. Where callgrind is installed, instructions
+are counted too, on a shorter source. It needs the toolchain and rustc. It writes a table of
+docs/SPEED.md, and prints it. The gate runs none of this.
 """
 from __future__ import annotations
 
 import os
 import random
-import re
 import shutil
 import subprocess
 import sys
+from typing import Callable
 
-import build
+import drivers
 import page
 
 CRATES = ("lexical_util", "lexical_parse_integer", "lexical_literals")
@@ -52,22 +53,31 @@ pub extern "C" fn ours_count(source: &[u8]) -> usize {
 }
 """
 
-WORDS = "if else while return total count index value next size left right buffer_length is_valid x i n".split()
+WORDS = ("if else while return total count index value next size left right buffer_length is_valid "
+         "x i n").split()
+
+
+def word(random_: random.Random) -> str:
+    """A word of a program."""
+    return random_.choice(WORDS)
 
 
 def decimal(random_: random.Random) -> str:
+    """A decimal number, of few digits most often."""
     return str(random_.randrange(10 ** random_.choice((1, 1, 2, 2, 3, 4, 6, 9, 18))))
 
 
+Maker = Callable[[random.Random], str]
 # What a source has, by how many of ten operands are so.
-OPERANDS = {
-    "mixed": [(5, lambda random_: random_.choice(WORDS)), (3, decimal), (1, lambda random_: f"0x{random_.randrange(2 ** 32):X}"),
+OPERANDS: dict[str, list[tuple[int, Maker]]] = {
+    "mixed": [(5, word), (3, decimal), (1, lambda random_: f"0x{random_.randrange(2 ** 32):X}"),
               (1, lambda random_: f"{random_.randrange(10 ** 6):_}")],
     "decimal numbers": [(10, decimal)],
-    "hexadecimal numbers": [(10, lambda random_: f"0x{random_.randrange(2 ** random_.randint(4, 64)):x}")],
+    "hexadecimal numbers": [
+        (10, lambda random_: f"0x{random_.randrange(2 ** random_.randint(4, 64)):x}")],
     "grouped numbers": [(5, lambda random_: f"{random_.randrange(10 ** 4, 10 ** 9):_}"),
                         (5, lambda random_: f"0x{random_.randrange(2 ** 16, 2 ** 32):_x}")],
-    "words": [(10, lambda random_: random_.choice(WORDS))],
+    "words": [(10, word)],
 }
 
 
@@ -87,41 +97,35 @@ def source(kind: str, size: int, seed: int) -> bytes:
 
 def driver() -> str:
     """The driver's path, over the measured library, proved in a tree of its own."""
-    room = os.path.join(build.room(), "tokens")
+    room = os.path.join(drivers.room(), "tokens")
     folder = os.path.join(room, "crates", "bench_tokens")
     os.makedirs(os.path.join(folder, "src"), exist_ok=True)
     for crate in CRATES:
-        build.copy(os.path.join(build.TOP, "crates", crate), os.path.join(room, "crates", crate))
-    build.write(os.path.join(room, "crates.txt"), "lexical_util:\nlexical_parse_integer: lexical_util\n"
-                "lexical_literals: lexical_util lexical_parse_integer\n"
-                "bench_tokens staticlib: lexical_util lexical_parse_integer lexical_literals\n")
-    build.write(os.path.join(folder, "src", "lib.rt"), CALLERS)
-    build.run([os.environ.get("RT", "rt"), "lib"], folder)
-    peer = os.path.join(room, "tokens_rs")
-    build.run(["rustc", "--edition=2024", "-O", "-Ctarget-cpu=x86-64-v2", "-L", os.path.join(folder, "out"),
-               "-lstatic=bench_tokens", os.path.join(build.HERE, "driver", "tokens.rs"), "-o", peer], room)
+        of_crate = os.path.join("crates", crate)
+        drivers.copy(os.path.join(drivers.TOP, of_crate), os.path.join(room, of_crate))
+    drivers.write(
+        os.path.join(room, "crates.txt"), "lexical_util:\nlexical_parse_integer: lexical_util\n"
+        "lexical_literals: lexical_util lexical_parse_integer\n"
+        "bench_tokens staticlib: lexical_util lexical_parse_integer lexical_literals\n")
+    drivers.write(os.path.join(folder, "src", "lib.rt"), CALLERS)
+    drivers.run([os.environ.get("RT", "rt"), "lib"], folder)
+    peer, source_of_peer = os.path.join(room, "tokens_rs"), os.path.join("driver", "tokens.rs")
+    drivers.run(["rustc", "--edition=2024", "-O", "-Ctarget-cpu=x86-64-v2", "-L",
+                 os.path.join(folder, "out"), "-lstatic=bench_tokens",
+                 os.path.join(drivers.HERE, source_of_peer), "-o", peer], room)
     return peer
-
-
-def instructions(peer: str, path: str, name: str) -> int:
-    """How many instructions a run has that goes over the source once."""
-    ran = subprocess.run(["valgrind", "--tool=callgrind", "--callgrind-out-file=/dev/null", peer, path, "once", name],
-                         capture_output=True, text=True)
-    found = re.search(r"Collected : (\d+)", ran.stderr)
-    if not found:
-        sys.exit(f"bench: callgrind counted nothing: {ran.stderr.strip()[-300:]}")
-    return int(found[1])
 
 
 def told(peer: str, path: str, rounds: int) -> dict[str, float]:
     """What the driver prints."""
-    said = subprocess.run([peer, path, str(rounds)], capture_output=True, text=True, check=True).stdout
-    return {name: float(found) for name, found in (line.split("\t") for line in said.splitlines())}
+    ran = subprocess.run([peer, path, str(rounds)], capture_output=True, text=True, check=True)
+    return {name: float(found)
+            for name, found in (line.split("\t") for line in ran.stdout.splitlines())}
 
 
 def measured(peer: str, kind: str, asked: page.Asked) -> list[str]:
     """A row of the table."""
-    path = os.path.join(build.room(), "tokens", "source")
+    path = os.path.join(drivers.room(), "tokens", "source")
     with open(path, "wb") as file:
         file.write(source(kind, asked.size, asked.seed))
     found = told(peer, path, asked.rounds)
@@ -131,22 +135,24 @@ def measured(peer: str, kind: str, asked: page.Asked) -> list[str]:
         with open(path, "wb") as file:
             file.write(source(kind, COUNTED, asked.seed))
         tokens = told(peer, path, 1)["tokens"]
-        none = instructions(peer, path, "none")
-        counts = " / ".join(f"{(instructions(peer, path, name) - none) / tokens:.0f}" for name in PEERS)
+        none, *of_peers = [page.instructions([peer, path, "once", name])
+                           for name in ("none", *PEERS)]
+        counts = " / ".join(f"{(count - none) / tokens:.0f}" for count in of_peers)
     os.remove(path)
     return [kind, f"{hand:.1f}", f"{ours / hand:.2f}", counts]
 
 
 def write(rows: list[list[str]], asked: page.Asked) -> None:
     """Writes the table of docs/SPEED.md."""
-    table = page.table(["operands", "a lexer by hand, ns", "ours", "instructions: by hand / ours"], rows)
+    head = ["operands", "a lexer by hand, ns", "ours", "instructions: by hand / ours"]
     page.write("bench/tokens.py", [
         f"Measured on {asked.measured_on()}", "",
-        "A source is lines such as `total = 12 + (0x1F, left);`. In the table a lexer by hand takes 1, for each token.", "",
-        *table, ""])
+        "A source is lines such as `total = 12 + (0x1F, left);`. In the table a lexer by hand "
+        "takes 1, for each token.", "", *page.table(head, rows), ""])
 
 
 def main() -> int:
+    """The command line."""
     asked = page.asked(__doc__, "bytes", size=10_000_000, rounds=25)
     page.need(os.environ.get("RT", "rt"), "rustc")
     peer = driver()

@@ -287,7 +287,7 @@ def refused_allocations(runs: Runs) -> None:
     interpreter can do this too, but takes half a minute for each run."""
     with tempfile.TemporaryDirectory() as folder:
         library = os.path.join(folder, "failing_allocation.so")
-        source = os.path.join(TOP, "tools", "failing_allocation.c")
+        source = os.path.join(TOP, "tests", "c", "failing_allocation.c")
         subprocess.run(["cc", "-O", "-shared", "-fPIC", "-o", library, source], check=True)
         failing_allocations(runs, STORED, 1, library)
         failing_allocations(runs, GROWING, 3, library)

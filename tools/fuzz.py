@@ -23,12 +23,11 @@ import sys
 import tempfile
 from collections import Counter
 from dataclasses import replace
-from typing import Iterable, Iterator, List, NamedTuple, Optional
+from typing import Callable, Iterable, Iterator, List, NamedTuple, Optional, TypeVar
 
 from fuzz_edges import edge_runs
 from fuzz_lines import Lines
 from fuzz_short import short_runs
-from fuzz_shrink import smallest
 from row_data import TOP
 from slow_grammar import STANDARD, TYPES
 from slow_reading import Session
@@ -217,6 +216,67 @@ def random_runs(seed: int, wanted: int) -> Iterator[List[bytes]]:
         lines = gathered(batches, min(chance.choice(LINES_OF_RUNS), wanted - made))
         made += len(lines)
         yield lines
+
+
+# ---- the smallest lines at which a difference stays
+
+Items = TypeVar("Items", bytes, List[bytes])
+Stays = Callable[[List[bytes]], bool]
+
+
+def without_stretches(items: Items, size: int, stays: Callable[[Items], bool]) -> Items:
+    """The items without each stretch of that size that the difference doesn't need."""
+    place = 0
+    while place < len(items):
+        fewer = items[:place] + items[place + size:]
+        if stays(fewer):
+            items = fewer
+        else:
+            place += size
+    return items
+
+
+def fewest(items: Items, stays: Callable[[Items], bool]) -> Items:
+    """The items without any that the difference doesn't need, long stretches first."""
+    size = len(items)
+    while size:
+        items = without_stretches(items, size, stays)
+        size //= 2
+    return items
+
+
+def plainest(line: bytes, stays: Callable[[bytes], bool]) -> bytes:
+    """The line with `0` or `1` for each byte that the difference doesn't need to be another."""
+    for place, byte in enumerate(line):
+        others = [other for other in (b"0", b"1") if other[0] < byte]
+        plain = (line[:place] + other + line[place + 1:] for other in others)
+        line = next(filter(stays, plain), line)
+    return line
+
+
+def with_smaller_line(lines: List[bytes], number: int, stays: Stays) -> List[bytes]:
+    """The lines with the one of that number made smaller."""
+    def line_stays(line: bytes) -> bool:
+        return stays(lines[:number] + [line] + lines[number + 1:])
+
+    line = plainest(fewest(lines[number], line_stays), line_stays)
+    return lines[:number] + [line] + lines[number + 1:]
+
+
+def smaller(lines: List[bytes], stays: Stays) -> List[bytes]:
+    """Fewer lines, and then each of them smaller."""
+    lines = fewest(lines, stays)
+    for number in range(len(lines)):
+        lines = with_smaller_line(lines, number, stays)
+    return lines
+
+
+def smallest(lines: List[bytes], stays: Stays) -> List[bytes]:
+    """Lines of which no line and no byte can be dropped, and the difference stays."""
+    before: List[bytes] = []
+    while lines != before:
+        before, lines = lines, smaller(lines, stays)
+    return lines
 
 
 # ---- the run

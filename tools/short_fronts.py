@@ -17,8 +17,9 @@ sys.dont_write_bytecode = True
 import c_calls  # noqa: E402
 import fuzz_short  # noqa: E402
 from fuzz_short import BEHIND, LITERAL, OCTAL, OPTIONAL, PREFIX, SEPARATOR, TRAILING  # noqa: E402
-from slow_reading import (TYPES, Fault, Format, IntegerType, Session, format_fault,  # noqa: E402
-                          partial, reading_of, sign_of)
+from slow_grammar import (TYPES, Fault, Format, IntegerType, format_fault,  # noqa: E402
+                          parse, reading_of, sign_of)
+from slow_reading import Session  # noqa: E402
 
 NONE, NO_NUMBER, OUT_OF_RANGE = range(3)
 BEFORE = 77
@@ -29,7 +30,7 @@ LONGER = [[OPTIONAL, PREFIX, SEPARATOR, BEHIND], [OPTIONAL, LITERAL, OCTAL, SEPA
 
 def form_of(fields: List[bytes]) -> Format:
     """The format of lines of fields."""
-    session = Session(False)
+    session = Session()
     for field in fields:
         session.answer(b"f " + field)
     return session.form
@@ -37,7 +38,7 @@ def form_of(fields: List[bytes]) -> Format:
 
 def front_of(form: Format, kind: IntegerType, text: bytes) -> Tuple[int, int, int]:
     """The fault, the place where reading stopped and the value."""
-    answer = format_fault(form) or partial(form, kind, text)
+    answer = format_fault(form) or parse(form, kind, text, True)
     if isinstance(answer, Fault):
         if answer.name in ("Overflow", "Underflow"):
             return OUT_OF_RANGE, answer.place or 0, BEFORE

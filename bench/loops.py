@@ -1,7 +1,9 @@
-"""Writes the callers that are measured: a static library of loops over texts, each around one call of the parsers.
+"""Writes the callers that are measured: a static library of loops over texts, each around one call
+of the parsers.
 
-The library is no crate of the repository: no proof and no gate speaks of time. It is written into a tree of its own,
-and proved there as any crate is: that it indexes nothing outside its slices, and wraps nothing unasked.
+The library is no crate of the repository: no proof and no gate speaks of time. It is written into a
+tree of its own, and proved there as any crate is: that it indexes nothing outside its slices, and
+wraps nothing unasked.
 """
 from __future__ import annotations
 
@@ -88,13 +90,15 @@ pub extern "C" fn {name}(texts: &[u8], stops: &[u32]{more}) -> u64 {{
 
 # How a value goes into a sum: its low bits, without the sign.
 LOW_BITS = {
-    "u8": "value as u64", "u32": "value as u64", "u64": "value", "u128": "(value % 0x1_0000_0000_0000_0000) as u64",
+    "u8": "value as u64", "u32": "value as u64", "u64": "value",
+    "u128": "(value % 0x1_0000_0000_0000_0000) as u64",
     "i32": "(value & i32::MAX) as u64", "i64": "(value & i64::MAX) as u64",
     "i128": "value.rem_euclid(0x8000_0000_0000_0000) as u64",
 }
 
 
 def loop(name: str, what: str, call: str, more: str = "", before: str = "") -> str:
+    """The function of a loop around a call."""
     return LOOP.format(name=name, what=what, call=call, more=more, before=before)
 
 
@@ -104,7 +108,9 @@ def source() -> str:
     for integer, low_bits in LOW_BITS.items():
         call = f"{integer}::from_lexical(bytes).map(|value| {low_bits})"
         found.append(loop(f"ours_{integer}", f"Whole texts as `{integer}`.", call))
-    found.append(loop("ours_front", "The fronts of texts as `u64`.", "u64::from_lexical_partial(bytes).map(|front| front.0)"))
-    found.append(loop("ours_under", "Whole texts as `u64`, under a format.", "under(bytes, &format)", ", fields: &Fields",
-                      "    let format = format(fields);\n"))
+    call = "u64::from_lexical_partial(bytes).map(|front| front.0)"
+    found.append(loop("ours_front", "The fronts of texts as `u64`.", call))
+    what, call = "Whole texts as `u64`, under a format.", "under(bytes, &format)"
+    before = "    let format = format(fields);\n"
+    found.append(loop("ours_under", what, call, ", fields: &Fields", before))
     return "".join(found)

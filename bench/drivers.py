@@ -1,4 +1,4 @@
-"""Builds the driver: the measured library, proved in a tree of its own, that for C, and the peers that are there."""
+"""Builds the drivers: the measured library, proved in a tree of its own, that for C, and peers."""
 from __future__ import annotations
 
 import glob
@@ -8,17 +8,19 @@ import subprocess
 import sys
 import tempfile
 
-import callers
+import loops
 
 HERE = os.path.dirname(os.path.abspath(__file__))
 TOP = os.path.dirname(HERE)
 CRATES = ("lexical_util", "lexical_parse_integer")
 # The programs that the build needs.
 NEEDED = (os.environ.get("RT", "rt"), "cargo", "make", "cc", "c++", "ar")
-# How many drivers are linked, each with its code sixteen bytes further on: where a loop stands moves its time.
+# How many drivers are linked, each with its code sixteen bytes further on: that moves times.
 PLACES = 4
 # What stands before all other code. The linker would leave out what nothing names.
-BEFORE_ALL = """std::arch::global_asm!(".text", ".p2align 4", ".globl before_all", "before_all: .skip SIZE, 0xcc", "ret");
+BEFORE_ALL = """std::arch::global_asm!(
+    ".text", ".p2align 4", ".globl before_all", "before_all: .skip SIZE, 0xcc", "ret"
+);
 
 unsafe extern "C" {
     fn before_all();
@@ -65,8 +67,9 @@ def run(words: list[str], folder: str, **more: str) -> None:
 
 
 def room() -> str:
-    """The folder that the build takes: outside of the repository, whose gate reads each file below it."""
-    return os.environ.get("BENCH_ROOM") or os.path.join(tempfile.gettempdir(), f"jadvolni-bench-{os.getuid()}")
+    """The folder that the build takes: outside of the repository, whose gate reads its files."""
+    ours = os.path.join(tempfile.gettempdir(), f"jadvolni-bench-{os.getuid()}")
+    return os.environ.get("BENCH_ROOM") or ours
 
 
 def library(room: str) -> None:
@@ -78,7 +81,7 @@ def library(room: str) -> None:
     write(os.path.join(tree, "crates.txt"), "lexical_util:\nlexical_parse_integer: lexical_util\n"
           "bench_calls staticlib: lexical_util lexical_parse_integer\n")
     folder = os.path.join(tree, "crates", "bench_calls")
-    write(os.path.join(folder, "src", "lib.rt"), callers.source())
+    write(os.path.join(folder, "src", "lib.rt"), loops.source())
     run([os.environ.get("RT", "rt"), "lib"], folder)
     shutil.copy(os.path.join(folder, "out", "libbench_calls.a"), os.path.join(room, "driver"))
 
@@ -90,7 +93,7 @@ def library_for_c(folder: str) -> None:
 
 
 def copy(source: str, to: str) -> None:
-    """A crate, and at first the proofs that it has. What was removed from it is removed from an older copy too."""
+    """A crate, and at first its proofs. What it has no more is removed from an older copy."""
     for part in ("src", "specs", "proofs"):
         shutil.rmtree(os.path.join(to, part), ignore_errors=True)
         shutil.copytree(os.path.join(source, part), os.path.join(to, part))
@@ -99,6 +102,7 @@ def copy(source: str, to: str) -> None:
 
 
 def write(path: str, text: str) -> None:
+    """Writes a file."""
     with open(path, "w", encoding="utf-8") as file:
         file.write(text)
 
@@ -107,7 +111,20 @@ def linked(at: str, place: int, words: list[str], flags: str) -> str:
     """The driver whose code stands so many times sixteen bytes further on."""
     write(os.path.join(at, "src", "place.rs"), BEFORE_ALL.replace("SIZE", str(16 * place)))
     run(words, at, RUSTFLAGS=flags)
-    return shutil.copy(os.path.join(at, "target", "release", "driver"), os.path.join(at, f"driver-{place}"))
+    kept = os.path.join(at, f"driver-{place}")
+    shutil.copy(os.path.join(at, "target", "release", "driver"), kept)
+    return kept
+
+
+def write_package(at: str, has_lexical: bool) -> None:
+    """The driver's sources, and what cargo has to know."""
+    for name in ("main.rs", "peers.rs", "sets.rs", "texts.rs"):
+        shutil.copy(os.path.join(HERE, "driver", name), os.path.join(at, "src", name))
+    lexical = WITH_LEXICAL if has_lexical else WITHOUT_LEXICAL
+    write(os.path.join(at, "Cargo.toml"), CARGO.format(lexical=lexical))
+    os.makedirs(os.path.join(at, ".cargo"), exist_ok=True)
+    config = CONFIG.format(registry=REGISTRY) if has_lexical else ""
+    write(os.path.join(at, ".cargo", "config.toml"), config)
 
 
 def drivers() -> tuple[list[str], list[str]]:
@@ -116,16 +133,15 @@ def drivers() -> tuple[list[str], list[str]]:
     os.makedirs(os.path.join(at, "src"), exist_ok=True)
     library_for_c(at)
     library(room())
-    run(["c++", "-std=gnu++20", "-O3", "-march=x86-64-v2", f"-I{os.path.join(TOP, 'include')}", "-c",
-         os.path.join(HERE, "driver", "peers.cpp"), "-o", "peers.o"], at)
+    run(["c++", "-std=gnu++20", "-O3", "-march=x86-64-v2", f"-I{os.path.join(TOP, 'include')}",
+         "-c", os.path.join(HERE, "driver", "peers.cpp"), "-o", "peers.o"], at)
     run(["ar", "crs", "libpeers.a", "peers.o"], at)
-    for name in ("main.rs", "peers.rs", "sets.rs", "texts.rs"):
-        shutil.copy(os.path.join(HERE, "driver", name), os.path.join(at, "src", name))
     has_lexical = bool(glob.glob(f"{REGISTRY}/lexical-core-*"))
-    write(os.path.join(at, "Cargo.toml"), CARGO.format(lexical=WITH_LEXICAL if has_lexical else WITHOUT_LEXICAL))
-    os.makedirs(os.path.join(at, ".cargo"), exist_ok=True)
-    write(os.path.join(at, ".cargo", "config.toml"), CONFIG.format(registry=REGISTRY) if has_lexical else "")
-    words = ["cargo", "build", "--release", "--offline", "--quiet", *(["--features", "lexical-core"] if has_lexical else [])]
-    flags = f"-C target-cpu=x86-64-v2 -L native={at} -l static=bench_calls -l static=peers -l static=jadvolni -l stdc++"
-    left_out = [] if has_lexical else [f"lexical-core: {REGISTRY} has none (Debian's librust-lexical-core-dev)"]
+    write_package(at, has_lexical)
+    words = ["cargo", "build", "--release", "--offline", "--quiet"]
+    words += ["--features", "lexical-core"] if has_lexical else []
+    linked_in = " ".join(f"-l static={name}" for name in ("bench_calls", "peers", "jadvolni"))
+    flags = f"-C target-cpu=x86-64-v2 -L native={at} {linked_in} -l stdc++"
+    lacking = f"lexical-core: {REGISTRY} has none (Debian's librust-lexical-core-dev)"
+    left_out = [] if has_lexical else [lacking]
     return [linked(at, place, words, flags) for place in range(PLACES)], left_out
