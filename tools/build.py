@@ -2,12 +2,14 @@
 """Proves and builds a crate and those below it, and says on standard error how far it is.
 
     tools/build.py CRATE         builds
-    tools/build.py --toolchain   only fails where there is no toolchain, with a sentence that says so
+    tools/build.py --toolchain   only fails where there is no toolchain, with a sentence
 
-CRATE is a program or the library for C. A crate has a line as it begins and another, with its time, as it ends. What the
-toolchain says goes to out/build.log; its last lines are shown where a crate isn't proved. RT names the toolchain's
-command, if it isn't `rt`.
+CRATE is a program or the library for C. A crate has a line as it begins and another, with its time,
+as it ends. What the toolchain says goes to out/build.log; its last lines are shown where a crate
+isn't proved. RT names the toolchain's command, if it isn't `rt`.
 """
+from __future__ import annotations
+
 import os
 import shutil
 import subprocess
@@ -21,21 +23,21 @@ NO_TOOLCHAIN = ("there is no `{}` on the PATH: install the Rattle toolchain, or 
                 "as in make RT=/path/to/rt")
 
 
-def say(text):
+def say(text: str) -> None:
     print(text, file=sys.stderr, flush=True)
 
 
-def crates_below(top, crate):
+def crates_below(top: str, crate: str) -> list[str]:
     """The crates that one stands on, each after those below it, and then itself."""
-    below = {}
+    below: dict[str, list[str]] = {}
     with open(os.path.join(top, "crates.txt"), encoding="utf-8") as file:
         for line in file:
             name, colon, others = line.split("#")[0].partition(":")
             if colon:
                 below[name.split()[0]] = others.split()
-    found = []
+    found: list[str] = []
 
-    def visit(name):
+    def visit(name: str) -> None:
         if name not in found:
             for it in below[name]:
                 visit(it)
@@ -45,12 +47,12 @@ def crates_below(top, crate):
     return found
 
 
-def command_of(folder):
+def command_of(folder: str) -> str:
     """What builds a crate: a program is run, over no input."""
     return "run" if os.path.isfile(os.path.join(folder, "src", "main.rt")) else "lib"
 
 
-def build(top, crate, toolchain):
+def build(top: str, crate: str, toolchain: str) -> bool:
     """Builds the crates in order, and answers whether all are proved."""
     log = os.path.join(top, LOG)
     os.makedirs(os.path.dirname(log), exist_ok=True)
@@ -61,15 +63,15 @@ def build(top, crate, toolchain):
             where = f"{number} of {len(names)}  {name}"
             say(f"{where}: proving and building ..")
             start = time.time()
-            status = subprocess.run([toolchain, command_of(folder)], cwd=folder, stdin=subprocess.DEVNULL,
-                                    stdout=file, stderr=file).returncode
-            if status:
+            ran = subprocess.run([toolchain, command_of(folder)], cwd=folder,
+                                 stdin=subprocess.DEVNULL, stdout=file, stderr=file)
+            if ran.returncode:
                 return failed(log, where)
             say(f"{where}: done in {time.time() - start:.0f} s")
     return True
 
 
-def failed(log, where):
+def failed(log: str, where: str) -> bool:
     """Shows the end of the log."""
     with open(log, encoding="utf-8", errors="replace") as file:
         say("".join(file.readlines()[-SHOWN:]).rstrip())
@@ -77,7 +79,7 @@ def failed(log, where):
     return False
 
 
-def main(arguments):
+def main(arguments: list[str]) -> int:
     toolchain = os.environ.get("RT", "rt")
     if arguments == ["--toolchain"]:
         crate = None

@@ -5,7 +5,6 @@ import os
 import re
 
 from row_data import Answer, Group, escaped, groups_of
-from rows import rust_value
 
 DATA = os.path.join("tools", "languages.txt")
 # A wrong number harms more than a fault, so texts with another value come first.
@@ -39,6 +38,16 @@ FRONT = (
     "say*, and the rows with a note show it: the note is what the language makes of that text. "
     "A caller who needs the language exactly tests for these texts first, as `source` and "
     "`toml` of the crate [uses](../crates/uses/README.md) do.\n")
+
+
+def rust_value(name: str, value: int) -> str:
+    """The value of a field, as the argument of its setter."""
+    if isinstance(value, bool):
+        return str(value).lower()
+    if name == "mantissa_radix":
+        return str(value)
+    is_plain = 32 < value < 127 and chr(value) not in "'\\"
+    return f"Some(b'{chr(value)}')" if is_plain else f"Some(0x{value:02x})"
 
 
 def told(group: Group, word: str) -> list[str]:
