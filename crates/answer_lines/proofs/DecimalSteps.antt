@@ -10,7 +10,7 @@ use Rattle.std.specs.Char.{digit_char}
 use Rattle.std.specs.Int.Digits.{digits_of, AllBelowBase}
 use Rattle.std.specs.Prelude.{nat_lt, ◌<ℤ◌, unsigned_abs}
 use lib.IntN.{ℤ}
-use Rattle.lexical_parse_integer.proofs.theorems.ReadBack.{digits_text, digits_text_is}
+use Rattle.lexical_parse_integer.proofs.ForCallers.{digits_text, digits_text_is}
 use Rattle.lexical_parse_integer.specs.Laws.{IsNumeralOf, WritesShortest}
 use Rattle.answer_lines.specs.Decimal.{decimal_text, signed_text}
 

@@ -18,12 +18,7 @@ use Rattle.lexical_parse_integer.specs.Grammar.{first_fault_or, partial, range_e
 use Rattle.lexical_parse_integer.specs.Head.{Head, head_of}
 use Rattle.lexical_parse_integer.specs.Numeral.{Numeral, digit_count, front_value, numeral_in, numeral_value}
 use Rattle.lexical_parse_integer.specs.Runs.{are_same, digit_at, end_of, is_in_numeral, separator_at}
-use Rattle.lexical_parse_integer.proofs.grammar.DigitsInARow.{EndsRow, end_of_row, has_digit, numeral_in_a_row, row_numeral}
-use Rattle.lexical_parse_integer.proofs.grammar.NumeralEnd.{IsStop-end_of}
-use Rattle.lexical_parse_integer.proofs.grammar.Stretches.{IsStop-unique}
-use Rattle.lexical_parse_integer.proofs.plain.DigitsAlone.{sign_of_digit_under}
-use Rattle.lexical_parse_integer.proofs.reading.OctalZeros.{not_asked}
-use Rattle.lexical_parse_integer.proofs.theorems.DigitTexts.{head_is}
+use Rattle.lexical_parse_integer.proofs.ForCallers.{EndsRow, end_of_row, has_digit, numeral_in_a_row, row_numeral, IsStop-end_of, IsStop-unique, sign_of_digit_under, not_asked, head_is}
 use Rattle.lexical_literals.specs.Decimal.{IsDecimal}
 use Rattle.lexical_literals.specs.Tokens.{is_word_byte}
 

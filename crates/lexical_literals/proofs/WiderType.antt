@@ -8,7 +8,7 @@ use Rattle.lexical_util.specs.Number.{IntegerType, integer_type}
 use Rattle.lexical_parse_integer.specs.Grammar.{after_head, common_faults, first_fault_or, partial, partial_faults, prefix_fault, range_fault, zero_fault}
 use Rattle.lexical_parse_integer.specs.Head.{Head, head_after, head_of, sign, sign_by}
 use Rattle.lexical_parse_integer.specs.Numeral.{Numeral, numeral_in, numeral_value}
-use Rattle.lexical_parse_integer.proofs.marked.MarkedAnswers.{head_signed}
+use Rattle.lexical_parse_integer.proofs.ForCallers.{head_signed}
 use Rattle.lexical_literals.proofs.DecimalFronts.{no_range}
 
 abbrev narrow : IntegerType

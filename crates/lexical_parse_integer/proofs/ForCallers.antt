@@ -1,4 +1,17 @@
--- Lemmas that callers may name on their functions, by `using(..)`: these names stay.
+-- What proofs of other crates may cite: these names stay. `partial_within` serves on a function, by `using(..)`.
+pub use Rattle.lexical_parse_integer.proofs.grammar.DigitsInARow.{EndsRow, end_of_row, has_digit, numeral_in_a_row, row_numeral}
+pub use Rattle.lexical_parse_integer.proofs.grammar.NumeralEnd.{IsStop-end_of}
+pub use Rattle.lexical_parse_integer.proofs.grammar.Stretches.{IsStop-unique}
+pub use Rattle.lexical_parse_integer.proofs.marked.MarkedAnswers.{head_signed}
+pub use Rattle.lexical_parse_integer.proofs.plain.DigitsAlone.{sign_of_digit_under}
+pub use Rattle.lexical_parse_integer.proofs.reading.FormatBytes.{fits}
+pub use Rattle.lexical_parse_integer.proofs.reading.OctalZeros.{not_asked}
+pub use Rattle.lexical_parse_integer.proofs.reading.ParserAnswers.{is_fresh}
+pub use Rattle.lexical_parse_integer.proofs.theorems.DigitTexts.{head_is}
+pub use Rattle.lexical_parse_integer.proofs.theorems.EqualViews.{view_same}
+pub use Rattle.lexical_parse_integer.proofs.theorems.Examples.{eight_digits, plus_forbidden}
+pub use Rattle.lexical_parse_integer.proofs.theorems.ReadBack.{digits_text, digits_text_is}
+
 use Rattle.std.proofs.Common.{◌≡◌, ℕ, ◌≤◌, Bool, List, ◌++◌, length, refl, ap, arith, Ok, Err, Result}
 use Rattle.std.proofs.Math.IntN.{ℤ}
 use Rattle.lexical_util.specs.declared.error.Error.{Error}

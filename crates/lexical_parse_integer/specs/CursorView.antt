@@ -67,6 +67,9 @@ pub record IsSound (cursor : CursorView) : Type 0 where
   pub in_force : cursor.start ≤ 1
       → (cursor.radix ≡ cursor.format.mantissa_radix)
       ⊎ (cursor.radix ≡ bare_radix cursor.format cursor.bytes cursor.start)
+  -- and where the format has neither literal prefixes nor octal zeros, nothing changes it
+  pub own : cursor.format.literal_prefixes ≡ false → cursor.format.literal_octal_zero ≡ false
+      → cursor.radix ≡ cursor.format.mantissa_radix
   pub after_start : cursor.start ≤ cursor.position
   pub within : cursor.position ≤ length cursor.bytes
   pub turns : cursor.turns ≤ cursor.digits

@@ -73,6 +73,7 @@ IsSound-digit v turns place value s open_now one_more found =
       suffix_digit = s.suffix_digit;
       suffix_separator = s.suffix_separator;
       in_force = s.in_force;
+      own = s.own;
       after_start = omega arith;
       within = omega (arith, digit_at_within v.radix v.bytes place value found.3);
       turns = omega (arith, s.turns);
@@ -97,6 +98,7 @@ IsSound-end v place s open_now found =
       suffix_digit = s.suffix_digit;
       suffix_separator = s.suffix_separator;
       in_force = s.in_force;
+      own = s.own;
       after_start = omega (arith, s.after_start);
       within = omega (arith, stop.high, found.0);
       turns = s.turns;
@@ -150,6 +152,7 @@ IsSound-word v turns n s open_now contiguous some one_more all =
       suffix_digit = s.suffix_digit;
       suffix_separator = s.suffix_separator;
       in_force = s.in_force;
+      own = s.own;
       after_start = omega (arith, s.after_start);
       within = omega arith;
       turns = omega (arith, s.turns);
@@ -173,6 +176,7 @@ IsSound-new b f turns valid none =
       suffix_digit = suffix_no_digit f f.mantissa_radix b fit.suffix_digit;
       suffix_separator = suffix_no_separator f b fit.suffix_separator;
       in_force = λ _. inl refl;
+      own = λ _ _. refl;
       after_start = omega arith;
       within = omega arith;
       turns = omega arith;
@@ -204,6 +208,7 @@ IsSound-sign v s front some other =
             suffix_digit = s.suffix_digit;
             suffix_separator = s.suffix_separator;
             in_force = λ _. inl (own_radix v s start other);
+            own = s.own;
             after_start = omega arith;
             within = omega arith;
             turns = s.turns;
@@ -262,6 +267,22 @@ prefix_within f b k r e = by_zero (are_same (Some 48) (slice_get b k)) e
     by_zero true h = marked_within f b (k + 1) r h
     by_zero false h = cc
 
+-- without literal prefixes, a prefix leaves the format's radix
+prefix_own : (f : Format) (b : List ℕ) (k r : ℕ) → f.literal_prefixes ≡ false → prefix_radix f b k ≡ Some r → r ≡ f.mantissa_radix
+unfolding prefix_radix marked_radix
+prefix_own f b k r off e = by_zero (are_same (Some 48) (slice_get b k)) (is_affix f.case_sensitive_base_prefix f.base_prefix (slice_get b (k + 1))) f.literal_prefixes off e
+  where
+    by_zero : (zero own asked : Bool) → asked ≡ false
+        → cond zero (cond own (Some f.mantissa_radix) (cond asked (literal_radix f.case_sensitive_base_prefix (slice_get b (k + 1))) None)) None ≡ Some r → r ≡ f.mantissa_radix
+    by_zero true true asked t h = cc
+    by_zero true false true t h = absurd (false≢true (sym t))
+    by_zero true false false t h = cc
+    by_zero false own asked t h = cc
+
+octal_off : (f : Format) (b : List ℕ) (k : ℕ) → f.literal_octal_zero ≡ false → octal_zero_at f b k ≡ true → ⊥
+unfolding octal_zero_at
+octal_off f b k off here = false≢true (rw off at here)
+
 -- behind a prefix
 pub IsSound-prefix : (v : CursorView) (r : ℕ) → IsSound v → v.digits ≡ 0 → prefix_radix v.format v.bytes v.position ≡ Some r → IsSound (record v { radix = r; start = v.position + 2; position = v.position + 2 })
 IsSound-prefix v r s none here =
@@ -275,6 +296,7 @@ IsSound-prefix v r s none here =
       suffix_digit = suffix_no_digit v.format r v.bytes fit.suffix_digit;
       suffix_separator = s.suffix_separator;
       in_force = λ h. absurd (omega arith);
+      own = λ off _. prefix_own v.format v.bytes v.position r off here;
       after_start = omega arith;
       within = omega arith;
       turns = s.turns;
@@ -295,6 +317,7 @@ IsSound-octal v s at none here =
       suffix_digit = suffix_no_digit v.format 8 v.bytes fit.suffix_digit;
       suffix_separator = s.suffix_separator;
       in_force = λ _. inr (sym (bare_octal v.format v.bytes v.start there));
+      own = λ _ off. absurd (octal_off v.format v.bytes v.position off here);
       after_start = s.after_start;
       within = s.within;
       turns = s.turns;
@@ -332,6 +355,7 @@ IsSound-suffix v s open_now some suffix =
       suffix_digit = s.suffix_digit;
       suffix_separator = s.suffix_separator;
       in_force = s.in_force;
+      own = s.own;
       after_start = omega (arith, s.after_start);
       within = omega (arith, suffix_at_within v.format v.bytes v.position suffix);
       turns = s.turns;

@@ -10,12 +10,12 @@
 //! - `eight`: for types of 64 bits and more, `d` digits take at most `d / 8 + d % 8` turns where `d` is at most `o`;
 //! - `four`: for types of 32 bits, they take at most `d / 4 + d % 4`;
 //! - `beyond_eight`, `beyond_four`: where `d` is at least `o`, each digit beyond `o` takes one turn more.
-ghost use Rattle.std.specs.Prelude.{◌≡◌, ◌+◌, ◌-◌, ◌/◌, ◌%◌, ◌≤◌, Err, IsNone, Ok};
+ghost use Rattle.std.specs.Prelude.{◌≡◌, ◌+◌, ◌-◌, ◌/◌, ◌%◌, ◌≤◌, Err, IsNone, Ok, OnOk};
 ghost use Rattle.lexical_parse_integer.specs.Answer.{with_place, view_of};
 ghost use Rattle.lexical_parse_integer.specs.Grammar.{complete, partial};
 ghost use Rattle.lexical_parse_integer.specs.Head.{Head, head_of};
 ghost use Rattle.lexical_parse_integer.specs.Numeral.{digit_count, numeral_in};
-ghost use Rattle.lexical_parse_integer.specs.Reading.{IsOver};
+ghost use Rattle.lexical_parse_integer.specs.Reading.{IsOver, StandsAtStop};
 ghost use Rattle.lexical_util.specs.declared.error.Error.{Error};
 ghost use Rattle.lexical_util.specs.Number.{overflow_digits};
 ghost use Rattle.lexical_util.specs.Validity.{fault};
@@ -40,6 +40,7 @@ pub fn complete_in_few_turns<'a, T: Integer>(
     requires valid { IsNone (fault format.now) }
     ensures answer { view_of T.number result.0 ≡ complete format.now T.TYPE bytes.now }
     ensures over { IsOver bytes.now format.now result.1 }
+    ensures at_stop { OnOk result.0 (StandsAtStop format.now T.TYPE bytes.now result.1) }
     ensures sign { IsNone format.now.digit_separator → 32 ≤ T.BITS → (error : Error)
         → head_of format.now T.TYPE bytes.now ≡ Err error → result.1.turns ≡ 0 }
     ensures eight { IsNone format.now.digit_separator → 64 ≤ T.BITS → (head : Head)
@@ -78,6 +79,7 @@ pub fn partial_in_few_turns<'a, T: Integer>(
     requires valid { IsNone (fault format.now) }
     ensures answer { view_of (with_place T.number) result.0 ≡ partial format.now T.TYPE bytes.now }
     ensures over { IsOver bytes.now format.now result.1 }
+    ensures at_stop { OnOk result.0 (StandsAtStop format.now T.TYPE bytes.now result.1) }
     ensures sign { IsNone format.now.digit_separator → 32 ≤ T.BITS → (error : Error)
         → head_of format.now T.TYPE bytes.now ≡ Err error → result.1.turns ≡ 0 }
     ensures eight { IsNone format.now.digit_separator → 64 ≤ T.BITS → (head : Head)

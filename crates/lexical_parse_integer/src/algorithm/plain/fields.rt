@@ -1,5 +1,5 @@
 // The first number of a column, where it is a few digits and a separator stands after them: found in one pass.
-ghost use Rattle.std.specs.Prelude.{◌≡◌, ◌<◌, IfSome, IsTrue, Ok, length, take};
+ghost use Rattle.std.specs.Prelude.{◌≡◌, ◌<◌, ◌↔◌, IfSome, IsTrue, Ok, length, take};
 ghost use Rattle.lexical_parse_integer.specs.Grammar.{complete};
 ghost use Rattle.lexical_parse_integer.specs.Separated.{IsSeparated, bytes_before};
 
@@ -11,7 +11,7 @@ use lexical_util::num::Integer;
 /// Whether `field_in_front` may read the fields between this separator, under this format.
 #[inline(always)]
 pub fn is_separated(format: &NumberFormat, separator: u8) -> bool
-    ensures { IsTrue result → IsSeparated format.now separator }
+    ensures { IsTrue result ↔ IsSeparated format.now separator }
 {
     if !is_plain(format) || format.mantissa_radix() != 10 || separator == b'-' {
         return false;

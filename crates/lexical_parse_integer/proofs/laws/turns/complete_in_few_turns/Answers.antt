@@ -4,6 +4,9 @@ use Rattle.lexical_parse_integer.proofs.laws.turns.complete_in_few_turns.Goals a
 pub returns-clause-over : goal.returns-clause-over
 returns-clause-over g c = rw c.new-c.ensures at c.algorithm_complete_on-answer.ensures.over
 
+pub returns-clause-at_stop : goal.returns-clause-at_stop
+returns-clause-at_stop g c = rw c.new-c.ensures at c.algorithm_complete_on-answer.ensures.at_stop
+
 pub returns-clause-sign : goal.returns-clause-sign
 returns-clause-sign g c = at_fault _ _ g.met.T.Integer.bits_law _ _ _ _ (rw c.new-c.ensures at c.algorithm_complete_on-answer.ensures.few)
 

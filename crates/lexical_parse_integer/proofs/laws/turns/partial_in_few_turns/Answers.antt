@@ -4,6 +4,9 @@ use Rattle.lexical_parse_integer.proofs.laws.turns.partial_in_few_turns.Goals as
 pub returns-clause-over : goal.returns-clause-over
 returns-clause-over g c = rw c.new-c.ensures at c.algorithm_partial_on-answer.ensures.over
 
+pub returns-clause-at_stop : goal.returns-clause-at_stop
+returns-clause-at_stop g c = rw c.new-c.ensures at c.algorithm_partial_on-answer.ensures.at_stop
+
 pub returns-clause-sign : goal.returns-clause-sign
 returns-clause-sign g c = at_fault _ _ g.met.T.Integer.bits_law _ _ _ _ (rw c.new-c.ensures at c.algorithm_partial_on-answer.ensures.few)
 

@@ -1,5 +1,5 @@
 use Rattle.std.proofs.Common.{refl, arith}
-use Rattle.lexical_parse_integer.proofs.theorems.Examples.{eight_digits}
+use Rattle.lexical_parse_integer.proofs.ForCallers.{eight_digits}
 use Rattle.library_tests.proofs.tests.parser.laws.front_in_a_turn.Goals as goal
 
 pub returns : goal.returns

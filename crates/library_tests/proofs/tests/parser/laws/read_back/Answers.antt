@@ -4,7 +4,7 @@ use Rattle.std.proofs.lemmas.Bool.{lt-ltb}
 use Rattle.lexical_util.specs.Number.{IsNumber, integer_type}
 use Rattle.lexical_util.specs.Compare.{pos-injective}
 use Rattle.lexical_parse_integer.specs.Laws.{IsNumeralOf}
-use Rattle.lexical_parse_integer.proofs.theorems.EqualViews.{view_same}
+use Rattle.lexical_parse_integer.proofs.ForCallers.{view_same}
 use Rattle.library_tests.proofs.tests.parser.laws.read_back.Goals as goal
 
 pub returns : goal.returns
