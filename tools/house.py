@@ -8,6 +8,7 @@
 - A file of source, definitions, proofs or tools has at most 800 lines.
 - A folder has at most 40 files. A `must-fail` folder has as many as there are edits, since edits
   can't stand deeper.
+- Of the parser's proofs other crates cite `ForCallers` alone, whose names stay.
 
 It reads all but the folders that runs make. Needs Python 3.8 and nothing else.
 """
@@ -25,6 +26,7 @@ COLUMNS, LINES, FILES = 100, 800, 40
 MADE = (".git", ".mypy_cache", "__pycache__", "build", "out", "target")
 CLAUSE = re.compile(r"\s*(?:(?:requires|ensures|invariant|decreases)\b|ghost \w+\s*[:=])")
 COMMENT = re.compile(r"\s*(?:--|//)")
+INNER = re.compile(r"\blexical_parse_integer(?:\.|::)proofs(?:\.|::)(?!ForCallers\b)")
 IMPORT = re.compile(r"\s*(?:ghost )?(?:pub )?use ")
 
 Numbered = Tuple[int, str]
@@ -90,10 +92,19 @@ def full_folders(names: List[str]) -> Iterator[str]:
             yield f"{folder or '.'}: {count} files, and {FILES} are the most"
 
 
+def inner_proofs(names: List[str]) -> Iterator[str]:
+    """The lines of other crates that cite a proof of the parser which may change."""
+    for name in names:
+        if name.endswith((".antt", ".rt")) and not name.startswith("crates/lexical_parse_integer/"):
+            for number, line in enumerate(lines_of(name), 1):
+                if INNER.search(line):
+                    yield f"{name}:{number}: of the parser's proofs, cite ForCallers alone"
+
+
 def main() -> int:
     """Prints what is found, and answers the exit status."""
     names = all_files()
-    found = [*wide_lines(names), *long_files(names), *full_folders(names)]
+    found = [*wide_lines(names), *long_files(names), *full_folders(names), *inner_proofs(names)]
     clauses = sum(bool(CLAUSE.match(line)) for name in names if name.endswith(".rt")
                   for _, line in clause_lines(lines_of(name)))
     print("\n".join(found) or (

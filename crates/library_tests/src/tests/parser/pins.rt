@@ -36,6 +36,16 @@ fn digits_at_front(c: &Cursor<'_>) -> usize
     c.digits()
 }
 
+// Where a format has neither literal prefixes nor octal zeros, its radix is in force wherever the cursor is.
+fn radix_anywhere(c: &Cursor<'_>) -> u32
+    requires no_prefixes { c.now.format.literal_prefixes ≡ false }
+    requires no_octal_zeros { c.now.format.literal_octal_zero ≡ false }
+    ensures { result ≡ c.now.format.mantissa_radix }
+{
+    c.cursor();
+    c.radix()
+}
+
 // The first digit of a text, and the byte that holds it: no byte before it is a digit.
 fn first_digit(text: &[u8]) -> Option<(u32, usize)>
     ensures digit { IfSome result (λ found. digit_at 10 text.now found.1 ≡ Some found.0) }
@@ -56,6 +66,7 @@ fn words_of_contracts_are_pinned(rt: HostRuntime) {
     );
     answers(&rt, passed_before_fault(b"7"), None);
     answers(&rt, digits_at_front(&Cursor::new(b"7", &STANDARD)), 0);
+    answers(&rt, radix_anywhere(&Cursor::new(b"7", &STANDARD)), 10);
     answers(&rt, first_digit(b"7"), Some((7, 0)));
     answers(&rt, first_digit(b"x7"), None);
 }

@@ -1,6 +1,5 @@
 use Rattle.std.proofs.Common.{◌≡◌, ◌≤◌, ◌⊎◌, false, inl, inr, refl, ◌∙◌, arith}
-use Rattle.lexical_parse_integer.proofs.reading.OctalZeros.{not_asked}
-use Rattle.lexical_parse_integer.proofs.reading.ParserAnswers.{is_fresh}
+use Rattle.lexical_parse_integer.proofs.ForCallers.{is_fresh, not_asked}
 use Rattle.library_tests.proofs.tests.parser.pins.digits_at_front.Goals as goal
 
 pub returns-clause-none : goal.returns-clause-none
