@@ -52,15 +52,24 @@ proofs() {
 }
 
 # `rt ci` leaves the programs that it builds, but no library that another command takes. So what
-# callers need is proved once more, in a copy and beside it.
+# callers need is proved once more and tried in a copy, beside it.
+in_copy() { # NAME COMMAND..
+    name=$1
+    shift
+    (cd "$copy" && nice "$@") > "$copy/$name.log" 2>&1
+    echo $? > "$copy/$name.status"
+}
 git ls-files -z | xargs -0 cp --parents -t "$copy"
-nice make -C "$copy" -s build/libjadvolni.a > "$copy/libraries.log" 2>&1 &
-made=$!
-libraries() {
-    wait "$made"
-    status=$?
-    cat "$copy/libraries.log"
-    return "$status"
+{
+    in_copy libraries make -s build/libjadvolni.a
+    in_copy programs python3 tools/must_not_compile.py
+    in_copy callers make -s test-c
+} &
+beside=$!
+told() { # NAME
+    wait "$beside"
+    cat "$copy/$1.log"
+    return "$(cat "$copy/$1.status")"
 }
 
 part lint lint
@@ -74,8 +83,8 @@ part devices python3 tools/devices.py
 part answers python3 tools/run_rows.py
 part lines python3 tools/run_lines.py
 part shells tools/shell_snippet.sh crates/lexint/out/lexint
-part libraries libraries
-part programs python3 "$copy/tools/must_not_compile.py"
-part callers make -C "$copy" -s test-c
+part libraries told libraries
+part programs told programs
+part callers told callers
 echo "$passed parts passed, $failed failed"
 test "$failed" = 0

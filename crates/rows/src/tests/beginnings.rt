@@ -4,57 +4,172 @@ use super::formats::{
     INTEGER_DIGITS, LEADING, NO_PLUS, NO_ZEROS, OPTIONAL, PREFIX, PREFIX_CASE, SEPARATOR, SUFFIX,
     SUFFIX_CASE, format_of,
 };
+use super::slow::LONGEST;
 use lexical_parse_integer::NumberFormat;
 use std::process::Abort;
 
-// Numbers just outside of the types: each beginning of one is a number inside of some.
-const ENDS: [&[u8]; 8] = [
-    b"4294967296",
-    b"-2147483649",
-    b"18446744073709551616",
-    b"-9223372036854775809",
-    b"340282366920938463463374607431768211456",
-    b"-170141183460469231731687303715884105729",
-    b"+123.45",
-    b"123 456",
-];
+// The ends of the types, and the numbers next to them.
+const ENDS: &str = "\
+255
+256
+127
+128
+-128
+-129
+65535
+65536
+32767
+32768
+-32768
+-32769
+4294967295
+4294967296
+2147483647
+2147483648
+-2147483648
+-2147483649
+18446744073709551615
+18446744073709551616
+9223372036854775807
+9223372036854775808
+-9223372036854775808
+-9223372036854775809
+340282366920938463463374607431768211455
+340282366920938463463374607431768211456
+170141183460469231731687303715884105727
+170141183460469231731687303715884105728
+-170141183460469231731687303715884105728
+-170141183460469231731687303715884105729
+0
+-1";
 
-const NUMERALS: [&[u8]; 5] = [b"12345", b"10011010010", b"100000000", b"-86A", b"2B1I"];
+// Texts that go on long behind the digit that leaves the type, and texts with bytes of other kinds.
+const OTHERS: &str = "\
+406260572150672006000066000000060060007667760000000000000000000
+406260572150672006000066000000060060007667760000000000000000000+00000006766767766666767665670000000000000000000000666
+612
+1000
++-0000
+123 456
+18446744073709551616 }, {\"Key\", \"Value\"}}
++123.45
++1234
+-01";
+
+// Numerals of every radix.
+const NUMERALS: &str = "\
+12345
+100101
+1101
+211
+122
+101
+52
+45
+41
+37
+34
+31
+2B
+29
+27
+25
+23
+21
+1I
+1H
+1G
+1F
+1E
+1D
+1C
+1B
+1A
+19
+18
+17
+16
+15
+14
+13
+12
+11
+-11
+10011010010
+100000000
+86A";
 
 // Texts with separators.
-const SEPARATED: [&[u8]; 14] = [
-    b"_1_23",
-    b"+_1_23",
-    b"1__1_23",
-    b"_+1_23",
-    b"+123__",
-    b"1_1_23",
-    b"1_1__23",
-    b"1_1_23_",
-    b"1_1_23.",
-    b"_-1234",
-    b"__1__234__",
-    b"^-1234",
-    b"_1234",
-    b"X1234",
-];
+const SEPARATED: &str = "\
+_
++_
+_1_23
++_1_23
+1__1_23
+1_1
+1_1_
+_11_
+_+1_23
++123_
++123__
+1_1_23
+1_1__23
+1_1_23_
+1_1_23.
+_-1234
+__1__234__
+^-1234
+_1234
+X1234
+3__1
+31_
+3_1
+_31
+_1_";
 
 // Texts with prefixes and suffixes, and with zeros in front.
-const AFFIXED: [&[u8]; 8] = [
-    b"0x-12",
-    b"-0x012h ",
-    b"+0x3h ",
-    b"0X12",
-    b"12H",
-    b"12hx",
-    b"1.1.0",
-    b"01.1",
-];
+const AFFIXED: &str = "\
+0x
+-0x
+-0x1
+0x12
+0X12
+0x-12
+00x1
+012
+-0x012
+-0x012h
+-0x012h 
+h
+-h
+-1h
+12
+12h
+12H
+12 x
+12hx
+0h
+00h
+_h
+0x_
++3h
++0x3h 
++0xh
++h
+0
+01
+10
+1.1.0
+10.1
+0.1
+01.1
+00.1";
 
-// Each beginning of each of these texts, from no byte to the whole.
-fn beginnings(rt: &impl Abort, format: &NumberFormat, texts: &[&[u8]]) {
-    for text in texts {
-        for length in 0..=text.len() {
+// Each beginning of the text of each line, as long as the slow reading reads.
+fn beginnings(rt: &impl Abort, format: &NumberFormat, texts: &str) {
+    for text in texts.lines() {
+        let text = text.as_bytes();
+        for length in 0..=text.len().min(LONGEST) {
             for kind in KINDS {
                 agrees(rt, kind, format, &text[..length]);
             }
@@ -63,16 +178,18 @@ fn beginnings(rt: &impl Abort, format: &NumberFormat, texts: &[&[u8]]) {
 }
 
 #[test]
-fn beginnings_of_ends(rt: HostRuntime) {
+fn beginnings_of_ends_and_others(rt: HostRuntime) {
     for fields in [0, NO_PLUS | NO_ZEROS] {
-        beginnings(&rt, &format_of(10, fields), &ENDS);
+        let format = format_of(10, fields);
+        beginnings(&rt, &format, ENDS);
+        beginnings(&rt, &format, OTHERS);
     }
 }
 
 #[test]
 fn beginnings_in_radixes(rt: HostRuntime) {
     for radix in 2..=36 {
-        beginnings(&rt, &format_of(radix, 0), &NUMERALS);
+        beginnings(&rt, &format_of(radix, 0), NUMERALS);
     }
 }
 
@@ -81,7 +198,7 @@ fn beginnings_in_radixes(rt: HostRuntime) {
 fn beginnings_with_separators(rt: HostRuntime) {
     for flags in 0..16 {
         for fields in [SEPARATOR, SEPARATOR | OPTIONAL, 0] {
-            beginnings(&rt, &format_of(10, fields | flags), &SEPARATED);
+            beginnings(&rt, &format_of(10, fields | flags), SEPARATED);
         }
     }
 }
@@ -102,6 +219,6 @@ fn beginnings_with_affixes(rt: HostRuntime) {
         NO_ZEROS,
         NO_ZEROS | INTEGER_DIGITS,
     ] {
-        beginnings(&rt, &format_of(10, fields), &AFFIXED);
+        beginnings(&rt, &format_of(10, fields), AFFIXED);
     }
 }

@@ -1,5 +1,5 @@
 // The rules of formats, and formats that break one rule, two, or any number of them.
-use super::compare::{Kind, agrees};
+use super::compare::{I64, U8, agrees};
 use super::slow::digit_of;
 use lexical_parse_integer::{Error, NumberFormat, NumberFormatBuilder};
 
@@ -131,8 +131,8 @@ fn any_broken_rules(rt: HostRuntime) {
             "{format:?}"
         );
         for text in FAULTY {
-            agrees(&rt, Kind::U8, &format, text);
-            agrees(&rt, Kind::I64, &format, text);
+            agrees(&rt, U8, &format, text);
+            agrees(&rt, I64, &format, text);
         }
     }
 }

@@ -1,5 +1,5 @@
 // Each of the 256 bytes at each place of a text, among them byte 0 and byte 255.
-use super::compare::{Kind, agrees};
+use super::compare::{I8, I32, I64, I128, Kind, U8, U32, U64, agrees};
 use super::formats::{
     BYTE_ZERO, CONSECUTIVE, INTERNAL, LEADING, LITERALS, NO_PLUS, NO_ZEROS, PREFIX, PREFIX_CASE,
     SEPARATOR, SIGN, SUFFIX, SUFFIX_CASE, TRAILING, format_of,
@@ -11,15 +11,7 @@ use std::process::Abort;
 const LENGTH: usize = 20;
 
 // Types of each width that is read in its own way.
-const KINDS: [Kind; 7] = [
-    Kind::U8,
-    Kind::I8,
-    Kind::U32,
-    Kind::I32,
-    Kind::U64,
-    Kind::I64,
-    Kind::I128,
-];
+const KINDS: [Kind; 7] = [U8, I8, U32, I32, U64, I64, I128];
 
 // The text with another byte at this place.
 fn changed(text: &[u8], place: usize, byte: u8) -> [u8; LENGTH] {
@@ -129,8 +121,8 @@ fn word_of_edges(rt: &impl Abort, radix: u8, number: usize) {
     let c = edges[number / 81 % 9];
     let d = edges[number / 729 % 9];
     let format = format_of(radix, 0);
-    agrees(rt, Kind::U64, &format, &[a, b, c, d]);
-    agrees(rt, Kind::U64, &format, &[a, b, c, d, d, c, b, a]);
+    agrees(rt, U64, &format, &[a, b, c, d]);
+    agrees(rt, U64, &format, &[a, b, c, d, d, c, b, a]);
 }
 
 #[test]

@@ -6,36 +6,36 @@ use lexical_parse_integer::options::{LARGE_NUMBERS, SMALL_NUMBERS};
 use lexical_parse_integer::{FromLexicalWithOptions, NumberFormat, Options, Result};
 use std::process::Abort;
 
-// The integer types.
-#[derive(Clone, Copy, Debug, Drop)]
-pub(super) enum Kind {
-    U8,
-    U16,
-    U32,
-    U64,
-    U128,
-    Usize,
-    I8,
-    I16,
-    I32,
-    I64,
-    I128,
-    Isize,
-}
+// An integer type: how many bits it has, whether it is signed, and whether it is `usize` or `isize`. All this is known
+// from outside of the crates.
+pub(super) type Kind = (u32, bool, bool);
+
+pub(super) const U8: Kind = (8, false, false);
+
+pub(super) const U16: Kind = (16, false, false);
+
+pub(super) const U32: Kind = (32, false, false);
+
+pub(super) const U64: Kind = (64, false, false);
+
+pub(super) const U128: Kind = (128, false, false);
+
+const USIZE: Kind = (64, false, true);
+
+pub(super) const I8: Kind = (8, true, false);
+
+pub(super) const I16: Kind = (16, true, false);
+
+pub(super) const I32: Kind = (32, true, false);
+
+pub(super) const I64: Kind = (64, true, false);
+
+pub(super) const I128: Kind = (128, true, false);
+
+const ISIZE: Kind = (64, true, true);
 
 pub(super) const KINDS: [Kind; 12] = [
-    Kind::U8,
-    Kind::U16,
-    Kind::U32,
-    Kind::U64,
-    Kind::U128,
-    Kind::Usize,
-    Kind::I8,
-    Kind::I16,
-    Kind::I32,
-    Kind::I64,
-    Kind::I128,
-    Kind::Isize,
+    U8, U16, U32, U64, U128, USIZE, I8, I16, I32, I64, I128, ISIZE,
 ];
 
 // What both parsers answer, in whole numbers.
@@ -44,22 +44,6 @@ type Answers = (Result<Number>, Result<(Number, usize)>);
 // An integer type whose values are whole numbers.
 trait Whole: FromLexicalWithOptions<Options = Options> {
     fn number(self) -> Number;
-}
-
-// How many bits a type has, and whether it is signed: known from outside of the crates.
-fn width(kind: Kind) -> (u32, bool) {
-    match kind {
-        Kind::U8 => (8, false),
-        Kind::U16 => (16, false),
-        Kind::U32 => (32, false),
-        Kind::U64 | Kind::Usize => (64, false),
-        Kind::U128 => (128, false),
-        Kind::I8 => (8, true),
-        Kind::I16 => (16, true),
-        Kind::I32 => (32, true),
-        Kind::I64 | Kind::Isize => (64, true),
-        Kind::I128 => (128, true),
-    }
 }
 
 // What both parsers of a type answer with these options, and without any by the calls that have neither format nor
@@ -84,18 +68,18 @@ fn answers_as<T: Whole>(text: &[u8], format: &NumberFormat, options: Option<Opti
 
 fn answers(kind: Kind, text: &[u8], format: &NumberFormat, options: Option<Options>) -> Answers {
     match kind {
-        Kind::U8 => answers_as::<u8>(text, format, options),
-        Kind::U16 => answers_as::<u16>(text, format, options),
-        Kind::U32 => answers_as::<u32>(text, format, options),
-        Kind::U64 => answers_as::<u64>(text, format, options),
-        Kind::U128 => answers_as::<u128>(text, format, options),
-        Kind::Usize => answers_as::<usize>(text, format, options),
-        Kind::I8 => answers_as::<i8>(text, format, options),
-        Kind::I16 => answers_as::<i16>(text, format, options),
-        Kind::I32 => answers_as::<i32>(text, format, options),
-        Kind::I64 => answers_as::<i64>(text, format, options),
-        Kind::I128 => answers_as::<i128>(text, format, options),
-        Kind::Isize => answers_as::<isize>(text, format, options),
+        (8, false, _) => answers_as::<u8>(text, format, options),
+        (16, false, _) => answers_as::<u16>(text, format, options),
+        (32, false, _) => answers_as::<u32>(text, format, options),
+        (64, false, false) => answers_as::<u64>(text, format, options),
+        (64, false, true) => answers_as::<usize>(text, format, options),
+        (_, false, _) => answers_as::<u128>(text, format, options),
+        (8, true, _) => answers_as::<i8>(text, format, options),
+        (16, true, _) => answers_as::<i16>(text, format, options),
+        (32, true, _) => answers_as::<i32>(text, format, options),
+        (64, true, false) => answers_as::<i64>(text, format, options),
+        (64, true, true) => answers_as::<isize>(text, format, options),
+        (_, true, _) => answers_as::<i128>(text, format, options),
     }
 }
 
@@ -104,7 +88,7 @@ fn expected(kind: Kind, text: &[u8], format: &NumberFormat) -> Answers {
     if let Some(fault) = first_broken(format) {
         return (Err(fault), Err(fault));
     }
-    let (bits, is_signed) = width(kind);
+    let (bits, is_signed, _) = kind;
     let reading = read(text, format, bits, is_signed);
     (
         complete(text, format, &reading),

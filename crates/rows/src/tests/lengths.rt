@@ -1,6 +1,6 @@
 // Texts of digits alone, at both ends of each range of lengths that are read in a way of their own, with one other byte
 // at each place. The slow reading tells what they stand for.
-use super::compare::{KINDS, Kind, agrees};
+use super::compare::{I32, I64, KINDS, Kind, U64, agrees};
 use super::formats::{
     INTERNAL, LITERALS, NO_PLUS, NO_ZEROS, PREFIX, SEPARATOR, SIGN, SUFFIX, format_of,
 };
@@ -73,7 +73,7 @@ fn each_length_under_other_formats(rt: HostRuntime) {
         SIGN,
     ] {
         let format = format_of(10, fields);
-        for kind in [Kind::U64, Kind::I32, Kind::I64] {
+        for kind in [U64, I32, I64] {
             of_each_length(&rt, kind, &format);
         }
     }
@@ -84,7 +84,7 @@ fn each_length_under_other_formats(rt: HostRuntime) {
 fn each_length_of_other_radixes(rt: HostRuntime) {
     for radix in [2, 8, 9, 11, 16, 36] {
         let format = format_of(radix, 0);
-        of_each_length(&rt, Kind::U64, &format);
-        of_each_length(&rt, Kind::I64, &format);
+        of_each_length(&rt, U64, &format);
+        of_each_length(&rt, I64, &format);
     }
 }

@@ -1,6 +1,6 @@
 // Digits with separators between them: runs at each place of texts of several lengths, under each setting of the flags,
 // at the front of a text and behind a prefix. The slow reading tells what they stand for.
-use super::compare::{Kind, agrees};
+use super::compare::{I32, I64, I128, Kind, U8, U32, U64, agrees};
 use super::formats::{
     CONSECUTIVE, INTERNAL, LITERALS, NO_ZEROS, PREFIX, PREFIX_CASE, SEPARATOR, SUFFIX, format_of,
 };
@@ -66,10 +66,10 @@ fn flagged(rt: &impl Abort, kind: Kind, radix: u8, fields: u32, head: &[u8]) {
 
 #[test]
 fn separators_at_each_place(rt: HostRuntime) {
-    flagged(&rt, Kind::U64, 10, 0, b"");
-    flagged(&rt, Kind::I64, 10, CONSECUTIVE, b"-");
-    flagged(&rt, Kind::U64, 16, PREFIX | SUFFIX, b"0x");
-    flagged(&rt, Kind::I64, 16, PREFIX | SUFFIX | CONSECUTIVE, b"-0X");
+    flagged(&rt, U64, 10, 0, b"");
+    flagged(&rt, I64, 10, CONSECUTIVE, b"-");
+    flagged(&rt, U64, 16, PREFIX | SUFFIX, b"0x");
+    flagged(&rt, I64, 16, PREFIX | SUFFIX | CONSECUTIVE, b"-0X");
 }
 
 // The text itself, and with each of its bytes changed.
@@ -100,21 +100,21 @@ fn of_each_length(rt: &impl Abort, kind: Kind, format: &NumberFormat, head: &[u8
 #[test]
 fn threes_with_each_byte_changed(rt: HostRuntime) {
     let format = format_of(10, SEPARATOR | INTERNAL);
-    for kind in [Kind::U64, Kind::I128, Kind::U8] {
+    for kind in [U64, I128, U8] {
         of_each_length(&rt, kind, &format, b"", 4);
     }
     let strict = format_of(10, SEPARATOR | INTERNAL | CONSECUTIVE | NO_ZEROS);
-    of_each_length(&rt, Kind::I32, &strict, b"-", 4);
+    of_each_length(&rt, I32, &strict, b"-", 4);
 }
 
 #[test]
 fn digits_behind_a_prefix_alone(rt: HostRuntime) {
     let prefixed = format_of(16, PREFIX);
-    of_each_length(&rt, Kind::U64, &prefixed, b"0x", NONE);
-    of_each_length(&rt, Kind::I64, &prefixed, b"-0X", NONE);
-    of_each_length(&rt, Kind::U32, &prefixed, b"", NONE);
+    of_each_length(&rt, U64, &prefixed, b"0x", NONE);
+    of_each_length(&rt, I64, &prefixed, b"-0X", NONE);
+    of_each_length(&rt, U32, &prefixed, b"", NONE);
     let literal = format_of(10, LITERALS | PREFIX_CASE);
-    of_each_length(&rt, Kind::U64, &literal, b"0x", NONE);
-    of_each_length(&rt, Kind::I64, &literal, b"-0b", NONE);
-    of_each_length(&rt, Kind::U64, &literal, b"", NONE);
+    of_each_length(&rt, U64, &literal, b"0x", NONE);
+    of_each_length(&rt, I64, &literal, b"-0b", NONE);
+    of_each_length(&rt, U64, &literal, b"", NONE);
 }

@@ -4,7 +4,7 @@
 use lexical_parse_integer::{Error, NumberFormat, Result};
 
 // The longest text that is read.
-const LONGEST: usize = 48;
+pub(super) const LONGEST: usize = 48;
 
 // A whole number: whether it is below 0, and its size.
 pub(super) type Number = (bool, u128);

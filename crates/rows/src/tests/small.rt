@@ -1,5 +1,5 @@
 // Every text of up to four or five bytes out of a few, by the slow reading.
-use super::compare::{Kind, agrees};
+use super::compare::{I8, I64, Kind, U8, U32, agrees};
 use super::formats::{
     BEHIND_PREFIX, LITERALS, NO_PLUS, NO_ZEROS, OCTAL, OPTIONAL, PREFIX, SEPARATOR, SIGN, SUFFIX,
     format_of,
@@ -52,17 +52,17 @@ fn up_to(rt: &impl Abort, kind: Kind, format: &NumberFormat, bytes: &Bytes, long
 fn with_separators(rt: &impl Abort, radix: u8, fields: u32, bytes: &Bytes) {
     for flags in 0..16 {
         let format = format_of(radix, fields | SEPARATOR | flags);
-        up_to(rt, Kind::I8, &format, bytes, 4);
-        up_to(rt, Kind::U8, &format, bytes, 4);
-        up_to(rt, Kind::I64, &format, bytes, 3);
+        up_to(rt, I8, &format, bytes, 4);
+        up_to(rt, U8, &format, bytes, 4);
+        up_to(rt, I64, &format, bytes, 3);
     }
 }
 
 // Where there is no separator, digits are taken by words: of four here, and a byte before or behind it.
 fn without_separators(rt: &impl Abort, radix: u8, fields: u32, bytes: &Bytes) {
     let format = format_of(radix, fields);
-    up_to(rt, Kind::I8, &format, bytes, 4);
-    up_to(rt, Kind::U32, &format, bytes, 5);
+    up_to(rt, I8, &format, bytes, 4);
+    up_to(rt, U32, &format, bytes, 5);
 }
 
 #[test]
