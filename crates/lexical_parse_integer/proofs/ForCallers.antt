@@ -10,7 +10,8 @@ pub use Rattle.lexical_parse_integer.proofs.reading.ParserAnswers.{is_fresh}
 pub use Rattle.lexical_parse_integer.proofs.theorems.DigitTexts.{head_is}
 pub use Rattle.lexical_parse_integer.proofs.theorems.EqualViews.{view_same}
 pub use Rattle.lexical_parse_integer.proofs.theorems.Examples.{eight_digits, plus_forbidden}
-pub use Rattle.lexical_parse_integer.proofs.theorems.ReadBack.{digits_text, digits_text_is}
+pub use Rattle.lexical_parse_integer.proofs.theorems.ReadBack.{digits_text_is}
+unfoldable pub use Rattle.lexical_parse_integer.proofs.theorems.ReadBack.{digits_text}
 use Rattle.std.proofs.Common.{◌≡◌, ℕ, ◌≤◌, Bool, List, ◌++◌, length, refl, ap, arith, Ok, Err, Result}
 use Rattle.std.proofs.Math.IntN.{ℤ}
 use Rattle.lexical_util.specs.declared.error.Error.{Error}
