@@ -11,7 +11,12 @@ fn shown(rt: HostRuntime) {
 
     assert_eq!(rt;
         (whole, fault, front, json),
-        (Ok(1234), Err(Error::Overflow(19)), Ok((1234, 4)), Err(Error::InvalidLeadingZeros(0)))
+        (
+            Ok(1234),
+            Err(Error::Overflow(19)),
+            Ok((1234, 4)),
+            Err(Error::InvalidLeadingZeros(0))
+        )
     );
 }
 
