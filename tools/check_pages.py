@@ -9,6 +9,7 @@
   stands for the name of a type.
 - A run of the program over what `printf` gives it has to answer as the slow reading of the grammar
   does.
+- A figure in a list of README has to stand on the page that its line links to.
 - A page has at most as many words as BUDGETS says, and those of BUDGETS have at most MOST_WORDS
   together. What a tool takes from the source or compares with it (blocks, worked rows) and what a
   measurement writes doesn't count. `tools/documents.py --words` prints the counts.
@@ -57,6 +58,7 @@ RUN = re.compile(r"(?ms)^\$ printf '([^'\n]*)' \| (?:make run|lexint)\n(.*?)(?=^
 FILE = re.compile(r"(?:[\w.*-]+/)*[\w*-][\w.*-]*\."
                   r"(?:md|rt|antt|py|sh|txt|mk|edit|c|h|hpp|cpp|rs|toml|json|tsv|svg|in|a|so|log)")
 FOLDER = re.compile(r"(?:[\w.*-]+/)+")
+FIGURE = re.compile(r"(?<![\w.,-])\d+(?:[.,]\d+)*")
 # Several words, or a module or a type before the name, or brackets behind it.
 FUNCTION = re.compile(r"(?=\w+_|.*\W)(?:\w+::)*\w+(?:\(\))?")
 
@@ -158,6 +160,18 @@ def wrong_runs(page: str, text: str) -> list[str]:
     return found
 
 
+def wrong_figures(text: str, pages: dict[str, str]) -> list[str]:
+    """The figures in README's lists that the pages linked in their lines don't have."""
+    found = []
+    for line in re.findall(r"(?m)^- .*", text):
+        targets = [target.partition("#")[0] for target in LINK.findall(line)]
+        there = {it for target in targets for it in FIGURE.findall(pages.get(target, ""))}
+        told = FIGURE.findall(CODE.sub("", LINK.sub("", line))) if targets else []
+        lacking = [it for it in told if it not in there]
+        found += [f"README.md: {' and '.join(targets)} lacks {it}" for it in lacking]
+    return found
+
+
 def too_long(words: dict[str, int]) -> list[str]:
     """The pages with too many words, and those of docs/ without a number in BUDGETS."""
     found = []
@@ -200,6 +214,7 @@ def faults(pages: dict[str, str], names: list[str], words: set[str]) -> list[str
         if page not in WRITTEN:
             found += wrong_names(page, text, files) + wrong_functions(page, text, words)
             found += wrong_runs(page, text)
+    found += wrong_figures(pages.get("README.md", ""), pages)
     return found + too_long(counts_of(pages))
 
 

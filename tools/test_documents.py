@@ -72,7 +72,7 @@ FILES = {
     "crates/small/ten.c": "/* Ten. */\nint ten = 10;\n",
     "docs/GUIDE.md": """# Guide
 
-How to halve. And more.
+How to halve, 7,001 times.
 
 <!-- block: crates/small/src/lib.rt: half -->
 ```rust
@@ -115,6 +115,8 @@ GOOD_PAGE = """# A page, with `code`
 
 `src/inner.rt`, `crates/small/`, `must-fail/half_*.edit`, `python3 crates/small/src/lib.rt`,
 [a folder](crates/small), `out/made.log`, `a.field`
+
+- [Halves](docs/GUIDE.md#guide): 7,001 `u32`, no `9`
 
 ## Twice
 ## Twice
@@ -250,6 +252,7 @@ class OfPages(unittest.TestCase):
     def test_wrong_pages(self) -> None:
         wrong = ["[a](docs/GONE.md)", "[a](docs/GUIDE.md#gone)", "[a](#gone)", "`src/gone.rt`",
                  "`make src/gone.rt`", "`gone/`", "`half_of` and `third_of`",
+                 "- 7,00 [halves](docs/GUIDE.md)\n",
                  "word " * check_pages.BUDGETS["README.md"]]
         for text in wrong:
             self.assertEqual(len(self.faults(GOOD_PAGE + text)), 1, text[:40])
