@@ -25,9 +25,9 @@ part() { # NAME COMMAND..
     say "$name $ended after $(($(date +%s) - start)) s: $(tail -n 1 "$log")"
 }
 
-# setup.cfg says what flake8 and mypy ask of the Python under tools/ and bench/.
+# setup.cfg says what flake8 asks of all Python, and mypy of that under tools/ and bench/.
 lint() {
-    for checker in "flake8 tools bench" mypy; do
+    for checker in "flake8 tools bench bindings examples" mypy; do
         if command -v "${checker%% *}" > /dev/null; then
             $checker || return 1
         else

@@ -251,9 +251,20 @@ static void names(void)
     CHECK(strcmp(jadvolni_status_name(UINT32_MAX), "Unknown") == 0);
 }
 
+/* The version is one, however it is written. */
+static void version(void)
+{
+    char text[32];
+    snprintf(text, sizeof text, "%d.%d.%d", JADVOLNI_VERSION_MAJOR, JADVOLNI_VERSION_MINOR, JADVOLNI_VERSION_PATCH);
+    CHECK(strcmp(text, JADVOLNI_VERSION_STRING) == 0);
+    CHECK(JADVOLNI_VERSION
+          == 10000 * JADVOLNI_VERSION_MAJOR + 100 * JADVOLNI_VERSION_MINOR + JADVOLNI_VERSION_PATCH);
+    CHECK(jadvolni_version() == JADVOLNI_VERSION);
+}
+
 int main(void)
 {
-    CHECK(jadvolni_version() == JADVOLNI_VERSION && JADVOLNI_VERSION == 100);
+    version();
     each_type();
     faults_of_texts();
     faults_of_formats();
