@@ -3,7 +3,7 @@
 # into the repository DEST, with their lines of crates.txt. It looks at all of it before it writes.
 set -euf -o pipefail
 cd "$(dirname "$0")/.."
-refuse() { echo "make vendor: $1" >&2 && exit 1; }
+refuse() { echo "make vendor: $1" >&2; exit 1; }
 names='' libraries=$(grep -o '^lexical_[^:]*' crates.txt | xargs)
 for name in lexical_parse_integer ${WITH:-}; do
     [[ " $libraries " == *" $name "* ]] || refuse "WITH has $name, which is none of $libraries"
