@@ -21,9 +21,8 @@ pub use c_like::{c, c_decimal, c_hexadecimal, c_octal, c23, cpp14, csharp, java,
 pub use compiled::{ada, assembler_hexadecimal, go, rust, swift, vhdl};
 pub use data::{json, json5, sql, sql_2023, toml, yaml};
 pub use functional::{haskell, ocaml};
-pub use scripting::{javascript, julia, python, ruby};
-
 use lexical_util::format::NumberFormatBuilder;
+pub use scripting::{javascript, julia, python, ruby};
 
 // Literals without a plus.
 fn without_plus() -> NumberFormatBuilder
