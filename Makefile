@@ -7,7 +7,7 @@ PROGRAM_CRATES := lexint answer_lines $(shell sed -n 's/^answer_lines: *//p' cra
 SOURCES := $(shell find $(addprefix crates/,$(PROGRAM_CRATES)) -name out -prune -o -type f \( -name '*.rt' -o -name '*.antt' \) -print) crates.txt
 
 .PHONY: help toolchain run check test devices answers lexint install uninstall install-lexint uninstall-lexint rows docs
-.PHONY: check-docs check-languages bench must-not-compile fuzz fuzz-edges
+.PHONY: vendor check-docs check-languages bench must-not-compile fuzz fuzz-edges
 
 # A target is listed by the words after its two number signs.
 help:
@@ -51,6 +51,9 @@ install-lexint: $(PROGRAM)
 
 uninstall-lexint:
 	rm -f $(DESTDIR)$(PREFIX)/bin/lexint $(DESTDIR)$(MANDIR)/man1/lexint.1
+
+vendor: ## copies the Rattle crates into your repository: DEST=../yours WITH="lexical_literals lexical_fields lexical_formats"
+	@tools/vendor.sh
 
 include tools/lib.mk
 

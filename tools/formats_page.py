@@ -13,11 +13,10 @@ UNLIKE = "unlike: "
 FRONT = (
     "# Formats\n\n"
     "The integers of programming languages, of assemblers and of data formats, each by a function "
-    "of `format::languages` that makes its format.\n\n"
+    "of the crate `lexical_formats` that makes its format.\n\n"
     "```rust\n"
-    "use lexical_parse_integer::format::languages;\n"
     "use lexical_parse_integer::{FromLexicalWithOptions, options};\n\n"
-    "let answer = u64::from_lexical_with_options(b\"0x_1F\", &languages::rust(), "
+    "let answer = u64::from_lexical_with_options(b\"0x_1F\", &lexical_formats::rust(), "
     "&options::STANDARD); // Ok(31)\n"
     "```\n\n"
     "Each function's contract says the fields of its format, and that the format is valid. "
@@ -94,7 +93,7 @@ def section(group: Group) -> list[str]:
     """What is said of a language."""
     reference = "; ".join(told(group, "reference"))
     return [
-        f"## {group.shows}", "", f"`languages::{group.name}()`", "", *told(group, "rule"), "",
+        f"## {group.shows}", "", f"`lexical_formats::{group.name}()`", "", *told(group, "rule"), "",
         f"Reference: {reference}.", "", *chain(group), *table(group), *unsaid(group),
     ]
 

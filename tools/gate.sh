@@ -72,12 +72,26 @@ told() { # NAME
     return "$(cat "$copy/$1.status")"
 }
 
+# A crate that a user has changed is named, and stays; what was copied is what stands here.
+vendor() {
+    user="$copy/a user"
+    set -- make -s vendor DEST="$user" WITH="lexical_fields lexical_formats lexical_literals"
+    mkdir "$user" && "$@" || return 1
+    echo >> "$user/crates/lexical_util/README.md"
+    "$@" 2>&1 | grep 'crates/lexical_util has other contents' || return 1
+    cp crates/lexical_util/README.md "$user/crates/lexical_util"
+    for crate in crates/lexical_*; do diff -rx out "$crate" "$user/$crate" || return 1; done
+    "$@"
+    test "$(grep '^lexical_' crates.txt | sort)" = "$(sort "$user/crates.txt")"
+}
+
 part lint lint
 part rows python3 tools/rows.py --check
 part lanes tools/lanes.sh
 part tests-of-documents python3 tools/test_documents.py
 part documents python3 tools/documents.py --check
 part house python3 tools/house.py
+part vendor vendor
 part proofs proofs 3>&1
 part devices python3 tools/devices.py
 part answers python3 tools/run_rows.py

@@ -6,9 +6,9 @@
 
 Either way each example of docs/GRAMMAR.md has to be one of the rows.
 
-A group of tools/languages.txt is a language: a function of `lexical_util::format::languages`
-makes its format, a line of fields says what that format is, and its rows name it. What a user has
-to know of the language stands between; tools/formats_page.py makes docs/FORMATS.md of it.
+A group of tools/languages.txt is a language: a function of `lexical_formats` makes its format, a
+line of fields says what that format is, and its rows name it. What a user has to know of the
+language stands between; tools/formats_page.py makes docs/FORMATS.md of it.
 
 Each row becomes a theorem, `complete FORMAT TYPE TEXT ≡ ANSWER`, or so of `partial` or `fault`,
 with the proof `refl`; a line of fields becomes `LANGUAGE ≡ FORMAT`. The check computes the
@@ -52,6 +52,7 @@ def check_examples(path: str, rows: Iterable[Row]) -> None:
 # where the words of a theorem stand, in the order of their imports
 PARSE = "Rattle.lexical_parse_integer.specs."
 UTIL = "Rattle.lexical_util.specs."
+READY = "Rattle.lexical_formats.specs.Languages"
 WORDS = {
     "Rattle.std.specs.Prelude":
         "◌≡◌ [] ◌∷◌ codes ℕ ℤ pos neg_ℤ Some None true false Ok Err".split(),
@@ -148,7 +149,7 @@ def antt_imports(body: str, languages: List[str]) -> str:
     code = re.sub(r'"(?:[^"\\]|\\.)*"|--[^\n]*', "", body)
     there = set(re.findall(r"\w+|≡|∷|\[\]", code))
     imports = ""
-    for module, names in {**WORDS, UTIL + "Languages": languages}.items():
+    for module, names in {**WORDS, READY: languages}.items():
         used = ", ".join(name for name in names if name.strip("◌") in there)
         imports += f"use {module}.{{{used}}}\n" if used else ""
     return imports

@@ -197,7 +197,7 @@ class OverRepository(unittest.TestCase):
         self.assertNotIn(FORMATS, self.documents())
         write(self.top, {"tools/languages.txt": LANGUAGES})
         page = self.documents()[FORMATS]
-        self.assertIn("## Tally\n\n`languages::tally()`\n\nDigits alone.\n", page)
+        self.assertIn("## Tally\n\n`lexical_formats::tally()`\n\nDigits alone.\n", page)
         self.assertIn("Reference: The Book of Tally, 1.\n", page)
         self.assertIn(".no_positive_mantissa_sign(true)\n", page)
         self.assertIn(".digit_separator(Some(b'\\''))\n", page)

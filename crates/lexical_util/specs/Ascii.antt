@@ -17,10 +17,6 @@ carriage_return = 13
 abbrev pub space : ℕ
 space = 32
 
--- b'\''
-abbrev pub apostrophe : ℕ
-apostrophe = 39
-
 -- b'+'
 abbrev pub plus : ℕ
 plus = 43
@@ -45,10 +41,6 @@ digit_nine = 57
 abbrev pub capital_a : ℕ
 capital_a = 65
 
--- b'L'
-abbrev pub capital_l : ℕ
-capital_l = 76
-
 -- b'Z'
 abbrev pub capital_z : ℕ
 capital_z = 90
@@ -64,18 +56,6 @@ letter_a = 97
 -- b'b'
 abbrev pub letter_b : ℕ
 letter_b = 98
-
--- b'h'
-abbrev pub letter_h : ℕ
-letter_h = 104
-
--- b'l'
-abbrev pub letter_l : ℕ
-letter_l = 108
-
--- b'n'
-abbrev pub letter_n : ℕ
-letter_n = 110
 
 -- b'o'
 abbrev pub letter_o : ℕ

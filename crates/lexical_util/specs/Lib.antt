@@ -4,6 +4,5 @@ pub mod Compare
 pub mod Digit
 pub mod Faults
 pub mod Format
-pub mod Languages
 pub mod Number
 pub mod Validity

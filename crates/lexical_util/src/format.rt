@@ -9,7 +9,6 @@ ghost use Rattle.lexical_util.specs.Format.{json, standard};
 ghost use Rattle.lexical_util.specs.Validity.{fault, has_unfit_literals};
 
 mod builder;
-pub mod languages;
 mod validity;
 
 use crate::error::Error;

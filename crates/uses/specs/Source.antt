@@ -4,7 +4,7 @@ use Rattle.std.specs.List.{starts_with}
 use Rattle.lexical_util.specs.declared.error.Error.{Error}
 use Rattle.lexical_util.specs.declared.error.Error.TheVariants.{InvalidDigit, InvalidLeadingZeros}
 use Rattle.lexical_util.specs.Format.{Format}
-use Rattle.lexical_util.specs.Languages.{c23, python}
+use Rattle.lexical_formats.specs.Languages.{c23, python}
 use Rattle.lexical_util.specs.Number.{integer_type}
 use Rattle.lexical_parse_integer.specs.Grammar.{complete}
 

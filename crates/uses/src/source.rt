@@ -7,7 +7,6 @@ ghost use Rattle.uses.specs.Source.{begins_with_o, c_format, c_in, padded_format
 ghost use Rattle.lexical_parse_integer.specs.Grammar.{complete};
 ghost use Rattle.lexical_util.specs.Number.{integer_type};
 
-use lexical_parse_integer::format::languages;
 use lexical_parse_integer::{
     Error, FromLexicalWithOptions, NumberFormat, NumberFormatBuilder, Result, options,
 };
@@ -16,14 +15,14 @@ use lexical_parse_integer::{
 pub fn c_format() -> NumberFormat
     ensures { result ≡ c_format }
 {
-    languages::c23()
+    lexical_formats::c23()
 }
 
 /// Literals of Python, where no zero comes before another digit.
 pub fn python_format() -> NumberFormat
     ensures { result ≡ python_format }
 {
-    languages::python()
+    lexical_formats::python()
 }
 
 // The same with any zeros in front: `0o777`, `0x_1FF` and `0b101`, with `_` between digits.

@@ -1,13 +1,12 @@
 //! Integers of TOML, and a line that sets one: `+1_000` and `-17`, or `0xdead_beef`, `0o755` and `0b1101` without a sign.
 //!
-//! `languages::toml` says all of TOML's rules but one: that no sign comes before a prefix. So the reader asks that
+//! `lexical_formats::toml` says all of TOML's rules but one: that no sign comes before a prefix. So the reader asks that
 //! first.
 
 ghost use Rattle.std.specs.Prelude.{◌≡◌};
 ghost use Rattle.std.specs.Option.{option_map};
 ghost use Rattle.uses.specs.Toml.{after, has_minus_and_prefix, has_plus_and_prefix, integer_in, setting_in};
 
-use lexical_parse_integer::format::languages;
 use lexical_parse_integer::{Error, FromLexicalWithOptions, Result, options};
 
 // Whether a text begins with `+0x`, `+0o` or `+0b`.
@@ -35,7 +34,7 @@ pub fn integer(text: &[u8]) -> Result<i64>
     if has_plus_and_prefix(text) || has_minus_and_prefix(text) {
         return Err(Error::InvalidDigit(2));
     }
-    i64::from_lexical_with_options(text, &languages::toml(), &options::STANDARD)
+    i64::from_lexical_with_options(text, &lexical_formats::toml(), &options::STANDARD)
 }
 
 // What stands after a front, where the text begins with it.

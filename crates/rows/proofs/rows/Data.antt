@@ -10,7 +10,7 @@ use Rattle.lexical_parse_integer.specs.Grammar.{complete, partial, range_fault}
 use Rattle.lexical_parse_integer.specs.Head.{head_of, sign}
 use Rattle.lexical_parse_integer.specs.Numeral.{numeral_in}
 use Rattle.lexical_parse_integer.specs.Runs.{are_same, begin_of, is_in_numeral, digit_at, digits_between, end_of, flag_for, run_passes, separator_at}
-use Rattle.lexical_util.specs.Languages.{json5, sql, sql_2023, toml, yaml}
+use Rattle.lexical_formats.specs.Languages.{json5, sql, sql_2023, toml, yaml}
 
 abbrev i32 : IntegerType
 i32 = integer_type 32 true

@@ -10,7 +10,7 @@ use Rattle.lexical_parse_integer.specs.Grammar.{complete, partial, range_fault}
 use Rattle.lexical_parse_integer.specs.Head.{head_of, sign}
 use Rattle.lexical_parse_integer.specs.Numeral.{numeral_in}
 use Rattle.lexical_parse_integer.specs.Runs.{are_same, begin_of, is_in_numeral, digit_at, digits_between, end_of, flag_for, run_passes, separator_at}
-use Rattle.lexical_util.specs.Languages.{haskell, ocaml}
+use Rattle.lexical_formats.specs.Languages.{haskell, ocaml}
 
 abbrev u32 : IntegerType
 u32 = integer_type 32 false

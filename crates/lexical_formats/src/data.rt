@@ -2,11 +2,11 @@
 
 ghost use Rattle.std.specs.Prelude.{◌≡◌, None};
 ghost use Rattle.lexical_util.specs.Format.{json};
-ghost use Rattle.lexical_util.specs.Languages.{json5, sql, sql_2023, toml, yaml};
 ghost use Rattle.lexical_util.specs.Validity.{fault};
+ghost use Rattle.lexical_formats.specs.Languages.{json5, sql, sql_2023, toml, yaml};
 
-use super::{by_separator, own_sign};
-use crate::format::{JSON, NumberFormat, STANDARD};
+use crate::{by_separator, own_sign};
+use lexical_util::format::{JSON, NumberFormat, STANDARD};
 
 /// Integers of JSON: [`JSON`].
 pub fn json() -> NumberFormat

@@ -1,14 +1,15 @@
 //! Ready formats: the integers of programming languages, of assemblers and of data formats.
 //!
-//! Each is made by setters of a [`NumberFormatBuilder`](super::NumberFormatBuilder), so a caller may copy the lines and
-//! change one. A format says what it can of a language: its radixes, its separators, its zeros. What it can't say is
-//! told with each function, and with worked texts in docs/FORMATS.md.
+//! Each is made by setters of a [`NumberFormatBuilder`], so a caller may copy the lines and change one. A format says
+//! what it can of a language: its radixes, its separators, its zeros. What it can't say is told with each function, and
+//! with worked texts in docs/FORMATS.md.
 //!
 //! In most languages a sign is an operator and no part of a literal. There a plus is refused, and a minus is too where
 //! the type is unsigned; a signed type reads it.
+#![tactic(auto)]
 
 ghost use Rattle.std.specs.Prelude.{◌≡◌};
-ghost use Rattle.lexical_util.specs.Languages.{any_groups, with_prefixes, by_separator, own_sign, underscored_digits, without_plus};
+ghost use Rattle.lexical_formats.specs.Languages.{any_groups, with_prefixes, by_separator, own_sign, underscored_digits, without_plus};
 
 mod c_like;
 mod compiled;
@@ -16,11 +17,11 @@ mod data;
 mod functional;
 mod scripting;
 
-use super::NumberFormatBuilder;
 pub use c_like::{c, c_decimal, c_hexadecimal, c_octal, c23, cpp14, csharp, java, kotlin};
 pub use compiled::{ada, assembler_hexadecimal, go, rust, swift, vhdl};
 pub use data::{json, json5, sql, sql_2023, toml, yaml};
 pub use functional::{haskell, ocaml};
+use lexical_util::format::NumberFormatBuilder;
 pub use scripting::{javascript, julia, python, ruby};
 
 // Literals without a plus.
@@ -30,14 +31,14 @@ fn without_plus() -> NumberFormatBuilder
     NumberFormatBuilder::new().no_positive_mantissa_sign(true)
 }
 
-// The same in radix 10, or 16, 8 or 2 where `0x`, `0o` or `0b` comes first.
+// Literals without a plus, in radix 10, or 16, 8 or 2 where `0x`, `0o` or `0b` comes first.
 fn with_prefixes() -> NumberFormatBuilder
     ensures { result ≡ with_prefixes }
 {
     without_plus().literal_prefixes(true)
 }
 
-// The same with this separator between digits, one at a time.
+// Those with prefixes, with this separator between digits, one at a time.
 fn by_separator(separator: u8) -> NumberFormatBuilder
     ensures { result ≡ by_separator separator }
 {
@@ -46,7 +47,7 @@ fn by_separator(separator: u8) -> NumberFormatBuilder
         .integer_internal_digit_separator(true)
 }
 
-// The same with `_` among and after the digits, as many as one likes.
+// Those with prefixes, with `_` among and after the digits, as many as one likes.
 fn any_groups() -> NumberFormatBuilder
     ensures { result ≡ any_groups }
 {

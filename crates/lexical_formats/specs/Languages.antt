@@ -1,7 +1,29 @@
 -- The integers of programming languages, of assemblers and of data formats: a format for each.
 use Rattle.std.specs.Prelude.{ℕ, true, false, Some}
-use Rattle.lexical_util.specs.Ascii.{apostrophe, capital_l, letter_h, letter_l, letter_n, letter_x, underscore}
+use Rattle.lexical_util.specs.Ascii.{letter_x, underscore}
 use Rattle.lexical_util.specs.Format.{Format, standard}
+
+-- ---- bytes
+
+-- b'\''
+abbrev pub apostrophe : ℕ
+apostrophe = 39
+
+-- b'L'
+abbrev pub capital_l : ℕ
+capital_l = 76
+
+-- b'h'
+abbrev pub letter_h : ℕ
+letter_h = 104
+
+-- b'l'
+abbrev pub letter_l : ℕ
+letter_l = 108
+
+-- b'n'
+abbrev pub letter_n : ℕ
+letter_n = 110
 
 -- ---- what many of them have in common
 
@@ -13,7 +35,7 @@ without_plus = record standard { no_positive_mantissa_sign = true }
 abbrev pub with_prefixes : Format
 with_prefixes = record without_plus { literal_prefixes = true }
 
--- the same with a separator between digits, one at a time
+-- with prefixes, and with a separator between digits, one at a time
 abbrev pub by_separator : ℕ → Format
 by_separator separator =
     record with_prefixes {
@@ -21,7 +43,7 @@ by_separator separator =
       integer_internal_digit_separator = true;
     }
 
--- `_` among and after the digits, as many as one likes
+-- with prefixes, and with `_` among and after the digits, as many as one likes
 abbrev pub any_groups : Format
 any_groups =
     record (by_separator underscore) {

@@ -1,11 +1,11 @@
 //! The integers of Python, Ruby, JavaScript and Julia.
 
 ghost use Rattle.std.specs.Prelude.{◌≡◌, None};
-ghost use Rattle.lexical_util.specs.Languages.{javascript, julia, python, ruby};
 ghost use Rattle.lexical_util.specs.Validity.{fault};
+ghost use Rattle.lexical_formats.specs.Languages.{javascript, julia, python, ruby};
 
-use super::by_separator;
-use crate::format::NumberFormat;
+use crate::by_separator;
+use lexical_util::format::NumberFormat;
 
 /// Integer literals of Python 3: `1_000`, `0x_1FF`, `0o777` and `0b_1_01`. A zero before another digit is refused.
 ///

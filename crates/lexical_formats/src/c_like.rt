@@ -1,11 +1,11 @@
 //! The integers of C, and of languages that write them as C does.
 
 ghost use Rattle.std.specs.Prelude.{◌≡◌, None};
-ghost use Rattle.lexical_util.specs.Languages.{c, c23, c_decimal, c_hexadecimal, c_octal, cpp14, csharp, java, kotlin};
 ghost use Rattle.lexical_util.specs.Validity.{fault};
+ghost use Rattle.lexical_formats.specs.Languages.{c, c23, c_decimal, c_hexadecimal, c_octal, cpp14, csharp, java, kotlin};
 
-use super::{by_separator, with_prefixes, without_plus};
-use crate::format::NumberFormat;
+use crate::{by_separator, with_prefixes, without_plus};
+use lexical_util::format::NumberFormat;
 
 /// Integer constants of C up to C17, of each of the three kinds: `511`, `0777` and `0x1FF`.
 ///

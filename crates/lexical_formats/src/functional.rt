@@ -1,11 +1,11 @@
 //! The integers of Haskell and OCaml.
 
 ghost use Rattle.std.specs.Prelude.{◌≡◌, None};
-ghost use Rattle.lexical_util.specs.Languages.{haskell, ocaml};
 ghost use Rattle.lexical_util.specs.Validity.{fault};
+ghost use Rattle.lexical_formats.specs.Languages.{haskell, ocaml};
 
-use super::{any_groups, by_separator};
-use crate::format::NumberFormat;
+use crate::{any_groups, by_separator};
+use lexical_util::format::NumberFormat;
 
 /// Integer literals of Haskell with NumericUnderscores and BinaryLiterals: `1__000`, `0x_1FF`, `0o777` and `0b_1_01`.
 /// `0777` is 777.

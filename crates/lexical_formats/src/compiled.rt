@@ -1,11 +1,11 @@
 //! The integers of Rust, Go, Swift, Ada and VHDL, and of assemblers.
 
 ghost use Rattle.std.specs.Prelude.{◌≡◌, None};
-ghost use Rattle.lexical_util.specs.Languages.{ada, assembler_hexadecimal, go, rust, swift, vhdl};
 ghost use Rattle.lexical_util.specs.Validity.{fault};
+ghost use Rattle.lexical_formats.specs.Languages.{ada, assembler_hexadecimal, go, rust, swift, vhdl};
 
-use super::{any_groups, by_separator, underscored_digits, without_plus};
-use crate::format::NumberFormat;
+use crate::{any_groups, by_separator, underscored_digits, without_plus};
+use lexical_util::format::NumberFormat;
 
 /// Integer literals of Rust: `1__000_`, `0x_1FF_`, `0o777` and `0b1_01`. `0777` is 777.
 ///

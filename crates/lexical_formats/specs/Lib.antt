@@ -1,0 +1,2 @@
+-- The definitions that contracts name.
+pub mod Languages
