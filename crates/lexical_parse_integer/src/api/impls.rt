@@ -8,12 +8,15 @@ use crate::algorithm::marked::lone_mark::fault_of;
 use crate::algorithm::marked::prefixed::{value_if_behind_prefix, value_if_literal};
 use crate::algorithm::marked::value_if_between_separators;
 use crate::algorithm::plain::{
-    front_if_plain, hexadecimal_out_of_line, is_plain, value_if_short, value_out_of_line,
+    front_if_plain, hexadecimal_out_of_line, is_plain, value_if_plain, value_if_short,
+    value_out_of_line,
 };
-use crate::algorithm::{complete_with_marks, partial_beside_marks};
-use crate::api::{FromLexical, FromLexicalWithOptions};
+use crate::algorithm::{complete_with_marks, partial_beside_marks, standard_partial_over_cursor};
+use crate::api::{
+    FromLexical, FromLexicalWithOptions, complete_otherwise as complete_standard_otherwise,
+};
 use crate::options::Options;
-use lexical_util::format::NumberFormat;
+use lexical_util::format::{self, NumberFormat};
 use lexical_util::num::Integer;
 use lexical_util::result::Result;
 
@@ -126,7 +129,23 @@ fn partial_if_valid<T: Integer>(
     }
 }
 
-impl<T: Integer> FromLexical for T {}
+impl<T: Integer> FromLexical for T {
+    #[inline(always)]
+    fn from_lexical(bytes: &[u8]) -> Result<T> {
+        match value_if_plain::<T>(bytes, &format::STANDARD) {
+            Some(value) => Ok(value),
+            None => complete_standard_otherwise::<T>(bytes),
+        }
+    }
+
+    #[inline(always)]
+    fn from_lexical_partial(bytes: &[u8]) -> Result<(T, usize)> {
+        match front_if_plain::<T>(bytes, &format::STANDARD) {
+            Some(found) => Ok(found),
+            None => standard_partial_over_cursor::<T>(bytes),
+        }
+    }
+}
 
 impl<T: Integer> FromLexicalWithOptions for T {
     type Options = Options;
