@@ -6,40 +6,12 @@ ghost use Rattle.lexical_parse_integer.specs.Grammar.{complete, complete_if_vali
 
 mod impls;
 
-use crate::algorithm::plain::otherwise::{place_after_digits, value_behind_plus};
-use crate::algorithm::plain::overflow::fault_of_overflow;
-use crate::algorithm::{algorithm_complete, algorithm_partial, standard_over_cursor};
+use crate::algorithm::{algorithm_complete, algorithm_partial};
 use crate::options;
-use lexical_util::error::Error;
 use lexical_util::format::{self, NumberFormat};
 use lexical_util::num::Integer;
 use lexical_util::options::ParseOptions;
 use lexical_util::result::Result;
-
-// The integer of a text that the reader of digits leaves: behind a plus, at fault, or of many digits.
-#[inline(always)]
-pub(crate) fn complete_otherwise<T: Integer>(bytes: &[u8]) -> Result<T>
-    ensures { view_of T.number result ≡ complete standard T.TYPE bytes.now }
-{
-    match value_behind_plus::<T>(bytes) {
-        Some(value) => Ok(value),
-        None => complete_at_fault::<T>(bytes),
-    }
-}
-
-// The same where no plus stands: the two faults of most texts that have one.
-#[inline(always)]
-fn complete_at_fault<T: Integer>(bytes: &[u8]) -> Result<T>
-    ensures { view_of T.number result ≡ complete standard T.TYPE bytes.now }
-{
-    if let Some(fault) = fault_of_overflow::<T>(bytes) {
-        return Err(fault);
-    }
-    match place_after_digits::<T>(bytes) {
-        Some(place) => Err(Error::InvalidDigit(place)),
-        None => standard_over_cursor::<T>(bytes),
-    }
-}
 
 /// An integer type that is read from decimal bytes.
 pub trait FromLexical: Integer {

@@ -9,6 +9,7 @@ use lexical_util::digit::char_to_digit;
 use lexical_util::format::NumberFormat;
 
 // What stands ahead in a numeral: its next digit, with its place and value, or its end.
+#[derive(Clone, Copy)]
 pub(crate) enum Found {
     Digit(usize, u32),
     End(usize),

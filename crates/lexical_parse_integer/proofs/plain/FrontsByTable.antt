@@ -24,29 +24,6 @@ use Rattle.lexical_parse_integer.proofs.plain.DigitsInFront.{StandsFrom, values_
 use Rattle.lexical_parse_integer.proofs.theorems.CompleteByPartial.{complete_is_completion}
 use Rattle.lexical_parse_integer.proofs.theorems.ReadBack.{HaveDigits, first_digit}
 
--- ---- what the loop leaves
-
--- the digits of a front are all that the front has
-front_alone : (r n : ℕ) (text : List ℕ) (value : ℤ) → n ≤ length text → WritesFront r text n value → WritesFront r (take n text) (length (take n text)) value
-front_alone r n text value within w =
-    let size : length (take n text) ≡ n = length-take-le n text within in
-    record {
-      values = w.values;
-      digits = ap (map (λ byte. digit byte r)) (take-length (take n text)) ∙ w.digits;
-      worth = w.worth;
-      below = subst (λ (k : ℕ). positional_value r w.values < r ^ k) (sym size) w.below;
-    }
-
-pub begins_in_radix : (f : Format) (t : IntegerType) (r : ℕ) (negative : Bool) (digits : List ℕ) (value size : ℤ) (count : ℕ) → 1 ≤ count → count ≤ length digits → (count < length digits → IsNone (digit (get_or digits count 0) r)) →
-    keeps_zero_rule f (take count digits) ≡ true → WritesFront r digits count size → value ≡ (if negative then neg_ℤ size else size) → IsNumber t value → BeginsInRadix f t r negative digits value count
-begins_in_radix f t r negative digits value size count some within stops rule writes worth fits = record {
-  some = some;
-  within = within;
-  stops = stops;
-  rule = rule;
-  stands = record { size = size; writes = front_alone r count digits size within writes; worth = worth; fits = fits };
-}
-
 -- ---- the front of a text
 
 pub sign_of_plus_under : (f : Format) (t : IntegerType) (cs : List ℕ) → f.no_positive_mantissa_sign ≡ false → sign f t (43 ∷ cs) ≡ Ok (false, 1)
@@ -136,34 +113,3 @@ pub signed_words_read : (f : Format) (t : IntegerType) (text : List ℕ) (negati
     BeginsWith f t negative (slice_range text start (length text)) value count → partial f t text ≡ Ok (value, start + count)
 signed_words_read f t text negative plus start value count plain ten some is_minus is_plus at begins =
     signed_front_read f t 10 text negative plus start value count plain ten (record { low = omega arith; high = omega arith }) some is_minus is_plus at (ten_in_radix f t negative (slice_range text start (length text)) value count begins)
-
--- ---- the whole text
-
--- a byte after the front's digits is an invalid digit
-pub byte_after : (f : Format) (t : IntegerType) (text : List ℕ) (value : ℤ) (place : ℕ) → partial f t text ≡ Ok (value, place) → place < length text → complete f t text ≡ Err (InvalidDigit place)
-byte_after f t text value place is more =
-    let test = lt-ltb place (length text) more in
-    complete_is_completion f t text ∙ ap (completion_of (length text)) is ∙ (rw test refl)
-
--- a front without a byte after it is the text
-pub none_after : (f : Format) (t : IntegerType) (text : List ℕ) (value : ℤ) (place : ℕ) → partial f t text ≡ Ok (value, place) → length text ≤ place → complete f t text ≡ Ok value
-none_after f t text value place is all =
-    let test = le-ltb place (length text) all in
-    complete_is_completion f t text ∙ ap (completion_of (length text)) is ∙ (rw test refl)
-
--- digits behind a plus that stand for a number are read as that
-pub plus_read : (t : IntegerType) (text : List ℕ) (value : ℤ) → 1 < length text → get_or text 0 0 ≡ 43 → WritesValue t 0 false (slice_range text 1 (length text)) value → complete standard t text ≡ Ok value
-plus_read t [] value some is_plus w = absurd (omega arith)
-plus_read t (b ∷ rest) value some is_plus w =
-    let same : slice_range (b ∷ rest) 1 (length (b ∷ rest)) ≡ rest = behind_first b rest 1 refl in
-    let more : 0 < length rest = omega arith in
-    let minus : false ≡ (t.is_signed && (b == 45)) = rw (is_plus, and-false t.is_signed) refl in
-    let plus : true ≡ (not standard.no_positive_mantissa_sign && (b == 43)) = rw is_plus refl in
-    let begins : BeginsWith standard t false (slice_range (b ∷ rest) 1 (length (b ∷ rest))) value (length rest) = rw same (record {
-      some = omega arith;
-      within = omega arith;
-      stops = λ l. absurd (omega (arith, l));
-      rule = refl;
-      stands = subst (λ (bytes : List ℕ). WritesValue t 0 false bytes value) (same ∙ sym (take-length rest)) w;
-    }) in
-    none_after standard t (b ∷ rest) value (1 + length rest) (signed_words_read standard t (b ∷ rest) false true 1 value (length rest) (record { no_separator = refl; no_prefix = refl; no_suffix = refl; no_literals = refl; no_octal_zeros = refl; no_sign = refl }) refl (omega arith) minus plus refl begins) (omega arith)
