@@ -4,6 +4,7 @@ pub mod DigitsByTable
 pub mod DigitsInFront
 pub mod FieldsInFront
 pub mod FrontsByTable
+pub mod LeavingNumbers
 pub mod LongNumbers
 pub mod Nibbles
 pub mod ShiftedWords

@@ -22,7 +22,7 @@ pub(crate) mod plain;
 mod words;
 mod zeros;
 
-use crate::algorithm::front::{complete_from_front, completion, partial_from_front};
+use crate::algorithm::front::{complete_from_front, partial_from_front};
 use crate::algorithm::head::{is_prefix_alone, read_head};
 use crate::algorithm::numeral::read_numeral;
 pub use crate::algorithm::plain::fields::{field_in_front, is_separated};
@@ -203,8 +203,16 @@ fn partial_out_of_line<T: Integer>(bytes: &[u8], format: &NumberFormat) -> Resul
 
 // ---- under the standard format, whose fields the compiler then folds into the code
 
+// A fault of a whole text, mostly.
+#[inline(never)]
+pub(crate) fn standard_complete<T: Integer>(bytes: &[u8]) -> Result<T>
+    ensures { view_of T.number result ≡ complete standard T.TYPE bytes.now }
+{
+    complete_from_front::<T>(bytes, &format::STANDARD)
+}
+
 // The front of a text: its digits by words, behind a plus too, and what these leave one after another.
-#[inline(always)]
+#[inline(never)]
 fn standard_front<T: Integer>(bytes: &[u8]) -> Result<(T, usize)>
     ensures { view_of (with_place T.number) result ≡ partial standard T.TYPE bytes.now }
 {
@@ -214,16 +222,10 @@ fn standard_front<T: Integer>(bytes: &[u8]) -> Result<(T, usize)>
     }
 }
 
-#[inline(never)]
+// The place for its answer is made ready here, and so not for a front that a quick way reads.
+#[inline(always)]
 pub(crate) fn standard_partial<T: Integer>(bytes: &[u8]) -> Result<(T, usize)>
     ensures { view_of (with_place T.number) result ≡ partial standard T.TYPE bytes.now }
 {
     standard_front::<T>(bytes)
-}
-
-#[inline(never)]
-pub(crate) fn standard_complete<T: Integer>(bytes: &[u8]) -> Result<T>
-    ensures { view_of T.number result ≡ complete standard T.TYPE bytes.now }
-{
-    completion::<T>(bytes, standard_front::<T>(bytes))
 }

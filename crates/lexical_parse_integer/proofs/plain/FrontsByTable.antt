@@ -113,3 +113,34 @@ pub signed_words_read : (f : Format) (t : IntegerType) (text : List ℕ) (negati
     BeginsWith f t negative (slice_range text start (length text)) value count → partial f t text ≡ Ok (value, start + count)
 signed_words_read f t text negative plus start value count plain ten some is_minus is_plus at begins =
     signed_front_read f t 10 text negative plus start value count plain ten (record { low = omega arith; high = omega arith }) some is_minus is_plus at (ten_in_radix f t negative (slice_range text start (length text)) value count begins)
+
+-- ---- the whole text
+
+-- a byte after the front's digits is an invalid digit
+pub byte_after : (f : Format) (t : IntegerType) (text : List ℕ) (value : ℤ) (place : ℕ) → partial f t text ≡ Ok (value, place) → place < length text → complete f t text ≡ Err (InvalidDigit place)
+byte_after f t text value place is more =
+    let test = lt-ltb place (length text) more in
+    complete_is_completion f t text ∙ ap (completion_of (length text)) is ∙ (rw test refl)
+
+-- a front without a byte after it is the text
+pub none_after : (f : Format) (t : IntegerType) (text : List ℕ) (value : ℤ) (place : ℕ) → partial f t text ≡ Ok (value, place) → length text ≤ place → complete f t text ≡ Ok value
+none_after f t text value place is all =
+    let test = le-ltb place (length text) all in
+    complete_is_completion f t text ∙ ap (completion_of (length text)) is ∙ (rw test refl)
+
+-- digits behind a plus that stand for a number are read as that
+pub plus_read : (t : IntegerType) (text : List ℕ) (value : ℤ) → 1 < length text → get_or text 0 0 ≡ 43 → WritesValue t 0 false (slice_range text 1 (length text)) value → complete standard t text ≡ Ok value
+plus_read t [] value some is_plus w = absurd (omega arith)
+plus_read t (b ∷ rest) value some is_plus w =
+    let same : slice_range (b ∷ rest) 1 (length (b ∷ rest)) ≡ rest = behind_first b rest 1 refl in
+    let more : 0 < length rest = omega arith in
+    let minus : false ≡ (t.is_signed && (b == 45)) = rw (is_plus, and-false t.is_signed) refl in
+    let plus : true ≡ (not standard.no_positive_mantissa_sign && (b == 43)) = rw is_plus refl in
+    let begins : BeginsWith standard t false (slice_range (b ∷ rest) 1 (length (b ∷ rest))) value (length rest) = rw same (record {
+      some = omega arith;
+      within = omega arith;
+      stops = λ l. absurd (omega (arith, l));
+      rule = refl;
+      stands = subst (λ (bytes : List ℕ). WritesValue t 0 false bytes value) (same ∙ sym (take-length rest)) w;
+    }) in
+    none_after standard t (b ∷ rest) value (1 + length rest) (signed_words_read standard t (b ∷ rest) false true 1 value (length rest) (record { no_separator = refl; no_prefix = refl; no_suffix = refl; no_literals = refl; no_octal_zeros = refl; no_sign = refl }) refl (omega arith) minus plus refl begins) (omega arith)

@@ -6,7 +6,7 @@ use Rattle.std.proofs.lemmas.Bool.{lt-ltb, false≢true}
 use Rattle.lexical_util.specs.declared.error.Error.{Error}
 use Rattle.lexical_util.specs.declared.error.Error.TheVariants.{Empty, InvalidLeadingZeros}
 use Rattle.lexical_util.specs.Format.{Format}
-use Rattle.lexical_util.specs.Number.{IntegerType, is_number, mul_add}
+use Rattle.lexical_util.specs.Number.{HasRoom, IntegerType, is_number, mul_add}
 use Rattle.lexical_util.specs.Validity.{fault}
 use Rattle.lexical_parse_integer.specs.Affixes.{bare_radix, octal_zero_at, numeral_stop, prefix_radix, suffix_at}
 use Rattle.lexical_parse_integer.specs.CursorView.{CursorView, IsSound, ReachesEnd, TakesDigit}
@@ -27,6 +27,7 @@ use Rattle.lexical_parse_integer.proofs.reading.NumeralSteps.{all_found, digit_f
 use Rattle.lexical_parse_integer.proofs.reading.OctalZeros.{bare_own, octal_asked}
 use Rattle.lexical_parse_integer.proofs.reading.ParserAnswers.{fault_goes_part}
 use Rattle.lexical_parse_integer.proofs.reading.Soundness.{IsSound-digit, prefix_own, prefix_within, reaches_found, separator_no_digit, suffix_no_digit, suffix_no_separator, takes_found}
+use Rattle.lexical_parse_integer.proofs.reading.UntestedDigits.{joins_digit}
 use Rattle.lexical_parse_integer.proofs.theorems.CompleteByPartial.{head_within, sign_within}
 
 -- ---- behind the head
@@ -105,6 +106,11 @@ module _ (f : Format) (text : List ℕ) (r start : ℕ) where
   pub next_reads : (t : IntegerType) (b : Bool) (k n place d : ℕ) (value next : ℤ) → IsSound (at k n) → Finds f r text start k (Digit place d) → Reads t b x n value → next ≡ mul_add b value (pos r) (pos d) → is_number t next ≡ true → Reads t b x (n + 1) next
   next_reads t b k n place d value next s found reads step fits =
       reads_next t b (at k n) (at k n) (at (place + 1) (n + 1)) d r value next (on k n k n s) (takes k n place d found) reads refl step fits
+
+  -- where the type has room for one digit more, their value is a number of the type
+  pub next_fits : (t : IntegerType) (b : Bool) (room k n place d : ℕ) (value : ℤ) → IsSound (at start 0) → IsSound (at k n) → Finds f r text start k (Digit place d) → HasRoom t r room → (b ≡ true → t.is_signed ≡ true) → n < room → Reads t b x n value → is_number t (mul_add b value (pos r) (pos d)) ≡ true
+  next_fits t b room k n place d value first s found has signed less reads =
+      (joins_digit t.bits t.is_signed b (at start 0) (at k n) (at (place + 1) (n + 1)) room d value (pos r) (pos d) first (on start 0 k n s) (takes k n place d found) has signed less reads refl refl).fits
 
   pub next_leaves : (t : IntegerType) (b : Bool) (k n place d : ℕ) (value : ℤ) (e : Error) → IsSound (at k n) → Finds f r text start k (Digit place d) → Reads t b x n value → e ≡ range_error b place → is_number t (mul_add b value (pos r) (pos d)) ≡ false → range_fault t b x ≡ Some e
   next_leaves t b k n place d value e s found reads is leaves =

@@ -1,13 +1,15 @@
 // A text read from its front: what stands before the digits, the digits one after another, and what stands behind
 // them. Every text has its answer here under every valid format, so whatever a quick way isn't sure of is read here.
-ghost use Rattle.std.specs.Prelude.{◌≡◌, ◌&&◌, ◌||◌, ◌==◌, Err, IfErr, IfOk, IfSome, IsNone, Ok, Some, None, is_some, length, nat_lt, true, if◌then◌else◌, ◌+◌};
+ghost use Rattle.std.specs.Prelude.{◌<◌, false, pos, ◌≡◌, ◌&&◌, ◌||◌, ◌==◌, Err, IfErr, IfOk, IfSome, IsNone, Ok, Some, None, is_some, length, nat_lt, true, if◌then◌else◌, ◌+◌};
 ghost use Rattle.std.specs.Option.{option_or};
+ghost use Rattle.lexical_util.specs.Digit.{IsRadix};
+ghost use Rattle.lexical_util.specs.Number.{HasSign, is_number, mul_add};
 ghost use Rattle.lexical_util.specs.Validity.{fault};
 ghost use Rattle.lexical_util.specs.declared.error.Error.TheVariants.{InvalidLeadingZeros};
 ghost use Rattle.lexical_parse_integer.specs.Affixes.{suffix_at};
 ghost use Rattle.lexical_parse_integer.specs.Answer.{view_of, with_place};
 ghost use Rattle.lexical_parse_integer.specs.CursorView.{IsSound};
-ghost use Rattle.lexical_parse_integer.specs.Grammar.{complete, digits_required, partial, range_fault, zero_fault};
+ghost use Rattle.lexical_parse_integer.specs.Grammar.{complete, digits_required, partial, range_error, range_fault, zero_fault};
 ghost use Rattle.lexical_parse_integer.specs.Head.{head_of, sign};
 ghost use Rattle.lexical_parse_integer.specs.Laws.{completion_of};
 ghost use Rattle.lexical_parse_integer.specs.Numeral.{numeral_in};
@@ -126,6 +128,35 @@ fn zero_before_digit(bytes: &[u8], format: &NumberFormat, head: Head) -> Option<
     }
 }
 
+// The value with one digit more, or the fault of the digit's place where it leaves the type: no test is made where there
+// are so few digits that it can't.
+#[inline(always)]
+fn join<T: Integer>(
+    value: T,
+    digit: u32,
+    radix: u32,
+    place: usize,
+    negative: bool,
+    is_few: bool,
+) -> Result<T>
+    requires radix { IsRadix radix }
+    requires digit { digit < radix }
+    requires sign { HasSign negative (T.number value) }
+    requires few { is_few ≡ true
+        → is_number T.TYPE (mul_add negative (T.number value) (pos radix) (pos digit)) ≡ true }
+    ensures fits { IfOk result
+        (λ next. (T.number next ≡ mul_add negative (T.number value) (pos radix) (pos digit))
+        × (is_number T.TYPE (T.number next) ≡ true)) }
+    ensures leaves { IfErr result
+        (λ e. (e ≡ range_error negative place)
+        × (is_number T.TYPE (mul_add negative (T.number value) (pos radix) (pos digit)) ≡ false)) }
+{
+    if is_few {
+        return Ok(value.mul_add(T::from_u32(radix), T::from_u32(digit), negative));
+    }
+    join_checked::<T>(value, digit, radix, place, negative)
+}
+
 // All digits of a numeral, or the fault of the first with which their value leaves the type.
 #[inline(always)]
 fn read_digits<T: Integer>(bytes: &[u8], format: &NumberFormat, head: Head) -> Result<Digits<T>>
@@ -138,13 +169,14 @@ fn read_digits<T: Integer>(bytes: &[u8], format: &NumberFormat, head: Head) -> R
     ensures leaves { IfErr result (λ error. range_fault T.TYPE head.is_minus
         (numeral_in format.now bytes.now head.start head.radix) ≡ Some error) }
 {
+    let most = T::overflow_digits(head.radix);
     let mut value = T::ZERO;
     let mut count = 0;
     let mut place = head.start;
     loop {
         match seek(bytes, format, head.radix, head.start, place) {
             Found::Digit(at, digit) => {
-                value = join_checked::<T>(value, digit, head.radix, at, head.is_minus)?;
+                value = join::<T>(value, digit, head.radix, at, head.is_minus, count < most)?;
                 count += 1;
                 place = at + 1;
             }
@@ -220,7 +252,7 @@ pub(crate) fn partial_from_front<T: Integer>(
 
 // The answer for a whole text by that for its front: what the front stands for, if reading stops at the text's end.
 #[inline(always)]
-pub(super) fn completion<T: Integer>(bytes: &[u8], front: Result<(T, usize)>) -> Result<T>
+fn completion<T: Integer>(bytes: &[u8], front: Result<(T, usize)>) -> Result<T>
     ensures { view_of T.number result
         ≡ completion_of (length bytes.now) (view_of (with_place T.number) front) }
 {

@@ -1,20 +1,21 @@
 use Rattle.std.proofs.Common.{◌<◌, ◌≤◌, ◌∙◌, ap, arith, length, refl, sym}
+use Rattle.std.proofs.lemmas.Bool.{ltb-true}
 use Rattle.std.proofs.lemmas.Result.{err_from_is_err_and}
 use Rattle.lexical_parse_integer.proofs.grammar.NumeralEnd.{digit_at_within}
 use Rattle.lexical_parse_integer.proofs.reading.DigitsRead.{reads_none, reads_sign}
-use Rattle.lexical_parse_integer.proofs.reading.FrontAnswers.{all_read, next_leaves, next_reads, next_sound}
+use Rattle.lexical_parse_integer.proofs.reading.FrontAnswers.{all_read, next_fits, next_leaves, next_reads, next_sound}
 use Rattle.lexical_parse_integer.proofs.reading.NumeralSteps.{digit_at_below}
 use Rattle.lexical_parse_integer.proofs.reading.Soundness.{digits_bound}
 use Rattle.lexical_parse_integer.proofs.algorithm.front.read_digits.Goals as goal
 
-pub join_checked-requires-clause-radix : goal.join_checked-requires-clause-radix
-join_checked-requires-clause-radix g c = c.requires.sound.radix
+pub join-requires-clause-radix : goal.join-requires-clause-radix
+join-requires-clause-radix g c = c.requires.sound.radix
 
-pub join_checked-requires-clause-digit : goal.join_checked-requires-clause-digit
-join_checked-requires-clause-digit g c = digit_at_below _ _ _ _ c.in-Digit.ensures.3
+pub join-requires-clause-digit : goal.join-requires-clause-digit
+join-requires-clause-digit g c = digit_at_below _ _ _ _ c.in-Digit.ensures.3
 
-pub join_checked-requires-clause-sign : goal.join_checked-requires-clause-sign
-join_checked-requires-clause-sign g c = reads_sign _ _ _ _ _ c.loop-at.invariant.reads
+pub join-requires-clause-sign : goal.join-requires-clause-sign
+join-requires-clause-sign g c = reads_sign _ _ _ _ _ c.loop-at.invariant.reads
 
 pub loop-at-preserved : goal.loop-at-preserved
 loop-at-preserved g c =
@@ -46,3 +47,6 @@ pub overflow_add-place : goal.overflow_add-place
 overflow_add-place g c =
     let inside : c.in-Digit.at < length c.args.bytes.now = digit_at_within _ _ _ _ c.in-Digit.ensures.3 in
     omega arith
+
+pub join-requires-clause-few : goal.join-requires-clause-few
+join-requires-clause-few g c = λ less. next_fits _ c.args.bytes.now _ _ _ _ _ _ _ c.in-Digit.at _ _ c.requires.sound c.loop-at.invariant.sound c.in-Digit.ensures c.overflow_digits-most.ensures.room c.requires.minus (ltb-true _ _ less) c.loop-at.invariant.reads

@@ -1,0 +1,78 @@
+// Numbers that leave the type: the place of the digit with which a decimal number does, found by words.
+ghost use Rattle.std.specs.Prelude.{◌≡◌, ◌&&◌, ◌==◌, ◌≤◌, Err, IfSome, IsTrue, get_or};
+ghost use Rattle.lexical_util.specs.Ascii.{minus};
+ghost use Rattle.lexical_util.specs.Format.{standard};
+ghost use Rattle.lexical_parse_integer.specs.Grammar.{complete, range_error};
+ghost use Rattle.lexical_parse_integer.specs.Plain.{LeavesAfter};
+
+use crate::algorithm::digits::join_checked;
+use crate::algorithm::plain::fronts::value_of_digits;
+use crate::algorithm::plain::{has_minus, has_plus};
+use lexical_util::digit::char_to_digit;
+use lexical_util::error::Error;
+use lexical_util::format;
+use lexical_util::num::Integer;
+
+// How many decimal digits fit in the type, whatever they are: 77/256 is a little less than the logarithm of 2.
+#[inline(always)]
+fn digits_that_fit<T: Integer>() -> usize
+    ensures { 1 ≤ result }
+{
+    ((T::BITS - u32::from(T::IS_SIGNED)) * 77 / 256) as usize
+}
+
+// How many digits stand before the one with which the number leaves the type.
+#[inline(always)]
+fn digits_before_overflow<T: Integer>(digits: &[u8], negative: bool) -> Option<usize>
+    requires minus { IsTrue negative → IsTrue T.TYPE.is_signed }
+    ensures { IfSome result (λ count. LeavesAfter T.TYPE negative digits.now count) }
+{
+    let mut count = digits_that_fit::<T>();
+    if digits.len() <= count {
+        return None;
+    }
+    let mut value = value_of_digits::<T>(&digits[..count], negative)?;
+    while count < digits.len() {
+        let digit = char_to_digit(digits[count], 10)?;
+        match join_checked::<T>(value, digit, 10, count, negative) {
+            Ok(next) => value = next,
+            Err(_) => return Some(count),
+        }
+        count += 1;
+    }
+    None
+}
+
+// The place of the digit with which the text's number leaves the type, where that is sure. It stays out of line, and
+// answers in registers.
+#[inline(never)]
+pub(crate) fn place_of_overflow<T: Integer>(bytes: &[u8]) -> Option<usize>
+    ensures { IfSome result (λ place. complete standard T.TYPE bytes.now
+        ≡ Err (range_error (T.TYPE.is_signed && (get_or bytes.now 0 0 == minus)) place)) }
+{
+    if bytes.is_empty() {
+        return None;
+    }
+    let negative = has_minus::<T>(bytes);
+    let plus = has_plus(bytes, &format::STANDARD);
+    let start = usize::from(negative | plus);
+    match digits_before_overflow::<T>(&bytes[start..], negative) {
+        Some(count) => Some(start + count),
+        None => None,
+    }
+}
+
+// The fault of a text whose number leaves the type, where that is sure. No call is made for a text that is too short.
+#[inline(always)]
+pub(crate) fn fault_of_overflow<T: Integer>(bytes: &[u8]) -> Option<Error>
+    ensures { IfSome result (λ error. complete standard T.TYPE bytes.now ≡ Err error) }
+{
+    if bytes.len() <= digits_that_fit::<T>() {
+        return None;
+    }
+    match place_of_overflow::<T>(bytes) {
+        Some(place) if has_minus::<T>(bytes) => Some(Error::Underflow(place)),
+        Some(place) => Some(Error::Overflow(place)),
+        None => None,
+    }
+}
