@@ -18,7 +18,8 @@ use crate::affixes::prefix_radix;
 use crate::algorithm::front::sign_of;
 use crate::algorithm::marked::lone_mark::is_valid_with_separator;
 use crate::algorithm::marked::prefixed::is_bare;
-use crate::algorithm::marked::threes::{value_of_few, value_of_threes};
+use crate::algorithm::marked::threes::value_of_threes;
+use crate::algorithm::plain::fronts::value_of_digits;
 use crate::algorithm::plain::keeps_zero_rule;
 use crate::algorithm::plain::nibbles::value_of_nibbles;
 use lexical_util::format::NumberFormat;
@@ -35,7 +36,7 @@ fn value_of_hexadecimal<T: Integer>(digits: &[u8], negative: bool) -> Option<T>
     value_of_nibbles::<T>(digits, negative)
 }
 
-// The value of few digits of radix 10 or 16 alone.
+// The value of digits of radix 10 or 16 alone.
 #[inline(always)]
 fn value_of_short_row<T: Integer>(digits: &[u8], radix: u32, negative: bool) -> Option<T>
     requires some { 1 ≤ length digits.now }
@@ -45,7 +46,7 @@ fn value_of_short_row<T: Integer>(digits: &[u8], radix: u32, negative: bool) -> 
         (λ value. AreWorth T.TYPE radix negative digits.now (T.number value)) }
 {
     if radix == 10 {
-        return value_of_few::<T>(digits, negative);
+        return value_of_digits::<T>(digits, negative);
     }
     if radix == 16 {
         return value_of_hexadecimal::<T>(digits, negative);
