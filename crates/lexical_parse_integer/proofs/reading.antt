@@ -4,6 +4,7 @@ pub mod DigitLoop
 pub mod DigitsRead
 pub mod FirstDigit
 pub mod FormatBytes
+pub mod FrontAnswers
 pub mod NumeralSteps
 pub mod OctalZeros
 pub mod ParserAnswers

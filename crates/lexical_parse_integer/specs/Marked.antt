@@ -40,17 +40,6 @@ pub record AreWorth (type : IntegerType) (radix : ℕ) (negative : Bool) (bytes 
   pub worth : value ≡ with_sign negative (positional_value radix (digits_among radix bytes))
   pub fits : IsNumber type value
 
--- So many bytes at the front of a text are grouped, their digits stand for a number of a type, and neither a digit nor a
--- separator stands behind them.
-pub record BeginsGrouped (format : Format) (type : IntegerType) (radix : ℕ) (negative : Bool)
-    (text : List ℕ) (value : ℤ) (count : ℕ) : Type 0 where
-  pub within : count ≤ length text
-  pub no_digit : count < length text → is_digit_in radix text count ≡ false
-  pub no_separator : count < length text
-      → are_same format.digit_separator (Some (get_or text count 0)) ≡ false
-  pub grouped : AreGrouped format radix (take count text)
-  pub worth : AreWorth type radix negative (take count text) value
-
 -- where reading stops, where a numeral with a digit ends at a place: after the suffix there, or at the end
 abbrev pub stop_after : Format → List ℕ → ℕ → ℕ
 stop_after format text end = if suffix_at format text end then end + 1 else end

@@ -9,6 +9,19 @@ use Rattle.lexical_parse_integer.specs.Head.{Head, head_of}
 use Rattle.lexical_parse_integer.specs.Numeral.{Numeral, numeral_in, digit_count, front_value, numeral_value}
 use Rattle.lexical_parse_integer.specs.Turns.{AsksWords, turns_bound, digits_per_word}
 
+-- a cursor in a numeral that is read up to a position, one digit after another
+abbrev pub view_at : Format → List ℕ → ℕ → ℕ → ℕ → ℕ → CursorView
+view_at format text radix start position digits = record {
+  bytes = text;
+  format = format;
+  radix = radix;
+  start = start;
+  position = position;
+  digits = digits;
+  closed = false;
+  turns = digits;
+}
+
 -- the values of the first fronts, so many, are numbers of the type
 abbrev pub FrontsFit : IntegerType → Bool → Numeral → ℕ → Type 0
 FrontsFit type is_minus numeral count =

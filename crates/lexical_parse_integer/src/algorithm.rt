@@ -12,6 +12,7 @@ ghost use Rattle.lexical_parse_integer.specs.Reading.{IsOver, IsRead, StandsAtSt
 ghost use Rattle.lexical_parse_integer.specs.Turns.{AsksWords, HasFewTurns};
 
 mod digits;
+pub(crate) mod front;
 mod head;
 mod lanes;
 pub(crate) mod marked;
@@ -21,15 +22,14 @@ pub(crate) mod plain;
 mod words;
 mod zeros;
 
+use crate::algorithm::front::{complete_from_front, partial_from_front};
 use crate::algorithm::head::{is_prefix_alone, read_head};
-use crate::algorithm::marked::grouped::front_in_groups;
-use crate::algorithm::marked::{front_if_marked, value_if_marked};
 use crate::algorithm::numeral::read_numeral;
 pub use crate::algorithm::plain::fields::{field_in_front, is_separated};
 pub use crate::algorithm::plain::value_if_short;
-use crate::algorithm::plain::{answer_in_radix, front_if_plain, signed_front, value_if_plain};
+use crate::algorithm::plain::{front_if_plain, signed_front, value_if_plain};
 use crate::cursor::Cursor;
-use crate::options::{self, Options};
+use crate::options::Options;
 pub use head::parse_sign;
 use lexical_util::error::Error;
 use lexical_util::format::{self, NumberFormat};
@@ -151,82 +151,24 @@ pub fn algorithm_partial_on<T: Integer>(c: &mut Cursor<'_>, options: &Options) -
 pub fn algorithm_complete<T: Integer>(
     bytes: &[u8],
     format: &NumberFormat,
-    options: &Options,
+    _options: &Options,
 ) -> Result<T>
     requires valid { IsNone (fault format.now) }
     ensures { view_of T.number result ≡ complete format.now T.TYPE bytes.now }
 {
     match value_if_plain::<T>(bytes, format) {
         Some(value) => Ok(value),
-        None => complete_out_of_line::<T>(bytes, format, options),
+        None => complete_out_of_line::<T>(bytes, format),
     }
 }
 
-// A numeral under a format with marks is read at once where that is sure. It stays out of line, so that the way of most
-// texts is small enough to be held in place.
+// What the quick way leaves stays out of line, so that the way of most texts is small enough to be held in place.
 #[inline(never)]
-fn complete_out_of_line<T: Integer>(
-    bytes: &[u8],
-    format: &NumberFormat,
-    options: &Options,
-) -> Result<T>
+fn complete_out_of_line<T: Integer>(bytes: &[u8], format: &NumberFormat) -> Result<T>
     requires valid { IsNone (fault format.now) }
     ensures { view_of T.number result ≡ complete format.now T.TYPE bytes.now }
 {
-    complete_with_marks::<T>(bytes, format, options)
-}
-
-// The same in place.
-#[inline(always)]
-pub(crate) fn complete_with_marks<T: Integer>(
-    bytes: &[u8],
-    format: &NumberFormat,
-    options: &Options,
-) -> Result<T>
-    requires valid { IsNone (fault format.now) }
-    ensures { view_of T.number result ≡ complete format.now T.TYPE bytes.now }
-{
-    match value_if_marked::<T>(bytes, format) {
-        Some(value) => Ok(value),
-        None => complete_over_cursor::<T>(bytes, format, options),
-    }
-}
-
-// The answer over a cursor that is let go of.
-#[inline(always)]
-fn complete_by_cursor<T: Integer>(
-    bytes: &[u8],
-    format: &NumberFormat,
-    options: &Options,
-) -> Result<T>
-    requires { IsNone (fault format.now) }
-    ensures { view_of T.number result ≡ complete format.now T.TYPE bytes.now }
-{
-    algorithm_complete_on::<T>(&mut Cursor::new(bytes, format), options)
-}
-
-// The way of all texts, out of line too.
-#[inline(never)]
-fn complete_over_cursor<T: Integer>(
-    bytes: &[u8],
-    format: &NumberFormat,
-    options: &Options,
-) -> Result<T>
-    requires valid { IsNone (fault format.now) }
-    ensures { view_of T.number result ≡ complete format.now T.TYPE bytes.now }
-{
-    complete_by_cursor::<T>(bytes, format, options)
-}
-
-// The same under the standard format, whose fields the compiler then folds into the code.
-#[inline(never)]
-pub(crate) fn standard_over_cursor<T: Integer>(bytes: &[u8]) -> Result<T>
-    ensures { view_of T.number result ≡ complete standard T.TYPE bytes.now }
-{
-    match answer_in_radix::<T>(bytes, &format::STANDARD, 10) {
-        Some(answer) => answer,
-        None => complete_by_cursor::<T>(bytes, &format::STANDARD, &options::STANDARD),
-    }
+    complete_from_front::<T>(bytes, format)
 }
 
 /// The integer that the front of the text stands for under a valid format, and the place at which reading stops.
@@ -240,101 +182,50 @@ pub(crate) fn standard_over_cursor<T: Integer>(bytes: &[u8]) -> Result<T>
 pub fn algorithm_partial<T: Integer>(
     bytes: &[u8],
     format: &NumberFormat,
-    options: &Options,
+    _options: &Options,
 ) -> Result<(T, usize)>
     requires valid { IsNone (fault format.now) }
     ensures { view_of (with_place T.number) result ≡ partial format.now T.TYPE bytes.now }
 {
     match front_if_plain::<T>(bytes, format) {
         Some(found) => Ok(found),
-        None => partial_beside_marks::<T>(bytes, format, options),
+        None => partial_out_of_line::<T>(bytes, format),
     }
 }
 
-// Under a format with marks digits with separators between them are read first, by a call that answers in registers.
-#[inline(always)]
-pub(crate) fn partial_beside_marks<T: Integer>(
-    bytes: &[u8],
-    format: &NumberFormat,
-    options: &Options,
-) -> Result<(T, usize)>
-    requires valid { IsNone (fault format.now) }
-    ensures { view_of (with_place T.number) result ≡ partial format.now T.TYPE bytes.now }
-{
-    let found = front_in_groups::<T>(bytes, format);
-    if found.1 > 0 {
-        return Ok(found);
-    }
-    partial_out_of_line::<T>(bytes, format, options)
-}
-
-// The same three for the partial parser.
 #[inline(never)]
-fn partial_out_of_line<T: Integer>(
-    bytes: &[u8],
-    format: &NumberFormat,
-    options: &Options,
-) -> Result<(T, usize)>
+fn partial_out_of_line<T: Integer>(bytes: &[u8], format: &NumberFormat) -> Result<(T, usize)>
     requires valid { IsNone (fault format.now) }
     ensures { view_of (with_place T.number) result ≡ partial format.now T.TYPE bytes.now }
 {
-    partial_with_marks::<T>(bytes, format, options)
+    partial_from_front::<T>(bytes, format)
 }
 
-#[inline(always)]
-pub(crate) fn partial_with_marks<T: Integer>(
-    bytes: &[u8],
-    format: &NumberFormat,
-    options: &Options,
-) -> Result<(T, usize)>
-    requires valid { IsNone (fault format.now) }
-    ensures { view_of (with_place T.number) result ≡ partial format.now T.TYPE bytes.now }
-{
-    match front_if_marked::<T>(bytes, format) {
-        Some(found) => Ok(found),
-        None => partial_over_cursor::<T>(bytes, format, options),
-    }
-}
+// ---- under the standard format, whose fields the compiler then folds into the code
 
-// The same of the front of the text.
-#[inline(always)]
-fn partial_by_cursor<T: Integer>(
-    bytes: &[u8],
-    format: &NumberFormat,
-    options: &Options,
-) -> Result<(T, usize)>
-    requires { IsNone (fault format.now) }
-    ensures { view_of (with_place T.number) result ≡ partial format.now T.TYPE bytes.now }
-{
-    algorithm_partial_on::<T>(&mut Cursor::new(bytes, format), options)
-}
-
+// A fault of a whole text, mostly.
 #[inline(never)]
-fn partial_over_cursor<T: Integer>(
-    bytes: &[u8],
-    format: &NumberFormat,
-    options: &Options,
-) -> Result<(T, usize)>
-    requires valid { IsNone (fault format.now) }
-    ensures { view_of (with_place T.number) result ≡ partial format.now T.TYPE bytes.now }
+pub(crate) fn standard_complete<T: Integer>(bytes: &[u8]) -> Result<T>
+    ensures { view_of T.number result ≡ complete standard T.TYPE bytes.now }
 {
-    partial_by_cursor::<T>(bytes, format, options)
+    complete_from_front::<T>(bytes, &format::STANDARD)
 }
 
-// The same under the standard format, behind a plus too.
+// The front of a text: its digits by words, behind a plus too, and what these leave one after another.
 #[inline(never)]
-pub(crate) fn standard_partial_over_cursor<T: Integer>(bytes: &[u8]) -> Result<(T, usize)>
+fn standard_front<T: Integer>(bytes: &[u8]) -> Result<(T, usize)>
     ensures { view_of (with_place T.number) result ≡ partial standard T.TYPE bytes.now }
 {
     match signed_front::<T>(bytes) {
         Some(found) => Ok(found),
-        None => standard_partial_from_cursor::<T>(bytes),
+        None => partial_from_front::<T>(bytes, &format::STANDARD),
     }
 }
 
-#[inline(never)]
-fn standard_partial_from_cursor<T: Integer>(bytes: &[u8]) -> Result<(T, usize)>
+// The place for its answer is made ready here, and so not for a front that a quick way reads.
+#[inline(always)]
+pub(crate) fn standard_partial<T: Integer>(bytes: &[u8]) -> Result<(T, usize)>
     ensures { view_of (with_place T.number) result ≡ partial standard T.TYPE bytes.now }
 {
-    partial_by_cursor::<T>(bytes, &format::STANDARD, &options::STANDARD)
+    standard_front::<T>(bytes)
 }

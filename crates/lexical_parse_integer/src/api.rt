@@ -6,40 +6,12 @@ ghost use Rattle.lexical_parse_integer.specs.Grammar.{complete, complete_if_vali
 
 mod impls;
 
-use crate::algorithm::plain::otherwise::{place_after_digits, value_behind_plus};
-use crate::algorithm::plain::overflow::fault_of_overflow;
-use crate::algorithm::plain::{front_if_plain, value_if_plain};
-use crate::algorithm::{standard_over_cursor, standard_partial_over_cursor};
-use lexical_util::error::Error;
+use crate::algorithm::{algorithm_complete, algorithm_partial};
+use crate::options;
 use lexical_util::format::{self, NumberFormat};
 use lexical_util::num::Integer;
 use lexical_util::options::ParseOptions;
 use lexical_util::result::Result;
-
-// The integer of a text that the reader of digits leaves: behind a plus, at fault, or of many digits.
-#[inline(always)]
-fn complete_otherwise<T: Integer>(bytes: &[u8]) -> Result<T>
-    ensures { view_of T.number result ≡ complete standard T.TYPE bytes.now }
-{
-    match value_behind_plus::<T>(bytes) {
-        Some(value) => Ok(value),
-        None => complete_at_fault::<T>(bytes),
-    }
-}
-
-// The same where no plus stands: the two faults of most texts that have one.
-#[inline(always)]
-fn complete_at_fault<T: Integer>(bytes: &[u8]) -> Result<T>
-    ensures { view_of T.number result ≡ complete standard T.TYPE bytes.now }
-{
-    if let Some(fault) = fault_of_overflow::<T>(bytes) {
-        return Err(fault);
-    }
-    match place_after_digits::<T>(bytes) {
-        Some(place) => Err(Error::InvalidDigit(place)),
-        None => standard_over_cursor::<T>(bytes),
-    }
-}
 
 /// An integer type that is read from decimal bytes.
 pub trait FromLexical: Integer {
@@ -48,14 +20,10 @@ pub trait FromLexical: Integer {
     /// A fault tells its place, which counts bytes from 0: `Overflow` or `Underflow` at the digit with which the value
     /// leaves the type, `InvalidDigit` at the first byte that doesn't belong to the number, `Empty` where a digit is
     /// missing. As an `i8`, `-128` is `Ok(-128)`, `-129` is `Err(Underflow(3))`, and `1a` is `Err(InvalidDigit(1))`.
-    #[inline(always)]
     fn from_lexical(bytes: &[u8]) -> Result<Self>
         ensures { view_of Self.number result ≡ complete standard Self.TYPE bytes.now }
     {
-        match value_if_plain::<Self>(bytes, &format::STANDARD) {
-            Some(value) => Ok(value),
-            None => complete_otherwise::<Self>(bytes),
-        }
+        algorithm_complete::<Self>(bytes, &format::STANDARD, &options::STANDARD)
     }
 
     /// The integer that the front of the text stands for, and the place at which reading stopped.
@@ -63,14 +31,10 @@ pub trait FromLexical: Integer {
     /// The place counts bytes from 0: of `1234 }` the answer is `Ok((1234, 4))`. A front without digits is no fault
     /// unless the text ends there: `x` is `Ok((0, 0))`, and `+a` is `Ok((0, 1))`. If a number has to be there, ask
     /// `stops_after_digit` of the place.
-    #[inline(always)]
     fn from_lexical_partial(bytes: &[u8]) -> Result<(Self, usize)>
         ensures { view_of (with_place Self.number) result ≡ partial standard Self.TYPE bytes.now }
     {
-        match front_if_plain::<Self>(bytes, &format::STANDARD) {
-            Some(found) => Ok(found),
-            None => standard_partial_over_cursor::<Self>(bytes),
-        }
+        algorithm_partial::<Self>(bytes, &format::STANDARD, &options::STANDARD)
     }
 }
 

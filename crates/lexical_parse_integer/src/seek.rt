@@ -9,6 +9,7 @@ use lexical_util::digit::char_to_digit;
 use lexical_util::format::NumberFormat;
 
 // What stands ahead in a numeral: its next digit, with its place and value, or its end.
+#[derive(Clone, Copy)]
 pub(crate) enum Found {
     Digit(usize, u32),
     End(usize),
@@ -130,6 +131,31 @@ fn seek_behind_run(
     }
 }
 
+// What stands ahead where no digit stands at `position`. The place for the answer of a call is made ready here, and so not
+// for a digit.
+#[inline(always)]
+fn seek_behind_separator(
+    bytes: &[u8],
+    format: &NumberFormat,
+    radix: u32,
+    start: usize,
+    position: usize,
+) -> Found
+    requires radix { IsRadix radix }
+    requires separator { IsSeparatorNoDigit format.now radix bytes.now }
+    requires within { position ≤ length bytes.now }
+    requires after_start { start ≤ position }
+    requires before_end { position ≤ end_of format.now radix bytes.now start }
+    requires at_run_start { IsAtRunStart format.now bytes.now start position }
+    requires no_digit { digit_at radix bytes.now position ≡ None }
+    ensures { Finds format.now radix bytes.now start position result }
+{
+    if format.digit_separator().is_none() {
+        return Found::End(position);
+    }
+    seek_behind_run(bytes, *format, radix, start, position)
+}
+
 // The next digit of the numeral at or after `position`, or the numeral's end.
 #[inline(always)]
 pub(crate) fn seek(
@@ -150,8 +176,5 @@ pub(crate) fn seek(
     if let Some(value) = digit_at(bytes, radix, position) {
         return Found::Digit(position, value);
     }
-    if format.digit_separator().is_none() {
-        return Found::End(position);
-    }
-    seek_behind_run(bytes, *format, radix, start, position)
+    seek_behind_separator(bytes, format, radix, start, position)
 }

@@ -16,7 +16,7 @@ use Rattle.lexical_util.specs.Validity.{fault}
 use Rattle.lexical_parse_integer.specs.Affixes.{is_affix, numeral_stop, octal_zero_at, prefix_radix, suffix_at}
 use Rattle.lexical_parse_integer.specs.Grammar.{common_faults, complete, complete_faults, fault_if, first_fault_or, partial, prefix_fault, range_fault, zero_fault}
 use Rattle.lexical_parse_integer.specs.Head.{Head, head_after, head_behind, head_of, sign}
-use Rattle.lexical_parse_integer.specs.Marked.{AreDigitsOnly, AreGrouped, AreWorth, BeginsGrouped, digits_among, is_digit_in, stop_after}
+use Rattle.lexical_parse_integer.specs.Marked.{AreDigitsOnly, AreGrouped, AreWorth, digits_among, is_digit_in, stop_after}
 use Rattle.lexical_parse_integer.specs.Numeral.{Numeral, digit_count, numeral_in, numeral_value}
 use Rattle.lexical_parse_integer.specs.Plain.{keeps_zero_rule}
 use Rattle.lexical_parse_integer.specs.Runs.{are_same, digit_at, digits_between, end_of, is_in_numeral, places, separator_at}
@@ -27,6 +27,7 @@ use Rattle.lexical_parse_integer.proofs.grammar.RangeOfFronts.{shorter_fronts_fi
 use Rattle.lexical_parse_integer.proofs.marked.DigitsAmong.{digit_there, separator_there, values_between}
 use Rattle.lexical_parse_integer.proofs.marked.GroupedNumerals.{grouped_end, none_from}
 use Rattle.lexical_parse_integer.proofs.reading.FormatBytes.{IsFit, fits, fits_octal, fits_prefix}
+use Rattle.lexical_parse_integer.proofs.reading.NumeralSteps.{places_count}
 use Rattle.lexical_parse_integer.proofs.reading.ParserAnswers.{sign_minus}
 use Rattle.lexical_parse_integer.proofs.reading.Soundness.{separator_no_digit, suffix_no_digit, suffix_no_separator}
 use Rattle.lexical_parse_integer.proofs.theorems.SettledAnswers.{partial_by}
@@ -127,10 +128,6 @@ numeral_stops f r text start end is some =
     let more : nat_lt 0 (length (places f r text start)) ≡ true = lt-ltb 0 (length (places f r text start)) some in
     rw (more, is) refl
 
-places_count : (f : Format) (r : ℕ) (text : List ℕ) (start : ℕ) → length (numeral_in f text start r).digits ≡ length (places f r text start)
-unfolding numeral_in
-places_count f r text start = length-map (places f r text start) (λ place. unwrap_or (digit_at r text place) 0)
-
 -- ---- no fault
 
 zero_byte : (c r : ℕ) → digit c r ≡ Some 0 → c ≡ 48
@@ -189,10 +186,6 @@ complete_by f t text h x = first_fault_or (common_faults f t text h x ++ complet
 complete_is : (f : Format) (t : IntegerType) (text : List ℕ) (h : Head) → head_of f t text ≡ Ok h → complete f t text ≡ complete_by f t text h (numeral_in f text h.start h.radix)
 unfolding complete complete_by
 complete_is f t text h head = rw head refl
-
-partial_is : (f : Format) (t : IntegerType) (text : List ℕ) (h : Head) → head_of f t text ≡ Ok h → partial f t text ≡ partial_by f t text h (numeral_in f text h.start h.radix)
-unfolding partial
-partial_is f t text h head = rw head refl
 
 -- digits with separators between them, behind a sign and a prefix
 pub record IsMarked (f : Format) (t : IntegerType) (text : List ℕ) (h : Head) (bytes : List ℕ) (value : ℤ) : Type 0 where
@@ -263,15 +256,6 @@ module _ (f : Format) (t : IntegerType) (text : List ℕ) (h : Head) (bytes : Li
       let answer : complete_by f t text h x ≡ Ok (numeral_value h.is_minus x) = rw (no_prefix_fault, zeros, no_range_fault over, ended, there, and-false) refl in
       complete_is f t text h m.head ∙ answer ∙ ap (λ (z : ℤ). Ok z) (value_is over)
 
-  -- the front of a text
-  front_with : IsOver → partial f t text ≡ Ok (value, stop_after f text end)
-  front_with over =
-      let zeros : zero_fault f h.is_marked x ≡ None = zero_rule f h.radix bytes h.is_marked x (digits_are over) m.grouped.some m.grouped.first m.rule in
-      let some = some_digits over in
-      let there : (digit_count x == 0) ≡ false = ne_eqb (digit_count x) 0 (λ e. omega arith) in
-      let answer : partial_by f t text h x ≡ Ok (numeral_value h.is_minus x, x.stop) = rw (no_prefix_fault, zeros, no_range_fault over, there, and-false) refl in
-      partial_is f t text h m.head ∙ answer ∙ ap (λ (z : ℤ). Ok (z, x.stop)) (value_is over) ∙ ap (λ (k : ℕ). Ok (value, k)) (stop_is over)
-
   -- before the text's end only a suffix stands
   over_at_suffix : stop_after f text end ≡ length text → IsOver
   over_at_suffix reached more = by_suffix (suffix_at f text end) refl reached
@@ -282,9 +266,6 @@ module _ (f : Format) (t : IntegerType) (text : List ℕ) (h : Head) (bytes : Li
 
   pub whole_marked : stop_after f text end ≡ length text → complete f t text ≡ Ok value
   whole_marked reached = whole_with (over_at_suffix reached) reached
-
-  pub front_marked : (end < length text → digit_at h.radix text end ≡ None) → (end < length text → separator_at f text end ≡ false) → partial f t text ≡ Ok (value, stop_after f text end)
-  front_marked none other = front_with (λ more. belongs_other f h.radix text h.start end (other more) (none more))
 
 -- behind the text's end no suffix stands
 pub no_suffix_past : (f : Format) (text : List ℕ) → stop_after f text (length text) ≡ length text
@@ -342,36 +323,3 @@ pub bare_groups_read : (f : Format) (t : IntegerType) (text : List ℕ) (s : Boo
     keeps_zero_rule f (slice_range text s.1 (length text)) ≡ true → AreGrouped f 10 (slice_range text s.1 (length text)) → AreWorth t 10 s.0 (slice_range text s.1 (length text)) value → complete f t text ≡ Ok value
 bare_groups_read f t text s value valid ten off signed none some rule grouped worth =
     region_read f t text _ (length text) value valid (head_bare f t text s false 10 signed none (no_octal_zero f text s.1 off) (sym ten)) some (omega arith) (no_suffix_past f text) rule grouped worth
-
--- the same at the front of a text, where neither a digit nor a separator follows so many bytes
-pub front_read : (f : Format) (t : IntegerType) (text : List ℕ) (h : Head) (count stop : ℕ) (value : ℤ) → IsNone (fault f) → head_of f t text ≡ Ok h → h.start ≤ length text → count ≤ length (slice_range text h.start (length text)) →
-    (count < length (slice_range text h.start (length text)) → is_digit_in h.radix (slice_range text h.start (length text)) count ≡ false) →
-    (count < length (slice_range text h.start (length text)) → are_same f.digit_separator (Some (get_or (slice_range text h.start (length text)) count 0)) ≡ false) →
-    (h.is_marked || keeps_zero_rule f (slice_range text h.start (h.start + count))) ≡ true → AreGrouped f h.radix (slice_range text h.start (h.start + count)) → AreWorth t h.radix h.is_minus (slice_range text h.start (h.start + count)) value →
-    stop ≡ stop_after f text (h.start + count) → partial f t text ≡ Ok (value, stop)
-front_read f t text h count stop value valid head low within no_digit no_separator rule grouped worth stop_is =
-    let rest : List ℕ = slice_range text h.start (length text) in
-    let all : h.start + (length text - h.start) ≡ length text = omega arith in
-    let rest_stands : StandsAt text rest h.start = subst (λ (k : ℕ). StandsAt text (slice_range text h.start k) h.start) all (stands_ahead text h.start (length text - h.start) (omega arith)) in
-    let rest_size : length rest ≡ length text - h.start = subst (λ (k : ℕ). length (slice_range text h.start k) ≡ length text - h.start) all (length-ahead text h.start (length text - h.start) (omega arith)) in
-    let bytes : List ℕ = slice_range text h.start (h.start + count) in
-    let stands : StandsAt text bytes h.start = stands_ahead text h.start count (omega arith) in
-    let size : length bytes ≡ count = length-ahead text h.start count (omega arith) in
-    let place : h.start + length bytes ≡ h.start + count = omega arith in
-    let m : IsMarked f t text h bytes value = record { head = head; fit = fits_head f t text h valid head; stands = stands; grouped = grouped; rule = rule; worth = worth } in
-    front_marked f t text h bytes value m
-    (λ l. none_from (digit_at h.radix text (h.start + length bytes)) (ap is_some (digit_there h.radix text rest h.start count (h.start + length bytes) rest_stands (omega arith) (omega arith)) ∙ no_digit (omega arith)))
-    (λ l. separator_there f text rest h.start count (h.start + length bytes) rest_stands (omega arith) (omega arith) ∙ no_separator (omega arith))
-    ∙ ap (λ (k : ℕ). Ok (value, k)) (ap (stop_after f text) place ∙ sym stop_is)
-
--- the same by one fact of the bytes behind the head
-pub groups_read : (f : Format) (t : IntegerType) (text : List ℕ) (h : Head) (count stop : ℕ) (value : ℤ) → IsNone (fault f) → head_of f t text ≡ Ok h → h.start ≤ length text → BeginsGrouped f t h.radix h.is_minus (slice_range text h.start (length text)) value count →
-    (h.is_marked || keeps_zero_rule f (slice_range text h.start (h.start + count))) ≡ true → stop ≡ stop_after f text (h.start + count) → partial f t text ≡ Ok (value, stop)
-groups_read f t text h count stop value valid head low g rule stop_is =
-    let rest : List ℕ = drop h.start text in
-    let left : length rest ≡ length text - h.start = length-drop h.start text in
-    let all : take (length text - h.start) rest ≡ rest = take_all (length text - h.start) rest (omega arith) in
-    let size : h.start + count - h.start ≡ count = omega arith in
-    let same : take count (slice_range text h.start (length text)) ≡ slice_range text h.start (h.start + count) = ap (take count) all ∙ ap (λ n. take n rest) (sym size) in
-    front_read f t text h count stop value valid head low g.within g.no_digit g.no_separator rule
-    (subst (λ (bs : List ℕ). AreGrouped f h.radix bs) same g.grouped) (subst (λ (bs : List ℕ). AreWorth t h.radix h.is_minus bs value) same g.worth) stop_is

@@ -24,29 +24,6 @@ use Rattle.lexical_parse_integer.proofs.plain.DigitsInFront.{StandsFrom, values_
 use Rattle.lexical_parse_integer.proofs.theorems.CompleteByPartial.{complete_is_completion}
 use Rattle.lexical_parse_integer.proofs.theorems.ReadBack.{HaveDigits, first_digit}
 
--- ---- what the loop leaves
-
--- the digits of a front are all that the front has
-front_alone : (r n : ℕ) (text : List ℕ) (value : ℤ) → n ≤ length text → WritesFront r text n value → WritesFront r (take n text) (length (take n text)) value
-front_alone r n text value within w =
-    let size : length (take n text) ≡ n = length-take-le n text within in
-    record {
-      values = w.values;
-      digits = ap (map (λ byte. digit byte r)) (take-length (take n text)) ∙ w.digits;
-      worth = w.worth;
-      below = subst (λ (k : ℕ). positional_value r w.values < r ^ k) (sym size) w.below;
-    }
-
-pub begins_in_radix : (f : Format) (t : IntegerType) (r : ℕ) (negative : Bool) (digits : List ℕ) (value size : ℤ) (count : ℕ) → 1 ≤ count → count ≤ length digits → (count < length digits → IsNone (digit (get_or digits count 0) r)) →
-    keeps_zero_rule f (take count digits) ≡ true → WritesFront r digits count size → value ≡ (if negative then neg_ℤ size else size) → IsNumber t value → BeginsInRadix f t r negative digits value count
-begins_in_radix f t r negative digits value size count some within stops rule writes worth fits = record {
-  some = some;
-  within = within;
-  stops = stops;
-  rule = rule;
-  stands = record { size = size; writes = front_alone r count digits size within writes; worth = worth; fits = fits };
-}
-
 -- ---- the front of a text
 
 pub sign_of_plus_under : (f : Format) (t : IntegerType) (cs : List ℕ) → f.no_positive_mantissa_sign ≡ false → sign f t (43 ∷ cs) ≡ Ok (false, 1)

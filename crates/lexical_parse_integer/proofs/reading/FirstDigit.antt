@@ -70,7 +70,7 @@ look_step (Some d) v w s open_now m = let there = digit_found v w d s open_now m
 -- ---- the zero fault
 
 -- fewer than two digits, or a first digit that isn't 0
-few_no_fault : (f : Format) (p : Bool) (x : Numeral) → digit_count x ≤ 1 → zero_fault f p x ≡ None
+pub few_no_fault : (f : Format) (p : Bool) (x : Numeral) → digit_count x ≤ 1 → zero_fault f p x ≡ None
 few_no_fault f p x few = by_tests f.no_integer_leading_zeros (not p) (nat_le 2 (digit_count x)) (get_or x.digits 0 0 == 0) (let t : nat_le 2 (digit_count x) ≡ false = grind (arith, nat_tests) in t)
   where
     by_tests : (a b c d : Bool) → c ≡ false → cond (((a && b) && c) && d) (Some (InvalidLeadingZeros (get_or x.places 0 0))) None ≡ None

@@ -13,6 +13,7 @@ use Rattle.lexical_parse_integer.specs.Reading.{GoesOn, IsReading, Reads, ReadsA
 use Rattle.lexical_parse_integer.specs.Runs.{digit_at, digits_between, places}
 use Rattle.lexical_util.specs.declared.error.Error.{Error}
 use Rattle.lexical_util.specs.Digit.{value_if_below, digit, digit_value}
+use Rattle.lexical_util.specs.Format.{Format}
 use Rattle.lexical_util.specs.Number.{IntegerType}
 use Rattle.lexical_parse_integer.proofs.grammar.PlaceSearch.{filter_range-at, get_or-append_seam}
 use Rattle.lexical_parse_integer.proofs.grammar.DigitCounts.{digits_between_to}
@@ -69,6 +70,11 @@ all_found v s open_now w t =
     let o = s.while_open open_now in
     let skipped = ap length (digits_between_to v.radix v.bytes v.start v.position (numeral_end v) s.after_start o.before_end t.none_left) in
     o.digits ∙ sym skipped ∙ sym (length-map (places v.format v.radix v.bytes v.start) (λ k. unwrap_or (digit_at v.radix v.bytes k) 0))
+
+-- as many values as places
+pub places_count : (f : Format) (r : ℕ) (text : List ℕ) (start : ℕ) → length (numeral_in f text start r).digits ≡ length (places f r text start)
+unfolding numeral_in
+places_count f r text start = length-map (places f r text start) (λ place. unwrap_or (digit_at r text place) 0)
 
 -- ---- going on
 

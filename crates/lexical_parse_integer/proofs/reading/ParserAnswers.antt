@@ -247,7 +247,7 @@ fault_completes : (f : Format) (t : IntegerType) (text : List ℕ) (h : Head) (e
 unfolding complete
 fault_completes f t text h e is fault = rw is (first_told (prefix_fault text h) (zero_fault f h.is_marked (numeral_in f text h.start h.radix)) (range_fault t h.is_minus (numeral_in f text h.start h.radix)) _ _ e fault)
 
-fault_goes_part : (f : Format) (t : IntegerType) (text : List ℕ) (h : Head) (e : Error) → head_of f t text ≡ Ok h → common_fault f t text h ≡ Some e → partial f t text ≡ Err e
+pub fault_goes_part : (f : Format) (t : IntegerType) (text : List ℕ) (h : Head) (e : Error) → head_of f t text ≡ Ok h → common_fault f t text h ≡ Some e → partial f t text ≡ Err e
 unfolding partial
 fault_goes_part f t text h e is fault = rw is (first_told (prefix_fault text h) (zero_fault f h.is_marked (numeral_in f text h.start h.radix)) (range_fault t h.is_minus (numeral_in f text h.start h.radix)) _ _ e fault)
 

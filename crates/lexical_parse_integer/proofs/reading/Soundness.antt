@@ -268,7 +268,7 @@ prefix_within f b k r e = by_zero (are_same (Some 48) (slice_get b k)) e
     by_zero false h = cc
 
 -- without literal prefixes, a prefix leaves the format's radix
-prefix_own : (f : Format) (b : List ℕ) (k r : ℕ) → f.literal_prefixes ≡ false → prefix_radix f b k ≡ Some r → r ≡ f.mantissa_radix
+pub prefix_own : (f : Format) (b : List ℕ) (k r : ℕ) → f.literal_prefixes ≡ false → prefix_radix f b k ≡ Some r → r ≡ f.mantissa_radix
 unfolding prefix_radix marked_radix
 prefix_own f b k r off e = by_zero (are_same (Some 48) (slice_get b k)) (is_affix f.case_sensitive_base_prefix f.base_prefix (slice_get b (k + 1))) f.literal_prefixes off e
   where

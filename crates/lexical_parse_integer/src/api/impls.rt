@@ -1,19 +1,25 @@
 // Every integer type, read from bytes.
 ghost use Rattle.std.specs.Prelude.{◌≡◌, IfSome, IsNone, Ok};
+ghost use Rattle.lexical_util.specs.Format.{standard};
 ghost use Rattle.lexical_util.specs.Validity.{fault};
 ghost use Rattle.lexical_parse_integer.specs.Answer.{with_place, view_of};
 ghost use Rattle.lexical_parse_integer.specs.Grammar.{complete, complete_if_valid, partial_if_valid};
 
+use crate::algorithm::front::{complete_from_front, partial_from_front};
 use crate::algorithm::marked::lone_mark::fault_of;
 use crate::algorithm::marked::prefixed::{value_if_behind_prefix, value_if_literal};
 use crate::algorithm::marked::value_if_between_separators;
+use crate::algorithm::plain::otherwise::{place_after_digits, value_behind_plus};
+use crate::algorithm::plain::overflow::fault_of_overflow;
 use crate::algorithm::plain::{
-    front_if_plain, hexadecimal_out_of_line, is_plain, value_if_short, value_out_of_line,
+    front_if_plain, hexadecimal_out_of_line, is_plain, value_if_plain, value_if_short,
+    value_out_of_line,
 };
-use crate::algorithm::{complete_with_marks, partial_beside_marks};
+use crate::algorithm::{standard_complete, standard_partial};
 use crate::api::{FromLexical, FromLexicalWithOptions};
 use crate::options::Options;
-use lexical_util::format::NumberFormat;
+use lexical_util::error::Error;
+use lexical_util::format::{self, NumberFormat};
 use lexical_util::num::Integer;
 use lexical_util::result::Result;
 
@@ -27,38 +33,38 @@ struct Call<'a> {
 
 // The complete answer under a format that may be invalid. A short decimal text is read in place.
 #[inline(always)]
-fn complete<T: Integer>(bytes: &[u8], format: &NumberFormat, options: &Options) -> Result<T>
+fn complete<T: Integer>(bytes: &[u8], format: &NumberFormat) -> Result<T>
     ensures { view_of T.number result ≡ complete_if_valid format.now T.TYPE bytes.now }
 {
     match value_if_short::<T>(bytes, format) {
         Some(value) => Ok(value),
-        None => complete_by_kind::<T>(bytes, format, options),
+        None => complete_by_kind::<T>(bytes, format),
     }
 }
 
 // The same by the reader for the format's kind, and by one call for what that leaves.
 #[inline(always)]
-fn complete_by_kind<T: Integer>(bytes: &[u8], format: &NumberFormat, options: &Options) -> Result<T>
+fn complete_by_kind<T: Integer>(bytes: &[u8], format: &NumberFormat) -> Result<T>
     ensures { view_of T.number result ≡ complete_if_valid format.now T.TYPE bytes.now }
 {
     let call = Call { bytes, format };
     match value_by_kind::<T>(bytes, format) {
         Some(value) => Ok(value),
-        None => complete_otherwise::<T>(&call, options),
+        None => complete_otherwise::<T>(&call),
     }
 }
 
 // The same for a text that this leaves. The place for its answer is made ready here, and so not for a value.
 #[inline(always)]
-fn complete_otherwise<T: Integer>(call: &Call<'_>, options: &Options) -> Result<T>
+fn complete_otherwise<T: Integer>(call: &Call<'_>) -> Result<T>
     ensures { view_of T.number result
         ≡ complete_if_valid call.now.format.now T.TYPE call.now.bytes.now }
 {
-    complete_if_valid::<T>(call, options)
+    complete_if_valid::<T>(call)
 }
 
-// The value of the whole text, by a reader for each kind of format. Each is a call that answers in registers: an answer
-// through memory makes the caller wait for it.
+// The value of the whole text, by a reader for each kind of format, where `value_if_short` has left it. Each is a call that
+// answers in registers: an answer through memory makes the caller wait for it.
 #[inline(always)]
 fn value_by_kind<T: Integer>(bytes: &[u8], format: &NumberFormat) -> Option<T>
     ensures valid { IfSome result (λ value. IsNone (fault format.now)) }
@@ -70,6 +76,9 @@ fn value_by_kind<T: Integer>(bytes: &[u8], format: &NumberFormat) -> Option<T>
     }
     if format.mantissa_radix() == 16 {
         return hexadecimal_out_of_line::<T>(bytes, format);
+    }
+    if format.mantissa_radix() == 10 && bytes.len() <= 16 {
+        return None;
     }
     value_out_of_line::<T>(bytes, format)
 }
@@ -90,43 +99,72 @@ fn value_beside_marks<T: Integer>(bytes: &[u8], format: &NumberFormat) -> Option
 
 // The complete answer in one call, out of line.
 #[inline(never)]
-fn complete_if_valid<T: Integer>(call: &Call<'_>, options: &Options) -> Result<T>
+fn complete_if_valid<T: Integer>(call: &Call<'_>) -> Result<T>
     ensures { view_of T.number result
         ≡ complete_if_valid call.now.format.now T.TYPE call.now.bytes.now }
 {
     match fault_of(call.format) {
         Some(invalid) => Err(invalid),
-        None => complete_with_marks::<T>(call.bytes, call.format, options),
+        None => complete_from_front::<T>(call.bytes, call.format),
     }
 }
 
 // The partial answer under a format that may be invalid.
 #[inline(always)]
-fn partial<T: Integer>(bytes: &[u8], format: &NumberFormat, options: &Options) -> Result<(T, usize)>
+fn partial<T: Integer>(bytes: &[u8], format: &NumberFormat) -> Result<(T, usize)>
     ensures { view_of (with_place T.number) result ≡ partial_if_valid format.now T.TYPE bytes.now }
 {
     match front_if_plain::<T>(bytes, format) {
         Some(found) => Ok(found),
-        None => partial_if_valid::<T>(bytes, format, options),
+        None => partial_if_valid::<T>(bytes, format),
     }
 }
 
 // The same for every text, in one call as the complete parser.
 #[inline(never)]
-fn partial_if_valid<T: Integer>(
-    bytes: &[u8],
-    format: &NumberFormat,
-    options: &Options,
-) -> Result<(T, usize)>
+fn partial_if_valid<T: Integer>(bytes: &[u8], format: &NumberFormat) -> Result<(T, usize)>
     ensures { view_of (with_place T.number) result ≡ partial_if_valid format.now T.TYPE bytes.now }
 {
     match fault_of(format) {
         Some(broken) => Err(broken),
-        None => partial_beside_marks::<T>(bytes, format, options),
+        None => partial_from_front::<T>(bytes, format),
     }
 }
 
-impl<T: Integer> FromLexical for T {}
+// The complete answer under the standard format for a text that the quick way leaves: behind a plus, or at fault.
+#[inline(always)]
+fn standard_otherwise<T: Integer>(bytes: &[u8]) -> Result<T>
+    ensures { view_of T.number result ≡ complete standard T.TYPE bytes.now }
+{
+    if let Some(value) = value_behind_plus::<T>(bytes) {
+        return Ok(value);
+    }
+    if let Some(fault) = fault_of_overflow::<T>(bytes) {
+        return Err(fault);
+    }
+    match place_after_digits::<T>(bytes) {
+        Some(place) => Err(Error::InvalidDigit(place)),
+        None => standard_complete::<T>(bytes),
+    }
+}
+
+impl<T: Integer> FromLexical for T {
+    #[inline(always)]
+    fn from_lexical(bytes: &[u8]) -> Result<T> {
+        match value_if_plain::<T>(bytes, &format::STANDARD) {
+            Some(value) => Ok(value),
+            None => standard_otherwise::<T>(bytes),
+        }
+    }
+
+    #[inline(always)]
+    fn from_lexical_partial(bytes: &[u8]) -> Result<(T, usize)> {
+        match front_if_plain::<T>(bytes, &format::STANDARD) {
+            Some(found) => Ok(found),
+            None => standard_partial::<T>(bytes),
+        }
+    }
+}
 
 impl<T: Integer> FromLexicalWithOptions for T {
     type Options = Options;
@@ -135,17 +173,17 @@ impl<T: Integer> FromLexicalWithOptions for T {
     fn from_lexical_with_options(
         bytes: &[u8],
         format: &NumberFormat,
-        options: &Options,
+        _options: &Options,
     ) -> Result<T> {
-        complete::<T>(bytes, format, options)
+        complete::<T>(bytes, format)
     }
 
     #[inline(always)]
     fn from_lexical_partial_with_options(
         bytes: &[u8],
         format: &NumberFormat,
-        options: &Options,
+        _options: &Options,
     ) -> Result<(T, usize)> {
-        partial::<T>(bytes, format, options)
+        partial::<T>(bytes, format)
     }
 }

@@ -1,17 +1,9 @@
-use Rattle.std.proofs.Common.{◌≡◌, ◌∙◌, Some, None, sym}
+use Rattle.std.proofs.Common.{◌≡◌, Some}
 use Rattle.lexical_parse_integer.specs.Runs.{digit_at}
-use Rattle.lexical_parse_integer.proofs.reading.Soundness.{none_from_IsNone}
-use Rattle.lexical_parse_integer.proofs.reading.FirstDigit.{no_separator}
-use Rattle.lexical_parse_integer.proofs.grammar.NumeralEnd.{ends_here, finds_here}
+use Rattle.lexical_parse_integer.proofs.grammar.NumeralEnd.{finds_here}
 use Rattle.lexical_parse_integer.proofs.seek.seek.Goals as goal
 
 pub returns-in-Some : goal.returns-in-Some
 returns-in-Some c =
     let value : digit_at c.args.radix c.args.bytes.now c.args.position ≡ Some c.in-Some.value = cc in
     finds_here c.args.format.now c.args.radix c.args.bytes.now c.args.start c.args.position c.requires.after_start c.requires.before_end c.requires.within _ value
-
-pub returns-then-is_none : goal.returns-then-is_none
-returns-then-is_none c =
-    let none : digit_at c.args.radix c.args.bytes.now c.args.position ≡ None = cc in
-    let plain : c.args.format.now.digit_separator ≡ None = sym c.digit_separator.ensures ∙ none_from_IsNone _ c.if-is_none.ensures in
-    ends_here c.args.format.now c.args.radix c.args.bytes.now c.args.start c.args.position c.requires.after_start c.requires.before_end c.requires.within none (no_separator c.args.format.now c.args.bytes.now c.args.position plain)

@@ -7,10 +7,11 @@ ghost use Rattle.lexical_parse_integer.specs.Grammar.{complete};
 ghost use Rattle.lexical_parse_integer.specs.Head.{sign};
 
 use crate::affixes::prefix_radix;
+use crate::algorithm::front::sign_of;
 use crate::algorithm::marked::lone_mark::{
     is_hexadecimal_behind_x, is_valid_with_literals, is_valid_with_prefix,
 };
-use crate::algorithm::marked::{sign_at_front, value_of_short_row};
+use crate::algorithm::marked::value_of_short_row;
 use crate::algorithm::plain::keeps_zero_rule;
 use lexical_util::format::NumberFormat;
 use lexical_util::num::Integer;
@@ -86,7 +87,9 @@ fn value_with_sign<T: Integer>(bytes: &[u8], format: &NumberFormat) -> Option<T>
     requires octal_zeros { format.now.literal_octal_zero ≡ false }
     ensures { IfSome result (λ value. complete format.now T.TYPE bytes.now ≡ Ok (T.number value)) }
 {
-    let signed = sign_at_front::<T>(bytes, format)?;
+    let Ok(signed) = sign_of::<T>(bytes, format) else {
+        return None;
+    };
     value_behind_sign::<T>(bytes, format, signed)
 }
 

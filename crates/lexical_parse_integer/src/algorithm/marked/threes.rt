@@ -4,26 +4,12 @@ ghost use Rattle.lexical_util.specs.Ascii.{digit_zero};
 ghost use Rattle.lexical_util.specs.Digit.{digit};
 ghost use Rattle.lexical_util.specs.Number.{HasSign, IsNumber, mul_add};
 ghost use Rattle.lexical_parse_integer.specs.Marked.{AreGrouped, AreWorth};
-ghost use Rattle.lexical_parse_integer.specs.Plain.{WritesValue};
 
 use crate::algorithm::plain::digits::number_of_4digits;
 use crate::algorithm::plain::fronts::value_of_digits;
 use crate::algorithm::words::is_4digits;
 use lexical_util::format::NumberFormat;
 use lexical_util::num::Integer;
-
-// The value of one to sixteen digits, behind a minus where that is negative: what more have is read elsewhere.
-#[inline(always)]
-pub(super) fn value_of_few<T: Integer>(digits: &[u8], negative: bool) -> Option<T>
-    requires some { 1 ≤ length digits.now }
-    requires minus { IsTrue negative → IsTrue T.TYPE.is_signed }
-    ensures { IfSome result (λ value. WritesValue T.TYPE 0 negative digits.now (T.number value)) }
-{
-    if digits.len() > 16 {
-        return None;
-    }
-    value_of_digits::<T>(digits, negative)
-}
 
 // How many digits seem to stand before the first separator: a guess by the length and by two bytes.
 #[inline(always)]
@@ -118,10 +104,10 @@ pub(super) fn value_of_threes<T: Integer>(
         (λ value. AreWorth T.TYPE 10 negative bytes.now (T.number value)) }
 {
     if bytes.len() <= 4 {
-        return value_of_few::<T>(bytes, negative);
+        return value_of_digits::<T>(bytes, negative);
     }
     let mut place = guess_of_first(bytes, separator);
-    let mut value = value_of_few::<T>(&bytes[..place], negative)?;
+    let mut value = value_of_digits::<T>(&bytes[..place], negative)?;
     while place + 4 <= bytes.len() {
         match three_at(bytes, place, separator) {
             Some(three) => match with_three::<T>(value, three, negative) {

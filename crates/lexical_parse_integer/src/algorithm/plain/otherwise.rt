@@ -1,4 +1,4 @@
-// Texts under the standard format that the reader of digits leaves: behind a plus, or with another byte after the digits.
+// Texts under the standard format that the quick way leaves: behind a plus, or with another byte after the digits.
 //
 // Each is a call that answers in registers: an answer through memory makes the caller wait for it.
 ghost use Rattle.std.specs.Prelude.{◌≡◌, ◌<◌, Err, IfSome, Ok, get_or, length};
@@ -8,7 +8,7 @@ ghost use Rattle.lexical_util.specs.declared.error.Error.TheVariants.{InvalidDig
 ghost use Rattle.lexical_parse_integer.specs.Grammar.{complete};
 
 use crate::algorithm::plain::fronts::value_of_digits;
-use crate::algorithm::plain::{signed_front, signed_short_front};
+use crate::algorithm::plain::signed_front;
 use lexical_util::num::Integer;
 
 // The value of the digits behind a plus, where they are all of the text.
@@ -32,22 +32,9 @@ pub(crate) fn value_behind_plus<T: Integer>(bytes: &[u8]) -> Option<T>
     value_of_rest::<T>(bytes)
 }
 
-// The place of the first byte after the digits, where there is one and their type has their value: of few digits, whose
-// number isn't made.
+// The place of the first byte after the digits, where there is one and their type has their value.
 #[inline(never)]
 pub(crate) fn place_after_digits<T: Integer>(bytes: &[u8]) -> Option<usize>
-    ensures { IfSome result
-        (λ place. complete standard T.TYPE bytes.now ≡ Err (InvalidDigit place)) }
-{
-    match signed_short_front::<T>(bytes) {
-        Some((_, place)) if place < bytes.len() => Some(place),
-        _ => place_after_many::<T>(bytes),
-    }
-}
-
-// The same of any number of digits.
-#[inline(never)]
-fn place_after_many<T: Integer>(bytes: &[u8]) -> Option<usize>
     ensures { IfSome result
         (λ place. complete standard T.TYPE bytes.now ≡ Err (InvalidDigit place)) }
 {

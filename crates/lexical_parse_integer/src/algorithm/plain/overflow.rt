@@ -1,4 +1,4 @@
-// Numbers that leave the type: the place of the digit with which a decimal number does, found without a cursor.
+// Numbers that leave the type: the place of the digit with which a decimal number does, found by words.
 ghost use Rattle.std.specs.Prelude.{◌≡◌, ◌&&◌, ◌==◌, ◌≤◌, Err, IfSome, IsTrue, get_or};
 ghost use Rattle.lexical_util.specs.Ascii.{minus};
 ghost use Rattle.lexical_util.specs.Format.{standard};

@@ -10,10 +10,10 @@ use Rattle.lexical_parse_integer.proofs.plain.DigitsAlone.{if_found}
 use Rattle.lexical_parse_integer.proofs.algorithm.marked.threes.value_of_threes.Goals as goal
 
 pub returns-then-bytes-le4-clause-grouped : goal.returns-then-bytes-le4-clause-grouped
-returns-then-bytes-le4-clause-grouped g c = if_found c.value_of_few.result (λ v w. row_grouped _ 10 _ c.requires.some (words_only _ 10 _ _ _ refl w)) c.value_of_few.ensures
+returns-then-bytes-le4-clause-grouped g c = if_found c.value_of_digits.result (λ v w. row_grouped _ 10 _ c.requires.some (words_only _ 10 _ _ _ refl w)) c.value_of_digits.ensures
 
 pub returns-then-bytes-le4-clause-worth : goal.returns-then-bytes-le4-clause-worth
-returns-then-bytes-le4-clause-worth g c = if_found c.value_of_few.result (λ v w. words_worth _ 10 _ _ _ refl w) c.value_of_few.ensures
+returns-then-bytes-le4-clause-worth g c = if_found c.value_of_digits.result (λ v w. words_worth _ 10 _ _ _ refl w) c.value_of_digits.ensures
 
 pub loop-place-init : goal.loop-place-init
 loop-place-init g c =

@@ -1,0 +1,274 @@
+// A text read from its front: what stands before the digits, the digits one after another, and what stands behind
+// them. Every text has its answer here under every valid format, so whatever a quick way isn't sure of is read here.
+ghost use Rattle.std.specs.Prelude.{◌<◌, false, pos, ◌≡◌, ◌&&◌, ◌||◌, ◌==◌, Err, IfErr, IfOk, IfSome, IsNone, Ok, Some, None, is_some, length, nat_lt, true, if◌then◌else◌, ◌+◌};
+ghost use Rattle.std.specs.Option.{option_or};
+ghost use Rattle.lexical_util.specs.Digit.{IsRadix};
+ghost use Rattle.lexical_util.specs.Number.{HasSign, is_number, mul_add};
+ghost use Rattle.lexical_util.specs.Validity.{fault};
+ghost use Rattle.lexical_util.specs.declared.error.Error.TheVariants.{InvalidLeadingZeros};
+ghost use Rattle.lexical_parse_integer.specs.Affixes.{suffix_at};
+ghost use Rattle.lexical_parse_integer.specs.Answer.{view_of, with_place};
+ghost use Rattle.lexical_parse_integer.specs.CursorView.{IsSound};
+ghost use Rattle.lexical_parse_integer.specs.Grammar.{complete, digits_required, partial, range_error, range_fault, zero_fault};
+ghost use Rattle.lexical_parse_integer.specs.Head.{head_of, sign};
+ghost use Rattle.lexical_parse_integer.specs.Laws.{completion_of};
+ghost use Rattle.lexical_parse_integer.specs.Numeral.{numeral_in};
+ghost use Rattle.lexical_parse_integer.specs.Reading.{ReadsAll, ReadsNumeral, view_at};
+
+use crate::affixes::{octal_zero_at, prefix_radix, suffix_at};
+use crate::algorithm::digits::join_checked;
+use crate::seek::{Found, seek};
+use lexical_util::error::Error;
+use lexical_util::format::NumberFormat;
+use lexical_util::num::Integer;
+use lexical_util::result::Result;
+
+// What stands before a numeral: whether there is a minus, whether a prefix or an octal zero marks the radix, where the
+// numeral starts, and the radix in force there.
+#[derive(Clone, Copy)]
+struct Head {
+    is_minus: bool,
+    is_marked: bool,
+    start: usize,
+    radix: u32,
+}
+
+// The digits of a numeral: their value, how many they are, and where the numeral ends.
+struct Digits<T> {
+    value: T,
+    count: usize,
+    end: usize,
+}
+
+// Whether the text has a minus, and how many bytes its sign has; or the sign's fault.
+#[inline(always)]
+#[tactic(auto, unfolding(crate::specs::Head::sign))]
+pub(super) fn sign_of<T: Integer>(bytes: &[u8], format: &NumberFormat) -> Result<(bool, usize)>
+    ensures { result ≡ sign format.now T.TYPE bytes.now }
+{
+    match bytes.first().copied() {
+        Some(b'+') => {
+            if format.no_positive_mantissa_sign() {
+                return Err(Error::InvalidPositiveSign(0));
+            }
+            Ok((false, 1))
+        }
+        Some(b'-') if T::IS_SIGNED => Ok((true, 1)),
+        _ => {
+            if format.required_mantissa_sign() {
+                return Err(Error::MissingSign(0));
+            }
+            Ok((false, 0))
+        }
+    }
+}
+
+// The head of a text, or the fault of its sign.
+#[inline(always)]
+fn head_of<T: Integer>(bytes: &[u8], format: &NumberFormat) -> Result<Head>
+    ensures head { IfOk result (λ head. head_of format.now T.TYPE bytes.now ≡ Ok (record {
+      is_minus = head.is_minus;
+      is_marked = head.is_marked;
+      start = head.start;
+      radix = head.radix;
+    })) }
+    ensures fault { IfErr result (λ error. head_of format.now T.TYPE bytes.now ≡ Err error) }
+{
+    let (is_minus, start) = sign_of::<T>(bytes, format)?;
+    match prefix_radix(bytes, format, start) {
+        Some(radix) => Ok(Head {
+            is_minus,
+            is_marked: true,
+            start: start + 2,
+            radix,
+        }),
+        None => {
+            let is_octal = octal_zero_at(bytes, format, start);
+            let radix = if is_octal { 8 } else { format.mantissa_radix() };
+            Ok(Head {
+                is_minus,
+                is_marked: is_octal,
+                start,
+                radix,
+            })
+        }
+    }
+}
+
+// Whether a prefix is all that there is.
+#[inline(always)]
+fn is_prefix_alone(bytes: &[u8], head: Head) -> bool
+    ensures { result ≡ (head.is_marked && (head.start == length bytes.now)) }
+{
+    head.is_marked && head.start == bytes.len()
+}
+
+// The place of a zero before another digit, where the format forbids it.
+#[inline(always)]
+fn zero_before_digit(bytes: &[u8], format: &NumberFormat, head: Head) -> Option<usize>
+    requires sound { IsSound (view_at format.now bytes.now head.radix head.start head.start 0) }
+    ensures none { IsNone result → zero_fault format.now head.is_marked
+        (numeral_in format.now bytes.now head.start head.radix) ≡ None }
+    ensures some { IfSome result (λ place. zero_fault format.now head.is_marked
+        (numeral_in format.now bytes.now head.start head.radix)
+        ≡ Some (InvalidLeadingZeros place)) }
+{
+    if head.is_marked || !format.no_integer_leading_zeros() {
+        return None;
+    }
+    let Found::Digit(place, digit) = seek(bytes, format, head.radix, head.start, head.start) else {
+        return None;
+    };
+    if digit != 0 {
+        return None;
+    }
+    match seek(bytes, format, head.radix, head.start, place + 1) {
+        Found::Digit(_, _) => Some(place),
+        Found::End(_) => None,
+    }
+}
+
+// The value with one digit more, or the fault of the digit's place where it leaves the type: no test is made where there
+// are so few digits that it can't.
+#[inline(always)]
+fn join<T: Integer>(
+    value: T,
+    digit: u32,
+    radix: u32,
+    place: usize,
+    negative: bool,
+    is_few: bool,
+) -> Result<T>
+    requires radix { IsRadix radix }
+    requires digit { digit < radix }
+    requires sign { HasSign negative (T.number value) }
+    requires few { is_few ≡ true
+        → is_number T.TYPE (mul_add negative (T.number value) (pos radix) (pos digit)) ≡ true }
+    ensures fits { IfOk result
+        (λ next. (T.number next ≡ mul_add negative (T.number value) (pos radix) (pos digit))
+        × (is_number T.TYPE (T.number next) ≡ true)) }
+    ensures leaves { IfErr result
+        (λ e. (e ≡ range_error negative place)
+        × (is_number T.TYPE (mul_add negative (T.number value) (pos radix) (pos digit)) ≡ false)) }
+{
+    if is_few {
+        return Ok(value.mul_add(T::from_u32(radix), T::from_u32(digit), negative));
+    }
+    join_checked::<T>(value, digit, radix, place, negative)
+}
+
+// All digits of a numeral, or the fault of the first with which their value leaves the type.
+#[inline(always)]
+fn read_digits<T: Integer>(bytes: &[u8], format: &NumberFormat, head: Head) -> Result<Digits<T>>
+    requires sound { IsSound (view_at format.now bytes.now head.radix head.start head.start 0) }
+    requires minus { head.is_minus ≡ true → T.TYPE.is_signed ≡ true }
+    ensures all { IfOk result (λ found. ReadsAll T.TYPE head.is_minus
+        (view_at format.now bytes.now head.radix head.start head.start 0)
+        (view_at format.now bytes.now head.radix head.start found.end found.count)
+        (T.number found.value)) }
+    ensures leaves { IfErr result (λ error. range_fault T.TYPE head.is_minus
+        (numeral_in format.now bytes.now head.start head.radix) ≡ Some error) }
+{
+    let most = T::overflow_digits(head.radix);
+    let mut value = T::ZERO;
+    let mut count = 0;
+    let mut place = head.start;
+    loop {
+        match seek(bytes, format, head.radix, head.start, place) {
+            Found::Digit(at, digit) => {
+                value = join::<T>(value, digit, head.radix, at, head.is_minus, count < most)?;
+                count += 1;
+                place = at + 1;
+            }
+            Found::End(end) => return Ok(Digits { value, count, end }),
+        }
+    }
+}
+
+// A numeral: the rule on zeros is judged first, since its fault comes before that of the value.
+#[inline(always)]
+fn read_numeral<T: Integer>(bytes: &[u8], format: &NumberFormat, head: Head) -> Result<Digits<T>>
+    requires sound { IsSound (view_at format.now bytes.now head.radix head.start head.start 0) }
+    requires minus { head.is_minus ≡ true → T.TYPE.is_signed ≡ true }
+    ensures all { IfOk result (λ found. ReadsNumeral T.TYPE head.is_minus head.is_marked
+        (view_at format.now bytes.now head.radix head.start head.start 0)
+        (view_at format.now bytes.now head.radix head.start found.end found.count)
+        (T.number found.value)) }
+    ensures fault { IfErr result (λ error. option_or (zero_fault format.now head.is_marked
+        (numeral_in format.now bytes.now head.start head.radix))
+        (range_fault T.TYPE head.is_minus
+        (numeral_in format.now bytes.now head.start head.radix)) ≡ Some error) }
+{
+    if let Some(place) = zero_before_digit(bytes, format, head) {
+        return Err(Error::InvalidLeadingZeros(place));
+    }
+    read_digits::<T>(bytes, format, head)
+}
+
+// Where reading stops: behind a suffix at the numeral's end, if the numeral has a digit.
+#[inline(always)]
+fn stop_behind(bytes: &[u8], format: &NumberFormat, end: usize, count: usize) -> usize
+    ensures { result ≡ (if nat_lt 0 count && suffix_at format.now bytes.now end then end + 1
+        else end) }
+{
+    if count > 0 && suffix_at(bytes, format, end) {
+        end + 1
+    } else {
+        end
+    }
+}
+
+// Whether a numeral without a digit is the partial parser's fault: at the text's end, or where separators may stand.
+#[inline(always)]
+fn is_empty_fault(bytes: &[u8], format: &NumberFormat, count: usize, stop: usize) -> bool
+    ensures { result ≡ ((digits_required format.now && (count == 0))
+        && (is_some format.now.digit_separator || (stop == length bytes.now))) }
+{
+    format.required_digits()
+        && count == 0
+        && (format.digit_separator().is_some() || stop == bytes.len())
+}
+
+/// The integer that the front of the text stands for under a valid format, and the place at which reading stops.
+#[inline(always)]
+pub(crate) fn partial_from_front<T: Integer>(
+    bytes: &[u8],
+    format: &NumberFormat,
+) -> Result<(T, usize)>
+    requires valid { IsNone (fault format.now) }
+    ensures { view_of (with_place T.number) result ≡ partial format.now T.TYPE bytes.now }
+{
+    let head = head_of::<T>(bytes, format)?;
+    if is_prefix_alone(bytes, head) {
+        return Err(Error::Empty(bytes.len()));
+    }
+    let Digits { value, count, end } = read_numeral::<T>(bytes, format, head)?;
+    let stop = stop_behind(bytes, format, end, count);
+    if is_empty_fault(bytes, format, count, stop) {
+        return Err(Error::Empty(stop));
+    }
+    Ok((value, stop))
+}
+
+// The answer for a whole text by that for its front: what the front stands for, if reading stops at the text's end.
+#[inline(always)]
+fn completion<T: Integer>(bytes: &[u8], front: Result<(T, usize)>) -> Result<T>
+    ensures { view_of T.number result
+        ≡ completion_of (length bytes.now) (view_of (with_place T.number) front) }
+{
+    match front {
+        Ok((_, place)) if place < bytes.len() => Err(Error::InvalidDigit(place)),
+        Ok((value, _)) => Ok(value),
+        Err(Error::Empty(place)) if place < bytes.len() => Err(Error::InvalidDigit(place)),
+        Err(error) => Err(error),
+    }
+}
+
+/// The integer that the whole text stands for under a valid format.
+#[inline(always)]
+pub(crate) fn complete_from_front<T: Integer>(bytes: &[u8], format: &NumberFormat) -> Result<T>
+    requires valid { IsNone (fault format.now) }
+    ensures { view_of T.number result ≡ complete format.now T.TYPE bytes.now }
+{
+    completion::<T>(bytes, partial_from_front::<T>(bytes, format))
+}
