@@ -1,5 +1,5 @@
 -- The digits that words of a text begin with.
-use Rattle.std.proofs.Common.{◌≡◌, ℕ, zero, suc, ◌+◌, ◌-◌, ◌*◌, ◌/◌, ◌%◌, ◌^◌, ◌<◌, ◌≤◌, List, [], ◌∷◌, ◌++◌, length, get_or, take, drop, replicate, sym, ap, ◌∙◌, refl, subst, arith, bit_or}
+use Rattle.std.proofs.Common.{◌⊎◌, inl, inr, ◌≡◌, ℕ, zero, suc, ◌+◌, ◌-◌, ◌*◌, ◌/◌, ◌%◌, ◌^◌, ◌<◌, ◌≤◌, List, [], ◌∷◌, ◌++◌, length, get_or, take, drop, replicate, sym, ap, ◌∙◌, refl, subst, arith, bit_or}
 use Rattle.std.specs.Prelude.{slice_range, IsNone, ℤ, Bool}
 use Rattle.std.proofs.Math.Nat.{div-div-eq-div-mul, pow-suc, pow-zero}
 use Rattle.std.proofs.Math.Seq.{take-add, take-length}
@@ -199,10 +199,17 @@ joined j count a b digits within w v =
     ∙ ap (λ n. n * 10 ^ count + word_value 10 (take count (slice_range digits j (length digits)))) (sym first_worth) ∙ ap (λ n. a * 10 ^ count + n) (sym last_worth) in
     writes_text (take (j + count) digits) (a * 10 ^ count + b) (subst (λ (bs : List ℕ). AreDigits 10 bs) (sym parts) (digits_joined 10 (take j digits) (take count (slice_range digits j (length digits))) first last)) (sym value ∙ ap (word_value 10) (sym parts))
 
+-- where eight digits stand behind eight bytes there are sixteen
+pub sixteen_at_least : (digits : List ℕ) (b : ℕ) → WritesFirst (slice_range digits 8 (length digits)) b 8 → 16 ≤ length digits
+sixteen_at_least digits b v =
+    let size : length (slice_range digits 8 (length digits)) ≡ length digits - 8 = ap length (rest_is digits 8) ∙ length-drop 8 digits in
+    let more = v.within in
+    omega arith
+
 -- a front of such digits
-pub joined_begin : (t : IntegerType) (negative : Bool) (digits : List ℕ) (value : ℤ) (j count a b : ℕ) → 1 ≤ j → j ≤ length digits → WritesDecimal 0 (take j digits) a → WritesFirst (slice_range digits j (length digits)) b count → count < 8 →
+pub joined_begin : (t : IntegerType) (negative : Bool) (digits : List ℕ) (value : ℤ) (j count a b : ℕ) → 1 ≤ j → j ≤ length digits → WritesDecimal 0 (take j digits) a → WritesFirst (slice_range digits j (length digits)) b count → (count < 8) ⊎ (j + count ≡ length digits) →
     value ≡ with_sign negative (a * 10 ^ count + b) → IsNumber t value → BeginsWith standard t negative digits value (j + count)
-joined_begin t negative digits value j count a b some within w v few worth fits =
+joined_begin t negative digits value j count a b some within w v all worth fits =
     let size : length (slice_range digits j (length digits)) ≡ length digits - j = ap length (rest_is digits j) ∙ length-drop j digits in
     let more = v.within in
     record {
@@ -210,7 +217,7 @@ joined_begin t negative digits value j count a b some within w v few worth fits 
       within = omega arith;
       stops = λ less.
           let byte : get_or (slice_range digits j (length digits)) count 0 ≡ get_or digits (j + count) 0 = ap (λ (bs : List ℕ). get_or bs count 0) (rest_is digits j) ∙ get_or-drop j digits count 0 in
-          subst (λ n. IsNone (digit n 10)) byte (v.stops few (omega arith));
+          subst (λ n. IsNone (digit n 10)) byte (v.stops (elim all [ inl few ↦ few | inr over ↦ absurd (omega arith) ]) (omega arith));
       rule = refl;
       stands = stands t negative (take (j + count) digits) (a * 10 ^ count + b) value (joined j count a b digits within w v) worth fits;
     }

@@ -106,48 +106,6 @@ pub(super) fn number_behind(text: &[u8], at: usize) -> (u32, usize)
     front_in_word(&text[at..], next_word(text, at))
 }
 
-// How many of the first twenty-four bytes of a text seem to be digits, where eight do at least: a guess by its words.
-#[inline(always)]
-fn words_ahead(text: &[u8]) -> usize {
-    if text.len() < 12 {
-        return 0;
-    }
-    let second = digits_ahead(first_word(&text[8..])) as usize;
-    if second < 8 || text.len() < 20 {
-        return 8 + second;
-    }
-    16 + digits_ahead(first_word(&text[16..])) as usize
-}
-
-// How many digits a text begins with. Bytes that the guess takes for digits are not looked at.
-#[inline(always)]
-pub(super) fn count_of_digits(text: &[u8]) -> usize
-    ensures within { result ≤ length text.now }
-    ensures stops { result < length text.now
-        → 10 ≤ (get_or text.now result 0 + 208) % 256 }
-{
-    let guess = words_ahead(text);
-    if guess > text.len() {
-        return text.len();
-    }
-    guess + digits_at_front(&text[guess..])
-}
-
-// How many digits a text begins with, byte by byte.
-#[inline(always)]
-fn digits_at_front(text: &[u8]) -> usize
-    ensures within { result ≤ length text.now }
-    ensures stops { result < length text.now
-        → 10 ≤ (get_or text.now result 0 + 208) % 256 }
-{
-    for (place, byte) in text.iter().enumerate() {
-        if byte.wrapping_sub(b'0') >= 10 {
-            return place;
-        }
-    }
-    text.len()
-}
-
 // The value of one digit and more, behind a minus where that is negative.
 #[inline(always)]
 pub(in crate::algorithm) fn value_of_digits<T: Integer>(digits: &[u8], negative: bool) -> Option<T>

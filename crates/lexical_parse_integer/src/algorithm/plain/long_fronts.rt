@@ -5,20 +5,30 @@ ghost use Rattle.lexical_util.specs.Number.{IsNumber};
 ghost use Rattle.lexical_parse_integer.specs.Plain.{BeginsWith, WritesFirst};
 ghost use Rattle.lexical_parse_integer.specs.Value.{with_sign};
 
-use crate::algorithm::plain::fronts::{count_of_digits, number_behind, value_of_digits};
+use crate::algorithm::plain::fronts::number_behind;
 use crate::algorithm::plain::values::{joined, value_if_fits, value_of_two, value_to_8};
 use lexical_util::num::Integer;
 
 // 1, 10, 100 and so on.
-static POWERS_OF_TEN: [u32; 8] = [1, 10, 100, 1_000, 10_000, 100_000, 1_000_000, 10_000_000];
+static POWERS_OF_TEN: [u32; 9] = [
+    1,
+    10,
+    100,
+    1_000,
+    10_000,
+    100_000,
+    1_000_000,
+    10_000_000,
+    100_000_000,
+];
 
 // Ten to a small power.
 #[inline(always)]
 fn power_of_ten(count: usize) -> u32
-    requires { count < 8 }
+    requires { count ≤ 8 }
     ensures power { result ≡ 10 ^ count }
     ensures some { 1 ≤ result }
-    ensures small { result < 100000000 }
+    ensures small { result ≤ 100000000 }
 {
     POWERS_OF_TEN[count]
 }
@@ -66,7 +76,31 @@ pub(super) fn front_of_first<T: Integer>(
     }
 }
 
-// The same where the first word is digits.
+// The value of the digits in front that the first two words have, where no digit is behind them.
+#[inline(always)]
+fn front_of_two<T: Integer>(
+    digits: &[u8],
+    first: u32,
+    second: u32,
+    count: usize,
+    negative: bool,
+) -> Option<(T, usize)>
+    requires minus { IsTrue negative → IsTrue T.TYPE.is_signed }
+    requires first { WritesFirst digits.now first 8 }
+    requires second { WritesFirst (slice_range digits.now 8 (length digits.now)) second count }
+    requires first_small { first < 100000000 }
+    requires second_small { second < 100000000 }
+    requires all { (count < 8) ⊎ (8 + count ≡ length digits.now) }
+    ensures { IfSome result
+        (λ found. BeginsWith standard T.TYPE negative digits.now (T.number found.0) found.1) }
+{
+    match value_of_two::<T>(first, second, power_of_ten(count), negative) {
+        Some(value) => Some((value, 8 + count)),
+        None => None,
+    }
+}
+
+// The value of the digits in front where the first word is digits.
 #[inline(always)]
 pub(super) fn front_after_first<T: Integer>(
     digits: &[u8],
@@ -83,16 +117,14 @@ pub(super) fn front_after_first<T: Integer>(
         return front_of_first::<T>(digits, first, 8, negative);
     }
     let (second, count) = number_behind(digits, 8);
-    if count > 7 {
-        return front_after_second::<T>(digits, first, second, negative);
+    if count < 8 {
+        return front_of_two::<T>(digits, first, second, count, negative);
     }
-    match value_of_two::<T>(first, second, power_of_ten(count), negative) {
-        Some(value) => Some((value, 8 + count)),
-        None => None,
-    }
+    front_after_second::<T>(digits, first, second, negative)
 }
 
-// The same where the first two words are digits.
+// The value of the digits in front where the first two words are digits: of up to twenty-three, and none of a type that
+// has no such numbers.
 #[inline(never)]
 fn front_after_second<T: Integer>(
     digits: &[u8],
@@ -108,32 +140,18 @@ fn front_after_second<T: Integer>(
     ensures { IfSome result
         (λ found. BeginsWith standard T.TYPE negative digits.now (T.number found.0) found.1) }
 {
-    if T::BITS <= 32 || digits.len() <= 16 {
-        return loop_front::<T>(digits, negative);
+    if digits.len() == 16 {
+        return front_of_two::<T>(digits, first, second, 8, negative);
+    }
+    if T::BITS <= 32 {
+        return None;
     }
     let (third, count) = number_behind(digits, 16);
-    if count > 7 {
-        return loop_front::<T>(digits, negative);
+    if count == 8 {
+        return None;
     }
     match value_of_three::<T>((first, second, third), power_of_ten(count), negative) {
         Some(value) => Some((value, 16 + count)),
-        None => None,
-    }
-}
-
-// The value of any number of digits in front: for what the words leave.
-#[inline(always)]
-fn loop_front<T: Integer>(digits: &[u8], negative: bool) -> Option<(T, usize)>
-    requires minus { IsTrue negative → IsTrue T.TYPE.is_signed }
-    ensures { IfSome result
-        (λ found. BeginsWith standard T.TYPE negative digits.now (T.number found.0) found.1) }
-{
-    let stop = count_of_digits(digits);
-    if stop == 0 {
-        return None;
-    }
-    match value_of_digits::<T>(&digits[..stop], negative) {
-        Some(value) => Some((value, stop)),
         None => None,
     }
 }
