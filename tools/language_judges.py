@@ -230,7 +230,7 @@ def node(read: str, is_integer: str, before: str = "") -> Interpreter:
 for (const text of require("fs").readFileSync(0, "utf8").split("\\n").slice(0, -1)) {
   let value = null;
   try { value = READ; } catch (fault) { }
-  console.log(IS_INTEGER ? String(value) : "");
+  console.log(IS_INTEGER ? String(BigInt(value)) : "");
 }""".replace("READ", read).replace("IS_INTEGER", is_integer)])
 
 
