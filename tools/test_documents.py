@@ -177,6 +177,19 @@ class OverRepository(unittest.TestCase):
         self.assertIn("```rust\nuse small::other::Other;\n\nlet one = half(3); // 1\n```", guide)
         self.assertIn("```c\nint ten = 10;\n```", guide)
 
+    def test_definitions(self) -> None:
+        write(self.top, {
+            "crates/small/specs/Low.antt": "-- low\nuse Rattle.std.specs.Prelude.{ℕ}\n\na : ℕ\n",
+            "crates/small/specs/High.antt":
+                "pub use Rattle.small.specs.Low.{a}\n-- b\nb = a\n  c\n",
+            "crates/big/specs/Top.antt": "use Rattle.small.specs.High.{b}\n"
+                                         "use Rattle.small.specs.Low.{a}\nd = b\n",
+        })
+        self.assertEqual(
+            documents.block_text(self.top, "crates/big/specs/Top.antt", "what it stands on"),
+            "   1 crates/small/specs/Low.antt\n   2 crates/small/specs/High.antt\n"
+            "   1 crates/big/specs/Top.antt\n   4 lines in 3 files")
+
     def test_old_documents(self) -> None:
         self.assertEqual(self.old(), [CONTRACTS, GUIDE])
         write(self.top, self.documents())
