@@ -169,7 +169,9 @@ def checked(found: dict[str, str], faults: list[str]) -> str:
     old = old_ones(TOP, found)
     faults += [f"{path}: it isn't as the source has it: make docs writes it anew" for path in old]
     files = files_of(TOP)
-    faults += check_pages.faults(found, files, check_pages.code_words(TOP, files))
+    sources = [source.read(os.path.join(TOP, it)) for it in files if it.endswith(".rt")]
+    faults += check_pages.faults(found, files, check_pages.code_words(TOP, files),
+                                 check_pages.clauses_of(sources))
     faults += check_pages.wrong_versions(TOP)
     return f"{len(found)} documents looked at, {len(old)} old; {check_pages.said(found)}"
 

@@ -254,7 +254,8 @@ class OfPages(unittest.TestCase):
     def faults(self, text: str) -> list[str]:
         """What is wrong with a page, but that nobody says how many words its neighbour may have."""
         pages = {"README.md": text, GUIDE: FILES[GUIDE]}
-        found = check_pages.faults(pages, [*FILES, "README.md"], {"half_of"})
+        clauses = check_pages.clauses_of(["fn half_of(x: u8)\n    ensures low { a }\n{ x }\n"])
+        found = check_pages.faults(pages, [*FILES, "README.md"], {"half_of"}, clauses)
         return [it for it in found if not it.startswith(f"{GUIDE}: say in")]
 
     def test_a_good_page(self) -> None:
@@ -262,7 +263,7 @@ class OfPages(unittest.TestCase):
 
     def test_wrong_pages(self) -> None:
         wrong = ["[a](docs/GONE.md)", "[a](docs/GUIDE.md#gone)", "[a](#gone)", "`src/gone.rt`",
-                 "`make src/gone.rt`", "`gone/`", "`half_of` and `third_of`",
+                 "`make src/gone.rt`", "`gone/`", "`half_of` and `third_of`", "`half_of: low` and `half_of: high`",
                  "word " * check_pages.BUDGETS["README.md"]]
         for text in wrong:
             self.assertEqual(len(self.faults(GOOD_PAGE + text)), 1, text[:40])
