@@ -37,7 +37,7 @@ PROGRAM = os.path.join(TOP, "crates", "lexint", "out", "lexint")
 class Language:
     """A language, what of it is asked, and of what its texts are made: separators, ends, and signs
     that belong to it. Texts that fit `unasked` aren't asked, nor those with more digits of radix 16
-    than `longest`: some judges print 31 bits alone. The program reads a type of `bits`."""
+    than `longest`: some judges print 31 bits alone. The widest type of the judges has `bits`."""
 
     name: str
     judges: dict[str, Judge]
@@ -50,11 +50,12 @@ class Language:
 
 
 GCC = c_compiler(["gcc", "-std=c17", "-fmax-errors=0"])
-CLANG = c_compiler(["clang", "-std=c17", "-ferror-limit=0"])
+CLANG = c_compiler(["clang", "-std=c17", "-w", "-ferror-limit=0"])
 C23 = {"gcc -std=c2x": c_compiler(["gcc", "-std=c2x", "-fmax-errors=0"]),
-       "clang -std=c2x": c_compiler(["clang", "-std=c2x", "-ferror-limit=0"])}
+       "clang -std=c2x": c_compiler(["clang", "-std=c2x", "-w", "-ferror-limit=0"])}
 CPP14 = {"g++ -std=c++14": c_compiler(["g++", "-std=c++14", "-fmax-errors=0"], "x.cpp"),
-         "clang++ -std=c++14": c_compiler(["clang++", "-std=c++14", "-ferror-limit=0"], "x.cpp")}
+         "clang++ -std=c++14":
+             c_compiler(["clang++", "-std=c++14", "-w", "-ferror-limit=0"], "x.cpp")}
 ASKED = [
     Language("c", {"gcc -std=c17": GCC, "clang -std=c17": CLANG}, "_", "u L ul", bits=64),
     Language("c_decimal", {"gcc -std=c17": GCC}, "_", "u L ul", bits=64),
@@ -74,7 +75,7 @@ ASKED = [
     Language("haskell", {"ghci": judges.GHCI}, "_", "e e1"),
     Language("python", {"python3": judges.PYTHON}, "_", "l L j"),
     Language("ruby", {"ruby": judges.RUBY}, "_", "r i d", "+-"),
-    Language("javascript", {"node": judges.NODE}, "_", "n N e e1"),
+    Language("javascript", {"node": judges.NODE}, "_", "n N e e1 . .0"),
     Language("ocaml", {"ocaml": judges.OCAML}, "_", "l L n u", "-"),
     Language("json", {"Python's json": judges.PYTHON_JSON}, "_", "e e1 . .0", "+-"),
     Language("json5", {"node's json5": judges.JSON5}, "_", "e e1 . .0", "+-"),
@@ -132,11 +133,11 @@ def literals(rng: random.Random, language: Language, count: int) -> list[str]:
 
 # ---- the program
 
-def ours(group: Group, texts: list[str], type_name: str) -> Answers:
+def ours(group: Group, texts: list[str], is_signed: bool) -> Answers:
     """What the program answers under the fields of a language."""
     fields = group.fields or ()
     lines = [f"f {name} {program_value(name, value)}" for name, value in fields]
-    lines += [f"c {type_name} {text}" for text in texts]
+    lines += [f"c {'i' if is_signed else 'u'}128 {text}" for text in texts]
     source = "\n".join(lines) + "\n"
     ran = subprocess.run([PROGRAM], input=source, capture_output=True, text=True, check=True)
     answers = ran.stdout.split("\n")[:-1]
@@ -160,9 +161,10 @@ def number_of(answer: str) -> int | None:
 
 # ---- comparing
 
-def kind_of(our: int | None, their: int | None) -> str | None:
-    """In what two answers differ, by the words of tools/languages.txt."""
-    if our == their:
+def kind_of(our: int | None, their: int | None, bits: int) -> str | None:
+    """In what two answers differ, by the words of tools/languages.txt. What no type of the language
+    has may be refused there: the type is the caller's."""
+    if our == their or (their is None and our is not None and our.bit_length() > bits):
         return None
     return "more" if their is None else "less" if our is None else "otherwise"
 
@@ -175,15 +177,14 @@ def is_told(group: Group, kind: str, text: str) -> bool:
 def compared(language: Language, group: Group, name: str, texts: list[str]) -> int:
     """Prints where a judge and the program differ, and counts what FORMATS.md doesn't tell."""
     judge = language.judges[name]
-    type_name = f"{'i' if language.signs else 'u'}{language.bits}"
-    our, their = ours(group, texts, type_name), judge.ask(texts)
+    our, their = ours(group, texts, bool(language.signs)), judge.ask(texts)
     counts: collections.Counter[str] = collections.Counter()
     untold = []
     for text in texts:
-        kind = kind_of(our[text], their[text])
+        kind = kind_of(our[text], their[text], language.bits)
         if kind and not is_told(group, kind, text):
             their |= judge.ask([text])  # a fault of a neighbour may have taken it along
-            kind = kind_of(our[text], their[text])
+            kind = kind_of(our[text], their[text], language.bits)
         if kind and not is_told(group, kind, text):
             untold.append(f"  {text}: here {our[text]}, there {their[text]}")
         elif kind:

@@ -99,7 +99,7 @@ def c_compiler(command: list[str], file: str = "x.c") -> Compiler:
     # (a quote that nothing closes reaches to the end of its line)
     return Compiler(file, "#include <stdio.h>\nint main(void) {\n",
                     'printf("%d %llu\\n", {at}, 0ull | ({text}\n));', "}\n",
-                    [*command, "-w", "-pedantic-errors", file, "-o", "x"], ["./x"])
+                    [*command, "-pedantic-errors", file, "-o", "x"], ["./x"])
 
 
 RUSTC = Compiler(
