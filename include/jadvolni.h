@@ -131,7 +131,7 @@ typedef enum jadvolni_status {
     JADVOLNI_INVALID_LITERAL_PREFIXES = 13,
 
     /* A reserved byte of the format isn't 0: it was written for a later version of the library, or
-     * it was never set. */
+     * it was never set. It comes before the rules of formats. */
     JADVOLNI_UNKNOWN_FIELD = 64
 } jadvolni_status;
 
@@ -213,8 +213,9 @@ typedef struct jadvolni_format {
      * radix of a text without one of them. */
     uint8_t literal_prefixes;
 
-    /* Flag: a zero before another digit, or before the separator, makes the number octal: "0777" is
-     * 511, and "08" ends after its zero. `mantissa_radix` has to be 10. */
+    /* Flag: a number is octal if its first byte, behind a sign, is 0: "0777" is 511, and "08" ends
+     * after its zero. "1007" and "_017" are decimal, and a prefix comes first. `mantissa_radix` has
+     * to be 10. */
     uint8_t literal_octal_zero;
 
     /* Flag: the separator is the byte 0, where `digit_separator` is 0. */
@@ -253,7 +254,8 @@ static inline jadvolni_format jadvolni_format_of_radix(int radix)
 #define JADVOLNI_FORMAT_LITERAL \
     {10, '_', 0, 0, 0, 0, 0, 1, 0, 0, 0, 0, 1, 0, 1, 0, 1, 0, 0, 0, 0, {0, 0, 0}}
 
-/* JADVOLNI_OK where the format breaks no rule, and else the status of the first that it breaks. */
+/* JADVOLNI_UNKNOWN_FIELD where a reserved byte isn't 0; else JADVOLNI_OK where the format breaks no
+ * rule, and the status of the first that it breaks. */
 uint32_t jadvolni_format_error(const jadvolni_format *format);
 
 /* ---- numbers of 128 bits ---- */

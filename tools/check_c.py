@@ -26,6 +26,7 @@ from typing import Callable, Dict, Iterable, Iterator, List
 sys.dont_write_bytecode = True
 
 import check_examples  # noqa: E402
+from c_calls import DECLARED  # noqa: E402
 from callers import (C_COMPILERS, CXX17, CXX_COMPILERS, OPTIMISED, SANITIZED, TOP,  # noqa: E402
                      Failed, Place, Skipped, Step, build, needs, needs_shared, run, source, text_of)
 
@@ -34,6 +35,11 @@ INSTALLED = ["PREFIX=/usr", f"LIBDIR={LIBDIR}"]
 BUILT = ["-o", "build/libjadvolni.a", "-o", "build/libjadvolni.so"]
 TYPES = [f"{sign}{size}" for sign in "ui" for size in ("8", "16", "32", "64", "128", "size")]
 FORMS = ["", "_partial", "_with_format", "_partial_with_format"]
+# The structs of the header, by their names in the crate and in jadvolni-sys.
+STRUCTS = {"result": ("Outcome", "Outcome"), "format": ("FormatFields", "Format"),
+           "uint128": ("Unsigned128", "Unsigned128"), "int128": ("Signed128", "Signed128")}
+OF_RUST = {"uint8_t": "u8", "uint32_t": "u32", "uint64_t": "u64", "int64_t": "i64",
+           "size_t": "usize"}
 CALLS = sorted(["jadvolni_version", "jadvolni_format_error"]
                + [f"jadvolni_{name}{form}" for name, form in product(TYPES, FORMS)]
                + [f"jadvolni_{kind}{bits}_column" for kind, bits in product("ui", (8, 16, 32, 64))])
@@ -94,6 +100,37 @@ def worked_rows(place: Place) -> str:
     needs_shared(place)
     rows = [sys.executable, source("tools", "c_calls.py"), place.library("libjadvolni.so")]
     return run(rows).strip()
+
+
+# ---- layout
+
+def fields_of_c(name: str) -> List[str]:
+    """The fields of a struct of the header, in their order, as Rust writes them."""
+    body = DECLARED.split(f"typedef struct jadvolni_{name} {{")[1].split("}")[0]
+    fields = re.findall(r"(\w+) (\w+)(?:\[(\d+)\])?;", body)
+    return [f"{field}: [{OF_RUST[kind]}; {count}]" if count else f"{field}: {OF_RUST[kind]}"
+            for kind, field, count in fields]
+
+
+def fields_of_rust(text: str, name: str) -> List[str]:
+    """The fields of a struct that keeps its order, and none of another."""
+    head = r"#\[repr\(C\)\]\n#\[derive[^\n]*\npub struct "
+    found = re.search(head + name + r" {\n(.*?)\n}", text, re.S)
+    return re.findall(r"(?m)^    pub (.*),$", found[1]) if found else []
+
+
+def layout() -> str:
+    """The header, the crate and jadvolni-sys have the same fields in the same order."""
+    crate = "".join(text_of("crates", "jadvolni", "src", f"{name}.rt")
+                    for name in ("outcome", "format", "halves"))
+    bound = text_of("bindings", "rust", "jadvolni-sys", "src", "lib.rs")
+    for name, (of_crate, of_bound) in STRUCTS.items():
+        wanted = fields_of_c(name)
+        for text, other in ((crate, of_crate), (bound, of_bound)):
+            found = fields_of_rust(text, other)
+            if found != wanted or not found:
+                raise Failed(f"{other} has {found}, and jadvolni_{name} {wanted}")
+    return f"{len(STRUCTS)} structs"
 
 
 # ---- callers that count their own checks
@@ -283,6 +320,7 @@ def python(place: Place) -> str:
 def steps(place: Place) -> Iterator[Step]:
     """The steps, in their order."""
     example = partial(by_pkg_config, place)
+    yield "layout of header and crates", layout
     yield "what the static library is", partial(static_library, place)
     yield "what the shared library is", partial(shared_library, place)
     yield "flags of a distribution", partial(flags_of_a_distribution, place)

@@ -36,7 +36,8 @@ PROGRAM = os.path.join(TOP, "crates", "lexint", "out", "lexint")
 @dataclass
 class Language:
     """A language, what of it is asked, and of what its texts are made: separators, ends, and signs
-    that belong to it. Texts that fit `unasked` aren't asked."""
+    that belong to it. Texts that fit `unasked` aren't asked, nor those with more digits of radix 16
+    than `longest`: some judges print 31 bits alone. The widest type of the judges has `bits`."""
 
     name: str
     judges: dict[str, Judge]
@@ -44,34 +45,37 @@ class Language:
     ends: str
     signs: str = ""
     unasked: str = ""
+    longest: int = 24
+    bits: int = 128
 
 
 GCC = c_compiler(["gcc", "-std=c17", "-fmax-errors=0"])
-CLANG = c_compiler(["clang", "-std=c17", "-ferror-limit=0"])
+CLANG = c_compiler(["clang", "-std=c17", "-w", "-ferror-limit=0"])
 C23 = {"gcc -std=c2x": c_compiler(["gcc", "-std=c2x", "-fmax-errors=0"]),
-       "clang -std=c2x": c_compiler(["clang", "-std=c2x", "-ferror-limit=0"])}
+       "clang -std=c2x": c_compiler(["clang", "-std=c2x", "-w", "-ferror-limit=0"])}
 CPP14 = {"g++ -std=c++14": c_compiler(["g++", "-std=c++14", "-fmax-errors=0"], "x.cpp"),
-         "clang++ -std=c++14": c_compiler(["clang++", "-std=c++14", "-ferror-limit=0"], "x.cpp")}
+         "clang++ -std=c++14":
+             c_compiler(["clang++", "-std=c++14", "-w", "-ferror-limit=0"], "x.cpp")}
 ASKED = [
-    Language("c", {"gcc -std=c17": GCC, "clang -std=c17": CLANG}, "_", "u L ul"),
-    Language("c_decimal", {"gcc -std=c17": GCC}, "_", "u L ul"),
-    Language("c_octal", {"gcc -std=c17": GCC}, "_", "u L ul"),
-    Language("c_hexadecimal", {"gcc -std=c17": GCC}, "_", "u L ul"),
-    Language("c23", {**C23}, "'''_", "u L ul"),
-    Language("cpp14", {**CPP14}, "'''_", "u L ul"),
+    Language("c", {"gcc -std=c17": GCC, "clang -std=c17": CLANG}, "_", "u L ul", bits=64),
+    Language("c_decimal", {"gcc -std=c17": GCC}, "_", "u L ul", bits=64),
+    Language("c_octal", {"gcc -std=c17": GCC}, "_", "u L ul", bits=64),
+    Language("c_hexadecimal", {"gcc -std=c17": GCC}, "_", "u L ul", bits=64),
+    Language("c23", {**C23}, "'''_", "u L ul", bits=64),
+    Language("cpp14", {**CPP14}, "'''_", "u L ul", bits=64),
     # (mcs takes `_` among decimal digits for something else: 067_4 is 6744 to it)
-    Language("csharp", {"mcs": judges.MCS}, "_", "u L ul f", unasked="[0-9]+_.*"),
-    Language("java", {"javac": judges.JAVAC}, "_", "l L u f"),
-    Language("kotlin", {"kotlinc": judges.KOTLINC}, "_", "l L u f"),
+    Language("csharp", {"mcs": judges.MCS}, "_", "u L ul f", unasked="[0-9]+_.*", bits=64),
+    Language("java", {"javac": judges.JAVAC}, "_", "l L u f", longest=8),
+    Language("kotlin", {"kotlinc": judges.KOTLINC}, "_", "l L u f", longest=8),
     Language("rust", {"rustc": judges.RUSTC}, "_", "u8 u128 i64 f32"),
-    Language("go", {"go": judges.GO}, "_", "u i"),
-    Language("ada", {"gnatmake": judges.GNAT}, "_", "E E1 #"),
-    Language("vhdl", {"ghdl": judges.GHDL}, "_", "E E1 #"),
-    Language("assembler_hexadecimal", {"nasm": judges.NASM}, "_", "h h h H b d"),
+    Language("go", {"go": judges.GO}, "_", "u i", bits=64),
+    Language("ada", {"gnatmake": judges.GNAT}, "_", "E E1 #", longest=8),
+    Language("vhdl", {"ghdl": judges.GHDL}, "_", "E E1 #", longest=8),
+    Language("assembler_hexadecimal", {"nasm": judges.NASM}, "_", "h h h H b d", longest=8),
     Language("haskell", {"ghci": judges.GHCI}, "_", "e e1"),
     Language("python", {"python3": judges.PYTHON}, "_", "l L j"),
     Language("ruby", {"ruby": judges.RUBY}, "_", "r i d", "+-"),
-    Language("javascript", {"node": judges.NODE}, "_", "n N e e1"),
+    Language("javascript", {"node": judges.NODE}, "_", "n N e e1 . .0"),
     Language("ocaml", {"ocaml": judges.OCAML}, "_", "l L n u", "-"),
     Language("json", {"Python's json": judges.PYTHON_JSON}, "_", "e e1 . .0", "+-"),
     Language("json5", {"node's json5": judges.JSON5}, "_", "e e1 . .0", "+-"),
@@ -93,7 +97,8 @@ DIGITS = {"x": "0123456789abcdefABCDEF", "o": "01234567", "b": "01"}
 def digits(rng: random.Random, prefix: str, separator: str) -> str:
     """Some digits that mostly go with a prefix, with separators at any place."""
     alphabet = DIGITS.get(prefix[1:].lower(), "0123456789")
-    found = "".join(rng.choice(alphabet) for _ in range(rng.choice([0, 1, 1, 2, 2, 3, 4, 6])))
+    count = rng.choice([0, 1, 1, 2, 2, 3, 4, 6, 8, 16, 20, 24])
+    found = "".join(rng.choice(alphabet) for _ in range(count))
     for _ in range(rng.choice([0, 0, 0, 1, 1, 2, 3])):
         at = rng.randint(0, len(found))
         found = found[:at] + separator + found[at:]
@@ -116,12 +121,12 @@ def literal(rng: random.Random, language: Language) -> str:
 
 
 def literals(rng: random.Random, language: Language, count: int) -> list[str]:
-    """Distinct texts, each small enough for 31 bits, and none a character between quotes."""
+    """Distinct texts, none too long, and none a character between quotes."""
     found: dict[str, None] = {}
     while len(found) < count:
         text = literal(rng, language)
         is_asked = re.fullmatch(r"[uL]?'.*'|" + language.unasked, text) is None
-        if text and is_asked and len(re.findall(r"[0-9a-fA-F]", text)) <= 8:
+        if text and is_asked and len(re.findall(r"[0-9a-fA-F]", text)) <= language.longest:
             found[text] = None
     return list(found)
 
@@ -132,7 +137,7 @@ def ours(group: Group, texts: list[str], is_signed: bool) -> Answers:
     """What the program answers under the fields of a language."""
     fields = group.fields or ()
     lines = [f"f {name} {program_value(name, value)}" for name, value in fields]
-    lines += [f"c {'i' if is_signed else 'u'}64 {text}" for text in texts]
+    lines += [f"c {'i' if is_signed else 'u'}128 {text}" for text in texts]
     source = "\n".join(lines) + "\n"
     ran = subprocess.run([PROGRAM], input=source, capture_output=True, text=True, check=True)
     answers = ran.stdout.split("\n")[:-1]
@@ -156,9 +161,10 @@ def number_of(answer: str) -> int | None:
 
 # ---- comparing
 
-def kind_of(our: int | None, their: int | None) -> str | None:
-    """In what two answers differ, by the words of tools/languages.txt."""
-    if our == their:
+def kind_of(our: int | None, their: int | None, bits: int) -> str | None:
+    """In what two answers differ, by the words of tools/languages.txt. What no type of the language
+    has may be refused there: the type is the caller's."""
+    if our == their or (their is None and our is not None and our.bit_length() > bits):
         return None
     return "more" if their is None else "less" if our is None else "otherwise"
 
@@ -175,10 +181,10 @@ def compared(language: Language, group: Group, name: str, texts: list[str]) -> i
     counts: collections.Counter[str] = collections.Counter()
     untold = []
     for text in texts:
-        kind = kind_of(our[text], their[text])
+        kind = kind_of(our[text], their[text], language.bits)
         if kind and not is_told(group, kind, text):
             their |= judge.ask([text])  # a fault of a neighbour may have taken it along
-            kind = kind_of(our[text], their[text])
+            kind = kind_of(our[text], their[text], language.bits)
         if kind and not is_told(group, kind, text):
             untold.append(f"  {text}: here {our[text]}, there {their[text]}")
         elif kind:

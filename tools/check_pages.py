@@ -7,6 +7,7 @@
 - A name in backquotes that looks like a function has to stand in the code, and not in the comment
   at a line's end alone. What the Rust crate has, and this repository lacks, is in LACKING. `T`
   stands for the name of a type.
+- A `call: clause` in backquotes has to name a clause of a function.
 - A run of the program over what `printf` gives it has to answer as the slow reading of the grammar
   does.
 - A figure in a list of README has to stand on the page that its line links to.
@@ -21,14 +22,16 @@ import fnmatch
 import os
 import posixpath
 import re
+from typing import Iterable
 
 import slow_reading
+import source
 
 MOST_WORDS = 10000
 BUDGETS = {
     "README.md": 720, "CONTRIBUTING.md": 820, "CHANGELOG.md": 300, "docs/ARCHITECTURE.md": 1100,
     "docs/DECISIONS.md": 2000, "docs/DIFFERENCES.md": 1200, "docs/GRAMMAR.md": 2000,
-    "docs/PROOFS.md": 1420, "docs/SPEED.md": 500,
+    "docs/PROOFS.md": 1530, "docs/SPEED.md": 500,
 }
 # The pages that a tool writes whole. A further page of docs/ has to be in one of the two lists.
 WRITTEN = ("docs/CONTRACTS.md", "docs/FORMATS.md")
@@ -59,6 +62,7 @@ FILE = re.compile(r"(?:[\w.*-]+/)*[\w*-][\w.*-]*\."
                   r"(?:md|rt|antt|py|sh|txt|mk|edit|c|h|hpp|cpp|rs|toml|json|tsv|svg|in|a|so|log)")
 FOLDER = re.compile(r"(?:[\w.*-]+/)+")
 FIGURE = re.compile(r"(?<![\w.,-])\d+(?:[.,]\d+)*")
+CLAUSE = re.compile(r"(?:\w+::)*([a-z]\w*): (\w+)")
 # Several words, or a module or a type before the name, or brackets behind it.
 FUNCTION = re.compile(r"(?=\w+_|.*\W)(?:\w+::)*\w+(?:\(\))?")
 
@@ -149,6 +153,19 @@ def wrong_functions(page: str, text: str, words: set[str]) -> list[str]:
             for name in names if name not in LACKING and not has_parts(name, words)]
 
 
+def clauses_of(sources: Iterable[str]) -> set[tuple[str, str]]:
+    """The clauses of these source files that have a name, each behind its function's."""
+    return {(it.name, clause) for text in sources for it in source.functions_of("src/lib.rt", text)
+            for clause in re.findall(r"\b(?:requires|ensures) (\w+) \{", text[it.head:it.body])}
+
+
+def wrong_clauses(page: str, text: str, clauses: set[tuple[str, str]]) -> list[str]:
+    """The names of a page that look like clauses, and that no contract has."""
+    found = filter(None, map(CLAUSE.fullmatch, CODE.findall(prose_of(text))))
+    return [f"{page}: no contract has `{it[0]}`"
+            for it in found if it[0] != "call: clause" and it.groups() not in clauses]
+
+
 def wrong_runs(page: str, text: str) -> list[str]:
     """The runs of the program that the slow reading answers in another way."""
     found = []
@@ -205,15 +222,17 @@ def counts_of(pages: dict[str, str]) -> dict[str, int]:
     return {page: words_of(text) for page, text in sorted(pages.items()) if page not in WRITTEN}
 
 
-def faults(pages: dict[str, str], names: list[str], words: set[str]) -> list[str]:
-    """What is wrong with the pages, among the files of the repository and the words of its code."""
+def faults(pages: dict[str, str], names: list[str], words: set[str],
+           clauses: set[tuple[str, str]]) -> list[str]:
+    """What is wrong with the pages, among the files of the repository, the words of its code and
+    the clauses of its contracts."""
     files = {*(name.replace(os.sep, "/") for name in names), *pages}
     found = []
     for page, text in sorted(pages.items()):
         found += wrong_links(page, text, pages, files)
         if page not in WRITTEN:
             found += wrong_names(page, text, files) + wrong_functions(page, text, words)
-            found += wrong_runs(page, text)
+            found += wrong_clauses(page, text, clauses) + wrong_runs(page, text)
     found += wrong_figures(pages.get("README.md", ""), pages)
     return found + too_long(counts_of(pages))
 

@@ -15,7 +15,8 @@ of it:
 Functions are taken whole, with their doc comments. `all` takes the file's text from its first
 `ghost use` or `use` to its first test; `body of NAME` what stands between a function's braces, up
 to its first assertion; `imports and body of NAME` the file's `use` lines too; and `whole` the
-file's text after the comment that it begins with. With `as CRATE` at the end, `crate::` is that
+file's text after the comment that it begins with. `what it stands on` lists a file of definitions
+behind those that it imports, in reading order. With `as CRATE` at the end, `crate::` is that
 crate's name, as a caller elsewhere writes it.
 """
 from __future__ import annotations
@@ -34,6 +35,8 @@ TOP = os.path.dirname(os.path.dirname(os.path.abspath(__file__)))
 BLOCK = re.compile(
     r"(?m)^(<!-- block: (?P<file>[^:\n]+): (?P<what>[^\n]*?)(?: as (?P<crate>\w+))? -->\n"
     r"```\w+\n)(?s:.*?)^```$")
+IMPORTED = re.compile(r"(?m)^(?:pub )?use Rattle\.(\w+)\.specs\.([\w.]+)\.\{")
+CODE_LINE = re.compile(r"(?m)^(?!\s*--|(?:pub )?use |\s*$).+")
 
 
 class Unfit(Exception):
@@ -88,6 +91,24 @@ def body_text(file: str, text: str, name: str) -> str:
     return contracts_page.undented(body.strip("\n"))
 
 
+def definitions_below(top: str, file: str) -> list[str]:
+    """The files of definitions that this one imports, directly or not, and then itself."""
+    found: list[str] = []
+    for crate, path in IMPORTED.findall(source.read(os.path.join(top, file))):
+        below = f"crates/{crate}/specs/{path.replace('.', '/')}.antt"
+        if os.path.isfile(os.path.join(top, below)):  # (std and what is declared have none)
+            found += [it for it in definitions_below(top, below) if it not in found]
+    return [*found, file]
+
+
+def list_of_definitions(top: str, file: str) -> str:
+    """These files with their lines, but for imports, comments and empty ones."""
+    counts = {it: len(CODE_LINE.findall(source.read(os.path.join(top, it))))
+              for it in definitions_below(top, file)}
+    lines = [f"{count:4} {it}" for it, count in counts.items()]
+    return "\n".join([*lines, f"{sum(counts.values()):4} lines in {len(counts)} files"])
+
+
 def block_text(top: str, file: str, what: str) -> str:
     """The code that a marker stands for."""
     path = os.path.join(top, file)
@@ -96,6 +117,8 @@ def block_text(top: str, file: str, what: str) -> str:
     text = source.read(path)
     if what == "whole":
         return re.sub(r"\A(?:/\*(?s:.*?)\*/\n|(?://[^\n]*\n)+)", "", text).strip("\n")
+    if what == "what it stands on":
+        return list_of_definitions(top, file)
     if what == "all":
         code = re.split(r"(?m)^#\[test\]", text)[0]
         code = re.split(r"(?m)^(?=(?:ghost )?use )", code, maxsplit=1)[-1]
@@ -146,7 +169,9 @@ def checked(found: dict[str, str], faults: list[str]) -> str:
     old = old_ones(TOP, found)
     faults += [f"{path}: it isn't as the source has it: make docs writes it anew" for path in old]
     files = files_of(TOP)
-    faults += check_pages.faults(found, files, check_pages.code_words(TOP, files))
+    sources = [source.read(os.path.join(TOP, it)) for it in files if it.endswith(".rt")]
+    faults += check_pages.faults(found, files, check_pages.code_words(TOP, files),
+                                 check_pages.clauses_of(sources))
     faults += check_pages.wrong_versions(TOP)
     return f"{len(found)} documents looked at, {len(old)} old; {check_pages.said(found)}"
 

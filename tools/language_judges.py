@@ -99,7 +99,7 @@ def c_compiler(command: list[str], file: str = "x.c") -> Compiler:
     # (a quote that nothing closes reaches to the end of its line)
     return Compiler(file, "#include <stdio.h>\nint main(void) {\n",
                     'printf("%d %llu\\n", {at}, 0ull | ({text}\n));', "}\n",
-                    [*command, "-w", "-pedantic-errors", file, "-o", "x"], ["./x"])
+                    [*command, "-pedantic-errors", file, "-o", "x"], ["./x"])
 
 
 RUSTC = Compiler(
@@ -230,7 +230,7 @@ def node(read: str, is_integer: str, before: str = "") -> Interpreter:
 for (const text of require("fs").readFileSync(0, "utf8").split("\\n").slice(0, -1)) {
   let value = null;
   try { value = READ; } catch (fault) { }
-  console.log(IS_INTEGER ? String(value) : "");
+  console.log(IS_INTEGER ? String(BigInt(value)) : "");
 }""".replace("READ", read).replace("IS_INTEGER", is_integer)])
 
 

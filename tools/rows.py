@@ -4,7 +4,8 @@
     python3 tools/rows.py            writes the files
     python3 tools/rows.py --check    writes nothing, and fails where a file is another
 
-Either way each example of docs/GRAMMAR.md has to be one of the rows.
+Either way each example of docs/GRAMMAR.md has to be one of the rows, and each text of
+docs/DIFFERENCES.md that is told to be answered so has to have a row with that answer.
 
 A group of tools/languages.txt is a language: a function of `lexical_formats` makes its format, a
 line of fields says what that format is, and its rows name it. What a user has to know of the
@@ -14,7 +15,9 @@ Each row becomes a theorem, `complete FORMAT TYPE TEXT ≡ ANSWER`, or so of `pa
 with the proof `refl`; a line of fields becomes `LANGUAGE ≡ FORMAT`. The check computes the
 definitions on that text, so it refuses a row and a definition that disagree. tools/run_rows.py
 has the built program answer the rows. The files are crates/rows/proofs/rows/FILE.antt, and
-proofs/rows.antt, which declares them. Needs Python 3.8 and nothing else.
+proofs/rows.antt, which declares them. The texts of the rows under the two ready formats are written
+to src/tests/ready.rt too, for the tests: the program makes no call without a format. Needs Python
+3.8 and nothing else.
 """
 from __future__ import annotations
 
@@ -27,6 +30,7 @@ from row_data import (DATA, LANGUAGES, OF_FORMATS, OF_TEXTS, TOP, TYPES, Answer,
                       Group, Row, escaped, read_data, read_row)
 
 GRAMMAR = os.path.join(TOP, "docs", "GRAMMAR.md")
+DIFFERENCES = os.path.join(TOP, "docs", "DIFFERENCES.md")
 CRATE = os.path.join(TOP, "crates", "rows")
 WRITTEN = "Written by tools/rows.py from tools/{}: make rows writes it anew."
 
@@ -45,6 +49,17 @@ def check_examples(path: str, rows: Iterable[Row]) -> None:
                 sys.exit(f"docs/{os.path.basename(path)}:{number}: {bad}: {line.rstrip()}")
             if answers.get(row.question()) != row.answer:
                 sys.exit(f"docs/{os.path.basename(path)}:{number}: no row of tools/rows.txt")
+
+
+def check_answers(path: str, rows: Iterable[Row]) -> None:
+    """Ends the program where a document says `TEXT` is `ANSWER`, and no row says so."""
+    told = {(row.text, row.answer.name, tuple(row.answer.numbers)) for row in rows}
+    with open(path, encoding="utf-8") as document:
+        found = re.findall(r"`([^`]*)` (?:is|\|) `(\w+)\(+([-\d, ]*)\)+`", document.read())
+    for text, name, numbers in found:
+        if (text.encode(), name, tuple(map(int, numbers.split(", ")))) not in told:
+            page = os.path.basename(path)
+            sys.exit(f"docs/{page}: no row says that `{text}` is {name}({numbers})")
 
 
 # ---- theorems
@@ -165,6 +180,25 @@ def theorems(file: File) -> str:
     return f"{head}{imports}\n{body}"
 
 
+# ---- texts
+
+# the longest text that the tests read
+MOST_BYTES = 120
+
+
+def ready_texts(files: List[File]) -> str:
+    """The texts of the rows under the ready formats, a line each, but those that begin another."""
+    rows = [row for file in files for group in file.groups for row in group.rows]
+    texts = {row.text for row in rows if row.parser != "format" and row.format in ((), "json")
+             and len(row.text) <= MOST_BYTES and row.text.isascii()}
+    lines = [escaped(text + b"0" if text.endswith(b"\r") else text)  # (a line loses that byte)
+             for text in sorted(texts)
+             if not any(it.startswith(text) and it != text for it in texts)]
+    head = f"// The texts of the worked rows under `STANDARD` and `JSON`.\n// {WRITTEN}\n"
+    return (head.format("rows.txt and tools/languages.txt")
+            + 'pub(super) const TEXTS: &str = "' + "\n".join(lines) + '";\n')
+
+
 # ---- the files
 
 def all_files(files: List[File]) -> dict[str, str]:
@@ -175,6 +209,7 @@ def all_files(files: List[File]) -> dict[str, str]:
     head = f"-- Worked rows, a file for each subject.\n-- {written}\n"
     return {
         "proofs/rows.antt": head + declared,
+        "src/tests/ready.rt": ready_texts(files),
         **{f"proofs/rows/{file.name.capitalize()}.antt": theorems(file) for file in files},
     }
 
@@ -192,6 +227,7 @@ def main() -> None:
     files = read_data(DATA) + read_data(LANGUAGES)
     rows = [row for file in files for group in file.groups for row in group.rows]
     check_examples(GRAMMAR, rows)
+    check_answers(DIFFERENCES, rows)
     out = {os.path.join(CRATE, path): text for path, text in all_files(files).items()}
     stale = [path for path, text in out.items() if not is_as_written(path, text)]
     if "--check" in sys.argv[1:]:

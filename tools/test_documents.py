@@ -179,6 +179,19 @@ class OverRepository(unittest.TestCase):
         self.assertIn("```rust\nuse small::other::Other;\n\nlet one = half(3); // 1\n```", guide)
         self.assertIn("```c\nint ten = 10;\n```", guide)
 
+    def test_definitions(self) -> None:
+        write(self.top, {
+            "crates/small/specs/Low.antt": "-- low\nuse Rattle.std.specs.Prelude.{ℕ}\n\na : ℕ\n",
+            "crates/small/specs/High.antt":
+                "pub use Rattle.small.specs.Low.{a}\n-- b\nb = a\n  c\n",
+            "crates/big/specs/Top.antt": "use Rattle.small.specs.High.{b}\n"
+                                         "use Rattle.small.specs.Low.{a}\nd = b\n",
+        })
+        self.assertEqual(
+            documents.block_text(self.top, "crates/big/specs/Top.antt", "what it stands on"),
+            "   1 crates/small/specs/Low.antt\n   2 crates/small/specs/High.antt\n"
+            "   1 crates/big/specs/Top.antt\n   4 lines in 3 files")
+
     def test_old_documents(self) -> None:
         self.assertEqual(self.old(), [CONTRACTS, GUIDE])
         write(self.top, self.documents())
@@ -243,7 +256,8 @@ class OfPages(unittest.TestCase):
     def faults(self, text: str) -> list[str]:
         """What is wrong with a page, but that nobody says how many words its neighbour may have."""
         pages = {"README.md": text, GUIDE: FILES[GUIDE]}
-        found = check_pages.faults(pages, [*FILES, "README.md"], {"half_of"})
+        clauses = check_pages.clauses_of(["fn half_of(x: u8)\n    ensures low { a }\n{ x }\n"])
+        found = check_pages.faults(pages, [*FILES, "README.md"], {"half_of"}, clauses)
         return [it for it in found if not it.startswith(f"{GUIDE}: say in")]
 
     def test_a_good_page(self) -> None:
@@ -252,7 +266,7 @@ class OfPages(unittest.TestCase):
     def test_wrong_pages(self) -> None:
         wrong = ["[a](docs/GONE.md)", "[a](docs/GUIDE.md#gone)", "[a](#gone)", "`src/gone.rt`",
                  "`make src/gone.rt`", "`gone/`", "`half_of` and `third_of`",
-                 "- 7,00 [halves](docs/GUIDE.md)\n",
+                 "- 7,00 [halves](docs/GUIDE.md)\n", "`half_of: low` and `half_of: high`",
                  "word " * check_pages.BUDGETS["README.md"]]
         for text in wrong:
             self.assertEqual(len(self.faults(GOOD_PAGE + text)), 1, text[:40])

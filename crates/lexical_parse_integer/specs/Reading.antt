@@ -20,6 +20,7 @@ view_at format text radix start position digits = record {
   digits = digits;
   closed = false;
   turns = digits;
+  identity = 0;
 }
 
 -- the values of the first fronts, so many, are numbers of the type

@@ -7,5 +7,6 @@ mod formats;
 mod languages;
 mod lengths;
 mod parted;
+mod ready;
 mod slow;
 mod small;

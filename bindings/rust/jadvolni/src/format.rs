@@ -43,7 +43,7 @@ pub struct Format {
     pub integer_prefix_digit_separator: bool,
     /// `0x`, `0o` and `0b` choose the radix for the digits after them.
     pub literal_prefixes: bool,
-    /// A zero before another digit, or before the separator, makes the number octal.
+    /// A number whose first byte, behind a sign, is 0 is octal, unless a prefix begins there.
     pub literal_octal_zero: bool,
 }
 

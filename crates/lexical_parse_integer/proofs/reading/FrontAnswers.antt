@@ -92,7 +92,7 @@ module _ (f : Format) (text : List ℕ) (r start : ℕ) where
   x = numeral_in f text start r
 
   on : (k n m j : ℕ) → IsSound (at m j) → GoesOn (at k n) (at m j)
-  on k n m j s = record { bytes = refl; format = refl; radix = refl; start = refl; closed = refl; sound = folded s }
+  on k n m j s = record { bytes = refl; format = refl; radix = refl; start = refl; identity = refl; closed = refl; sound = folded s }
 
   takes : (k n place d : ℕ) → Finds f r text start k (Digit place d) → TakesDigit (at k n) (at (place + 1) (n + 1)) d
   takes k n place d found = takes_found (at k n) (n + 1) place d refl found

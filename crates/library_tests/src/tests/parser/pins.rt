@@ -1,14 +1,15 @@
 // Callers that pin the words of contracts: each says in plain terms what follows from a word, so that a word that said
 // less would leave its caller without a proof.
-ghost use Rattle.std.specs.Prelude.{◌≡◌, ◌+◌, ◌≤◌, false, IfSome, length, None, Some, take, ℕ};
+ghost use Rattle.std.specs.Prelude.{◌≡◌, ◌+◌, ◌≤◌, false, IfSome, IsNone, length, None, Some, take, ℕ};
 ghost use Rattle.lexical_parse_integer.specs.Runs.{digit_at};
+ghost use Rattle.lexical_util.specs.Validity.{fault};
 
 use crate::tests::answers;
+use lexical_parse_integer::NumberFormat;
 use lexical_parse_integer::algorithm::algorithm_complete_on;
 use lexical_parse_integer::cursor::Cursor;
-use lexical_parse_integer::format::STANDARD;
+use lexical_parse_integer::format::{JSON, STANDARD};
 use lexical_parse_integer::options::LARGE_NUMBERS;
-
 // What a reader passed before its fault: the cursor is still over the text that it was given.
 fn passed_before_fault(text: &[u8]) -> Option<&[u8]>
     ensures { IfSome result
@@ -19,6 +20,16 @@ fn passed_before_fault(text: &[u8]) -> Option<&[u8]>
         Ok(_) => None,
         Err(_) => Some(&text[..c.cursor()]),
     }
+}
+
+// A reader's format: the cursor is still under the one that it was given, whatever the answer was.
+fn format_behind_answer(text: &[u8], format: &NumberFormat) -> NumberFormat
+    requires valid { IsNone (fault format.now) }
+    ensures { result ≡ format.now }
+{
+    let mut c = Cursor::new(text, format);
+    let _answer = algorithm_complete_on::<u16>(&mut c, &LARGE_NUMBERS);
+    c.format()
 }
 
 // At position 0 nothing was read: it answers how many digits were. The radix is the format's, where no octal zero can
@@ -65,6 +76,8 @@ fn words_of_contracts_are_pinned(rt: HostRuntime) {
         Some(b"65536".as_slice()),
     );
     answers(&rt, passed_before_fault(b"7"), None);
+    answers(&rt, format_behind_answer(b"7", &JSON), JSON);
+    answers(&rt, format_behind_answer(b"+7", &JSON), JSON);
     answers(&rt, digits_at_front(&Cursor::new(b"7", &STANDARD)), 0);
     answers(&rt, radix_anywhere(&Cursor::new(b"7", &STANDARD)), 10);
     answers(&rt, first_digit(b"7"), Some((7, 0)));
