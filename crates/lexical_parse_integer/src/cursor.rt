@@ -32,6 +32,7 @@ pub struct Cursor<'a> {
     digits: usize,
     closed: bool,
     turns: Turns,
+    identity: Turns,
 }
 
 impl<'a> Model for Cursor<'a> {
@@ -48,6 +49,7 @@ impl<'a> Model for Cursor<'a> {
       digits = c.digits;
       closed = c.closed;
       turns = c.turns;
+      identity = c.identity;
     } };
 
     ghost invariant = { λ c. IsSound
@@ -60,6 +62,7 @@ impl<'a> Model for Cursor<'a> {
           digits = c.digits;
           closed = c.closed;
           turns = c.turns;
+          identity = c.identity;
         }) };
 }
 
@@ -79,6 +82,7 @@ impl<'a> Cursor<'a> {
           digits = 0;
           closed = false;
           turns = 0;
+          identity = result.identity;
         } }
     {
         Cursor {
@@ -90,6 +94,7 @@ impl<'a> Cursor<'a> {
             digits: 0,
             closed: false,
             turns: Turns::new(),
+            identity: Turns::unknown(),
         }
     }
 
