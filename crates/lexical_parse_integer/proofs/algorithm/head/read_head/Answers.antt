@@ -1,5 +1,6 @@
 use Rattle.std.proofs.lemmas.Result.{err_from_is_err_and}
 use Rattle.std.proofs.Common.{◌≡◌, ◌≤◌, ap, sym, ◌∙◌, arith}
+use Rattle.lexical_parse_integer.specs.Affixes.{prefix_radix}
 use Rattle.lexical_parse_integer.specs.CursorView.{CursorView}
 use Rattle.lexical_parse_integer.proofs.Folds.{fact_of}
 use Rattle.lexical_parse_integer.proofs.reading.ParserAnswers.{is_fresh, over_same, sign_short, stays_bare, head_fault, at_prefix, at_bare, identity_behind, identity_octal}
@@ -55,9 +56,13 @@ returns-in_err-negative-clause-same g c = ap (λ (v : CursorView). v.identity) c
 
 pub returns-then-read_prefix-clause-same : goal.returns-then-read_prefix-clause-same
 returns-then-read_prefix-clause-same g c =
-    identity_behind _ _ _ c.if-read_prefix.ensures.after ∙ ap (λ (v : CursorView). v.identity) c.in_ok-negative.ensures.moved
+    let v = c.parse_sign.new.c in
+    identity_behind v c.read_prefix.new.self (prefix_radix v.format v.bytes v.position) c.if-read_prefix.ensures.after
+    ∙ ap (λ (v : CursorView). v.identity) c.in_ok-negative.ensures.moved
 
 pub returns-clause-same : goal.returns-clause-same
 returns-clause-same g c =
-    identity_octal _ _ _ c.read_octal_zero-is_octal.ensures.after ∙ identity_behind _ _ _ c.if-read_prefix.ensures.after
+    let v = c.parse_sign.new.c in
+    identity_octal c.read_octal_zero-is_octal.result c.read_prefix.new.self c.read_octal_zero-is_octal.new.self c.read_octal_zero-is_octal.ensures.after
+    ∙ identity_behind v c.read_prefix.new.self (prefix_radix v.format v.bytes v.position) c.if-read_prefix.ensures.after
     ∙ ap (λ (v : CursorView). v.identity) c.in_ok-negative.ensures.moved
