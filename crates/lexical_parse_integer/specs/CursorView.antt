@@ -21,6 +21,8 @@ pub record CursorView : Type 0 where
   -- whether the suffix was read
   pub closed : Bool
   pub turns : ℕ
+  -- which cursor it is: of two that were made, nothing says that they have the same
+  pub identity : ℕ
 
 -- the numeral in the cursor's region
 abbrev pub numeral_of : CursorView → Numeral

@@ -41,6 +41,7 @@ pub record GoesOn (old new : CursorView) : Type 0 where
   pub format : new.format ≡ old.format
   pub radix : new.radix ≡ old.radix
   pub start : new.start ≡ old.start
+  pub identity : new.identity ≡ old.identity
   pub closed : new.closed ≡ false
   pub sound : Folded (IsSound new)
 

@@ -43,6 +43,7 @@ pub use words::{is_4digits, is_8digits, parse_4digits, parse_8digits};
 fn read<T: Integer>(c: &mut Cursor<'_>, no_multi_digit: bool) -> Result<T>
     requires { c.old.position ≡ 0 }
     ensures over { Folded (IsOver c.old.bytes c.old.format c.new) }
+    ensures same { c.new.identity ≡ c.old.identity }
     ensures found { IfOk result
         (λ value. Folded (IsRead c.old.format T.TYPE c.old.bytes (T.number value) c.new)) }
     ensures completes { IfErr result (λ e. complete c.old.format T.TYPE c.old.bytes ≡ Err e) }
@@ -94,6 +95,7 @@ pub fn algorithm_complete_on<T: Integer>(c: &mut Cursor<'_>, options: &Options) 
     requires front { c.old.position ≡ 0 }
     ensures answer { view_of T.number result ≡ complete c.old.format T.TYPE c.old.bytes }
     ensures over { IsOver c.old.bytes c.old.format c.new }
+    ensures same { c.new.identity ≡ c.old.identity }
     ensures at_stop { OnOk result (StandsAtStop c.old.format T.TYPE c.old.bytes c.new) }
     ensures each { IsTrue options.now.no_multi_digit → OnOk result (c.new.turns ≡ c.new.digits) }
     ensures few { AsksWords T.BITS options.now.no_multi_digit c.old.format
@@ -120,6 +122,7 @@ pub fn algorithm_partial_on<T: Integer>(c: &mut Cursor<'_>, options: &Options) -
         ≡ partial c.old.format T.TYPE c.old.bytes }
     ensures place { IfOk result (λ found. c.new.position ≡ found.1) }
     ensures over { IsOver c.old.bytes c.old.format c.new }
+    ensures same { c.new.identity ≡ c.old.identity }
     ensures at_stop { OnOk result (StandsAtStop c.old.format T.TYPE c.old.bytes c.new) }
     ensures each { IsTrue options.now.no_multi_digit → OnOk result (c.new.turns ≡ c.new.digits) }
     ensures few { AsksWords T.BITS options.now.no_multi_digit c.old.format

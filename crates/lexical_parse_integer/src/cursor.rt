@@ -6,8 +6,9 @@
 //! where it is wanted.
 //!
 //! Contracts see a cursor as a record: the text, the format, the radix in force, where the numeral's region starts,
-//! the position, how many digits were read, whether the suffix was read, and how many turns that took. A turn is one
-//! digit taken alone, or one word of four or eight digits taken at once; their count takes no byte at run time.
+//! the position, how many digits were read, whether the suffix was read, how many turns that took, and which cursor it
+//! is. A turn is one digit taken alone, or one word of four or eight digits taken at once. Their count and the identity
+//! take no byte at run time.
 ghost use Rattle.std.specs.Prelude.{◌≡◌, ◌+◌, ◌<◌, ◌≤◌, ◌↔◌, ◌⊎◌, IsTrue, IsNone, MatchOption, Some, false, true, if◌then◌else◌, is_some, length, slice_get, slice_range};
 ghost use Rattle.lexical_util.specs.Ascii.{minus, plus};
 ghost use Rattle.lexical_util.specs.Validity.{fault};
@@ -32,6 +33,7 @@ pub struct Cursor<'a> {
     digits: usize,
     closed: bool,
     turns: Turns,
+    identity: Turns,
 }
 
 impl<'a> Model for Cursor<'a> {
@@ -48,6 +50,7 @@ impl<'a> Model for Cursor<'a> {
       digits = c.digits;
       closed = c.closed;
       turns = c.turns;
+      identity = c.identity;
     } };
 
     ghost invariant = { λ c. IsSound
@@ -60,6 +63,7 @@ impl<'a> Model for Cursor<'a> {
           digits = c.digits;
           closed = c.closed;
           turns = c.turns;
+          identity = c.identity;
         }) };
 }
 
@@ -79,6 +83,7 @@ impl<'a> Cursor<'a> {
           digits = 0;
           closed = false;
           turns = 0;
+          identity = result.identity;
         } }
     {
         Cursor {
@@ -90,6 +95,7 @@ impl<'a> Cursor<'a> {
             digits: 0,
             closed: false,
             turns: Turns::new(),
+            identity: Turns::unknown(),
         }
     }
 

@@ -191,6 +191,7 @@ goes_on_word u v next w g s e = record {
   format = ap (λ (z : CursorView). z.format) e ∙ g.format;
   radix = ap (λ (z : CursorView). z.radix) e ∙ g.radix;
   start = ap (λ (z : CursorView). z.start) e ∙ g.start;
+  identity = ap (λ (z : CursorView). z.identity) e ∙ g.identity;
   closed = ap (λ (z : CursorView). z.closed) e ∙ g.closed;
   sound = s;
 }

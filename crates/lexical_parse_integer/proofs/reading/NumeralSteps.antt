@@ -79,7 +79,7 @@ places_count f r text start = length-map (places f r text start) (λ place. unwr
 -- ---- going on
 
 pub goes_on_none : (v : CursorView) → Folded (IsSound v) → v.closed ≡ false → GoesOn v v
-goes_on_none v s open_now = record { bytes = refl; format = refl; radix = refl; start = refl; closed = open_now; sound = s }
+goes_on_none v s open_now = record { bytes = refl; format = refl; radix = refl; start = refl; identity = refl; closed = open_now; sound = s }
 
 pub goes_on_digit : (u v w : CursorView) (value : ℕ) → GoesOn u v → TakesDigit v w value → Folded (IsSound w) → GoesOn u w
 goes_on_digit u v w value g t s =
@@ -88,6 +88,7 @@ goes_on_digit u v w value g t s =
       format = ap (λ (z : CursorView). z.format) t.after ∙ g.format;
       radix = ap (λ (z : CursorView). z.radix) t.after ∙ g.radix;
       start = ap (λ (z : CursorView). z.start) t.after ∙ g.start;
+      identity = ap (λ (z : CursorView). z.identity) t.after ∙ g.identity;
       closed = ap (λ (z : CursorView). z.closed) t.after ∙ g.closed;
       sound = s;
     }
@@ -99,6 +100,7 @@ goes_on_end u v w g t s =
       format = ap (λ (z : CursorView). z.format) t.after ∙ g.format;
       radix = ap (λ (z : CursorView). z.radix) t.after ∙ g.radix;
       start = ap (λ (z : CursorView). z.start) t.after ∙ g.start;
+      identity = ap (λ (z : CursorView). z.identity) t.after ∙ g.identity;
       closed = ap (λ (z : CursorView). z.closed) t.after ∙ g.closed;
       sound = s;
     }
@@ -110,6 +112,7 @@ goes_on_further u v w g h =
       format = h.format ∙ g.format;
       radix = h.radix ∙ g.radix;
       start = h.start ∙ g.start;
+      identity = h.identity ∙ g.identity;
       closed = h.closed;
       sound = h.sound;
     }

@@ -299,9 +299,9 @@ stop_of_numeral : (v : CursorView) → (numeral_of v).stop ≡ numeral_stop v.fo
 unfolding numeral_in
 stop_of_numeral v = refl
 
-pub same_but_place : (b : Bool) (v w : CursorView) → w ≡ cond b (record v { position = v.position + 1; closed = true }) v → (w.bytes ≡ v.bytes) × (w.format ≡ v.format) × (w.digits ≡ v.digits) × (w.turns ≡ v.turns)
-same_but_place true v w e = (ap (λ (z : CursorView). z.bytes) e, ap (λ (z : CursorView). z.format) e, ap (λ (z : CursorView). z.digits) e, ap (λ (z : CursorView). z.turns) e)
-same_but_place false v w e = (ap (λ (z : CursorView). z.bytes) e, ap (λ (z : CursorView). z.format) e, ap (λ (z : CursorView). z.digits) e, ap (λ (z : CursorView). z.turns) e)
+pub same_but_place : (b : Bool) (v w : CursorView) → w ≡ cond b (record v { position = v.position + 1; closed = true }) v → (w.bytes ≡ v.bytes) × (w.format ≡ v.format) × (w.digits ≡ v.digits) × (w.turns ≡ v.turns) × (w.identity ≡ v.identity)
+same_but_place true v w e = (ap (λ (z : CursorView). z.bytes) e, ap (λ (z : CursorView). z.format) e, ap (λ (z : CursorView). z.digits) e, ap (λ (z : CursorView). z.turns) e, ap (λ (z : CursorView). z.identity) e)
+same_but_place false v w e = (ap (λ (z : CursorView). z.bytes) e, ap (λ (z : CursorView). z.format) e, ap (λ (z : CursorView). z.digits) e, ap (λ (z : CursorView). z.turns) e, ap (λ (z : CursorView). z.identity) e)
 
 pub is_read : (f : Format) (t : IntegerType) (text : List ℕ) (minus p b : Bool) (v w x : CursorView) (value : ℤ) → IsAtHead f t text minus p v → false ≡ (p && (v.position == length v.bytes)) → GoesOn v w → ReadsNumeral t minus p v w value
     → (w.position ≡ numeral_end w → x.position ≡ numeral_stop w.format w.radix w.bytes w.start) → x ≡ cond b (record w { position = w.position + 1; closed = true }) w → IsRead f t text value x
@@ -345,6 +345,15 @@ pub over_suffix : (f : Format) (t : IntegerType) (text : List ℕ) (minus p b : 
 over_suffix f t text minus p b v w x at g after s =
     let kept = same_but_place b w x after in
     record { bytes = kept.0 ∙ g.bytes ∙ at.bytes; format = kept.1 ∙ g.format ∙ at.format; sound = s }
+
+-- a step over a prefix, and one that puts 8 in force, are the same cursor's
+pub identity_behind : (v w : CursorView) (radix : Option ℕ) → w ≡ behind_prefix v radix → w.identity ≡ v.identity
+identity_behind v w None e = ap (λ (z : CursorView). z.identity) e
+identity_behind v w (Some radix) e = ap (λ (z : CursorView). z.identity) e
+
+pub identity_octal : (b : Bool) (v w : CursorView) → w ≡ cond b (record v { radix = 8 }) v → w.identity ≡ v.identity
+identity_octal true v w e = ap (λ (z : CursorView). z.identity) e
+identity_octal false v w e = ap (λ (z : CursorView). z.identity) e
 
 -- behind all that is read, it stands where reading stops
 pub at_stop_read : (f : Format) (t : IntegerType) (text : List ℕ) (value : ℤ) (v : CursorView) → IsRead f t text value v → StandsAtStop f t text v

@@ -165,8 +165,8 @@ IsSound-word v turns n s open_now contiguous some one_more all =
     }
 
 -- a fresh cursor
-pub IsSound-new : (b : List ℕ) (f : Format) (turns : ℕ) → IsNone (fault f) → turns ≡ 0 → IsSound (record { bytes = b; format = f; radix = f.mantissa_radix; start = 0; position = 0; digits = 0; closed = false; turns = turns })
-IsSound-new b f turns valid none =
+pub IsSound-new : (b : List ℕ) (f : Format) (turns identity : ℕ) → IsNone (fault f) → turns ≡ 0 → IsSound (record { bytes = b; format = f; radix = f.mantissa_radix; start = 0; position = 0; digits = 0; closed = false; turns = turns; identity = identity })
+IsSound-new b f turns identity valid none =
     let fit = fits f valid in
     let stop = IsStop-end_of f f.mantissa_radix b 0 (omega arith) in
     record {

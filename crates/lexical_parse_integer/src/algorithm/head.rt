@@ -58,6 +58,7 @@ pub(crate) fn read_head<T: Integer>(c: &mut Cursor<'_>) -> Result<(bool, bool)>
     ensures fault { IfErr result (λ e. head_of c.old.format T.TYPE c.old.bytes ≡ Err e) }
     ensures no_turn { OnErr result (c.new.turns ≡ 0) }
     ensures over { OnErr result (IsOver c.old.bytes c.old.format c.new) }
+    ensures same { c.new.identity ≡ c.old.identity }
 {
     c.sound();
     let negative = parse_sign::<T>(c)?;

@@ -80,3 +80,13 @@ pub returns-clause-few : goal.returns-clause-few
 returns-clause-few g c =
     let kept = same_but_place c.read_suffix.result c.read_numeral.new.c c.read_suffix.new.self c.read_suffix.ensures.after in
     folded (few_behind_head _ _ _ _ _ _ _ _ _ _ g.met.T.Integer.bits_law c.in_ok-negative.ensures.head c.in_ok-value.ensures.turns kept.3)
+
+-- ---- the cursor is the one that was handed in
+
+pub returns-in_err-value-clause-same : goal.returns-in_err-value-clause-same
+returns-in_err-value-clause-same g c = c.in_err-value.ensures.goes_on.identity ∙ c.in_ok-negative.ensures.same
+
+pub returns-clause-same : goal.returns-clause-same
+returns-clause-same g c =
+    let kept = same_but_place c.read_suffix.result c.read_numeral.new.c c.read_suffix.new.self c.read_suffix.ensures.after in
+    kept.4 ∙ c.in_ok-value.ensures.goes_on.identity ∙ c.in_ok-negative.ensures.same

@@ -1,8 +1,9 @@
 use Rattle.std.proofs.lemmas.Result.{err_from_is_err_and}
 use Rattle.std.proofs.Common.{◌≡◌, ◌≤◌, ap, sym, ◌∙◌, arith}
+use Rattle.lexical_parse_integer.specs.Affixes.{prefix_radix}
 use Rattle.lexical_parse_integer.specs.CursorView.{CursorView}
 use Rattle.lexical_parse_integer.proofs.Folds.{fact_of}
-use Rattle.lexical_parse_integer.proofs.reading.ParserAnswers.{is_fresh, over_same, sign_short, stays_bare, head_fault, at_prefix, at_bare}
+use Rattle.lexical_parse_integer.proofs.reading.ParserAnswers.{is_fresh, over_same, sign_short, stays_bare, head_fault, at_prefix, at_bare, identity_behind, identity_octal}
 use Rattle.lexical_parse_integer.proofs.algorithm.head.read_head.Goals as goal
 
 pub returns-in_err-negative-clause-fault : goal.returns-in_err-negative-clause-fault
@@ -49,3 +50,19 @@ pub returns-in_err-negative-clause-over : goal.returns-in_err-negative-clause-ov
 returns-in_err-negative-clause-over g c =
     let p = err_from_is_err_and c.from_residual.result c.from_residual.ensures.1 in
     rw p.1 (over_same c.args.c.now c.parse_sign.new.c (fact_of c.sound.ensures) c.in_err-negative.ensures.unmoved)
+
+pub returns-in_err-negative-clause-same : goal.returns-in_err-negative-clause-same
+returns-in_err-negative-clause-same g c = ap (λ (v : CursorView). v.identity) c.in_err-negative.ensures.unmoved
+
+pub returns-then-read_prefix-clause-same : goal.returns-then-read_prefix-clause-same
+returns-then-read_prefix-clause-same g c =
+    let v = c.parse_sign.new.c in
+    identity_behind v c.read_prefix.new.self (prefix_radix v.format v.bytes v.position) c.if-read_prefix.ensures.after
+    ∙ ap (λ (v : CursorView). v.identity) c.in_ok-negative.ensures.moved
+
+pub returns-clause-same : goal.returns-clause-same
+returns-clause-same g c =
+    let v = c.parse_sign.new.c in
+    identity_octal c.read_octal_zero-is_octal.result c.read_prefix.new.self c.read_octal_zero-is_octal.new.self c.read_octal_zero-is_octal.ensures.after
+    ∙ identity_behind v c.read_prefix.new.self (prefix_radix v.format v.bytes v.position) c.if-read_prefix.ensures.after
+    ∙ ap (λ (v : CursorView). v.identity) c.in_ok-negative.ensures.moved
