@@ -1,10 +1,9 @@
 -- Numerals under formats with marks: the digits of a region, with separators between them, and what they are worth.
-use Rattle.std.specs.Prelude.{◌≡◌, ◌+◌, ◌-◌, ◌<◌, ◌≤◌, ℕ, ℤ, Bool, true, false, if◌then◌else◌, List, length, get_or, take, filter_map, is_some, Some}
+use Rattle.std.specs.Prelude.{◌≡◌, ◌+◌, ◌-◌, ◌<◌, ℕ, ℤ, Bool, true, false, if◌then◌else◌, List, length, get_or, filter_map, is_some, Some}
 use Rattle.lexical_util.specs.Digit.{digit}
 use Rattle.lexical_util.specs.Format.{Format}
 use Rattle.lexical_util.specs.Number.{IntegerType, IsNumber}
 use Rattle.lexical_parse_integer.specs.Affixes.{suffix_at}
-use Rattle.lexical_parse_integer.specs.Runs.{are_same}
 use Rattle.lexical_parse_integer.specs.Value.{positional_value, with_sign}
 
 -- whether the byte at a place is a digit of the radix

@@ -1,5 +1,5 @@
 -- The turns of a numeral, by those of its parts: for `algorithm::numeral` and `algorithm::read`.
-use Rattle.std.proofs.Common.{◌≡◌, ℕ, ◌+◌, ◌-◌, ◌≤◌, Bool, List, Err, Ok, Result, refl, sym, ap, subst, arith, inl, inr, ◌⊎◌, ◌∙◌}
+use Rattle.std.proofs.Common.{◌≡◌, ℕ, ◌+◌, ◌≤◌, Bool, List, Err, Ok, Result, sym, ap, subst, arith, inl, ◌⊎◌, ◌∙◌}
 use Rattle.std.specs.Prelude.{ℤ, IsNone, IsTrue, MatchResult}
 use Rattle.std.proofs.lemmas.Bool.{false≢true}
 use Rattle.lexical_util.specs.declared.error.Error.{Error}
@@ -9,7 +9,7 @@ use Rattle.lexical_parse_integer.specs.CursorView.{CursorView, numeral_of}
 use Rattle.lexical_parse_integer.specs.Folded.{Folded}
 use Rattle.lexical_parse_integer.specs.Head.{Head, head_of}
 use Rattle.lexical_parse_integer.specs.Numeral.{digit_count, numeral_in}
-use Rattle.lexical_parse_integer.specs.Reading.{GoesOn, IsAtHead, IsAtNumeral, KeepsTurns, LeavesFewTurns, LeavesTurns, LooksAhead, ReadsOn, ReadsWords}
+use Rattle.lexical_parse_integer.specs.Reading.{GoesOn, IsAtHead, IsAtNumeral, KeepsTurns, LeavesFewTurns, LeavesTurns, LooksAhead, ReadsWords}
 use Rattle.lexical_parse_integer.specs.Turns.{AsksWords, HasFewTurns, turns_bound, digits_per_word}
 use Rattle.lexical_parse_integer.proofs.Folds.{fact_of, folded}
 use Rattle.lexical_parse_integer.proofs.bound.TurnBound.{TakesWords, few_turns, one_within, still_few}

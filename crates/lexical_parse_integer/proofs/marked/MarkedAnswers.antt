@@ -1,11 +1,10 @@
 -- What the parsers answer where a numeral of digits, with separators between them, stands behind sign and prefix.
-use Rattle.std.proofs.Common.{◌≡◌, ℕ, ◌+◌, ◌-◌, ◌<◌, ◌≤◌, Bool, true, false, not, ◌&&◌, ◌||◌, cond, List, [], ◌∷◌, ◌++◌, drop, length, get_or, take, refl, sym, ap, ◌∙◌, subst, arith, Option, Some, None, IsNone, is_some, Ok, Err, Result}
+use Rattle.std.proofs.Common.{◌≡◌, ℕ, ◌+◌, ◌-◌, ◌<◌, ◌≤◌, Bool, true, false, not, ◌&&◌, ◌||◌, cond, List, [], ◌∷◌, ◌++◌, length, refl, sym, ap, ◌∙◌, subst, arith, Option, Some, None, IsNone, is_some, Ok, Err, Result}
 use Rattle.std.specs.Prelude.{◌==◌, nat_le, nat_lt, slice_index, slice_range, ℤ, IfSome}
-use Rattle.std.specs.Option.{unwrap_or}
 use Rattle.std.proofs.Math.Bool.{and-false}
 use Rattle.std.proofs.lemmas.Bool.{eqb-true, false≢true, le-ltb, lt-ltb, ne_eqb}
 use Rattle.std.proofs.lemmas.Bool.Decides.{nat_tests}
-use Rattle.std.proofs.lemmas.List.{length-drop, length-map, take_all}
+use Rattle.std.proofs.lemmas.List.{take_all}
 use Rattle.std.proofs.lemmas.Option.{slice_get_past}
 use Rattle.lexical_util.specs.declared.error.Error.{Error}
 use Rattle.lexical_util.specs.declared.error.Error.TheVariants.{InvalidLeadingZeros}
@@ -14,23 +13,22 @@ use Rattle.lexical_util.specs.Format.{Format}
 use Rattle.lexical_util.specs.Number.{IntegerType, is_number}
 use Rattle.lexical_util.specs.Validity.{fault}
 use Rattle.lexical_parse_integer.specs.Affixes.{is_affix, numeral_stop, octal_zero_at, prefix_radix, suffix_at}
-use Rattle.lexical_parse_integer.specs.Grammar.{common_faults, complete, complete_faults, fault_if, first_fault_or, partial, prefix_fault, range_fault, zero_fault}
+use Rattle.lexical_parse_integer.specs.Grammar.{common_faults, complete, complete_faults, fault_if, first_fault_or, prefix_fault, range_fault, zero_fault}
 use Rattle.lexical_parse_integer.specs.Head.{Head, head_after, head_behind, head_of, sign}
 use Rattle.lexical_parse_integer.specs.Marked.{AreDigitsOnly, AreGrouped, AreWorth, digits_among, is_digit_in, stop_after}
 use Rattle.lexical_parse_integer.specs.Numeral.{Numeral, digit_count, numeral_in, numeral_value}
 use Rattle.lexical_parse_integer.specs.Plain.{keeps_zero_rule}
-use Rattle.lexical_parse_integer.specs.Runs.{are_same, digit_at, digits_between, end_of, is_in_numeral, places, separator_at}
+use Rattle.lexical_parse_integer.specs.Runs.{digits_between, end_of, is_in_numeral, places}
 use Rattle.lexical_parse_integer.specs.Value.{positional_value, with_sign}
 use Rattle.lexical_parse_integer.proofs.grammar.FrontValues.{fitting_fault}
 use Rattle.lexical_parse_integer.proofs.grammar.NumeralEnd.{belongs_other}
 use Rattle.lexical_parse_integer.proofs.grammar.RangeOfFronts.{shorter_fronts_fit}
-use Rattle.lexical_parse_integer.proofs.marked.DigitsAmong.{digit_there, separator_there, values_between}
-use Rattle.lexical_parse_integer.proofs.marked.GroupedNumerals.{grouped_end, none_from}
+use Rattle.lexical_parse_integer.proofs.marked.DigitsAmong.{values_between}
+use Rattle.lexical_parse_integer.proofs.marked.GroupedNumerals.{grouped_end}
 use Rattle.lexical_parse_integer.proofs.reading.FormatBytes.{IsFit, fits, fits_octal, fits_prefix}
 use Rattle.lexical_parse_integer.proofs.reading.NumeralSteps.{places_count}
 use Rattle.lexical_parse_integer.proofs.reading.ParserAnswers.{sign_minus}
 use Rattle.lexical_parse_integer.proofs.reading.Soundness.{separator_no_digit, suffix_no_digit, suffix_no_separator}
-use Rattle.lexical_parse_integer.proofs.theorems.SettledAnswers.{partial_by}
 use Rattle.lexical_parse_integer.proofs.words.WordsInTexts.{StandsAt, length-ahead, stands_ahead}
 
 -- ---- the radix in force is fit

@@ -1,20 +1,17 @@
 -- The front of digits with separators between them, as a loop over the bytes leaves it: for `value_of_threes`.
-use Rattle.std.proofs.Common.{rules, ◌≡◌, ◌≢◌, ℕ, zero, suc, ◌+◌, ◌-◌, ◌<◌, ◌≤◌, Bool, true, false, List, [], ◌∷◌, ◌++◌, length, get_or, take, refl, sym, ap, ◌∙◌, subst, arith, Some, None, is_some, inl, inr}
+use Rattle.std.proofs.Common.{rules, ◌≡◌, ◌≢◌, ℕ, zero, suc, ◌+◌, ◌-◌, ◌<◌, ◌≤◌, Bool, true, false, List, [], ◌∷◌, ◌++◌, length, get_or, take, refl, sym, ap, ◌∙◌, subst, arith, Some, inl, inr}
 use Rattle.std.specs.Int.Signed.{≤ℤ_refl}
 use Rattle.std.proofs.lemmas.Bool.Decides.{nat_tests}
 use Rattle.std.specs.Prelude.{ℤ, pos}
 use Rattle.std.proofs.Math.Seq.{take-length}
-use Rattle.std.proofs.lemmas.Bool.{cases_lt, false≢true, ne_eqb}
-use Rattle.std.proofs.lemmas.List.{get_or-take, length-take-le, take_more}
+use Rattle.std.proofs.lemmas.Bool.{cases_lt, false≢true}
+use Rattle.std.proofs.lemmas.List.{take_more}
 use Rattle.std.proofs.lemmas.List.Elements.{filter_map-append}
 use Rattle.lexical_util.specs.Digit.{digit}
 use Rattle.lexical_util.specs.Format.{Format}
-use Rattle.lexical_util.specs.Number.{HasSign, IntegerType, IsNumber, mul_add}
+use Rattle.lexical_util.specs.Number.{HasSign, IntegerType}
 use Rattle.lexical_parse_integer.specs.Marked.{AreGrouped, AreWorth, digits_among, is_digit_in}
-use Rattle.lexical_parse_integer.specs.Runs.{are_same}
 use Rattle.lexical_parse_integer.specs.Value.{positional_value, with_sign}
-use Rattle.lexical_parse_integer.proofs.grammar.FrontValues.{positional_value-push, with_sign-step}
-use Rattle.lexical_parse_integer.proofs.grammar.RangeOfFronts.{zero_is_number}
 use Rattle.lexical_parse_integer.proofs.grammar.Stretches.{true_or_false}
 
 -- So many bytes are digits and separators, of which the first is a digit; where no two separators may stand side by

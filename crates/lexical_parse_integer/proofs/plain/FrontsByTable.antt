@@ -1,19 +1,18 @@
 -- Digits of any radix at the front of a text, behind an optional sign, read one byte after another.
-use Rattle.std.proofs.Common.{slice_get, ◌≡◌, ℕ, zero, suc, ◌+◌, ◌-◌, ◌^◌, ◌<◌, ◌≤◌, Bool, true, false, ◌&&◌, not, List, [], ◌∷◌, length, get_or, map, take, refl, sym, ap, ◌∙◌, subst, arith, pos, Ok, Err}
-use Rattle.std.specs.Prelude.{◌==◌, ◌||◌, is_some, slice_range, ℤ, neg_ℤ, if◌then◌else◌, IsNone}
+use Rattle.std.proofs.Common.{slice_get, ◌≡◌, ℕ, zero, suc, ◌+◌, ◌-◌, ◌<◌, ◌≤◌, Bool, true, false, ◌&&◌, not, List, [], ◌∷◌, length, get_or, map, take, refl, sym, ap, ◌∙◌, subst, arith, pos, Ok, Err}
+use Rattle.std.specs.Prelude.{◌==◌, ◌||◌, is_some, slice_range, ℤ, neg_ℤ, if◌then◌else◌}
 use Rattle.std.proofs.Math.Seq.{take-length}
 use Rattle.std.proofs.Math.Bool.{and-false}
 use Rattle.std.proofs.lemmas.Bool.{and_parts, eqb-true, le-ltb, lt-ltb}
-use Rattle.std.proofs.lemmas.List.{length-take-le}
 use mir.Val.{bool_byte}
 use Rattle.lexical_util.specs.declared.error.Error.TheVariants.{InvalidDigit}
 use Rattle.lexical_util.specs.Digit.{IsRadix, digit}
 use Rattle.lexical_util.specs.Format.{Format, standard}
-use Rattle.lexical_util.specs.Number.{IntegerType, IsNumber, is_number}
+use Rattle.lexical_util.specs.Number.{IntegerType, is_number}
 use Rattle.lexical_parse_integer.specs.Grammar.{complete, partial}
 use Rattle.lexical_parse_integer.specs.Head.{sign}
 use Rattle.lexical_parse_integer.specs.Laws.{completion_of}
-use Rattle.lexical_parse_integer.specs.Plain.{BeginsInRadix, BeginsWith, IsPlain, WritesFront, WritesValue, keeps_zero_rule}
+use Rattle.lexical_parse_integer.specs.Plain.{BeginsInRadix, BeginsWith, IsPlain, WritesValue}
 use Rattle.lexical_parse_integer.specs.Value.{positional_value, with_sign}
 use Rattle.lexical_parse_integer.specs.Words.{AreDigits, word_value}
 use Rattle.lexical_parse_integer.proofs.words.AsciiDigits.{ascii_from_digits}

@@ -1,5 +1,5 @@
 -- One round of a loop that takes a cursor's digits one at a time: for `algorithm::digits`.
-use Rattle.std.proofs.Common.{◌≡◌, ℕ, ◌+◌, ◌<◌, Bool, false, true, get_or, refl, sym, ap, ◌∙◌, subst, arith, Some, None}
+use Rattle.std.proofs.Common.{◌≡◌, ℕ, ◌+◌, ◌<◌, Bool, false, true, get_or, refl, sym, ap, ◌∙◌, subst, arith, Some}
 use Rattle.std.specs.Prelude.{ℤ, pos}
 use Rattle.lexical_util.specs.declared.error.Error.{Error}
 use Rattle.lexical_parse_integer.specs.CursorView.{CursorView, ReachesEnd, TakesDigit, numeral_end, numeral_of}

@@ -1,5 +1,5 @@
 -- What is read of a text from its front, as a cursor there would have it: for `algorithm::front`.
-use Rattle.std.proofs.Common.{◌≡◌, ◌≢◌, ℕ, ◌+◌, ◌≤◌, ◌<◌, Bool, false, true, cond, ◌&&◌, ◌||◌, List, [], ◌∷◌, length, Option, Some, None, IsNone, is_some, Ok, Err, Result, refl, sym, ap, ◌∙◌, subst, arith, inl, inr, ◌⊎◌}
+use Rattle.std.proofs.Common.{◌≡◌, ◌≢◌, ℕ, ◌+◌, ◌≤◌, ◌<◌, Bool, false, true, cond, ◌&&◌, ◌||◌, List, [], ◌∷◌, length, Option, Some, None, IsNone, is_some, Ok, Err, Result, refl, sym, ap, ◌∙◌, subst, arith, inr, ◌⊎◌}
 use Rattle.std.specs.Prelude.{ℤ, pos, nat_lt, ◌==◌}
 use Rattle.std.specs.Option.{option_or}
 use Rattle.std.proofs.lemmas.Bool.{lt-ltb, false≢true}
@@ -14,7 +14,7 @@ use Rattle.lexical_parse_integer.specs.Grammar.{digits_required, fault_if, first
 use Rattle.lexical_parse_integer.specs.Head.{Head, head_after, head_behind, head_of, sign}
 use Rattle.lexical_parse_integer.specs.Numeral.{Numeral, digit_count, numeral_in, numeral_value}
 use Rattle.lexical_parse_integer.specs.Reading.{GoesOn, IsRead, Reads, ReadsAll, ReadsNumeral, view_at}
-use Rattle.lexical_parse_integer.specs.Runs.{end_of, places}
+use Rattle.lexical_parse_integer.specs.Runs.{places}
 use Rattle.lexical_parse_integer.specs.Seeking.{Finds}
 use Rattle.lexical_parse_integer.specs.declared.seek.Found.TheVariants.{Digit, End}
 use Rattle.lexical_parse_integer.proofs.Folds.{folded}
@@ -28,7 +28,7 @@ use Rattle.lexical_parse_integer.proofs.reading.OctalZeros.{bare_own, octal_aske
 use Rattle.lexical_parse_integer.proofs.reading.ParserAnswers.{fault_goes_part}
 use Rattle.lexical_parse_integer.proofs.reading.Soundness.{IsSound-digit, prefix_own, prefix_within, reaches_found, separator_no_digit, suffix_no_digit, suffix_no_separator, takes_found}
 use Rattle.lexical_parse_integer.proofs.reading.UntestedDigits.{joins_digit}
-use Rattle.lexical_parse_integer.proofs.theorems.CompleteByPartial.{head_within, sign_within}
+use Rattle.lexical_parse_integer.proofs.theorems.CompleteByPartial.{sign_within}
 
 -- ---- behind the head
 

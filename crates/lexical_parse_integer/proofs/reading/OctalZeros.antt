@@ -1,6 +1,6 @@
 -- What an octal zero says of its bytes, and of the radix in force.
 use Rattle.std.proofs.Common.{◌≡◌, ℕ, Bool, false, true, ◌&&◌, List, Option, Some, None, refl, ap, arith}
-use Rattle.std.specs.Prelude.{◌≢◌, ◌==◌, slice_get}
+use Rattle.std.specs.Prelude.{◌≢◌, slice_get}
 use Rattle.std.proofs.Math.Bool.{and-false}
 use Rattle.std.proofs.lemmas.Bool.Decides.{nat_tests}
 use Rattle.lexical_util.specs.Format.{Format}

@@ -15,7 +15,7 @@ use Rattle.lexical_util.specs.Format.{Format}
 use Rattle.lexical_util.specs.Number.{IntegerType}
 use Rattle.lexical_parse_integer.proofs.Folds.{fact_of}
 use Rattle.lexical_parse_integer.proofs.reading.Soundness.{digits_bound}
-use Rattle.lexical_parse_integer.proofs.reading.OctalZeros.{bare_octal, bare_own, octal_byte}
+use Rattle.lexical_parse_integer.proofs.reading.OctalZeros.{bare_own, octal_byte}
 use Rattle.lexical_parse_integer.proofs.reading.NumeralSteps.{same_numeral}
 use Rattle.lexical_parse_integer.proofs.reading.DigitLoop.{numeral_ends}
 

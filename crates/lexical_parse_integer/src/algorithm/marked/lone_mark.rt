@@ -137,6 +137,20 @@ pub(super) fn is_valid_with_literals(format: &NumberFormat) -> bool
     format.literal_prefixes() && format.mantissa_radix() == 10
 }
 
+// Whether a format without a separator, prefix and suffix has a radix that its literal prefixes allow.
+#[inline(always)]
+fn has_plain_radix(format: &NumberFormat) -> bool
+    ensures literals { IsTrue result → format.now.literal_prefixes ≡ true
+        → format.now.mantissa_radix ≡ 10 }
+    ensures radix { IsTrue result → IsRadix format.now.mantissa_radix }
+{
+    let radix = format.mantissa_radix();
+    if radix == 10 {
+        return true;
+    }
+    !format.literal_prefixes() && radix >= 2 && radix <= 36
+}
+
 // Whether a format is valid that has a prefix alone, a separator alone, literal prefixes alone, or no mark.
 #[inline(always)]
 fn is_valid_with_lone_mark(format: &NumberFormat) -> bool
@@ -146,7 +160,7 @@ fn is_valid_with_lone_mark(format: &NumberFormat) -> bool
         return false;
     }
     match (format.digit_separator(), format.base_prefix()) {
-        (None, None) => format.mantissa_radix() == 10,
+        (None, None) => has_plain_radix(format),
         (Some(mark), None) => is_fit_alone(format, mark),
         (None, Some(mark)) => is_fit_alone(format, mark),
         (Some(_), Some(_)) => false,

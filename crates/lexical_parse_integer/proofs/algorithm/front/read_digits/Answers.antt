@@ -1,8 +1,8 @@
-use Rattle.std.proofs.Common.{◌<◌, ◌≤◌, ◌∙◌, ap, arith, length, refl, sym}
+use Rattle.std.proofs.Common.{◌<◌, arith, length, refl}
 use Rattle.std.proofs.lemmas.Bool.{ltb-true}
 use Rattle.std.proofs.lemmas.Result.{err_from_is_err_and}
 use Rattle.lexical_parse_integer.proofs.grammar.NumeralEnd.{digit_at_within}
-use Rattle.lexical_parse_integer.proofs.reading.DigitsRead.{reads_none, reads_sign}
+use Rattle.lexical_parse_integer.proofs.reading.DigitsRead.{reads_sign}
 use Rattle.lexical_parse_integer.proofs.reading.FrontAnswers.{all_read, next_fits, next_leaves, next_reads, next_sound}
 use Rattle.lexical_parse_integer.proofs.reading.NumeralSteps.{digit_at_below}
 use Rattle.lexical_parse_integer.proofs.reading.Soundness.{digits_bound}

@@ -1,4 +1,4 @@
-use Rattle.std.proofs.Common.{ℕ, ◌+◌, ap, arith, refl, ◌∙◌}
+use Rattle.std.proofs.Common.{ℕ, ap, arith, refl, ◌∙◌}
 use Rattle.std.specs.Prelude.{pos}
 use Rattle.lexical_util.specs.Digit.{digit}
 use Rattle.lexical_util.specs.Number.{mul_add}

@@ -1,4 +1,4 @@
-use Rattle.std.proofs.Common.{◌∙◌, ap, arith}
+use Rattle.std.proofs.Common.{arith}
 use Rattle.lexical_parse_integer.specs.Words.{word_bytes}
 use Rattle.lexical_parse_integer.proofs.plain.ShiftedWords.{joined_word}
 use Rattle.lexical_parse_integer.proofs.plain.WordsOfDigits.{digits_below}
