@@ -10,13 +10,13 @@ A group of tools/languages.txt is a language: a function of `lexical_util::forma
 makes its format, a line of fields says what that format is, and its rows name it. What a user has
 to know of the language stands between; tools/formats_page.py makes docs/FORMATS.md of it.
 
-The rows of a group that ask one parser become a theorem, GROUP_complete or GROUP_partial, that lists
-them, with the proof `refl`; so do a group's formats, as GROUP_fault, and a line of fields becomes
-`LANGUAGE ≡ FORMAT`. The check computes the definitions on those texts, so it refuses rows and
-definitions that disagree: it names the theorem, whose group is in the data. tools/run_rows.py has
-the built program answer the rows, and names each row. The files are
-crates/rows/proofs/rows/FILE.antt, and proofs/rows.antt, which declares them; their words stand in
-proofs/Tables.antt. Needs Python 3.8 and nothing else.
+The rows of a group that ask one parser become a theorem, as GROUP_complete, which lists them with
+their answers and has the proof `refl`; so do the formats of a group, as GROUP_fault. A line of
+fields becomes `LANGUAGE ≡ FORMAT`. The check computes the definitions on those texts, so it refuses
+a theorem of which a row and the definitions disagree. tools/run_rows.py has the built program
+answer the rows, and names the row that is wrong. The files are crates/rows/proofs/rows/FILE.antt,
+and proofs/rows.antt, which declares them; proofs/Tables.antt has the words of the theorems. Needs
+Python 3.8 and nothing else.
 """
 from __future__ import annotations
 
@@ -121,7 +121,7 @@ def antt_table(name: str, says: str, rows: List[Row]) -> str:
 
 
 def antt_group(group: Group) -> str:
-    """The theorems of a group: that of its fields, and one for each definition that its rows ask."""
+    """The theorems of a group: that of its fields, and one for each definition that rows ask."""
     found, asked = [], {}
     if group.fields is not None:
         name, form = f"{group.name}_fields", antt_format(group.fields)
