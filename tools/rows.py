@@ -11,13 +11,14 @@ A group of tools/languages.txt is a language: a function of `lexical_formats` ma
 line of fields says what that format is, and its rows name it. What a user has to know of the
 language stands between; tools/formats_page.py makes docs/FORMATS.md of it.
 
-Each row becomes a theorem, `complete FORMAT TYPE TEXT ≡ ANSWER`, or so of `partial` or `fault`,
-with the proof `refl`; a line of fields becomes `LANGUAGE ≡ FORMAT`. The check computes the
-definitions on that text, so it refuses a row and a definition that disagree. tools/run_rows.py
-has the built program answer the rows. The files are crates/rows/proofs/rows/FILE.antt, and
-proofs/rows.antt, which declares them. The texts of the rows under the two ready formats are written
-to src/tests/ready.rt too, for the tests: the program makes no call without a format. Needs Python
-3.8 and nothing else.
+The rows of a group that ask one parser become a theorem, as GROUP_complete, which lists them with
+their answers and has the proof `refl`; so do the formats of a group, as GROUP_fault. A line of
+fields becomes `LANGUAGE ≡ FORMAT`. The check computes the definitions on those texts, so it refuses
+a theorem of which a row and the definitions disagree. tools/run_rows.py has the built program
+answer the rows, and names the row that is wrong. The files are crates/rows/proofs/rows/FILE.antt,
+and proofs/rows.antt, which declares them; proofs/Tables.antt has the words of the theorems. The
+texts of the rows under the two ready formats are written to src/tests/ready.rt too, for the tests:
+the program makes no call without a format. Needs Python 3.8 and nothing else.
 """
 from __future__ import annotations
 
@@ -65,30 +66,25 @@ def check_answers(path: str, rows: Iterable[Row]) -> None:
 # ---- theorems
 
 # where the words of a theorem stand, in the order of their imports
-PARSE = "Rattle.lexical_parse_integer.specs."
-UTIL = "Rattle.lexical_util.specs."
-READY = "Rattle.lexical_formats.specs.Languages"
 WORDS = {
     "Rattle.std.specs.Prelude":
-        "◌≡◌ [] ◌∷◌ codes ℕ ℤ pos neg_ℤ Some None true false Ok Err".split(),
+        "◌≡◌ [] ◌∷◌ codes pos Some None true false Ok Err".split(),
     "Rattle.std.proofs.Common": ["refl"],
-    UTIL + "declared.error.Error.TheVariants": OF_TEXTS + OF_FORMATS,
-    UTIL + "Format": ["standard", "json"],
-    UTIL + "Number": ["IntegerType", "integer_type"],
-    UTIL + "Validity": ["fault"],
-    PARSE + "Affixes": ("is_affix literal_radix marked_radix matches numeral_stop octal_zero_at "
-                        "prefix_radix suffix_at").split(),
-    PARSE + "Grammar": "complete complete_if_valid partial partial_if_valid range_fault".split(),
-    PARSE + "Head": ["head_of", "sign"],
-    PARSE + "Numeral": ["numeral_in"],
-    PARSE + "Runs": ("are_same begin_of is_in_numeral digit_at digits_between end_of flag_for "
-                     "run_passes separator_at").split(),
+    "Rattle.lexical_util.specs.declared.error.Error.TheVariants": OF_TEXTS + OF_FORMATS,
+    "Rattle.lexical_util.specs.Format": ["standard", "json"],
+    "Rattle.lexical_parse_integer.specs.Computed": ["grammar"],
+    "Rattle.lexical_parse_integer.specs.Grammar":
+        "complete complete_if_valid partial partial_if_valid".split(),
+    "Rattle.rows.proofs.Tables": ["Answers", "FaultsAre", "minus", *TYPES],
 }
-# the definitions that the theorem of a parse opens, as one line of it
-OPENED = (
-    "complete partial numeral_in head_of sign range_fault begin_of digit_at are_same separator_at "
-    "flag_for run_passes is_in_numeral end_of digits_between matches is_affix literal_radix "
-    "marked_radix octal_zero_at prefix_radix suffix_at numeral_stop")
+LANGUAGE_WORDS = "Rattle.lexical_formats.specs.Languages"
+
+
+def definition_of(row: Row) -> str:
+    """The definition that a row asks."""
+    if row.parser == "format":
+        return "fault"
+    return row.parser + ("_if_valid" if row.answer.name in OF_FORMATS else "")
 
 
 def antt_format(form: Format) -> str:
@@ -96,7 +92,7 @@ def antt_format(form: Format) -> str:
     if isinstance(form, str):
         return form
     fields = "; ".join(f"{name} = {antt_value(name, value)}" for name, value in form)
-    return f"(record standard {{ {fields} }})" if form else "standard"
+    return f"record standard {{ {fields} }}" if form else "standard"
 
 
 def antt_value(name: str, value: int) -> str:
@@ -110,7 +106,7 @@ def antt_text(text: bytes) -> str:
     """The bytes of a text as a list."""
     if any(byte > 127 for byte in text):
         return "(" + " ∷ ".join(map(str, text)) + " ∷ [])"
-    return f'(codes "{escaped(text)}")'
+    return f'codes "{escaped(text)}"'
 
 
 def antt_answer(parser: str, answer: Answer) -> str:
@@ -124,39 +120,33 @@ def antt_answer(parser: str, answer: Answer) -> str:
     return f"Ok ({value}, {numbers[1]})" if parser == "partial" else f"Ok ({value})"
 
 
-def antt_theorem(name: str, row: Row) -> str:
-    """The theorem of a row, with its proof."""
-    head = f"-- {row.remark}\n" if row.remark else ""
-    form, answer = antt_format(row.format), antt_answer(row.parser, row.answer)
-    if row.parser == "format":
-        return f"{head}{name} : fault {form} ≡ {answer}\n{name} = refl\n"
-    call = row.parser + ("_if_valid" if row.answer.name in OF_FORMATS else "")
-    question = f"{call} {form} {row.type} {antt_text(row.text)}"
-    return f"{head}{name} : {question} ≡ {answer}\nunfolding {OPENED}\n{name} = refl\n"
+def antt_row(row: Row) -> str:
+    """A row of a theorem, below its remark."""
+    asked = [row.type, antt_text(row.text)] if row.parser != "format" else []
+    told = ", ".join([antt_format(row.format), *asked, antt_answer(row.parser, row.answer)])
+    remark = f"    -- {row.remark}\n" if row.remark else ""
+    return f"{remark}    ({told}) ∷\n"
+
+
+def antt_table(name: str, says: str, rows: List[Row]) -> str:
+    """The theorem that lists rows."""
+    listed = "".join(map(antt_row, rows))
+    return f"{name} : {says} (\n{listed}    [])\nunfolding grammar\n{name} = refl\n"
 
 
 def antt_group(group: Group) -> str:
-    """The theorems of a group: that of its fields and those of the rows, with their numbers."""
-    found = []
+    """The theorems of a group: that of its fields, and one for each definition that rows ask."""
+    found, asked = [], {}
     if group.fields is not None:
-        name = f"{group.name}_1"
-        found.append(f"{name} : {group.name} ≡ {antt_format(group.fields)}\n{name} = refl\n")
+        name, form = f"{group.name}_fields", antt_format(group.fields)
+        found.append(f"{name} : {group.name} ≡ {form}\n{name} = refl\n")
     for row in group.rows:
         if not row.is_long:
-            found.append(antt_theorem(f"{group.name}_{len(found) + 1}", row))
+            asked.setdefault(definition_of(row), []).append(row)
+    for definition, rows in asked.items():
+        says = "FaultsAre" if definition == "fault" else f"Answers {definition}"
+        found.append(antt_table(f"{group.name}_{definition}", says, rows))
     return f"-- ---- {group.shows}\n\n" + "\n".join(found) + "\n" if found else ""
-
-
-def antt_types(body: str) -> str:
-    """The types that a file's theorems name, and its negative numbers."""
-    front = ""
-    for name, (bits, is_signed) in TYPES.items():
-        if re.search(rf"\b{name}\b", body):
-            made = f"integer_type {bits} {str(is_signed).lower()}"
-            front += f"abbrev {name} : IntegerType\n{name} = {made}\n\n"
-    if re.search(r"\bminus \d", body):
-        front += "-- a number below 0\nabbrev minus : ℕ → ℤ\nminus size = neg_ℤ (pos size)\n\n"
-    return front
 
 
 def antt_imports(body: str, languages: List[str]) -> str:
@@ -164,7 +154,7 @@ def antt_imports(body: str, languages: List[str]) -> str:
     code = re.sub(r'"(?:[^"\\]|\\.)*"|--[^\n]*', "", body)
     there = set(re.findall(r"\w+|≡|∷|\[\]", code))
     imports = ""
-    for module, names in {**WORDS, READY: languages}.items():
+    for module, names in {**WORDS, LANGUAGE_WORDS: languages}.items():
         used = ", ".join(name for name in names if name.strip("◌") in there)
         imports += f"use {module}.{{{used}}}\n" if used else ""
     return imports
@@ -173,7 +163,7 @@ def antt_imports(body: str, languages: List[str]) -> str:
 def theorems(file: File) -> str:
     """The theorems of a file."""
     body = "".join(map(antt_group, file.groups))
-    body = antt_types(body) + body.rstrip("\n") + "\n"
+    body = body.rstrip("\n") + "\n"
     with_fields = {group.name for group in file.groups if group.fields is not None}
     imports = antt_imports(body, sorted(with_fields - {"json"}))
     head = f"-- Worked rows: {file.shows}.\n-- {WRITTEN.format(file.data)}\n"

@@ -37,9 +37,11 @@ module _ {X : Type 0} (p : X → Bool) where
   abbrev pub is_none : List X → Bool
   is_none xs = eqb (behind xs) (length xs)
 
-  behind-cons : (x : X) (xs : List X) → behind (x ∷ xs) ≡ cond (is_none xs) (length xs + cond (not (p x)) 1 0) (behind xs)
+  behind-cons : (x : X) (xs : List X)
+      → behind (x ∷ xs) ≡ cond (is_none xs) (length xs + cond (not (p x)) 1 0) (behind xs)
   behind-cons x xs =
-      ap (prefix_len (λ y. not (p y))) (reverse-cons x xs) ∙ prefix_len-append (λ y. not (p y)) (reverse xs) (x ∷ []) ∙ rw (length-reverse xs) refl
+      ap (prefix_len (λ y. not (p y))) (reverse-cons x xs)
+      ∙ prefix_len-append (λ y. not (p y)) (reverse xs) (x ∷ []) ∙ rw (length-reverse xs) refl
 
   -- the first alone passes
   pub at_first : (x : X) (xs : List X) → is_none xs ≡ true → p x ≡ true
@@ -47,8 +49,12 @@ module _ {X : Type 0} (p : X → Bool) where
   at_first x xs none passes =
       let k : behind xs ≡ length xs = full_is (behind xs) (length xs) none in
       let e : behind (x ∷ xs) ≡ length xs =
-      behind-cons x xs ∙ ap (λ b. cond b (length xs + cond (not (p x)) 1 0) (behind xs)) none ∙ ap (λ b. length xs + cond (not b) 1 0) passes ∙ omega arith in
-      (not_full (behind (x ∷ xs)) (suc (length xs)) (omega (arith, e)), drop_none xs (behind xs) (length xs) k, drop_first x xs (behind (x ∷ xs)) (length xs) e)
+      behind-cons x xs ∙ ap (λ b. cond b (length xs + cond (not (p x)) 1 0) (behind xs)) none
+      ∙ ap (λ b. length xs + cond (not b) 1 0) passes ∙ omega arith in (
+        not_full (behind (x ∷ xs)) (suc (length xs)) (omega (arith, e)),
+        drop_none xs (behind xs) (length xs) k,
+        drop_first x xs (behind (x ∷ xs)) (length xs) e,
+      )
 
   -- none passes
   pub at_none : (x : X) (xs : List X) → is_none xs ≡ true → p x ≡ false
@@ -56,13 +62,21 @@ module _ {X : Type 0} (p : X → Bool) where
   at_none x xs none fails =
       let k : behind xs ≡ length xs = full_is (behind xs) (length xs) none in
       let e : behind (x ∷ xs) ≡ suc (length xs) =
-      behind-cons x xs ∙ ap (λ b. cond b (length xs + cond (not (p x)) 1 0) (behind xs)) none ∙ ap (λ b. length xs + cond (not b) 1 0) fails ∙ omega arith in
-      (full (behind (x ∷ xs)) (suc (length xs)) e, drop_none xs (behind xs) (length xs) k, drop_none (x ∷ xs) (behind (x ∷ xs)) (suc (length xs)) e)
+      behind-cons x xs ∙ ap (λ b. cond b (length xs + cond (not (p x)) 1 0) (behind xs)) none
+      ∙ ap (λ b. length xs + cond (not b) 1 0) fails ∙ omega arith in (
+        full (behind (x ∷ xs)) (suc (length xs)) e,
+        drop_none xs (behind xs) (length xs) k,
+        drop_none (x ∷ xs) (behind (x ∷ xs)) (suc (length xs)) e,
+      )
 
   -- one behind the first passes
-  pub at_rest : (x : X) (xs : List X) → is_none xs ≡ false → (is_none (x ∷ xs) ≡ false) × (after_last p (x ∷ xs) ≡ after_last p xs)
+  pub at_rest : (x : X) (xs : List X) → is_none xs ≡ false
+      → (is_none (x ∷ xs) ≡ false) × (after_last p (x ∷ xs) ≡ after_last p xs)
   at_rest x xs some =
-      let k : behind xs < length xs = not_full_is (behind xs) (length xs) (suffix_len-le-length (λ y. not (p y)) xs) some in
+      let k : behind xs < length xs = not_full_is (behind xs) (length xs)
+      (suffix_len-le-length (λ y. not (p y)) xs) some in
       let e : behind (x ∷ xs) ≡ behind xs =
-      behind-cons x xs ∙ ap (λ b. cond b (length xs + cond (not (p x)) 1 0) (behind xs)) some in
-      (not_full (behind (x ∷ xs)) (suc (length xs)) (omega (arith, e, k)), ap (λ m. drop (suc (length xs) - m) (x ∷ xs)) e ∙ drop_more x xs (behind xs) (length xs) k)
+      behind-cons x xs ∙ ap (λ b. cond b (length xs + cond (not (p x)) 1 0) (behind xs)) some in (
+        not_full (behind (x ∷ xs)) (suc (length xs)) (omega (arith, e, k)),
+        ap (λ m. drop (suc (length xs) - m) (x ∷ xs)) e ∙ drop_more x xs (behind xs) (length xs) k,
+      )

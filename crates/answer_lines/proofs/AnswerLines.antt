@@ -57,7 +57,9 @@ place_has_none (Some place) = both (codes " ") (decimal_text place) refl (decima
 
 fault_has_none : (fault : Error) → HasNoFeed (fault_text fault)
 fault_has_none fault =
-    both (codes "err " ++ fault_name fault) (place_text (place_of fault)) (both (codes "err ") (fault_name fault) refl (name_has_none fault)) (place_has_none (place_of fault))
+    both (codes "err " ++ fault_name fault) (place_text (place_of fault))
+    (both (codes "err ") (fault_name fault) refl (name_has_none fault))
+    (place_has_none (place_of fault))
 
 value_has_none : (z : ℤ) → HasNoFeed (codes "ok " ++ signed_text z)
 value_has_none z = both (codes "ok ") (signed_text z) refl (signed_has_none z)
@@ -68,7 +70,8 @@ complete_has_none (Err fault) = fault_has_none fault
 
 partial_has_none : (found : Result (ℤ × ℕ) Error) → HasNoFeed (partial_text found)
 partial_has_none (Ok found) =
-    both (codes "ok " ++ signed_text found.0) (place_text (Some found.1)) (value_has_none found.0) (place_has_none (Some found.1))
+    both (codes "ok " ++ signed_text found.0) (place_text (Some found.1)) (value_has_none found.0)
+    (place_has_none (Some found.1))
 partial_has_none (Err fault) = fault_has_none fault
 
 kind_has_none : (kind : Kind) → HasNoFeed (kind_text kind)
@@ -76,12 +79,15 @@ kind_has_none (Number value) = both (codes "number ") (decimal_text value) refl 
 kind_has_none Word = refl
 kind_has_none Byte = refl
 kind_has_none (Fault fault) =
-    both (codes "fault " ++ fault_name fault) (place_text (place_of fault)) (both (codes "fault ") (fault_name fault) refl (name_has_none fault)) (place_has_none (place_of fault))
+    both (codes "fault " ++ fault_name fault) (place_text (place_of fault))
+    (both (codes "fault ") (fault_name fault) refl (name_has_none fault))
+    (place_has_none (place_of fault))
 
 token_has_none : (token : TokenView) → HasNoFeed (token_text token)
 token_has_none token =
     both (kind_text token.kind ++ place_text (Some token.start)) (place_text (Some token.stop))
-    (both (kind_text token.kind) (place_text (Some token.start)) (kind_has_none token.kind) (place_has_none (Some token.start)))
+    (both (kind_text token.kind) (place_text (Some token.start)) (kind_has_none token.kind)
+    (place_has_none (Some token.start)))
     (place_has_none (Some token.stop))
 
 -- ---- lines
@@ -98,12 +104,15 @@ first_line (b ∷ text) more none =
     ap (λ c. cond c ([] ∷ lines (text ++ 10 ∷ [] ++ more)) (onto_line b (lines (text ++ 10 ∷ [] ++ more)))) here
     ∙ ap (λ ls. onto_line b ls) (first_line text more there)
 
-tokens_in_lines : (ts : List TokenView) (more : List ℕ) → lines (tokens_text ts ++ 10 ∷ [] ++ more) ≡ (map token_text ts ++ codes "end" ∷ []) ++ lines more
+tokens_in_lines : (ts : List TokenView) (more : List ℕ)
+    → lines (tokens_text ts ++ 10 ∷ [] ++ more)
+    ≡ (map token_text ts ++ codes "end" ∷ []) ++ lines more
 tokens_in_lines [] more = first_line (codes "end") more refl
 tokens_in_lines (t ∷ ts) more =
     let first = token_text t ++ 10 ∷ [] in
     let rest = tokens_text ts in
-    ap lines (append_assoc (first ++ rest) (10 ∷ []) more ∙ append_assoc first rest (10 ∷ more) ∙ ap (λ l. first ++ l) (sym (append_assoc rest (10 ∷ []) more)))
+    ap lines (append_assoc (first ++ rest) (10 ∷ []) more ∙ append_assoc first rest (10 ∷ more)
+    ∙ ap (λ l. first ++ l) (sym (append_assoc rest (10 ∷ []) more)))
     ∙ first_line (token_text t) (tokens_text ts ++ 10 ∷ [] ++ more) (token_has_none t)
     ∙ ap (λ ls. token_text t ∷ ls) (tokens_in_lines ts more)
 
@@ -111,22 +120,29 @@ command_in_lines : (settings : Settings) (command : Option Command) (more : List
     → lines (command_answer settings command ++ 10 ∷ [] ++ more) ≡ command_lines settings command ++ lines more
 command_in_lines settings None more = first_line (codes "bad line") more refl
 command_in_lines settings (Some (parse_complete type text)) more =
-    let found = complete_if_valid settings.format (type_of type) text in first_line (complete_text found) more (complete_has_none found)
+    let found = complete_if_valid settings.format (type_of type) text in
+    first_line (complete_text found) more (complete_has_none found)
 command_in_lines settings (Some (parse_partial type text)) more =
-    let found = partial_if_valid settings.format (type_of type) text in first_line (partial_text found) more (partial_has_none found)
+    let found = partial_if_valid settings.format (type_of type) text in
+    first_line (partial_text found) more (partial_has_none found)
 command_in_lines settings (Some (list_tokens text)) more = tokens_in_lines (tokens text) more
 command_in_lines settings (Some (change asked)) more = first_line (codes "ok") more refl
 command_in_lines settings (Some reset) more = first_line (codes "ok") more refl
 
-answer_in_lines : (settings : Settings) (line more : List ℕ) → lines (answer_of settings line ++ 10 ∷ [] ++ more) ≡ answer_lines settings line ++ lines more
+answer_in_lines : (settings : Settings) (line more : List ℕ)
+    → lines (answer_of settings line ++ 10 ∷ [] ++ more) ≡ answer_lines settings line ++ lines more
 unfolding answer_of answer_lines
 answer_in_lines settings line more = command_in_lines settings (command_in line) more
 
-answers_in_lines : (settings : Settings) (ls : List (List ℕ)) → lines (answers settings ls) ≡ flat_map (λ answer. answer) (scan settings_after answer_lines settings ls)
+answers_in_lines : (settings : Settings) (ls : List (List ℕ))
+    → lines (answers settings ls) ≡ flat_map (λ answer. answer)
+    (scan settings_after answer_lines settings ls)
 answers_in_lines settings [] = refl
 answers_in_lines settings (line ∷ ls) =
     answer_in_lines settings line (answers (settings_after settings line) ls)
     ∙ ap (λ more. answer_lines settings line ++ more) (answers_in_lines (settings_after settings line) ls)
 
-pub output_in_lines : (input : List ℕ) → lines (output input) ≡ flat_map (λ answer. answer) (scan settings_after answer_lines standard_settings (lines input))
+pub output_in_lines : (input : List ℕ)
+    → lines (output input) ≡ flat_map (λ answer. answer)
+    (scan settings_after answer_lines standard_settings (lines input))
 output_in_lines input = answers_in_lines standard_settings (lines input)

@@ -8,7 +8,8 @@ use Rattle.answer_lines.specs.Command.{command_in, command_of}
 behind_f : (rest : List ℕ) → command_of (codes "f", rest) ≡ command_in (102 ∷ 32 ∷ rest)
 behind_f rest =
     let line = 102 ∷ 32 ∷ rest in
-    sym (ap (λ within. option_and_then command_of (option_map (λ end. (take end line, drop (end + 1) line)) (cond within (Some 1) None)))
+    sym (ap (λ within. option_and_then command_of
+    (option_map (λ end. (take end line, drop (end + 1) line)) (cond within (Some 1) None)))
     (lt-ltb 1 (length line) (omega arith)))
 
 -- an `f` line asks for what stands behind the letter and the space

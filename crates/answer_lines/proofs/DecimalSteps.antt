@@ -22,7 +22,8 @@ decimal_digit zero small = refl
 decimal_digit (suc n) small =
     let front : suc n / 10 ≡ 0 = omega arith in
     let last : suc n % 10 ≡ suc n = omega arith in
-    decimal_some (suc n) (omega arith) ∙ ap (λ ds. map (λ d. 48 + d) ds) (digits_of_step 10 (suc n) (omega arith) (omega arith))
+    decimal_some (suc n) (omega arith) ∙ ap (λ ds. map (λ d. 48 + d) ds)
+    (digits_of_step 10 (suc n) (omega arith) (omega arith))
     ∙ rw (front, last) refl
 
 pub decimal_step : (n : ℕ) → 10 ≤ n → decimal_text n ≡ decimal_text (n / 10) ++ (48 + n % 10) ∷ []
@@ -35,14 +36,16 @@ pub room : (n at : ℕ) → n < 10 ^ suc at → n / 10 < 10 ^ at
 room n at lt = omega (arith, rw pow-suc at lt)
 
 -- one more digit in front of those that stand
-pub decimal_more : (whole : List ℕ) (left at : ℕ) (place : List ℕ) → 10 ≤ left → 0 < at → at ≤ length place → whole ≡ decimal_text left ++ drop at place
+pub decimal_more : (whole : List ℕ) (left at : ℕ) (place : List ℕ) → 10 ≤ left
+    → 0 < at → at ≤ length place → whole ≡ decimal_text left ++ drop at place
     → whole ≡ decimal_text (left / 10) ++ drop (at - 1) (set place (at - 1) (48 + left % 10))
 decimal_more whole left at place big some within e =
     let back : at - 1 + 1 ≡ at = omega arith in
     rw (drop-set place (at - 1) (48 + left % 10) (omega arith), back) (rw (decimal_step left big, append_assoc) at e)
 
 -- the first digit
-pub decimal_last : (whole : List ℕ) (left at : ℕ) (place : List ℕ) → left < 10 → 0 < at → at ≤ length place → whole ≡ decimal_text left ++ drop at place
+pub decimal_last : (whole : List ℕ) (left at : ℕ) (place : List ℕ) → left < 10
+    → 0 < at → at ≤ length place → whole ≡ decimal_text left ++ drop at place
     → drop (at - 1) (set place (at - 1) (48 + left)) ≡ whole
 decimal_last whole left at place small some within e =
     let back : at - 1 + 1 ≡ at = omega arith in
@@ -58,28 +61,36 @@ room_next n zero lt big = absurd (omega arith)
 room_next n (suc at) lt big = let e : suc at - 1 ≡ at = omega arith in rw e (room n at lt)
 
 -- the last two digits, and the digits in front of them
-decimal_pair_step : (n : ℕ) → 100 ≤ n → decimal_text n ≡ decimal_text (n / 100) ++ (48 + n % 100 / 10) ∷ (48 + n % 100 % 10) ∷ []
+decimal_pair_step : (n : ℕ) → 100 ≤ n
+    → decimal_text n ≡ decimal_text (n / 100) ++ (48 + n % 100 / 10) ∷ (48 + n % 100 % 10) ∷ []
 decimal_pair_step n big =
     let a : n / 10 / 10 ≡ n / 100 = omega arith in
     let b : n / 10 % 10 ≡ n % 100 / 10 = omega arith in
     let d : n % 10 ≡ n % 100 % 10 = omega arith in
-    decimal_step n (omega arith) ∙ ap (λ t. t ++ (48 + n % 10) ∷ []) (decimal_step (n / 10) (omega arith)) ∙ rw (append_assoc, a, b, d) refl
+    decimal_step n (omega arith) ∙ ap (λ t. t ++ (48 + n % 10) ∷ [])
+    (decimal_step (n / 10) (omega arith)) ∙ rw (append_assoc, a, b, d) refl
 
 decimal_two : (n : ℕ) → 10 ≤ n → n < 100 → decimal_text n ≡ (48 + n / 10) ∷ (48 + n % 10) ∷ []
 decimal_two n big small = decimal_step n big ∙ ap (λ t. t ++ (48 + n % 10) ∷ []) (decimal_digit (n / 10) (omega arith))
 
 -- two more digits in front of those that stand
-pub decimal_pair : (whole : List ℕ) (left at : ℕ) (place next : List ℕ) → 100 ≤ left → whole ≡ decimal_text left ++ drop at place
+pub decimal_pair : (whole : List ℕ) (left at : ℕ) (place next : List ℕ) → 100 ≤ left
+    → whole ≡ decimal_text left ++ drop at place
     → drop (at - 2) next ≡ (48 + left % 100 / 10) ∷ (48 + left % 100 % 10) ∷ drop at place
     → whole ≡ decimal_text (left / 100) ++ drop (at - 2) next
 decimal_pair whole left at place next big e w =
-    e ∙ ap (λ t. t ++ drop at place) (decimal_pair_step left big) ∙ append_assoc (decimal_text (left / 100)) ((48 + left % 100 / 10) ∷ (48 + left % 100 % 10) ∷ []) (drop at place) ∙ ap (λ t. decimal_text (left / 100) ++ t) (sym w)
+    e ∙ ap (λ t. t ++ drop at place) (decimal_pair_step left big)
+    ∙ append_assoc (decimal_text (left / 100))
+    ((48 + left % 100 / 10) ∷ (48 + left % 100 % 10) ∷ []) (drop at place)
+    ∙ ap (λ t. decimal_text (left / 100) ++ t) (sym w)
 
 -- the first two digits
-pub decimal_pair_last : (whole : List ℕ) (left at : ℕ) (place next : List ℕ) → 10 ≤ left → left < 100 → whole ≡ decimal_text left ++ drop at place
+pub decimal_pair_last : (whole : List ℕ) (left at : ℕ) (place next : List ℕ) → 10 ≤ left
+    → left < 100 → whole ≡ decimal_text left ++ drop at place
     → drop (at - 2) next ≡ (48 + left / 10) ∷ (48 + left % 10) ∷ drop at place
     → drop (at - 2) next ≡ whole
-decimal_pair_last whole left at place next big small e w = w ∙ sym (e ∙ ap (λ t. t ++ drop at place) (decimal_two left big small))
+decimal_pair_last whole left at place next big small e w =
+    w ∙ sym (e ∙ ap (λ t. t ++ drop at place) (decimal_two left big small))
 
 pub room_pair : (n at : ℕ) → n < 10 ^ at → 100 ≤ n → (n / 100 < 10 ^ (at - 2)) × (3 ≤ at)
 room_pair n at lt big =
@@ -111,12 +122,16 @@ few_digits (suc n) few =
     omega (arith, long, length-digits_of-le 10 39 (suc n) (omega arith) few)
 
 -- 39 digits at the end of an array of 40 leave room
-pub leaves_room : (n : ℕ) (place : List ℕ) (start : ℕ) → n < 10 ^ 39 → length place ≡ 40 → drop start place ≡ decimal_text n → 1 ≤ start
-leaves_room n place start few size written = omega (arith, size, few_digits n few, ap length written, length-drop start place)
+pub leaves_room : (n : ℕ) (place : List ℕ) (start : ℕ) → n < 10 ^ 39 → length place ≡ 40
+    → drop start place ≡ decimal_text n → 1 ≤ start
+leaves_room n place start few size written =
+    omega (arith, size, few_digits n few, ap length written, length-drop start place)
 
 -- the digits at the end of that array
-pub digits_at_end : (place text : List ℕ) (start : ℕ) → length place ≡ 40 → drop start place ≡ text → take (40 - start) (drop start place) ≡ text
-digits_at_end place text start size written = subst (λ n. take (n - start) (drop start place) ≡ text) size (take_rest place start ∙ written)
+pub digits_at_end : (place text : List ℕ) (start : ℕ) → length place ≡ 40 → drop start place ≡ text
+    → take (40 - start) (drop start place) ≡ text
+digits_at_end place text start size written =
+    subst (λ n. take (n - start) (drop start place) ≡ text) size (take_rest place start ∙ written)
 
 -- the digits fit where more have room
 pub room_behind : (n count digits : ℕ) → n < 10 ^ digits → n < 10 ^ (count + digits)
@@ -126,22 +141,35 @@ room_behind n (suc count) digits room =
     rw more (omega (arith, pow-succ' 10 (count + digits), room_behind n count digits room))
 
 -- digits in front of a place follow the bytes before them
-pub added : (held next text : List ℕ) (count end start : ℕ) → end ≡ count + length text → end ≤ length held → length next ≡ length held → start ≤ end
-    → drop start next ≡ text ++ drop end held → take start next ≡ take start held → take end next ≡ take count held ++ text
+pub added : (held next text : List ℕ) (count end start : ℕ) → end ≡ count + length text
+    → end ≤ length held → length next ≡ length held → start ≤ end
+    → drop start next ≡ text ++ drop end held → take start next ≡ take start held
+    → take end next ≡ take count held ++ text
 added held next text count end start ends room size within written kept =
     let behind = drop end held in
     let same : start ≡ count =
-    omega (arith, ends, room, size, within, sym (length-drop start next) ∙ ap length written ∙ length-append text behind, length-drop end held) in
+    omega (
+      arith,
+      ends,
+      room,
+      size,
+      within,
+      sym (length-drop start next) ∙ ap length written ∙ length-append text behind,
+      length-drop end held,
+    ) in
     let front = take count held ++ text in
     let long : length front ≡ end =
-    length-append (take count held) text ∙ ap (λ m. m + length text) (length-take-le count held (omega (arith, ends, room))) ∙ sym ends in
+    length-append (take count held) text
+    ∙ ap (λ m. m + length text) (length-take-le count held (omega (arith, ends, room)))
+    ∙ sym ends in
     let whole : next ≡ front ++ behind =
     sym (take-append-drop start next) ∙ ap (λ l. l ++ drop start next) kept ∙ ap (λ l. take start held ++ l) written
     ∙ sym (append_assoc (take start held) text behind) ∙ ap (λ m. (take m held ++ text) ++ behind) same in
     ap (take end) whole ∙ ap (λ m. take m (front ++ behind)) (sym long) ∙ take-append_seam front behind
 
 -- what stands in front of a place stays where it stays in front of a later one
-pub kept_less : (first place next : List ℕ) (m n : ℕ) → m ≤ n → take n place ≡ take n first → take m next ≡ take m place → take m next ≡ take m first
+pub kept_less : (first place next : List ℕ) (m n : ℕ) → m ≤ n → take n place ≡ take n first
+    → take m next ≡ take m place → take m next ≡ take m first
 kept_less first place next m n le e f = f ∙ sym (take-take m n place le) ∙ ap (λ l. take m l) e ∙ take-take m n first le
 
 -- ---- signs
@@ -171,10 +199,13 @@ decimal_text-digits_text : (n : ℕ) → decimal_text n ≡ digits_text 10 n
 unfolding digits_text
 decimal_text-digits_text zero = refl
 decimal_text-digits_text (suc n) =
-    decimal_some (suc n) (omega arith) ∙ chars_of_digits (digits_of 10 (suc n)) (all_below_base_digits_of 10 (suc n) (omega arith))
+    decimal_some (suc n) (omega arith) ∙ chars_of_digits (digits_of 10 (suc n))
+    (all_below_base_digits_of 10 (suc n) (omega arith))
 
 shortest : (n : ℕ) → WritesShortest 10 n (decimal_text n)
-shortest n = subst (WritesShortest 10 n) (sym (decimal_text-digits_text n)) (digits_text_is 10 n (omega arith) (omega arith))
+shortest n =
+    subst (WritesShortest 10 n) (sym (decimal_text-digits_text n))
+    (digits_text_is 10 n (omega arith) (omega arith))
 
 pub is_decimal : (z : ℤ) → IsNumeralOf 10 z (signed_text z)
 is_decimal (pos n) = shortest n

@@ -48,12 +48,16 @@ choice false false false false w x y z a b d e = tt
 cut_is_none : (cut : Option (List ℕ × List ℕ)) → IsNoReset (option_and_then command_of cut)
 cut_is_none None = tt
 cut_is_none (Some cut) =
-    choice (bytes_eq cut.0 (codes "c")) (bytes_eq cut.0 (codes "p")) (bytes_eq cut.0 (codes "t")) (bytes_eq cut.0 (codes "f")) _ _ _ _
-    (complete_is_none (type_and_text cut.1)) (partial_is_none (type_and_text cut.1)) tt (change_is_none (change_named cut.1))
+    choice (bytes_eq cut.0 (codes "c")) (bytes_eq cut.0 (codes "p")) (bytes_eq cut.0 (codes "t"))
+    (bytes_eq cut.0 (codes "f")) _ _ _ _
+    (complete_is_none (type_and_text cut.1)) (partial_is_none (type_and_text cut.1)) tt
+    (change_is_none (change_named cut.1))
 
 -- ---- a field by its value in the settings, and what a change gives it
 
-module _ {A : Type 0} (value : Settings → A) (given : Change → Option A) (by_change : (c : Change) (s : Settings) → value (with_change c s) ≡ unwrap_or (given c) (value s)) where
+module _ {A : Type 0} (value : Settings → A) (given : Change → Option A)
+    (by_change : (c : Change) (s : Settings)
+    → value (with_change c s) ≡ unwrap_or (given c) (value s)) where
   -- what a command gives
   abbrev of_command : Option Command → List A
   of_command command = filter_map given (cons_option (change_made command) [])
@@ -66,7 +70,8 @@ module _ {A : Type 0} (value : Settings → A) (given : Change → Option A) (by
   given_last None v = refl
   given_last (Some x) v = refl
 
-  after_no_reset : (s : Settings) (o : Option Command) → IsNoReset o → value (command_effect s o) ≡ last_of (value s) (of_command o)
+  after_no_reset : (s : Settings) (o : Option Command) → IsNoReset o
+      → value (command_effect s o) ≡ last_of (value s) (of_command o)
   after_no_reset s None none = refl
   after_no_reset s (Some (parse_complete type text)) none = refl
   after_no_reset s (Some (parse_partial type text)) none = refl
@@ -75,23 +80,31 @@ module _ {A : Type 0} (value : Settings → A) (given : Change → Option A) (by
   after_no_reset s (Some reset) none = absurd none
 
   after_command : (s : Settings) (b : Bool) (o : Option Command) → IsNoReset o
-      → value (command_effect s (cond b (Some reset) o)) ≡ cond b (value standard_settings) (last_of (value s) (of_command (cond b (Some reset) o)))
+      → value (command_effect s (cond b (Some reset) o))
+      ≡ cond b (value standard_settings) (last_of (value s) (of_command (cond b (Some reset) o)))
   after_command s true o none = refl
   after_command s false o none = after_no_reset s o none
 
-  after_line : (s : Settings) (line : List ℕ) → value (settings_after s line) ≡ cond (is_reset line) (value standard_settings) (last_of (value s) (values_given (line ∷ [])))
+  after_line : (s : Settings) (line : List ℕ)
+      → value (settings_after s line) ≡ cond (is_reset line) (value standard_settings)
+      (last_of (value s) (values_given (line ∷ [])))
   unfolding settings_after
-  after_line s line = after_command s (is_reset line) (option_and_then command_of (parts line)) (cut_is_none (parts line))
+  after_line s line =
+      after_command s (is_reset line) (option_and_then command_of (parts line))
+      (cut_is_none (parts line))
 
   -- ---- lines in a row
 
   one_more : (v : A) (o : Option Change) (cs : List Change)
-      → last_of v (filter_map given (cons_option o cs)) ≡ last_of (last_of v (filter_map given (cons_option o []))) (filter_map given cs)
+      → last_of v (filter_map given (cons_option o cs))
+      ≡ last_of (last_of v (filter_map given (cons_option o []))) (filter_map given cs)
   one_more v None cs = refl
-  one_more v (Some c) cs = elim (given c) as (λ (o : Option A). last_of v (cons_option o (filter_map given cs)) ≡ last_of (last_of v (cons_option o [])) (filter_map given cs)) [
-    | None ↦ refl
-    | Some x ↦ refl
-  ]
+  one_more v (Some c) cs =
+      elim (given c) as (λ (o : Option A). last_of v (cons_option o (filter_map given cs))
+      ≡ last_of (last_of v (cons_option o [])) (filter_map given cs)) [
+        | None ↦ refl
+        | Some x ↦ refl
+      ]
 
   -- what lines give, from the value before them, or from the standard one behind a reset
   abbrev pub from_start : Bool → Settings → List (List ℕ) → A
@@ -100,21 +113,27 @@ module _ {A : Type 0} (value : Settings → A) (given : Change → Option A) (by
   abbrev pub claim : Settings → List (List ℕ) → A
   claim s lines = from_start (is_none is_reset lines) s (after_last is_reset lines)
 
-  claim_is : (s : Settings) (lines rest : List (List ℕ)) (b : Bool) → is_none is_reset lines ≡ b → after_last is_reset lines ≡ rest
+  claim_is : (s : Settings) (lines rest : List (List ℕ)) (b : Bool) → is_none is_reset lines ≡ b
+      → after_last is_reset lines ≡ rest
       → claim s lines ≡ from_start b s rest
   claim_is s lines rest b e f = ap (λ x. from_start x s (after_last is_reset lines)) e ∙ ap (λ x. from_start b s x) f
 
-  first_line : (s : Settings) (line : List ℕ) (lines : List (List ℕ)) (b r : Bool) → is_none is_reset lines ≡ b → is_reset line ≡ r
+  first_line : (s : Settings) (line : List ℕ) (lines : List (List ℕ)) (b r : Bool)
+      → is_none is_reset lines ≡ b → is_reset line ≡ r
       → claim (settings_after s line) lines ≡ claim s (line ∷ lines)
   first_line s line lines true true none resets =
       let (more, rest, all) = at_first is_reset line lines none resets in
       let v : value (settings_after s line) ≡ value standard_settings =
-      after_line s line ∙ ap (λ x. cond x (value standard_settings) (last_of (value s) (values_given (line ∷ [])))) resets in
-      claim_is (settings_after s line) lines lines true none rest ∙ ap (λ x. last_of x (values_given lines)) v ∙ sym (claim_is s (line ∷ lines) lines false more all)
+      after_line s line ∙ ap (λ x. cond x (value standard_settings)
+      (last_of (value s) (values_given (line ∷ [])))) resets in
+      claim_is (settings_after s line) lines lines true none rest
+      ∙ ap (λ x. last_of x (values_given lines)) v
+      ∙ sym (claim_is s (line ∷ lines) lines false more all)
   first_line s line lines true false none other =
       let (more, rest, all) = at_none is_reset line lines none other in
       let v : value (settings_after s line) ≡ last_of (value s) (values_given (line ∷ [])) =
-      after_line s line ∙ ap (λ x. cond x (value standard_settings) (last_of (value s) (values_given (line ∷ [])))) other in
+      after_line s line ∙ ap (λ x. cond x (value standard_settings)
+      (last_of (value s) (values_given (line ∷ [])))) other in
       claim_is (settings_after s line) lines lines true none rest ∙ ap (λ x. last_of x (values_given lines)) v
       ∙ sym (one_more (value s) (change_made (command_in line)) (filter_map (λ l. change_made (command_in l)) lines))
       ∙ sym (claim_is s (line ∷ lines) (line ∷ lines) true more all)
@@ -126,34 +145,44 @@ module _ {A : Type 0} (value : Settings → A) (given : Change → Option A) (by
   pub holds_given : (s : Settings) (lines : List (List ℕ)) → value (fold settings_after s lines) ≡ claim s lines
   holds_given s [] = refl
   holds_given s (line ∷ lines) =
-      holds_given (settings_after s line) lines ∙ first_line s line lines (is_none is_reset lines) (is_reset line) refl refl
+      holds_given (settings_after s line) lines
+      ∙ first_line s line lines (is_none is_reset lines) (is_reset line) refl refl
 
   -- from the standard settings on
-  pub holds_last : (lines : List (List ℕ)) → value (settings_left lines) ≡ last_of (value standard_settings) (values_given (after_last is_reset lines))
+  pub holds_last : (lines : List (List ℕ))
+      → value (settings_left lines) ≡ last_of (value standard_settings)
+      (values_given (after_last is_reset lines))
   holds_last lines =
       holds_given standard_settings lines
       ∙ same (is_none is_reset lines)
     where
-      same : (b : Bool) → from_start b standard_settings (after_last is_reset lines) ≡ last_of (value standard_settings) (values_given (after_last is_reset lines))
+      same : (b : Bool) → from_start b standard_settings (after_last is_reset lines)
+          ≡ last_of (value standard_settings) (values_given (after_last is_reset lines))
       same true = refl
       same false = refl
 
 -- ---- each line in turn
 
-answers-append : (s : Settings) (before after : List (List ℕ)) → answers s (before ++ after) ≡ answers s before ++ answers (fold settings_after s before) after
+answers-append : (s : Settings) (before after : List (List ℕ))
+    → answers s (before ++ after) ≡ answers s before ++ answers (fold settings_after s before) after
 answers-append s [] after = refl
 answers-append s (line ∷ before) after =
     ap (λ l. answer_of s line ++ 10 ∷ [] ++ l) (answers-append (settings_after s line) before after)
-    ∙ sym (append_assoc (answer_of s line ++ 10 ∷ []) (answers (settings_after s line) before) (answers (fold settings_after (settings_after s line) before) after))
+    ∙ sym (append_assoc (answer_of s line ++ 10 ∷ []) (answers (settings_after s line) before)
+    (answers (fold settings_after (settings_after s line) before) after))
 
-fold-append : (s : Settings) (before : List (List ℕ)) (line : List ℕ) → fold settings_after s (before ++ line ∷ []) ≡ settings_after (fold settings_after s before) line
+fold-append : (s : Settings) (before : List (List ℕ)) (line : List ℕ)
+    → fold settings_after s (before ++ line ∷ [])
+    ≡ settings_after (fold settings_after s before) line
 fold-append s [] line = refl
 fold-append s (first ∷ before) line = fold-append (settings_after s first) before line
 
 pub in_turn : (before : List (List ℕ)) (line : List ℕ) (after : List (List ℕ)) → IsAnsweredInTurn before line after
 in_turn before line after =
     answers-append standard_settings before (line ∷ after)
-    ∙ ap (λ s. answers standard_settings before ++ (answer_of (settings_left before) line ++ 10 ∷ [] ++ answers s after)) (sym (fold-append standard_settings before line))
+    ∙ ap (λ s. answers standard_settings before
+    ++ (answer_of (settings_left before) line ++ 10 ∷ [] ++ answers s after))
+    (sym (fold-append standard_settings before line))
 
 -- ---- all fields
 

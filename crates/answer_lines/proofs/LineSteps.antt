@@ -23,46 +23,64 @@ lines_step (b ∷ []) (suc zero) some within before found =
 lines_step (b ∷ []) (suc (suc n)) some within before found = absurd (omega arith)
 lines_step (b ∷ c ∷ bs) (suc n) some within before found =
     lines_cons b (c ∷ bs) (before 0 (omega arith))
-    ∙ ap (λ ls. onto_line b ls) (lines_step (c ∷ bs) n (omega arith) (omega arith) (λ k lt. before (suc k) (omega arith)) (λ lt. found (omega arith)))
+    ∙ ap (λ ls. onto_line b ls) (lines_step (c ∷ bs) n (omega arith) (omega arith)
+    (λ k lt. before (suc k) (omega arith)) (λ lt. found (omega arith)))
 
 -- one line's answer goes out
-pub Sends-line : (old now next : Option (List ℕ)) (s after : Settings) (bs whole waited waits : List ℕ) (n : ℕ) → 0 < length bs → n ≤ length bs
+pub Sends-line : (old now next : Option (List ℕ)) (s after : Settings)
+    (bs whole waited waits : List ℕ) (n : ℕ) → 0 < length bs → n ≤ length bs
     → ((k : ℕ) → k < n → get_or bs k 0 ≡ 10 → ⊥) → (n < length bs → get_or bs n 0 ≡ 10)
-    → Sends old now whole (waited ++ answers s (lines bs)) → Sends now next (waited ++ (answer_of s (take n bs) ++ 10 ∷ [])) waits → after ≡ settings_after s (take n bs)
+    → Sends old now whole (waited ++ answers s (lines bs))
+    → Sends now next (waited ++ (answer_of s (take n bs) ++ 10 ∷ [])) waits
+    → after ≡ settings_after s (take n bs)
     → Sends old next whole (waits ++ answers after (lines (drop (n + 1) bs)))
 Sends-line old now next s after bs whole waited waits n some within before found sent a e =
     let P : List (List ℕ) → Type 0 = λ ls. Sends old now whole (waited ++ answers s ls) in
     let Q : Settings → Type 0 = λ t. Sends old next whole (waits ++ answers t (lines (drop (n + 1) bs))) in
-    subst Q (sym e) (rw add-one (sends_piece old now next whole waited waits _ _ (subst P (lines_step bs n some within before found) sent) a))
+    subst Q (sym e) (rw add-one (sends_piece old now next whole waited waits _ _
+    (subst P (lines_step bs n some within before found) sent) a))
 
 -- the next line begins after the line feed
-pub Sends-next : (old now next : Option (List ℕ)) (s after : Settings) (bs whole waited waits : List ℕ) (n : ℕ) → 0 < length bs → n ≤ length bs
+pub Sends-next : (old now next : Option (List ℕ)) (s after : Settings)
+    (bs whole waited waits : List ℕ) (n : ℕ) → 0 < length bs → n ≤ length bs
     → ((k : ℕ) → k < n → get_or bs k 0 ≡ 10 → ⊥) → (n < length bs → get_or bs n 0 ≡ 10)
-    → Sends old now whole (waited ++ answers s (lines bs)) → Sends now next (waited ++ (answer_of s (take n bs) ++ 10 ∷ [])) waits → after ≡ settings_after s (take n bs)
+    → Sends old now whole (waited ++ answers s (lines bs))
+    → Sends now next (waited ++ (answer_of s (take n bs) ++ 10 ∷ [])) waits
+    → after ≡ settings_after s (take n bs)
     → Sends old next whole (waits ++ answers after (lines (take (length bs - (n + 1)) (drop (n + 1) bs))))
 Sends-next old now next s after bs whole waited waits n some within before found sent a e =
-    rw (take_rest bs (n + 1)) (Sends-line old now next s after bs whole waited waits n some within before found sent a e)
+    rw (take_rest bs (n + 1)) (Sends-line old now next s after bs whole waited waits n some within
+    before found sent a e)
 
 -- the last line had no line feed
-pub Sends-last : (old now next : Option (List ℕ)) (s after : Settings) (bs whole waited waits : List ℕ) (n : ℕ) → 0 < length bs → n ≡ length bs
+pub Sends-last : (old now next : Option (List ℕ)) (s after : Settings)
+    (bs whole waited waits : List ℕ) (n : ℕ) → 0 < length bs → n ≡ length bs
     → ((k : ℕ) → k < n → get_or bs k 0 ≡ 10 → ⊥)
-    → Sends old now whole (waited ++ answers s (lines bs)) → Sends now next (waited ++ (answer_of s (take n bs) ++ 10 ∷ [])) waits → after ≡ settings_after s (take n bs)
+    → Sends old now whole (waited ++ answers s (lines bs))
+    → Sends now next (waited ++ (answer_of s (take n bs) ++ 10 ∷ [])) waits
+    → after ≡ settings_after s (take n bs)
     → Sends old next whole waits
 Sends-last old now next s after bs whole waited waits n some all before sent a e =
     let none : drop (n + 1) bs ≡ [] = drop_all (n + 1) bs (omega arith) in
     let P : List ℕ → Type 0 = λ l. Sends old next whole (waits ++ answers after (lines l)) in
     rw append-nil at
-    (subst P none (Sends-line old now next s after bs whole waited waits n some (omega arith) before (λ lt. absurd (omega arith)) sent a e))
+    (subst P none (Sends-line old now next s after bs whole waited waits n some (omega arith) before
+    (λ lt. absurd (omega arith)) sent a e))
 
 -- no line is left
-pub Sends-end : (old now : Option (List ℕ)) (s : Settings) (bs whole waited : List ℕ) → length bs ≡ 0 → Sends old now whole (waited ++ answers s (lines bs)) → Sends old now whole waited
+pub Sends-end : (old now : Option (List ℕ)) (s : Settings) (bs whole waited : List ℕ)
+    → length bs ≡ 0 → Sends old now whole (waited ++ answers s (lines bs))
+    → Sends old now whole waited
 Sends-end old now s [] whole waited none sent = rw append-nil at sent
 Sends-end old now s (b ∷ bs) whole waited none sent = absurd (omega arith)
 
 -- a front of one line's answer goes out
-pub Front-line : (old now next : Option (List ℕ)) (s : Settings) (bs whole waited : List ℕ) (n : ℕ) → 0 < length bs → n ≤ length bs
+pub Front-line : (old now next : Option (List ℕ)) (s : Settings) (bs whole waited : List ℕ) (n : ℕ)
+    → 0 < length bs → n ≤ length bs
     → ((k : ℕ) → k < n → get_or bs k 0 ≡ 10 → ⊥) → (n < length bs → get_or bs n 0 ≡ 10)
-    → Sends old now whole (waited ++ answers s (lines bs)) → GainsFront now next (waited ++ (answer_of s (take n bs) ++ 10 ∷ [])) → GainsFront old next whole
+    → Sends old now whole (waited ++ answers s (lines bs))
+    → GainsFront now next (waited ++ (answer_of s (take n bs) ++ 10 ∷ []))
+    → GainsFront old next whole
 Front-line old now next s bs whole waited n some within before found sent g =
     let P : List (List ℕ) → Type 0 = λ ls. Sends old now whole (waited ++ answers s ls) in
     front_piece old now next whole waited _ _ (subst P (lines_step bs n some within before found) sent) g

@@ -29,25 +29,30 @@ pub takes_none : (a : Option (List ℕ)) (start : List ℕ) → Takes a a start 
 takes_none a start = takes [] (Consumes-none a) (sym (append-nil start))
 
 -- one more piece came in, and was added
-pub takes_more : (a b c : Option (List ℕ)) (start bytes more piece : List ℕ) → Takes a b start bytes → Consumes b c piece → more ≡ bytes ++ piece → Takes a c start more
+pub takes_more : (a b c : Option (List ℕ)) (start bytes more piece : List ℕ) → Takes a b start bytes
+    → Consumes b c piece → more ≡ bytes ++ piece → Takes a c start more
 takes_more a b c start bytes more piece (takes f p e) q added =
     takes (f ++ piece) (Consumes-more a b c f piece p q) (added ∙ ap (λ l. l ++ piece) e ∙ append_assoc start f piece)
 
 -- the reader keeps its bytes
-pub takes_kept : (a b c : Option (List ℕ)) (start bytes : List ℕ) → Takes a b start bytes → Keeps b c → Takes a c start bytes
+pub takes_kept : (a b c : Option (List ℕ)) (start bytes : List ℕ) → Takes a b start bytes
+    → Keeps b c → Takes a c start bytes
 takes_kept a b c start bytes (takes f p e) k = takes f (Consumes-kept a b c f p k) e
 
 pub front_of_taken : (a b : Option (List ℕ)) (start bytes : List ℕ) → Takes a b start bytes → LosesFront a b
 front_of_taken a b start bytes (takes f p e) = loses_front f p
 
 -- at the end of the input all of it came in
-pub takes_all : (a b : Option (List ℕ)) (start bytes : List ℕ) → Takes a b start bytes → IsAtEnd b → IfSome a (λ all. bytes ≡ start ++ all)
+pub takes_all : (a b : Option (List ℕ)) (start bytes : List ℕ) → Takes a b start bytes → IsAtEnd b
+    → IfSome a (λ all. bytes ≡ start ++ all)
 takes_all None b start bytes t end = tt
 takes_all (Some u) None start bytes (takes f p e) end = absurd p
-takes_all (Some u) (Some v) start bytes (takes f p e) end = e ∙ ap (λ l. start ++ l) (sym (p ∙ ap (λ l. f ++ l) end ∙ append-nil f))
+takes_all (Some u) (Some v) start bytes (takes f p e) end =
+    e ∙ ap (λ l. start ++ l) (sym (p ∙ ap (λ l. f ++ l) end ∙ append-nil f))
 
 -- one more piece came in, and wasn't added
-pub takes_lost : (a b c : Option (List ℕ)) (start bytes piece : List ℕ) → Takes a b start bytes → Consumes b c piece → LosesFront a c
+pub takes_lost : (a b c : Option (List ℕ)) (start bytes piece : List ℕ) → Takes a b start bytes
+    → Consumes b c piece → LosesFront a c
 takes_lost a b c start bytes piece (takes f p e) q = loses_front (f ++ piece) (Consumes-more a b c f piece p q)
 
 -- ---- what a writer gained
@@ -83,26 +88,31 @@ pub sends_first : (a b : Option (List ℕ)) (first bytes : List ℕ) → Appends
 sends_first a b first bytes p = sends first p refl
 
 -- of what was left some more went out
-pub sends_more : (a b c : Option (List ℕ)) (bytes left rest : List ℕ) → Sends a b bytes left → Sends b c left rest → Sends a c bytes rest
+pub sends_more : (a b c : Option (List ℕ)) (bytes left rest : List ℕ) → Sends a b bytes left
+    → Sends b c left rest → Sends a c bytes rest
 sends_more a b c bytes left rest (sends f p d) (sends g q e) =
     sends (f ++ g) (Appends-more a b c f g p q) (d ∙ ap (λ l. f ++ l) e ∙ sym (append_assoc f g rest))
 
 -- more bytes are left behind what is left
-pub sends_wider : (a b : Option (List ℕ)) (bytes left more : List ℕ) → Sends a b bytes left → Sends a b (bytes ++ more) (left ++ more)
+pub sends_wider : (a b : Option (List ℕ)) (bytes left more : List ℕ) → Sends a b bytes left
+    → Sends a b (bytes ++ more) (left ++ more)
 sends_wider a b bytes left more (sends f p e) = sends f p (ap (λ l. l ++ more) e ∙ append_assoc f left more)
 
 -- the first n bytes of what was left went out
-pub sends_taken : (a b c : Option (List ℕ)) (bytes rest : List ℕ) (n : ℕ) → Sends a b bytes rest → Appends b c (take n rest) → Sends a c bytes (take (length rest - n) (drop n rest))
+pub sends_taken : (a b c : Option (List ℕ)) (bytes rest : List ℕ) (n : ℕ) → Sends a b bytes rest
+    → Appends b c (take n rest) → Sends a c bytes (take (length rest - n) (drop n rest))
 sends_taken a b c bytes rest n s p =
     let t : Sends b c rest (drop n rest) = sends (take n rest) p (sym (take-append-drop n rest)) in
     rw (take_rest rest n) (sends_more a b c bytes rest (drop n rest) s t)
 
 -- then the writer keeps its bytes
-pub sends_kept : (a b c : Option (List ℕ)) (bytes left : List ℕ) → Sends a b bytes left → Keeps b c → Sends a c bytes left
+pub sends_kept : (a b c : Option (List ℕ)) (bytes left : List ℕ) → Sends a b bytes left → Keeps b c
+    → Sends a c bytes left
 sends_kept a b c bytes left (sends f p e) k = sends f (Appends-kept a b c f p k) e
 
 -- no byte is left
-pub sends_done : (a b : Option (List ℕ)) (bytes left : List ℕ) → Sends a b bytes left → length left ≡ 0 → Appends a b bytes
+pub sends_done : (a b : Option (List ℕ)) (bytes left : List ℕ) → Sends a b bytes left
+    → length left ≡ 0 → Appends a b bytes
 sends_done a b bytes [] (sends f p e) none = subst (Appends a b) (sym (e ∙ append-nil f)) p
 sends_done a b bytes (x ∷ left) s none = absurd (omega arith)
 
@@ -112,35 +122,45 @@ sends_held a bytes left e = subst (Sends a a bytes) (sym e) (sends_none a bytes)
 
 -- nothing went out, and nothing was to
 pub sends_empty : (a : Option (List ℕ)) (waited more : List ℕ) → more ≡ [] → Sends a a (waited ++ more) waited
-sends_empty a waited more none = sends_held a (waited ++ more) waited (sym (ap (λ l. waited ++ l) none ∙ append-nil waited))
+sends_empty a waited more none =
+    sends_held a (waited ++ more) waited (sym (ap (λ l. waited ++ l) none ∙ append-nil waited))
 
 -- ---- what waited goes out, and then more bytes
 
 -- the bytes wait in the batch that was empty
-pub gathers_waiting : (a : Option (List ℕ)) (empty waits bytes : List ℕ) → empty ≡ [] → waits ≡ empty ++ bytes → Sends a a bytes waits
+pub gathers_waiting : (a : Option (List ℕ)) (empty waits bytes : List ℕ) → empty ≡ []
+    → waits ≡ empty ++ bytes → Sends a a bytes waits
 gathers_waiting a empty waits bytes none e = sends_held a bytes waits (e ∙ ap (λ l. l ++ bytes) none)
 
 -- the bytes went out, and the batch is as empty as it was
-pub gathers_sent : (a b : Option (List ℕ)) (empty bytes : List ℕ) → empty ≡ [] → Appends a b bytes → Sends a b bytes empty
+pub gathers_sent : (a b : Option (List ℕ)) (empty bytes : List ℕ) → empty ≡ [] → Appends a b bytes
+    → Sends a b bytes empty
 gathers_sent a b empty bytes none p = subst (Sends a b bytes) (sym none) (sends_all a b bytes p)
 
 -- what waited went out, and then the bytes
-pub gathers_behind : (a b c : Option (List ℕ)) (waited waits bytes : List ℕ) → Appends a b waited → Sends b c bytes waits → Sends a c (waited ++ bytes) waits
-gathers_behind a b c waited waits bytes p s = sends_more a b c (waited ++ bytes) bytes waits (sends_first a b waited bytes p) s
+pub gathers_behind : (a b c : Option (List ℕ)) (waited waits bytes : List ℕ) → Appends a b waited
+    → Sends b c bytes waits → Sends a c (waited ++ bytes) waits
+gathers_behind a b c waited waits bytes p s =
+    sends_more a b c (waited ++ bytes) bytes waits (sends_first a b waited bytes p) s
 
 -- two pieces, one after the other
-pub gathers_more : (a b c : Option (List ℕ)) (waited between waits xs ys : List ℕ) → Sends a b (waited ++ xs) between → Sends b c (between ++ ys) waits → Sends a c (waited ++ (xs ++ ys)) waits
+pub gathers_more : (a b c : Option (List ℕ)) (waited between waits xs ys : List ℕ)
+    → Sends a b (waited ++ xs) between → Sends b c (between ++ ys) waits
+    → Sends a c (waited ++ (xs ++ ys)) waits
 gathers_more a b c waited between waits xs ys s t =
     rw (← append_assoc waited xs ys) (sends_more a b c _ _ waits (sends_wider a b (waited ++ xs) between ys s) t)
 
 -- a piece of what is left goes out, behind what waited
-pub sends_piece : (a b c : Option (List ℕ)) (bytes waited waits piece rest : List ℕ) → Sends a b bytes (waited ++ (piece ++ rest)) → Sends b c (waited ++ piece) waits
+pub sends_piece : (a b c : Option (List ℕ)) (bytes waited waits piece rest : List ℕ)
+    → Sends a b bytes (waited ++ (piece ++ rest)) → Sends b c (waited ++ piece) waits
     → Sends a c bytes (waits ++ rest)
 sends_piece a b c bytes waited waits piece rest s t =
-    sends_more a b c bytes _ _ (rw (← append_assoc waited piece rest) at s) (sends_wider b c (waited ++ piece) waits rest t)
+    sends_more a b c bytes _ _ (rw (← append_assoc waited piece rest) at s)
+    (sends_wider b c (waited ++ piece) waits rest t)
 
 -- what is left has gone out too
-pub sends_sent : (a b c : Option (List ℕ)) (bytes left : List ℕ) → Sends a b bytes left → Appends b c left → Appends a c bytes
+pub sends_sent : (a b c : Option (List ℕ)) (bytes left : List ℕ) → Sends a b bytes left
+    → Appends b c left → Appends a c bytes
 sends_sent a b c bytes left (sends f q e) p = subst (Appends a c) (sym e) (Appends-more a b c f left q p)
 
 -- ---- a front of the bytes went out
@@ -153,24 +173,31 @@ pub front_of_sent : (a b : Option (List ℕ)) (bytes left : List ℕ) → Sends 
 front_of_sent a b bytes left s = gains_front left s
 
 -- the first n bytes of what was left went out
-pub front_taken : (a b c : Option (List ℕ)) (bytes rest : List ℕ) (n : ℕ) → Sends a b bytes rest → Appends b c (take n rest) → GainsFront a c bytes
+pub front_taken : (a b c : Option (List ℕ)) (bytes rest : List ℕ) (n : ℕ) → Sends a b bytes rest
+    → Appends b c (take n rest) → GainsFront a c bytes
 front_taken a b c bytes rest n s p = front_of_sent a c bytes _ (sends_taken a b c bytes rest n s p)
 
 -- of what was left none went out
-pub front_refused : (a b c : Option (List ℕ)) (bytes left : List ℕ) → Sends a b bytes left → Keeps b c → GainsFront a c bytes
+pub front_refused : (a b c : Option (List ℕ)) (bytes left : List ℕ) → Sends a b bytes left
+    → Keeps b c → GainsFront a c bytes
 front_refused a b c bytes left s k = front_of_sent a c bytes left (sends_kept a b c bytes left s k)
 
 -- a front of what was left
-pub front_more : (a b c : Option (List ℕ)) (bytes left : List ℕ) → Sends a b bytes left → GainsFront b c left → GainsFront a c bytes
+pub front_more : (a b c : Option (List ℕ)) (bytes left : List ℕ) → Sends a b bytes left
+    → GainsFront b c left → GainsFront a c bytes
 front_more a b c bytes left s (gains_front rest t) = gains_front rest (sends_more a b c bytes left rest s t)
 
 -- a front of what waited then and a piece
-pub front_piece : (a b c : Option (List ℕ)) (bytes waited piece rest : List ℕ) → Sends a b bytes (waited ++ (piece ++ rest)) → GainsFront b c (waited ++ piece) → GainsFront a c bytes
+pub front_piece : (a b c : Option (List ℕ)) (bytes waited piece rest : List ℕ)
+    → Sends a b bytes (waited ++ (piece ++ rest)) → GainsFront b c (waited ++ piece)
+    → GainsFront a c bytes
 front_piece a b c bytes waited piece rest s (gains_front left t) =
-    front_more a b c bytes _ (rw (← append_assoc waited piece rest) at s) (gains_front (left ++ rest) (sends_wider b c (waited ++ piece) left rest t))
+    front_more a b c bytes _ (rw (← append_assoc waited piece rest) at s)
+    (gains_front (left ++ rest) (sends_wider b c (waited ++ piece) left rest t))
 
 -- the bytes behind what waited are told another way
-pub front_as : (a b : Option (List ℕ)) (waited xs ys : List ℕ) → xs ≡ ys → GainsFront a b (waited ++ xs) → GainsFront a b (waited ++ ys)
+pub front_as : (a b : Option (List ℕ)) (waited xs ys : List ℕ) → xs ≡ ys
+    → GainsFront a b (waited ++ xs) → GainsFront a b (waited ++ ys)
 front_as a b waited xs ys e g = subst (λ l. GainsFront a b (waited ++ l)) e g
 
 -- a front of the first bytes
@@ -178,15 +205,19 @@ pub front_wider : (a b : Option (List ℕ)) (bytes more : List ℕ) → GainsFro
 front_wider a b bytes more (gains_front left s) = gains_front (left ++ more) (sends_wider a b bytes left more s)
 
 -- a front of the bytes behind the first, which are all out
-pub front_behind : (a b c : Option (List ℕ)) (first second : List ℕ) → Appends a b first → GainsFront b c second → GainsFront a c (first ++ second)
+pub front_behind : (a b c : Option (List ℕ)) (first second : List ℕ) → Appends a b first
+    → GainsFront b c second → GainsFront a c (first ++ second)
 front_behind a b c first second p g = front_more a b c (first ++ second) second (sends_first a b first second p) g
 
 -- a front of what waited and the first piece
-pub front_first : (a b : Option (List ℕ)) (waited xs ys : List ℕ) → GainsFront a b (waited ++ xs) → GainsFront a b (waited ++ (xs ++ ys))
+pub front_first : (a b : Option (List ℕ)) (waited xs ys : List ℕ) → GainsFront a b (waited ++ xs)
+    → GainsFront a b (waited ++ (xs ++ ys))
 front_first a b waited xs ys g = rw (← append_assoc waited xs ys) (front_wider a b (waited ++ xs) ys g)
 
 -- a front of what waited then and the second piece
-pub front_second : (a b c : Option (List ℕ)) (waited between xs ys : List ℕ) → Sends a b (waited ++ xs) between → GainsFront b c (between ++ ys) → GainsFront a c (waited ++ (xs ++ ys))
+pub front_second : (a b c : Option (List ℕ)) (waited between xs ys : List ℕ)
+    → Sends a b (waited ++ xs) between → GainsFront b c (between ++ ys)
+    → GainsFront a c (waited ++ (xs ++ ys))
 front_second a b c waited between xs ys s g =
     rw (← append_assoc waited xs ys) (front_more a b c _ _ (sends_wider a b (waited ++ xs) between ys s) g)
 
@@ -202,11 +233,13 @@ grown_by_none a = grows [] (Appends-none a)
 
 -- ---- a front of the output for what a reader had, where it tells its bytes
 
-pub written_none : (known a : Option (List ℕ)) (made : List ℕ → List ℕ) → IfSome known (λ all. GainsFront a a (made all))
+pub written_none : (known a : Option (List ℕ)) (made : List ℕ → List ℕ)
+    → IfSome known (λ all. GainsFront a a (made all))
 written_none None a made = tt
 written_none (Some all) a made = front_here a (made all)
 
-pub written_all : (known a b : Option (List ℕ)) (made : List ℕ → List ℕ) (start held bytes : List ℕ) → start ≡ [] → IfSome known (λ all. held ≡ start ++ all) → bytes ≡ held
+pub written_all : (known a b : Option (List ℕ)) (made : List ℕ → List ℕ) (start held bytes : List ℕ)
+    → start ≡ [] → IfSome known (λ all. held ≡ start ++ all) → bytes ≡ held
     → GainsFront a b (made bytes) → IfSome known (λ all. GainsFront a b (made all))
 written_all None a b made start held bytes none read same g = tt
 written_all (Some all) a b made start held bytes none read same g =

@@ -2,11 +2,7 @@
 use Rattle.std.specs.Prelude.{◌≡◌, ℕ, codes, List, [], ◌∷◌, pos, ℤ}
 use Rattle.std.proofs.Common.{refl}
 use Rattle.lexical_util.specs.Number.{IntegerType}
-use Rattle.lexical_parse_integer.specs.Affixes.{is_affix, literal_radix, marked_radix, matches, numeral_stop, octal_zero_at, prefix_radix, suffix_at}
-use Rattle.lexical_parse_integer.specs.Grammar.{complete, range_fault}
-use Rattle.lexical_parse_integer.specs.Head.{head_of, sign}
-use Rattle.lexical_parse_integer.specs.Numeral.{numeral_in}
-use Rattle.lexical_parse_integer.specs.Runs.{are_same, begin_of, is_in_numeral, digit_at, digits_between, end_of, flag_for, run_passes, separator_at}
+use Rattle.lexical_parse_integer.specs.Computed.{grammar}
 use Rattle.lexical_fields.specs.Columns.{answer_of, numbers_of}
 use Rattle.jadvolni.specs.Columns.{ColumnEffect, column_call}
 use Rattle.jadvolni.specs.Effect.{unsigned}
@@ -44,25 +40,30 @@ abbrev before : List ℤ
 before = pos 77 ∷ pos 77 ∷ pos 77 ∷ []
 
 -- `12,7,` has two numbers, and the last place is as it was
-two_numbers : column_call (fields_of 10 0) (unsigned 8) 44 (codes "12,7,") before ≡ record { status = 0; place = 5; count = 2; numbers = pos 12 ∷ pos 7 ∷ pos 77 ∷ [] }
-unfolding answer_of numbers_of complete numeral_in head_of sign octal_zero_at range_fault begin_of digit_at are_same separator_at flag_for run_passes is_in_numeral end_of digits_between matches is_affix literal_radix marked_radix prefix_radix suffix_at numeral_stop
+two_numbers : column_call (fields_of 10 0) (unsigned 8) 44 (codes "12,7,") before
+    ≡ record { status = 0; place = 5; count = 2; numbers = pos 12 ∷ pos 7 ∷ pos 77 ∷ [] }
+unfolding grammar answer_of numbers_of
 two_numbers = refl
 
 -- the second field of `12,7x,1` has a fault at 4, and what was read before it stands
-last_byte : column_call (fields_of 10 0) (unsigned 8) 44 (codes "12,7x,1") before ≡ record { status = 3; place = 4; count = 1; numbers = pos 12 ∷ pos 77 ∷ pos 77 ∷ [] }
-unfolding answer_of numbers_of complete numeral_in head_of sign octal_zero_at range_fault begin_of digit_at are_same separator_at flag_for run_passes is_in_numeral end_of digits_between matches is_affix literal_radix marked_radix prefix_radix suffix_at numeral_stop
+last_byte : column_call (fields_of 10 0) (unsigned 8) 44 (codes "12,7x,1") before
+    ≡ record { status = 3; place = 4; count = 1; numbers = pos 12 ∷ pos 77 ∷ pos 77 ∷ [] }
+unfolding grammar answer_of numbers_of
 last_byte = refl
 
 -- the fourth field of `1,2,3,x` has no room, and stands at 6
-no_room : column_call (fields_of 10 0) (unsigned 8) 44 (codes "1,2,3,x") before ≡ record { status = 0; place = 6; count = 3; numbers = pos 1 ∷ pos 2 ∷ pos 3 ∷ [] }
-unfolding answer_of numbers_of complete numeral_in head_of sign octal_zero_at range_fault begin_of digit_at are_same separator_at flag_for run_passes is_in_numeral end_of digits_between matches is_affix literal_radix marked_radix prefix_radix suffix_at numeral_stop
+no_room : column_call (fields_of 10 0) (unsigned 8) 44 (codes "1,2,3,x") before
+    ≡ record { status = 0; place = 6; count = 3; numbers = pos 1 ∷ pos 2 ∷ pos 3 ∷ [] }
+unfolding grammar answer_of numbers_of
 no_room = refl
 
 -- under an invalid format nothing is read
-invalid_format : column_call (fields_of 1 0) (unsigned 8) 44 (codes "1") before ≡ record { status = 8; place = 0; count = 0; numbers = before }
-unfolding answer_of numbers_of complete numeral_in head_of sign octal_zero_at range_fault begin_of digit_at are_same separator_at flag_for run_passes is_in_numeral end_of digits_between matches is_affix literal_radix marked_radix prefix_radix suffix_at numeral_stop
+invalid_format : column_call (fields_of 1 0) (unsigned 8) 44 (codes "1") before
+    ≡ record { status = 8; place = 0; count = 0; numbers = before }
+unfolding grammar answer_of numbers_of
 invalid_format = refl
 
 -- nor under one that this version doesn't know
-unknown_field : column_call (fields_of 1 5) (unsigned 8) 44 (codes "1") before ≡ record { status = 64; place = 0; count = 0; numbers = before }
+unknown_field : column_call (fields_of 1 5) (unsigned 8) 44 (codes "1") before
+    ≡ record { status = 64; place = 0; count = 0; numbers = before }
 unknown_field = refl

@@ -11,10 +11,13 @@ above zero (suc rest) = grind (arith, nat_tests)
 above (suc byte) rest = grind (arith, nat_tests)
 
 -- a word is 0 where all of its bytes are
-pub word_of_zeros : (a b c d e f g h : ℕ) → let bytes = a ∷ b ∷ c ∷ d ∷ e ∷ f ∷ g ∷ h ∷ [] in nat_eq (from_le_bytes w64 bytes) 0 ≡ are_zeros bytes
+pub word_of_zeros : (a b c d e f g h : ℕ) → let bytes =
+    a ∷ b ∷ c ∷ d ∷ e ∷ f ∷ g ∷ h ∷ [] in nat_eq (from_le_bytes w64 bytes) 0 ≡ are_zeros bytes
 word_of_zeros a b c d e f g h =
     let bytes = a ∷ b ∷ c ∷ d ∷ e ∷ f ∷ g ∷ h ∷ [] in
-    let parted : from_le_bytes w64 bytes ≡ a + 256 * (b + 256 * (c + 256 * (d + 256 * (e + 256 * (f + 256 * (g + 256 * (h + 256 * 0))))))) = omega arith in
+    let parted : from_le_bytes w64 bytes
+    ≡ a + 256 * (b + 256 * (c + 256 * (d + 256
+    * (e + 256 * (f + 256 * (g + 256 * (h + 256 * 0))))))) = omega arith in
     ap (λ n. nat_eq n 0) parted
     ∙ above a (b + 256 * (c + 256 * (d + 256 * (e + 256 * (f + 256 * (g + 256 * (h + 256 * 0)))))))
     ∙ ap (λ x. nat_eq a 0 && x) (above b (c + 256 * (d + 256 * (e + 256 * (f + 256 * (g + 256 * (h + 256 * 0))))))
@@ -26,10 +29,13 @@ word_of_zeros a b c d e f g h =
     ∙ ap (λ x. nat_eq g 0 && x) (above h 0)))))))
 
 -- a word has nothing between its first byte and its last one where the bytes between are 0
-pub radix_and_flag : (a b c d e f g h : ℕ) → nat_eq (from_le_bytes w64 (a ∷ b ∷ c ∷ d ∷ e ∷ f ∷ g ∷ h ∷ [])) (a + h * 72057594037927936) ≡ are_zeros (b ∷ c ∷ d ∷ e ∷ f ∷ g ∷ [])
+pub radix_and_flag : (a b c d e f g h : ℕ)
+    → nat_eq (from_le_bytes w64 (a ∷ b ∷ c ∷ d ∷ e ∷ f ∷ g ∷ h ∷ [])) (a + h * 72057594037927936)
+    ≡ are_zeros (b ∷ c ∷ d ∷ e ∷ f ∷ g ∷ [])
 radix_and_flag a b c d e f g h =
     let between = b + 256 * (c + 256 * (d + 256 * (e + 256 * (f + 256 * (g + 256 * 0))))) in
-    let same : nat_eq (from_le_bytes w64 (a ∷ b ∷ c ∷ d ∷ e ∷ f ∷ g ∷ h ∷ [])) (a + h * 72057594037927936) ≡ nat_eq between 0 = grind (arith, nat_tests) in
+    let same : nat_eq (from_le_bytes w64 (a ∷ b ∷ c ∷ d ∷ e ∷ f ∷ g ∷ h ∷ []))
+    (a + h * 72057594037927936) ≡ nat_eq between 0 = grind (arith, nat_tests) in
     same
     ∙ above b (c + 256 * (d + 256 * (e + 256 * (f + 256 * (g + 256 * 0)))))
     ∙ ap (λ x. nat_eq b 0 && x) (above c (d + 256 * (e + 256 * (f + 256 * (g + 256 * 0))))

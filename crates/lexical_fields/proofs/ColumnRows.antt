@@ -4,11 +4,7 @@ use Rattle.std.proofs.Common.{refl}
 use Rattle.lexical_util.specs.declared.error.Error.TheVariants.{Overflow, InvalidDigit, Empty, InvalidMantissaRadix}
 use Rattle.lexical_util.specs.Format.{standard}
 use Rattle.lexical_util.specs.Number.{IntegerType, integer_type}
-use Rattle.lexical_parse_integer.specs.Affixes.{is_affix, literal_radix, marked_radix, matches, numeral_stop, octal_zero_at, prefix_radix, suffix_at}
-use Rattle.lexical_parse_integer.specs.Grammar.{complete, range_fault}
-use Rattle.lexical_parse_integer.specs.Head.{head_of, sign}
-use Rattle.lexical_parse_integer.specs.Numeral.{numeral_in}
-use Rattle.lexical_parse_integer.specs.Runs.{are_same, begin_of, is_in_numeral, digit_at, digits_between, end_of, flag_for, run_passes, separator_at}
+use Rattle.lexical_parse_integer.specs.Computed.{grammar}
 use Rattle.lexical_fields.specs.Columns.{answer_of, numbers_of}
 use Rattle.lexical_fields.specs.declared.columns.ColumnError.TheVariants.{InvalidField, InvalidFormat}
 
@@ -17,50 +13,51 @@ u8 = integer_type 8 false
 
 -- `12,7,` gives two numbers and stops at its end
 two_numbers : answer_of standard u8 4 44 (codes "12,7,") ≡ Ok (record { count = 2; stop = 5 })
-unfolding answer_of numbers_of complete numeral_in head_of sign octal_zero_at range_fault begin_of digit_at are_same separator_at flag_for run_passes is_in_numeral end_of digits_between matches is_affix literal_radix marked_radix prefix_radix suffix_at numeral_stop
+unfolding grammar answer_of numbers_of
 two_numbers = refl
 
 -- these
 two_numbers_are : numbers_of standard u8 4 44 (codes "12,7,") ≡ pos 12 ∷ pos 7 ∷ []
-unfolding answer_of numbers_of complete numeral_in head_of sign octal_zero_at range_fault begin_of digit_at are_same separator_at flag_for run_passes is_in_numeral end_of digits_between matches is_affix literal_radix marked_radix prefix_radix suffix_at numeral_stop
+unfolding grammar answer_of numbers_of
 two_numbers_are = refl
 
 -- with room for one it stops at the second
 room_for_one : answer_of standard u8 1 44 (codes "12,7,") ≡ Ok (record { count = 1; stop = 3 })
-unfolding answer_of numbers_of complete numeral_in head_of sign octal_zero_at range_fault begin_of digit_at are_same separator_at flag_for run_passes is_in_numeral end_of digits_between matches is_affix literal_radix marked_radix prefix_radix suffix_at numeral_stop
+unfolding grammar answer_of numbers_of
 room_for_one = refl
 
 -- with none it stops at once, whatever stands there
 no_room : answer_of standard u8 0 44 (codes "x") ≡ Ok (record { count = 0; stop = 0 })
-unfolding answer_of numbers_of complete numeral_in head_of sign octal_zero_at range_fault begin_of digit_at are_same separator_at flag_for run_passes is_in_numeral end_of digits_between matches is_affix literal_radix marked_radix prefix_radix suffix_at numeral_stop
+unfolding grammar answer_of numbers_of
 no_room = refl
 
 -- a fault is told with the field's number and the place in the text
 last_byte : answer_of standard u8 4 44 (codes "12,7x,1") ≡ Err (InvalidField 1 3 (InvalidDigit 4))
-unfolding answer_of numbers_of complete numeral_in head_of sign octal_zero_at range_fault begin_of digit_at are_same separator_at flag_for run_passes is_in_numeral end_of digits_between matches is_affix literal_radix marked_radix prefix_radix suffix_at numeral_stop
+unfolding grammar answer_of numbers_of
 last_byte = refl
 
 -- what was read before it stands
 last_byte_numbers : numbers_of standard u8 4 44 (codes "12,7x,1") ≡ pos 12 ∷ []
-unfolding answer_of numbers_of complete numeral_in head_of sign octal_zero_at range_fault begin_of digit_at are_same separator_at flag_for run_passes is_in_numeral end_of digits_between matches is_affix literal_radix marked_radix prefix_radix suffix_at numeral_stop
+unfolding grammar answer_of numbers_of
 last_byte_numbers = refl
 
 -- an empty field has no digit
 empty_field : answer_of standard u8 4 44 (codes "1,,2") ≡ Err (InvalidField 1 2 (Empty 2))
-unfolding answer_of numbers_of complete numeral_in head_of sign octal_zero_at range_fault begin_of digit_at are_same separator_at flag_for run_passes is_in_numeral end_of digits_between matches is_affix literal_radix marked_radix prefix_radix suffix_at numeral_stop
+unfolding grammar answer_of numbers_of
 empty_field = refl
 
 -- 256 leaves `u8` with its last digit
 too_great : answer_of standard u8 4 10 (49 ∷ 10 ∷ codes "256") ≡ Err (InvalidField 1 2 (Overflow 4))
-unfolding answer_of numbers_of complete numeral_in head_of sign octal_zero_at range_fault begin_of digit_at are_same separator_at flag_for run_passes is_in_numeral end_of digits_between matches is_affix literal_radix marked_radix prefix_radix suffix_at numeral_stop
+unfolding grammar answer_of numbers_of
 too_great = refl
 
 -- a digit parts fields as any byte does
 digit_separator : answer_of standard u8 4 48 (codes "1020") ≡ Ok (record { count = 2; stop = 4 })
-unfolding answer_of numbers_of complete numeral_in head_of sign octal_zero_at range_fault begin_of digit_at are_same separator_at flag_for run_passes is_in_numeral end_of digits_between matches is_affix literal_radix marked_radix prefix_radix suffix_at numeral_stop
+unfolding grammar answer_of numbers_of
 digit_separator = refl
 
 -- an invalid format is told before all
-invalid_format : answer_of (record standard { mantissa_radix = 1 }) u8 4 44 (codes "x") ≡ Err (InvalidFormat InvalidMantissaRadix)
-unfolding answer_of numbers_of complete numeral_in head_of sign octal_zero_at range_fault begin_of digit_at are_same separator_at flag_for run_passes is_in_numeral end_of digits_between matches is_affix literal_radix marked_radix prefix_radix suffix_at numeral_stop
+invalid_format : answer_of (record standard { mantissa_radix = 1 }) u8 4 44 (codes "x")
+    ≡ Err (InvalidFormat InvalidMantissaRadix)
+unfolding grammar answer_of numbers_of
 invalid_format = refl

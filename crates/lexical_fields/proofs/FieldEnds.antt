@@ -12,13 +12,18 @@ pub record NoneBefore (separator : ℕ) (text : List ℕ) (start : ℕ) : Type 0
   pub none : (k : ℕ) → k < start → get_or text k 0 ≢ separator
 
 -- a byte of sixteen
-pub byte_of_16 : (text : List ℕ) (start k : ℕ) → k < 16 → get_or (slice_range text start (start + 16)) k 0 ≡ get_or text (start + k) 0
+pub byte_of_16 : (text : List ℕ) (start k : ℕ) → k < 16
+    → get_or (slice_range text start (start + 16)) k 0 ≡ get_or text (start + k) 0
 byte_of_16 text start k low = get_or-take (start + 16 - start) _ k 0 (omega arith) ∙ get_or-drop start text k 0
 
-pub size_of_16 : (text : List ℕ) (start : ℕ) → start + 16 ≤ length text → length (slice_range text start (start + 16)) ≡ 16
-size_of_16 text start room = length-take-le (start + 16 - start) (drop start text) (omega (arith, length-drop start text)) ∙ omega arith
+pub size_of_16 : (text : List ℕ) (start : ℕ) → start + 16 ≤ length text
+    → length (slice_range text start (start + 16)) ≡ 16
+size_of_16 text start room =
+    length-take-le (start + 16 - start) (drop start text) (omega (arith, length-drop start text))
+    ∙ omega arith
 
-pub none_more : (s : ℕ) (text : List ℕ) (start place : ℕ) → NoneBefore s text start → start + 16 ≤ length text → place ≤ 16
+pub none_more : (s : ℕ) (text : List ℕ) (start place : ℕ) → NoneBefore s text start
+    → start + 16 ≤ length text → place ≤ 16
     → ((k : ℕ) → k < place → get_or (slice_range text start (start + 16)) k 0 ≢ s) → NoneBefore s text (start + place)
 none_more s text start place so_far room within before = record { within = omega arith; none = none }
   where
@@ -28,7 +33,9 @@ none_more s text start place so_far room within before = record { within = omega
           | inl lt ↦ so_far.none k lt
           | inr ge ↦
               let at : start + (k - start) ≡ k = omega arith in
-              λ is. before (k - start) (omega arith) (byte_of_16 text start (k - start) (omega arith) ∙ ap (λ j. get_or text j 0) at ∙ is)
+              λ is. before (k - start) (omega arith)
+              (byte_of_16 text start (k - start) (omega arith)
+              ∙ ap (λ j. get_or text j 0) at ∙ is)
         ]
 
 other : (x b : ℕ) → x ≢ b → not (eqb x b) ≡ true

@@ -42,19 +42,27 @@ unfolding literal_radix is_affix matches
 no_digit_letter true b is = grind (arith, nat_tests)
 no_digit_letter false b is = grind (arith, nat_tests)
 
-no_prefix_read : (f : Format) (c : ℕ) (cs : List ℕ) → IsDecimal f → NoLetter f (slice_get cs 0) → prefix_radix f (c ∷ cs) 0 ≡ None
+no_prefix_read : (f : Format) (c : ℕ) (cs : List ℕ) → IsDecimal f → NoLetter f (slice_get cs 0)
+    → prefix_radix f (c ∷ cs) 0 ≡ None
 unfolding prefix_radix marked_radix is_affix
-no_prefix_read f c cs decimal letter = rw (decimal.no_prefix, letter) (by_tests (are_same (Some 48) (Some c)) f.literal_prefixes)
+no_prefix_read f c cs decimal letter =
+    rw (decimal.no_prefix, letter) (by_tests (are_same (Some 48) (Some c)) f.literal_prefixes)
   where
     by_tests : (zero asked : Bool) → ◌≡◌ {A = Option ℕ} (cond zero (cond asked None None) None) None
     by_tests true true = refl
     by_tests true false = refl
     by_tests false asked = refl
 
-head_is_bare : (f : Format) (t : IntegerType) (c d : ℕ) (cs : List ℕ) → IsDecimal f → digit c 10 ≡ Some d → NoLetter f (slice_get cs 0) → head_of f t (c ∷ cs) ≡ Ok bare
+head_is_bare : (f : Format) (t : IntegerType) (c d : ℕ) (cs : List ℕ) → IsDecimal f
+    → digit c 10 ≡ Some d → NoLetter f (slice_get cs 0) → head_of f t (c ∷ cs) ≡ Ok bare
 unfolding head_of
 head_is_bare f t c d cs decimal first letter =
-    rw (sign_of_digit_under f t 10 c d cs decimal.no_sign first, no_prefix_read f c cs decimal letter, not_asked f (c ∷ cs) 0 decimal.no_octal_zeros, decimal.radix) refl
+    rw (
+      sign_of_digit_under f t 10 c d cs decimal.no_sign first,
+      no_prefix_read f c cs decimal letter,
+      not_asked f (c ∷ cs) 0 decimal.no_octal_zeros,
+      decimal.radix,
+    ) refl
 
 -- ---- the numeral
 
@@ -62,11 +70,13 @@ stands_in : (f : Format) (text : List ℕ) (k : ℕ) → has_digit 10 text k ≡
 unfolding is_in_numeral
 stands_in f text k is = rw is refl
 
-stands_not : (f : Format) (text : List ℕ) (k : ℕ) → has_digit 10 text k ≡ false → separator_at f text k ≡ false → is_in_numeral f 10 text 0 k ≡ false
+stands_not : (f : Format) (text : List ℕ) (k : ℕ) → has_digit 10 text k ≡ false
+    → separator_at f text k ≡ false → is_in_numeral f 10 text 0 k ≡ false
 unfolding is_in_numeral
 stands_not f text k none apart = rw (none, apart) refl
 
-end_is : (f : Format) (text : List ℕ) (n : ℕ) → EndsRow 10 text 0 n → (n < length text → separator_at f text n ≡ false) → end_of f 10 text 0 ≡ n
+end_is : (f : Format) (text : List ℕ) (n : ℕ) → EndsRow 10 text 0 n
+    → (n < length text → separator_at f text n ≡ false) → end_of f 10 text 0 ≡ n
 end_is f text n s apart =
     IsStop-unique (is_in_numeral f 10 text 0) 0 (length text) _ _ (IsStop-end_of f 10 text 0 (omega arith))
     (record {
@@ -76,7 +86,9 @@ end_is f text n s apart =
       fails = λ low. stands_not f text n (s.fails low) (apart low);
     })
 
-same_numeral : (f : Format) (text : List ℕ) → f.base_suffix ≡ None → end_of f 10 text 0 ≡ end_of standard 10 text 0 → numeral_in f text 0 10 ≡ numeral_in standard text 0 10
+same_numeral : (f : Format) (text : List ℕ) → f.base_suffix ≡ None
+    → end_of f 10 text 0 ≡ end_of standard 10 text 0
+    → numeral_in f text 0 10 ≡ numeral_in standard text 0 10
 unfolding numeral_in numeral_stop suffix_at is_affix
 same_numeral f text none same = rw (same, none) refl
 
@@ -86,7 +98,8 @@ find_none : (p q : ℕ → Bool) (xs : List ℕ) → ((i : ℕ) → q i ≡ true
 find_none p q [] fewer none = refl
 find_none p q (x ∷ xs) fewer none = by_tests (p x) (q x) (fewer x) none (find_none p q xs fewer)
   where
-    by_tests : (a b : Bool) → (b ≡ true → a ≡ true) → cond a (Some x) (find p xs) ≡ None → (find p xs ≡ None → find q xs ≡ None) → cond b (Some x) (find q xs) ≡ None
+    by_tests : (a b : Bool) → (b ≡ true → a ≡ true) → cond a (Some x) (find p xs) ≡ None
+        → (find p xs ≡ None → find q xs ≡ None) → cond b (Some x) (find q xs) ≡ None
     by_tests true b both none more = absurd (cc)
     by_tests false true both none more = absurd (false≢true (both refl))
     by_tests false false both none more = more none
@@ -98,11 +111,14 @@ unmapped g (Some x) e = cc
 greater_type : (n : ℕ) → not (nat_lt n (2 ^ 128)) ≡ true → not (nat_lt n (2 ^ 64)) ≡ true
 greater_type n out = grind (arith, nat_tests)
 
-pub no_range : (x : Numeral) → range_fault (integer_type 64 false) false x ≡ None → range_fault (integer_type 128 false) false x ≡ None
+pub no_range : (x : Numeral) → range_fault (integer_type 64 false) false x ≡ None
+    → range_fault (integer_type 128 false) false x ≡ None
 unfolding range_fault
 no_range x none =
     let found = unmapped (λ index. range_error false (slice_index x.places index)) _ none in
-    let none_wider = find_none (λ index. not (is_number (integer_type 64 false) (front_value false x (index + 1)))) (λ index. not (is_number (integer_type 128 false) (front_value false x (index + 1))))
+    let none_wider = find_none (λ index. not
+    (is_number (integer_type 64 false) (front_value false x (index + 1))))
+    (λ index. not (is_number (integer_type 128 false) (front_value false x (index + 1))))
     (range_with_len 0 (digit_count x)) (λ i out. greater_type _ out) found in
     rw none_wider refl
 
@@ -123,19 +139,23 @@ record IsStandard (text : List ℕ) (v : ℤ) (n : ℕ) : Type 0 where
   stop : (numeral_in standard text 0 10).stop ≡ n
 
 standard_head : (t : IntegerType) (c d : ℕ) (cs : List ℕ) → digit c 10 ≡ Some d → head_of standard t (c ∷ cs) ≡ Ok bare
-standard_head t c d cs first = head_is standard t (c ∷ cs) (false, 0) refl refl refl (sign_of_digit_under standard t 10 c d cs refl first)
+standard_head t c d cs first =
+    head_is standard t (c ∷ cs) (false, 0) refl refl refl
+    (sign_of_digit_under standard t 10 c d cs refl first)
 
 stop_is : (text : List ℕ) → (numeral_in standard text 0 10).stop ≡ end_of standard 10 text 0
 unfolding numeral_in numeral_stop suffix_at is_affix
 stop_is text = rw and-false refl
 
-standard_told : (c d : ℕ) (cs : List ℕ) (v : ℤ) (n : ℕ) → digit c 10 ≡ Some d → partial standard (integer_type 64 false) (c ∷ cs) ≡ Ok (v, n) → IsStandard (c ∷ cs) v n
+standard_told : (c d : ℕ) (cs : List ℕ) (v : ℤ) (n : ℕ) → digit c 10 ≡ Some d
+    → partial standard (integer_type 64 false) (c ∷ cs) ≡ Ok (v, n) → IsStandard (c ∷ cs) v n
 unfolding partial
 standard_told c d cs v n first read =
     let text : List ℕ = c ∷ cs in
     let x : Numeral = numeral_in standard text 0 10 in
     let head = standard_head (integer_type 64 false) c d cs first in
-    let parts = ok_parts (range_fault (integer_type 64 false) false x) _ (numeral_value false x, x.stop) (v, n) (rw head at read) in
+    let parts = ok_parts (range_fault (integer_type 64 false) false x) _
+    (numeral_value false x, x.stop) (v, n) (rw head at read) in
     let stop : x.stop ≡ n = ap (λ (w : ℤ × ℕ). w.1) parts.1 in
     let end : end_of standard 10 text 0 ≡ n = sym (stop_is text) ∙ stop in
     record {
@@ -154,24 +174,33 @@ some_digits c d cs zero first s =
     absurd (let there = ap is_some first in false≢true (sym none ∙ there))
 some_digits c d cs (suc n) first s = omega arith
 
-letter_told : (f : Format) (c : ℕ) (cs : List ℕ) (n : ℕ) → 0 < n → EndsRow 10 (c ∷ cs) 0 n → (n < length (c ∷ cs) → is_word_byte (slice_index (c ∷ cs) n) ≡ false) → NoLetter f (slice_get cs 0)
+letter_told : (f : Format) (c : ℕ) (cs : List ℕ) (n : ℕ) → 0 < n → EndsRow 10 (c ∷ cs) 0 n
+    → (n < length (c ∷ cs) → is_word_byte (slice_index (c ∷ cs) n) ≡ false)
+    → NoLetter f (slice_get cs 0)
 unfolding literal_radix is_affix digit_at
 letter_told f c [] n some s other = refl
 letter_told f c (b ∷ bs) zero some s other = absurd (omega arith)
 letter_told f c (b ∷ bs) (suc zero) some s other = no_letter f.case_sensitive_base_prefix b (other (omega arith))
-letter_told f c (b ∷ bs) (suc (suc n)) some s other = no_digit_letter f.case_sensitive_base_prefix b (s.holds 1 (omega arith) (omega arith))
+letter_told f c (b ∷ bs) (suc (suc n)) some s other =
+    no_digit_letter f.case_sensitive_base_prefix b (s.holds 1 (omega arith) (omega arith))
 
-count_told : (text : List ℕ) (n : ℕ) → EndsRow 10 text 0 n → 0 < n → (digit_count (numeral_in standard text 0 10) == 0) ≡ false
+count_told : (text : List ℕ) (n : ℕ) → EndsRow 10 text 0 n → 0 < n
+    → (digit_count (numeral_in standard text 0 10) == 0) ≡ false
 count_told text n s some =
-    let size : digit_count (row_numeral standard text 0 10 n) ≡ n = length-map-range_with_len (λ place. unwrap_or (digit_at 10 text place) 0) 0 n in
+    let size : digit_count (row_numeral standard text 0 10 n) ≡ n =
+    length-map-range_with_len (λ place. unwrap_or (digit_at 10 text place) 0) 0 n in
     let there : (digit_count (row_numeral standard text 0 10 n) == 0) ≡ false = ne_eqb _ 0 (λ e. omega arith) in
     let at_zero : n ≡ 0 + n = omega arith in
-    ap (λ (x : Numeral). digit_count x == 0) (numeral_in_a_row standard text 0 10 n refl (omega arith) (subst (λ (k : ℕ). EndsRow 10 text 0 k) at_zero s)) ∙ there
+    ap (λ (x : Numeral). digit_count x == 0)
+    (numeral_in_a_row standard text 0 10 n refl (omega arith)
+    (subst (λ (k : ℕ). EndsRow 10 text 0 k) at_zero s)) ∙ there
 
 -- a text that the standard format reads as `u64`, and whose digits end at a byte that is neither a separator nor one of
 -- a word
-decimal_digits : (f : Format) (c d : ℕ) (cs : List ℕ) (v : ℤ) (n : ℕ) → IsDecimal f → digit c 10 ≡ Some d → partial standard (integer_type 64 false) (c ∷ cs) ≡ Ok (v, n)
-    → (n < length (c ∷ cs) → is_word_byte (slice_index (c ∷ cs) n) ≡ false) → (n < length (c ∷ cs) → separator_at f (c ∷ cs) n ≡ false)
+decimal_digits : (f : Format) (c d : ℕ) (cs : List ℕ) (v : ℤ) (n : ℕ) → IsDecimal f
+    → digit c 10 ≡ Some d → partial standard (integer_type 64 false) (c ∷ cs) ≡ Ok (v, n)
+    → (n < length (c ∷ cs) → is_word_byte (slice_index (c ∷ cs) n) ≡ false)
+    → (n < length (c ∷ cs) → separator_at f (c ∷ cs) n ≡ false)
     → partial f (integer_type 128 false) (c ∷ cs) ≡ Ok (v, n)
 unfolding partial
 decimal_digits f c d cs v n decimal first read other apart =
@@ -181,21 +210,38 @@ decimal_digits f c d cs v n decimal first read other apart =
     let same = same_numeral f text decimal.no_suffix (end_is f text n s.row apart ∙ sym s.end) in
     let range = no_range (numeral_in standard text 0 10) s.fits in
     let there = count_told text n s.row some in
-    rw (head_is_bare f (integer_type 128 false) c d cs decimal first (letter_told f c cs n some s.row other), same, range, decimal.zeros, there, and-false, s.value, s.stop) refl
+    rw (
+      head_is_bare f (integer_type 128 false) c d cs decimal first
+          (letter_told f c cs n some s.row other),
+      same,
+      range,
+      decimal.zeros,
+      there,
+      and-false,
+      s.value,
+      s.stop,
+    ) refl
 
 -- ---- what the parts of the code say
 
 -- the same of any text that begins with a digit
-pub decimal_read : (f : Format) (text : List ℕ) (v : ℤ) (n : ℕ) → IsDecimal f → is_some (digit (slice_index text 0) 10) ≡ true → Ok (v, n) ≡ partial standard (integer_type 64 false) text
-    → (n < length text → is_word_byte (slice_index text n) ≡ false) → (n < length text → separator_at f text n ≡ false) → partial f (integer_type 128 false) text ≡ Ok (v, n)
+pub decimal_read : (f : Format) (text : List ℕ) (v : ℤ) (n : ℕ) → IsDecimal f
+    → is_some (digit (slice_index text 0) 10) ≡ true
+    → Ok (v, n) ≡ partial standard (integer_type 64 false) text
+    → (n < length text → is_word_byte (slice_index text n) ≡ false)
+    → (n < length text → separator_at f text n ≡ false)
+    → partial f (integer_type 128 false) text ≡ Ok (v, n)
 decimal_read f [] v n decimal first read other apart = absurd (false≢true first)
 decimal_read f (c ∷ cs) v n decimal first read other apart = by_digit (digit c 10) refl first
   where
-    by_digit : (found : Option ℕ) → digit c 10 ≡ found → is_some found ≡ true → partial f (integer_type 128 false) (c ∷ cs) ≡ Ok (v, n)
+    by_digit : (found : Option ℕ) → digit c 10 ≡ found → is_some found ≡ true
+        → partial f (integer_type 128 false) (c ∷ cs) ≡ Ok (v, n)
     by_digit None none some = absurd (false≢true some)
     by_digit (Some d) is some = decimal_digits f c d cs v n decimal is (sym read) other apart
 
 -- the byte at a place is no separator
-pub no_separator_at : (f : Format) (text : List ℕ) (n : ℕ) → are_same f.digit_separator (Some (slice_index text n)) ≡ false → n < length text → separator_at f text n ≡ false
+pub no_separator_at : (f : Format) (text : List ℕ) (n : ℕ)
+    → are_same f.digit_separator (Some (slice_index text n)) ≡ false → n < length text
+    → separator_at f text n ≡ false
 unfolding separator_at
 no_separator_at f text n apart low = ap (are_same f.digit_separator) (slice_get-get_or text n 0 low) ∙ apart

@@ -14,8 +14,11 @@ few f p k [] = omega arith
 few f p (suc k) (b ∷ bs) = let more = few f (p + 1) k bs in omega arith
 few f p zero (b ∷ bs) = by_test (is_skipped b) (few f (p + 1) 0 bs) (few f (p + 1) ((front_of f (b ∷ bs)).1 - 1) bs)
   where
-    by_test : (t : Bool) → length (tokens_from f (p + 1) 0 bs) ≤ length bs → length (tokens_from f (p + 1) ((front_of f (b ∷ bs)).1 - 1) bs) ≤ length bs
-        → length (cond t (tokens_from f (p + 1) 0 bs) (token_at f p (b ∷ bs) ∷ tokens_from f (p + 1) ((front_of f (b ∷ bs)).1 - 1) bs)) ≤ suc (length bs)
+    by_test : (t : Bool) → length (tokens_from f (p + 1) 0 bs) ≤ length bs
+        → length (tokens_from f (p + 1) ((front_of f (b ∷ bs)).1 - 1) bs) ≤ length bs
+        → length (cond t (tokens_from f (p + 1) 0 bs)
+        (token_at f p (b ∷ bs) ∷ tokens_from f (p + 1) ((front_of f (b ∷ bs)).1 - 1) bs))
+        ≤ suc (length bs)
     by_test true skipped token = omega arith
     by_test false skipped token = omega arith
 
@@ -55,14 +58,17 @@ is_at source p b bs e = by_place (cases_lt p (length source))
 -- ---- in turn
 
 -- one skipped byte more in front
-one_more : (source : List ℕ) (p to : ℕ) → is_skipped (slice_index source p) ≡ true → AreSkipped source (p + 1) to → AreSkipped source p to
+one_more : (source : List ℕ) (p to : ℕ) → is_skipped (slice_index source p) ≡ true
+    → AreSkipped source (p + 1) to → AreSkipped source p to
 one_more source p to skipped rest k low high =
     elim (cases_lt p k) [
       | inl lt ↦ rest k (omega arith) high
       | inr ge ↦ let same : p ≡ k = omega arith in subst (λ i. is_skipped (slice_index source i) ≡ true) same skipped
     ]
 
-one_before : (f : Format) (source : List ℕ) (p : ℕ) (ts : List TokenView) → is_skipped (slice_index source p) ≡ true → FollowUnder f source (p + 1) ts → FollowUnder f source p ts
+one_before : (f : Format) (source : List ℕ) (p : ℕ) (ts : List TokenView)
+    → is_skipped (slice_index source p) ≡ true → FollowUnder f source (p + 1) ts
+    → FollowUnder f source p ts
 one_before f source p [] skipped follow = one_more source p (length source) skipped follow
 one_before f source p (t ∷ ts) skipped follow = (
   record {
@@ -74,12 +80,16 @@ one_before f source p (t ∷ ts) skipped follow = (
   follow.1,
 )
 
-follow_from : FrontEnds → (f : Format) (source : List ℕ) (p k : ℕ) (bs : List ℕ) → bs ≡ drop p source → k ≤ length bs → FollowUnder f source (p + k) (tokens_from f p k bs)
-follow_from ends f source p k [] e low = λ i from to. let none : 0 ≡ length source - p = ap length e ∙ length-drop p source in absurd (omega (arith, none))
+follow_from : FrontEnds → (f : Format) (source : List ℕ) (p k : ℕ) (bs : List ℕ)
+    → bs ≡ drop p source → k ≤ length bs → FollowUnder f source (p + k) (tokens_from f p k bs)
+follow_from ends f source p k [] e low =
+    λ i from to. let none : 0 ≡ length source - p =
+    ap length e ∙ length-drop p source in absurd (omega (arith, none))
 follow_from ends f source p (suc k) (b ∷ bs) e low =
     let at = is_at source p b bs e in
     let one : p + 1 + k ≡ p + suc k = omega arith in
-    subst (λ q. FollowUnder f source q (tokens_from f (p + 1) k bs)) one (follow_from ends f source (p + 1) k bs at.behind (omega arith))
+    subst (λ q. FollowUnder f source q (tokens_from f (p + 1) k bs)) one
+    (follow_from ends f source (p + 1) k bs at.behind (omega arith))
 follow_from ends f source p zero (b ∷ bs) e low =
     let at = is_at source p b bs e in
     let n = (front_of f (b ∷ bs)).1 in
@@ -89,14 +99,20 @@ follow_from ends f source p zero (b ∷ bs) e low =
     let stop : p + 1 + (n - 1) ≡ p + n = omega (arith, size.some) in
     subst (λ q. FollowUnder f source q (tokens_from f p 0 (b ∷ bs))) none
     (by_test (is_skipped b) (ap is_skipped at.here)
-    (subst (λ q. FollowUnder f source q (tokens_from f (p + 1) 0 bs)) next (follow_from ends f source (p + 1) 0 bs at.behind (omega arith)))
-    (subst (λ q. FollowUnder f source q (tokens_from f (p + 1) (n - 1) bs)) stop (follow_from ends f source (p + 1) (n - 1) bs at.behind (omega (arith, size.within, size.some)))))
+    (subst (λ q. FollowUnder f source q (tokens_from f (p + 1) 0 bs)) next
+    (follow_from ends f source (p + 1) 0 bs at.behind (omega arith)))
+    (subst (λ q. FollowUnder f source q (tokens_from f (p + 1) (n - 1) bs)) stop
+    (follow_from ends f source (p + 1) (n - 1) bs at.behind
+    (omega (arith, size.within, size.some)))))
   where
     n : ℕ
     n = (front_of f (b ∷ bs)).1
 
-    by_test : (t : Bool) → is_skipped (slice_index source p) ≡ t → FollowUnder f source (p + 1) (tokens_from f (p + 1) 0 bs) → FollowUnder f source (p + n) (tokens_from f (p + 1) (n - 1) bs)
-        → FollowUnder f source p (cond t (tokens_from f (p + 1) 0 bs) (token_at f p (b ∷ bs) ∷ tokens_from f (p + 1) (n - 1) bs))
+    by_test : (t : Bool) → is_skipped (slice_index source p) ≡ t
+        → FollowUnder f source (p + 1) (tokens_from f (p + 1) 0 bs)
+        → FollowUnder f source (p + n) (tokens_from f (p + 1) (n - 1) bs)
+        → FollowUnder f source p (cond t (tokens_from f (p + 1) 0 bs)
+        (token_at f p (b ∷ bs) ∷ tokens_from f (p + 1) (n - 1) bs))
     by_test true skipped rest token = one_before f source p (tokens_from f (p + 1) 0 bs) skipped rest
     by_test false skipped rest token = (
       record {
@@ -113,7 +129,8 @@ tokens_in_turn ends f source = follow_from ends f source 0 0 source refl (omega 
 
 -- ---- each by itself
 
-part_at : FrontEnds → (f : Format) (source : List ℕ) (p : ℕ) (b : ℕ) (bs : List ℕ) → b ∷ bs ≡ drop p source → IsPartOf source (token_at f p (b ∷ bs))
+part_at : FrontEnds → (f : Format) (source : List ℕ) (p : ℕ) (b : ℕ) (bs : List ℕ)
+    → b ∷ bs ≡ drop p source → IsPartOf source (token_at f p (b ∷ bs))
 part_at ends f source p b bs e =
     let at = is_at source p b bs e in
     let n = (front_of f (b ∷ bs)).1 in
@@ -125,20 +142,26 @@ part_at ends f source p b bs e =
       bytes = ap (take n) e ∙ ap (λ k. take k (drop p source)) (sym back);
     }
 
-parts_from : FrontEnds → (f : Format) (source : List ℕ) (p k : ℕ) (bs : List ℕ) → bs ≡ drop p source → All (IsPartOf source) (tokens_from f p k bs)
+parts_from : FrontEnds → (f : Format) (source : List ℕ) (p k : ℕ) (bs : List ℕ) → bs ≡ drop p source
+    → All (IsPartOf source) (tokens_from f p k bs)
 parts_from ends f source p k [] e = All-nil (IsPartOf source)
 parts_from ends f source p (suc k) (b ∷ bs) e = parts_from ends f source (p + 1) k bs (is_at source p b bs e).behind
 parts_from ends f source p zero (b ∷ bs) e =
     let at = is_at source p b bs e in
-    by_test (is_skipped b) (parts_from ends f source (p + 1) 0 bs at.behind) (parts_from ends f source (p + 1) ((front_of f (b ∷ bs)).1 - 1) bs at.behind)
+    by_test (is_skipped b) (parts_from ends f source (p + 1) 0 bs at.behind)
+    (parts_from ends f source (p + 1) ((front_of f (b ∷ bs)).1 - 1) bs at.behind)
   where
     n : ℕ
     n = (front_of f (b ∷ bs)).1
 
-    by_test : (t : Bool) → All (IsPartOf source) (tokens_from f (p + 1) 0 bs) → All (IsPartOf source) (tokens_from f (p + 1) (n - 1) bs)
-        → All (IsPartOf source) (cond t (tokens_from f (p + 1) 0 bs) (token_at f p (b ∷ bs) ∷ tokens_from f (p + 1) (n - 1) bs))
+    by_test : (t : Bool) → All (IsPartOf source) (tokens_from f (p + 1) 0 bs)
+        → All (IsPartOf source) (tokens_from f (p + 1) (n - 1) bs)
+        → All (IsPartOf source) (cond t (tokens_from f (p + 1) 0 bs)
+        (token_at f p (b ∷ bs) ∷ tokens_from f (p + 1) (n - 1) bs))
     by_test true rest token = rest
-    by_test false rest token = All-cons (IsPartOf source) (token_at f p (b ∷ bs)) (tokens_from f (p + 1) (n - 1) bs) (part_at ends f source p b bs e) token
+    by_test false rest token =
+        All-cons (IsPartOf source) (token_at f p (b ∷ bs)) (tokens_from f (p + 1) (n - 1) bs)
+        (part_at ends f source p b bs e) token
 
 pub tokens_are_parts : FrontEnds → (f : Format) (source : List ℕ) → All (IsPartOf source) (tokens_under f source)
 tokens_are_parts ends f source = parts_from ends f source 0 0 source refl

@@ -30,13 +30,16 @@ unfolding head_of
 same_head f text = ap (head_after f text) (same_sign f text)
 
 -- a third fault that isn't there makes no difference
-without_third : {A : Type 0} (a b c d : Option Error) (rest : List (Option Error)) (w z : A) → (c ≡ None → d ≡ None) → first_fault_or (a ∷ b ∷ c ∷ rest) w ≡ Ok z → first_fault_or (a ∷ b ∷ d ∷ rest) w ≡ Ok z
+without_third : {A : Type 0} (a b c d : Option Error) (rest : List (Option Error)) (w z : A)
+    → (c ≡ None → d ≡ None) → first_fault_or (a ∷ b ∷ c ∷ rest) w ≡ Ok z
+    → first_fault_or (a ∷ b ∷ d ∷ rest) w ≡ Ok z
 without_third None None None d rest w z both read = rw (both refl) read
 without_third None None (Some e) d rest w z both read = cc
 without_third None (Some e) c d rest w z both read = cc
 without_third (Some e) b c d rest w z both read = cc
 
-no_minus : (f : Format) (text : List ℕ) (h : Head) (b : Bool) → head_of f narrow text ≡ Ok h → h.is_minus ≡ b → b ≡ false
+no_minus : (f : Format) (text : List ℕ) (h : Head) (b : Bool) → head_of f narrow text ≡ Ok h
+    → h.is_minus ≡ b → b ≡ false
 no_minus f text h false is minus = refl
 no_minus f text h true is minus = absurd (false≢true (head_signed f narrow text h is minus))
 
@@ -53,11 +56,14 @@ behind f text type head =
     (numeral_value head.is_minus numeral, numeral.stop)
 
 -- the answer as `u64`, where it is a number
-pub wider_read : (f : Format) (text : List ℕ) (v : ℤ) (n : ℕ) → Ok (v, n) ≡ partial f narrow text → Ok (v, n) ≡ partial f wide text
+pub wider_read : (f : Format) (text : List ℕ) (v : ℤ) (n : ℕ) → Ok (v, n) ≡ partial f narrow text
+    → Ok (v, n) ≡ partial f wide text
 unfolding partial
 wider_read f text v n read = sym (rw (sym (same_head f text)) (by_head (head_of f narrow text) refl (sym read)))
   where
-    by_head : (h : Result Head Error) → head_of f narrow text ≡ h → after_head h (behind f text narrow) ≡ Ok (v, n) → after_head h (behind f text wide) ≡ Ok (v, n)
+    by_head : (h : Result Head Error) → head_of f narrow text ≡ h
+        → after_head h (behind f text narrow) ≡ Ok (v, n)
+        → after_head h (behind f text wide) ≡ Ok (v, n)
     by_head (Err e) is told = cc
     by_head (Ok h) is told =
         let x : Numeral = numeral_in f text h.start h.radix in

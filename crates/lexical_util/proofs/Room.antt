@@ -38,11 +38,15 @@ large_room false w128 radix high = le_trans (pow-le-pow_left high 16) (lit≤ tt
 below_limit : (type : IntegerType) (size : ℕ) → 1 ≤ size → size ≤ number_limit type → IsNumber type (pos (size - 1))
 below_limit type size some low = lt-ltb (size - 1) (number_limit type) (omega arith)
 
-pub negative_below_limit : (type : IntegerType) (size : ℕ) → size < number_limit type → type.is_signed ≡ true → is_number type (neg_ℤ (pos size)) ≡ true
+pub negative_below_limit : (type : IntegerType) (size : ℕ) → size < number_limit type
+    → type.is_signed ≡ true → is_number type (neg_ℤ (pos size)) ≡ true
 negative_below_limit type zero low signed = lt-ltb 0 (number_limit type) (omega arith)
-negative_below_limit type (suc size) low signed = ap (λ b. b && nat_lt size (number_limit type)) signed ∙ lt-ltb size (number_limit type) (omega arith)
+negative_below_limit type (suc size) low signed =
+    ap (λ b. b && nat_lt size (number_limit type)) signed
+    ∙ lt-ltb size (number_limit type) (omega arith)
 
-room_below : (type : IntegerType) (radix count : ℕ) → 2 ≤ radix → radix ^ count ≤ number_limit type → HasRoom type radix count
+room_below : (type : IntegerType) (radix count : ℕ) → 2 ≤ radix → radix ^ count ≤ number_limit type
+    → HasRoom type radix count
 room_below type radix count two low =
     let one = one-le-pow count radix (omega arith) in
     record {
@@ -52,14 +56,19 @@ room_below type radix count two low =
 
 pub small_has_room : (bits : ℕ) (signed : Bool) (radix count : ℕ) → IsWidth bits → 2 ≤ radix → radix ≤ 16
     → count ≡ 2 * (bits / 8) - (if signed then 1 else 0) → HasRoom (integer_type bits signed) radix count
-small_has_room bits signed radix count width two small e = room_below (integer_type bits signed) radix count two (rw e (small_room signed width radix small))
+small_has_room bits signed radix count width two small e =
+    room_below (integer_type bits signed) radix count two
+    (rw e (small_room signed width radix small))
 
 pub large_has_room : (bits : ℕ) (signed : Bool) (radix count : ℕ) → IsWidth bits → 2 ≤ radix → radix ≤ 36
     → count ≡ bits / 8 → HasRoom (integer_type bits signed) radix count
-large_has_room bits signed radix count width two high e = room_below (integer_type bits signed) radix count two (rw e (large_room signed width radix high))
+large_has_room bits signed radix count width two high e =
+    room_below (integer_type bits signed) radix count two
+    (rw e (large_room signed width radix high))
 
 -- every type has the numbers up to 127
-pub small_is_number : (bits : ℕ) (signed : Bool) (n : ℕ) → IsWidth bits → n ≤ 127 → IsNumber (integer_type bits signed) (pos n)
+pub small_is_number : (bits : ℕ) (signed : Bool) (n : ℕ) → IsWidth bits → n ≤ 127
+    → IsNumber (integer_type bits signed) (pos n)
 small_is_number _ true n w8 small = lt-ltb n (2 ^ 7) (omega arith)
 small_is_number _ true n w16 small = lt-ltb n (2 ^ 15) (omega arith)
 small_is_number _ true n w32 small = lt-ltb n (2 ^ 31) (omega arith)

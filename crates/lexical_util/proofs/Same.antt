@@ -40,29 +40,94 @@ HaveSameFields format other =
     × (format.base_suffix ≡ other.base_suffix)))))))))))))))))
 
 same_from_fields : (format other : Format) → HaveSameFields format other → format ≡ other
-same_from_fields format other (mantissa_radix, (case_sensitive_base_prefix, (case_sensitive_base_suffix, (required_integer_digits, (required_mantissa_digits, (no_positive_mantissa_sign, (required_mantissa_sign, (no_integer_leading_zeros, (integer_leading_digit_separator, (integer_internal_digit_separator, (integer_trailing_digit_separator, (integer_consecutive_digit_separator, (integer_prefix_digit_separator, (literal_prefixes, (literal_octal_zero, (digit_separator, (base_prefix, base_suffix))))))))))))))))) = λ i. record {
-  mantissa_radix = mantissa_radix i;
-  case_sensitive_base_prefix = case_sensitive_base_prefix i;
-  case_sensitive_base_suffix = case_sensitive_base_suffix i;
-  required_integer_digits = required_integer_digits i;
-  required_mantissa_digits = required_mantissa_digits i;
-  no_positive_mantissa_sign = no_positive_mantissa_sign i;
-  required_mantissa_sign = required_mantissa_sign i;
-  no_integer_leading_zeros = no_integer_leading_zeros i;
-  integer_leading_digit_separator = integer_leading_digit_separator i;
-  integer_internal_digit_separator = integer_internal_digit_separator i;
-  integer_trailing_digit_separator = integer_trailing_digit_separator i;
-  integer_consecutive_digit_separator = integer_consecutive_digit_separator i;
-  integer_prefix_digit_separator = integer_prefix_digit_separator i;
-  literal_prefixes = literal_prefixes i;
-  literal_octal_zero = literal_octal_zero i;
-  digit_separator = digit_separator i;
-  base_prefix = base_prefix i;
-  base_suffix = base_suffix i;
-}
+same_from_fields format other (
+  mantissa_radix,
+  (
+    case_sensitive_base_prefix,
+    (
+      case_sensitive_base_suffix,
+      (
+        required_integer_digits,
+        (
+          required_mantissa_digits,
+          (
+            no_positive_mantissa_sign,
+            (
+              required_mantissa_sign,
+              (
+                no_integer_leading_zeros,
+                (
+                  integer_leading_digit_separator,
+                  (
+                    integer_internal_digit_separator,
+                    (
+                      integer_trailing_digit_separator,
+                      (
+                        integer_consecutive_digit_separator,
+                        (
+                          integer_prefix_digit_separator,
+                          (
+                            literal_prefixes,
+                            (literal_octal_zero, (digit_separator, (base_prefix, base_suffix))),
+                          ),
+                        ),
+                      ),
+                    ),
+                  ),
+                ),
+              ),
+            ),
+          ),
+        ),
+      ),
+    ),
+  ),
+) =
+    λ i. record {
+      mantissa_radix = mantissa_radix i;
+      case_sensitive_base_prefix = case_sensitive_base_prefix i;
+      case_sensitive_base_suffix = case_sensitive_base_suffix i;
+      required_integer_digits = required_integer_digits i;
+      required_mantissa_digits = required_mantissa_digits i;
+      no_positive_mantissa_sign = no_positive_mantissa_sign i;
+      required_mantissa_sign = required_mantissa_sign i;
+      no_integer_leading_zeros = no_integer_leading_zeros i;
+      integer_leading_digit_separator = integer_leading_digit_separator i;
+      integer_internal_digit_separator = integer_internal_digit_separator i;
+      integer_trailing_digit_separator = integer_trailing_digit_separator i;
+      integer_consecutive_digit_separator = integer_consecutive_digit_separator i;
+      integer_prefix_digit_separator = integer_prefix_digit_separator i;
+      literal_prefixes = literal_prefixes i;
+      literal_octal_zero = literal_octal_zero i;
+      digit_separator = digit_separator i;
+      base_prefix = base_prefix i;
+      base_suffix = base_suffix i;
+    }
 
 fields_from_same : (format other : Format) → format ≡ other → HaveSameFields format other
-fields_from_same format other e = subst (HaveSameFields format) e (refl, (refl, (refl, (refl, (refl, (refl, (refl, (refl, (refl, (refl, (refl, (refl, (refl, (refl, (refl, (refl, (refl, refl)))))))))))))))))
+fields_from_same format other e =
+    subst (HaveSameFields format) e (
+      refl,
+      (
+        refl,
+        (
+          refl,
+          (
+            refl,
+            (
+              refl,
+              (
+                refl,
+                (
+                  refl,
+                  (refl, (refl, (refl, (refl, (refl, (refl, (refl, (refl, (refl, (refl, refl)))))))))),
+                ),
+              ),
+            ),
+          ),
+        ),
+      ),
+    )
 
 -- the derived test, in the order of the struct's fields
 abbrev pub format_eq : Format → Format → Bool

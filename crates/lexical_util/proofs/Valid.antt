@@ -19,7 +19,8 @@ record PassesRules (format : Format) : Type 0 where
   literals : has_unfit_literals format ≡ false
 
 -- a test that a fault hangs on fails where there is no fault
-test_fails : (test : Bool) (error : Error) (rest : Option Error) → (if test then Some error else rest) ≡ None → (test ≡ false) × (rest ≡ None)
+test_fails : (test : Bool) (error : Error) (rest : Option Error)
+    → (if test then Some error else rest) ≡ None → (test ≡ false) × (rest ≡ None)
 test_fails false error rest valid = (refl, valid)
 test_fails true error rest valid = cc
 
@@ -57,12 +58,14 @@ fit_byte_no_digit radix mark fit =
     let not_plus = (or_parts (mark == 43) _ not_high).1 in
     none_from_is_some _ (or_parts (mark == 45) _ not_plus).1
 
-fit_no_digit : (radix : ℕ) (set : Option ℕ) (mark byte : ℕ) → is_unfit radix set ≡ false → set ≡ Some mark → lower_case byte ≡ lower_case mark → digit byte radix ≡ None
+fit_no_digit : (radix : ℕ) (set : Option ℕ) (mark byte : ℕ) → is_unfit radix set ≡ false
+    → set ≡ Some mark → lower_case byte ≡ lower_case mark → digit byte radix ≡ None
 fit_no_digit radix set mark byte fit is_set alike =
     let fit' = rw is_set at fit in
     digit-alike radix byte mark alike ∙ fit_byte_no_digit radix mark fit'
 
-not_alike : (set other : Option ℕ) (mark byte : ℕ) → are_alike set other ≡ false → other ≡ Some mark → lower_case byte ≡ lower_case mark → set ≢ Some byte
+not_alike : (set other : Option ℕ) (mark byte : ℕ) → are_alike set other ≡ false → other ≡ Some mark
+    → lower_case byte ≡ lower_case mark → set ≢ Some byte
 not_alike set other mark byte apart is_mark alike is_byte =
     let apart' = rw (is_byte, is_mark, alike) at apart in
     false≢true (sym apart' ∙ eq-eqb (lower_case mark) (lower_case mark) refl)
@@ -74,14 +77,17 @@ valid_radix format valid =
     record { low = grind (arith, nat_tests); high = grind (arith, nat_tests) }
 
 -- what matches the separator is no digit
-pub separator_no_digit : (format : Format) (separator byte : ℕ) → fault format ≡ None → format.digit_separator ≡ Some separator
+pub separator_no_digit : (format : Format) (separator byte : ℕ) → fault format ≡ None
+    → format.digit_separator ≡ Some separator
     → lower_case byte ≡ lower_case separator → digit byte format.mantissa_radix ≡ None
-separator_no_digit format separator byte valid is_set alike = fit_no_digit _ _ separator byte (passes_rules format valid).separator is_set alike
+separator_no_digit format separator byte valid is_set alike =
+    fit_no_digit _ _ separator byte (passes_rules format valid).separator is_set alike
 
 -- what matches the suffix is no digit
 pub suffix_no_digit : (format : Format) (suffix byte : ℕ) → fault format ≡ None → format.base_suffix ≡ Some suffix
     → lower_case byte ≡ lower_case suffix → digit byte format.mantissa_radix ≡ None
-suffix_no_digit format suffix byte valid is_set alike = fit_no_digit _ _ suffix byte (passes_rules format valid).suffix is_set alike
+suffix_no_digit format suffix byte valid is_set alike =
+    fit_no_digit _ _ suffix byte (passes_rules format valid).suffix is_set alike
 
 -- what matches the suffix is not the separator
 pub suffix_no_separator : (format : Format) (suffix byte : ℕ) → fault format ≡ None → format.base_suffix ≡ Some suffix
@@ -101,13 +107,18 @@ digit_below most radix byte small none = by_value (digit_value byte) none
     by_value None h = refl
     by_value (Some value) h = by_tests (nat_lt value most) (nat_lt value radix) refl refl h
       where
-        by_tests : (wide narrow : Bool) → nat_lt value most ≡ wide → nat_lt value radix ≡ narrow → (if wide then Some value else None) ≡ None
+        by_tests : (wide narrow : Bool) → nat_lt value most ≡ wide → nat_lt value radix ≡ narrow
+            → (if wide then Some value else None) ≡ None
             → (if narrow then Some value else None) ≡ None
         by_tests true narrow w n e = cc
-        by_tests false true w n e = let less = ltb-true value radix n in let more = ltb-false value most w in absurd (omega arith)
+        by_tests false true w n e =
+            let less = ltb-true value radix n in
+            let more = ltb-false value most w in
+            absurd (omega arith)
         by_tests false false w n e = refl
 
-fit_beside_literals : (set : Option ℕ) (mark byte : ℕ) → is_unfit_beside_literals set ≡ false → set ≡ Some mark → lower_case byte ≡ lower_case mark → digit byte 16 ≡ None
+fit_beside_literals : (set : Option ℕ) (mark byte : ℕ) → is_unfit_beside_literals set ≡ false
+    → set ≡ Some mark → lower_case byte ≡ lower_case mark → digit byte 16 ≡ None
 fit_beside_literals set mark byte fit is_set alike =
     let fit' = rw is_set at fit in
     digit-alike 16 byte mark alike ∙ none_from_is_some _ (or_parts (is_some (digit mark 16)) _ fit').0
@@ -117,19 +128,23 @@ literals_fit : (format : Format) → fault format ≡ None → format.literal_pr
     → (is_unfit_beside_literals format.digit_separator ≡ false) × (is_unfit_beside_literals format.base_suffix ≡ false)
 literals_fit format valid asked =
     let all : has_unfit_literals format ≡ false = (passes_rules format valid).literals in
-    let beside = (or_parts ((format.literal_prefixes || format.literal_octal_zero) && not (format.mantissa_radix == 10)) _ all).1 in
+    let beside = (or_parts ((format.literal_prefixes || format.literal_octal_zero)
+    && not (format.mantissa_radix == 10)) _ all).1 in
     let rules = rw asked at beside in
     let past_prefix = (or_parts (is_some format.base_prefix) _ rules).1 in
     or_parts (is_unfit_beside_literals format.digit_separator) _ past_prefix
 
 -- what matches the separator is no digit of a radix that a literal prefix puts in force
-pub separator_no_literal_digit : (format : Format) (separator byte radix : ℕ) → fault format ≡ None → format.literal_prefixes ≡ true → radix ≤ 16
+pub separator_no_literal_digit : (format : Format) (separator byte radix : ℕ) → fault format ≡ None
+    → format.literal_prefixes ≡ true → radix ≤ 16
     → format.digit_separator ≡ Some separator → lower_case byte ≡ lower_case separator → digit byte radix ≡ None
 separator_no_literal_digit format separator byte radix valid asked small is_set alike =
-    digit_below 16 radix byte small (fit_beside_literals _ separator byte (literals_fit format valid asked).0 is_set alike)
+    digit_below 16 radix byte small (fit_beside_literals _ separator byte
+    (literals_fit format valid asked).0 is_set alike)
 
 -- what matches the suffix is none either
-pub suffix_no_literal_digit : (format : Format) (suffix byte radix : ℕ) → fault format ≡ None → format.literal_prefixes ≡ true → radix ≤ 16
+pub suffix_no_literal_digit : (format : Format) (suffix byte radix : ℕ) → fault format ≡ None
+    → format.literal_prefixes ≡ true → radix ≤ 16
     → format.base_suffix ≡ Some suffix → lower_case byte ≡ lower_case suffix → digit byte radix ≡ None
 suffix_no_literal_digit format suffix byte radix valid asked small is_set alike =
     digit_below 16 radix byte small (fit_beside_literals _ suffix byte (literals_fit format valid asked).1 is_set alike)
@@ -137,12 +152,14 @@ suffix_no_literal_digit format suffix byte radix valid asked small is_set alike 
 -- ---- octal zeros
 
 -- the radix beside octal zeros
-pub octal_zero_radix : (format : Format) → fault format ≡ None → format.literal_octal_zero ≡ true → format.mantissa_radix ≡ 10
+pub octal_zero_radix : (format : Format) → fault format ≡ None → format.literal_octal_zero ≡ true
+    → format.mantissa_radix ≡ 10
 octal_zero_radix format valid asked =
     let radix = format.mantissa_radix in
     let all : has_unfit_literals format ≡ false = (passes_rules format valid).literals in
     let first = (or_parts ((format.literal_prefixes || format.literal_octal_zero) && not (radix == 10)) _ all).0 in
-    let ten : (radix == 10) ≡ true = by_flags format.literal_prefixes format.literal_octal_zero (radix == 10) asked first in
+    let ten : (radix == 10) ≡ true = by_flags format.literal_prefixes format.literal_octal_zero
+    (radix == 10) asked first in
     grind (arith, nat_tests)
   where
     by_flags : (prefixes zero ten : Bool) → zero ≡ true → ((prefixes || zero) && not ten) ≡ false → ten ≡ true

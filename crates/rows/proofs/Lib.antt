@@ -1,2 +1,3 @@
 -- The theorems of the worked rows.
+pub mod Tables
 pub mod rows

@@ -19,28 +19,42 @@ abbrev pub AreRead : List ℕ → List ℕ → ℕ → List ℤ → Type 0
 AreRead widths row column values = each (take column (numbers_in widths row)) ≡ Ok (take column values)
 
 -- the next column starts where this one ends
-pub start_more : (widths : List ℕ) (column : ℕ) → column < length widths → start_of widths (column + 1) ≡ start_of widths column + get_or widths column 0
+pub start_more : (widths : List ℕ) (column : ℕ) → column < length widths
+    → start_of widths (column + 1) ≡ start_of widths column + get_or widths column 0
 start_more widths column inside = sum_by_more (λ x. x) widths column 0 inside
 
-number_at : (widths row : List ℕ) (column : ℕ) → column < length widths → slice_get (numbers_in widths row) column ≡ Some (number_in widths row column)
+number_at : (widths row : List ℕ) (column : ℕ) → column < length widths
+    → slice_get (numbers_in widths row) column ≡ Some (number_in widths row column)
 number_at widths row column inside =
     let size = length-range_with_len 0 (length widths) in
     let there : slice_get (range_with_len 0 (length widths)) column ≡ Some column =
-    slice_get-get_or (range_with_len 0 (length widths)) column 0 (omega arith) ∙ ap Some (get_or-range_with_len 0 (length widths) column 0 inside ∙ zero-add column) in
-    slice_get-map (number_in widths row) (range_with_len 0 (length widths)) column ∙ ap (option_map (number_in widths row)) there
+    slice_get-get_or (range_with_len 0 (length widths)) column 0 (omega arith)
+    ∙ ap Some (get_or-range_with_len 0 (length widths) column 0 inside ∙ zero-add column) in
+    slice_get-map (number_in widths row) (range_with_len 0 (length widths)) column
+    ∙ ap (option_map (number_in widths row)) there
 
-pub read_more : (widths row : List ℕ) (column : ℕ) (values : List ℤ) (value put : ℤ) → AreRead widths row column values → column < length widths → column < length values → number_in widths row column ≡ Ok value → put ≡ value → AreRead widths row (column + 1) (set values column put)
+pub read_more : (widths row : List ℕ) (column : ℕ) (values : List ℤ) (value put : ℤ)
+    → AreRead widths row column values → column < length widths → column < length values
+    → number_in widths row column ≡ Ok value → put ≡ value
+    → AreRead widths row (column + 1) (set values column put)
 read_more widths row column values value put read inside room e same =
-    let more = each_more (numbers_in widths row) column (take column values) value read (number_at widths row column inside ∙ ap Some e) in
+    let more = each_more (numbers_in widths row) column (take column values) value read
+    (number_at widths row column inside ∙ ap Some e) in
     let front = take_more_set values column value room in
     rw (same, front, add-one) more
 
-pub read_fault : (widths row : List ℕ) (column start : ℕ) (values : List ℤ) (e : Error) → AreRead widths row column values → column < length widths → start ≡ start_of widths column → number_in widths row column ≡ Err e → values_or_fault widths (each (numbers_in widths row)) ≡ Err (Column column start e)
+pub read_fault : (widths row : List ℕ) (column start : ℕ) (values : List ℤ) (e : Error)
+    → AreRead widths row column values → column < length widths → start ≡ start_of widths column
+    → number_in widths row column ≡ Err e
+    → values_or_fault widths (each (numbers_in widths row)) ≡ Err (Column column start e)
 read_fault widths row column start values e read inside at fault =
-    let first = each_fault (numbers_in widths row) column (take column values) e read (number_at widths row column inside ∙ ap Some fault) in
+    let first = each_fault (numbers_in widths row) column (take column values) e read
+    (number_at widths row column inside ∙ ap Some fault) in
     rw (first, at) refl
 
-pub read_all : (widths row : List ℕ) (column : ℕ) (values : List ℤ) → AreRead widths row column values → column ≡ length widths → length values ≡ length widths → values_or_fault widths (each (numbers_in widths row)) ≡ Ok values
+pub read_all : (widths row : List ℕ) (column : ℕ) (values : List ℤ)
+    → AreRead widths row column values → column ≡ length widths → length values ≡ length widths
+    → values_or_fault widths (each (numbers_in widths row)) ≡ Ok values
 read_all widths row column values read last size =
     let numbers = length-map-range_with_len (number_in widths row) 0 (length widths) in
     let whole : take column (numbers_in widths row) ≡ numbers_in widths row = take_all _ _ (omega arith) in

@@ -9,4 +9,6 @@ returns-then-count-gt0 c = sym (ap (number_by c.args.text.now) (c.decimal_front-
 
 pub returns-then-length-gt0 : goal.returns-then-length-gt0
 unfolding number_of
-returns-then-length-gt0 c = ap (number_by c.args.text.now) (wider_read c.args.format.now c.args.text.now _ _ (sym (c.marked_number-value.ensures c.if-length-gt0.true)))
+returns-then-length-gt0 c =
+    ap (number_by c.args.text.now) (wider_read c.args.format.now c.args.text.now _ _
+    (sym (c.marked_number-value.ensures c.if-length-gt0.true)))

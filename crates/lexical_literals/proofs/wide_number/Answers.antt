@@ -9,4 +9,6 @@ returns-in-Ok c = ap (number_by c.args.text.now) c.in-Ok.ensures
 
 pub returns-in-Err : goal.returns-in-Err
 unfolding number_of
-returns-in-Err c = ap (λ size. (Fault c.in-Err.fault, size)) c.word_length.ensures.value ∙ ap (number_by c.args.text.now) c.in-Err.ensures
+returns-in-Err c =
+    ap (λ size. (Fault c.in-Err.fault, size)) c.word_length.ensures.value
+    ∙ ap (number_by c.args.text.now) c.in-Err.ensures

@@ -6,12 +6,12 @@ use Rattle.std.specs.Fmt.{digits, signed_decimal}
 use Rattle.lexical_util.specs.declared.error.Error.TheVariants.{Empty, InvalidDigit, InvalidLeadingZeros, InvalidPositiveSign, Overflow, Underflow}
 use Rattle.lexical_util.specs.Format.{Format, json, standard}
 use Rattle.lexical_util.specs.Number.{IntegerType, integer_type, is_number, overflow_digits}
-use Rattle.lexical_parse_integer.specs.Affixes.{is_affix, literal_radix, marked_radix, numeral_stop, octal_zero_at, prefix_radix, suffix_at}
-use Rattle.lexical_parse_integer.specs.Grammar.{complete, partial, range_fault}
+use Rattle.lexical_parse_integer.specs.Computed.{grammar}
+use Rattle.lexical_parse_integer.specs.Grammar.{complete, partial}
 use Rattle.lexical_parse_integer.specs.Head.{head_of, sign}
 use Rattle.lexical_parse_integer.specs.Laws.{IsNumeralOf, IsSettledAt, PadsZeros, SameFront, WritesShortest, with_radix}
 use Rattle.lexical_parse_integer.specs.Numeral.{digit_count, numeral_in}
-use Rattle.lexical_parse_integer.specs.Runs.{are_same, begin_of, is_in_numeral, digit_at, digits_between, end_of, flag_for, run_begin, run_passes, run_stop, separator_at}
+use Rattle.lexical_parse_integer.specs.Runs.{are_same, begin_of, digit_at, end_of, run_begin, run_stop, separator_at}
 use Rattle.lexical_parse_integer.specs.Seeking.{HasNoDigit}
 use Rattle.lexical_parse_integer.specs.Stops.{stops_after_digit}
 use Rattle.lexical_parse_integer.specs.Turns.{HasFewTurns}
@@ -42,71 +42,71 @@ unfolding begin_of separator_at are_same
 run_of_two = (refl, refl)
 
 two_end : (end_of internal 10 (49 ∷ 95 ∷ 95 ∷ 50 ∷ []) 0 ≡ 1) × (end_of internal 10 (49 ∷ 95 ∷ 50 ∷ []) 0 ≡ 3)
-unfolding end_of is_in_numeral run_passes flag_for begin_of digit_at separator_at are_same
+unfolding grammar
 two_end = (refl, refl)
 
 -- ---- range faults: the last digit of `256` leaves `u8`, within the text; a fault of missing digits may stand at its end
 last_digit_leaves : (partial standard u8 (50 ∷ 53 ∷ 54 ∷ []) ≡ Err (Overflow 2)) × (complete standard u8 (50 ∷ 53 ∷ 54 ∷ []) ≡ Err (Overflow 2))
-unfolding partial complete numeral_in numeral_stop head_of sign octal_zero_at prefix_radix marked_radix literal_radix suffix_at is_affix range_fault end_of is_in_numeral digits_between digit_at separator_at are_same
+unfolding grammar
 last_digit_leaves = (refl, refl)
 
 missing_at_end : partial standard u8 [] ≡ Err (Empty 0)
-unfolding partial numeral_in numeral_stop head_of sign octal_zero_at prefix_radix marked_radix literal_radix suffix_at is_affix range_fault end_of is_in_numeral digits_between digit_at separator_at are_same
+unfolding grammar
 missing_at_end = refl
 
 -- ---- the front's end: `1x` begins with a digit, and `x` with none, so that its front is empty
 full_front : (digit_at 10 (49 ∷ 120 ∷ []) 0 ≡ Some 1) × (partial standard u8 (49 ∷ 120 ∷ []) ≡ Ok (pos 1, 1))
-unfolding partial numeral_in numeral_stop head_of sign octal_zero_at prefix_radix marked_radix literal_radix suffix_at is_affix range_fault end_of is_in_numeral digits_between digit_at separator_at are_same
+unfolding grammar
 full_front = (refl, refl)
 
 empty_front : (digit_at 10 (120 ∷ []) 0 ≡ None) × (partial standard u8 (120 ∷ []) ≡ Ok (pos 0, 0))
-unfolding partial numeral_in numeral_stop head_of sign octal_zero_at prefix_radix marked_radix literal_radix suffix_at is_affix range_fault end_of is_in_numeral digits_between digit_at separator_at are_same
+unfolding grammar
 empty_front = (refl, refl)
 
 -- ---- the front's digits: `1x` stops after a digit, and `+a` after none; behind the trailing separator of `1_` there is
 -- none though a digit was read
 after_digit : (partial standard u8 (49 ∷ 120 ∷ []) ≡ Ok (pos 1, 1)) × (stops_after_digit 10 (49 ∷ 120 ∷ []) 1 ≡ true)
-unfolding partial numeral_in numeral_stop head_of sign octal_zero_at prefix_radix marked_radix literal_radix suffix_at is_affix range_fault end_of is_in_numeral run_passes flag_for begin_of digits_between digit_at separator_at are_same
+unfolding grammar
 after_digit = (refl, refl)
 
 after_none : (partial standard u8 (43 ∷ 97 ∷ []) ≡ Ok (pos 0, 1)) × (stops_after_digit 10 (43 ∷ 97 ∷ []) 1 ≡ false)
-unfolding partial numeral_in numeral_stop head_of sign octal_zero_at prefix_radix marked_radix literal_radix suffix_at is_affix range_fault end_of is_in_numeral run_passes flag_for begin_of digits_between digit_at separator_at are_same
+unfolding grammar
 after_none = (refl, refl)
 
 after_separator : (partial trailing u8 (49 ∷ 95 ∷ []) ≡ Ok (pos 1, 2)) × (stops_after_digit 10 (49 ∷ 95 ∷ []) 2 ≡ false)
-unfolding partial numeral_in numeral_stop head_of sign octal_zero_at prefix_radix marked_radix literal_radix suffix_at is_affix range_fault end_of is_in_numeral run_passes flag_for begin_of digits_between digit_at separator_at are_same
+unfolding grammar
 after_separator = (refl, refl)
 
 -- ---- complete and partial: each of the sentences has a text
 
 -- `12`
 all_read : (partial standard u8 (49 ∷ 50 ∷ []) ≡ Ok (pos 12, 2)) × (complete standard u8 (49 ∷ 50 ∷ []) ≡ Ok (pos 12))
-unfolding partial complete numeral_in numeral_stop head_of sign octal_zero_at prefix_radix marked_radix literal_radix suffix_at is_affix range_fault end_of is_in_numeral digits_between digit_at separator_at are_same
+unfolding grammar
 all_read = (refl, refl)
 
 -- `1x`
 left_over : (partial standard u8 (49 ∷ 120 ∷ []) ≡ Ok (pos 1, 1)) × (complete standard u8 (49 ∷ 120 ∷ []) ≡ Err (InvalidDigit 1))
-unfolding partial complete numeral_in numeral_stop head_of sign octal_zero_at prefix_radix marked_radix literal_radix suffix_at is_affix range_fault end_of is_in_numeral digits_between digit_at separator_at are_same
+unfolding grammar
 left_over = (refl, refl)
 
 -- `256x`
 too_great : (partial standard u8 (50 ∷ 53 ∷ 54 ∷ 120 ∷ []) ≡ Err (Overflow 2)) × (complete standard u8 (50 ∷ 53 ∷ 54 ∷ 120 ∷ []) ≡ Err (Overflow 2))
-unfolding partial complete numeral_in numeral_stop head_of sign octal_zero_at prefix_radix marked_radix literal_radix suffix_at is_affix range_fault end_of is_in_numeral digits_between digit_at separator_at are_same
+unfolding grammar
 too_great = (refl, refl)
 
 -- `+`
 nothing : (partial standard u8 (43 ∷ []) ≡ Err (Empty 1)) × (complete standard u8 (43 ∷ []) ≡ Err (Empty 1))
-unfolding partial complete numeral_in numeral_stop head_of sign octal_zero_at prefix_radix marked_radix literal_radix suffix_at is_affix range_fault end_of is_in_numeral digits_between digit_at separator_at are_same
+unfolding grammar
 nothing = (refl, refl)
 
 -- `_1`: with a separator, digits can be missing before the end
 nothing_before : (partial internal u8 (95 ∷ 49 ∷ []) ≡ Err (Empty 0)) × (complete internal u8 (95 ∷ 49 ∷ []) ≡ Err (InvalidDigit 0))
-unfolding partial complete numeral_in numeral_stop head_of sign octal_zero_at prefix_radix marked_radix literal_radix suffix_at is_affix range_fault end_of is_in_numeral run_passes flag_for begin_of digits_between digit_at separator_at are_same
+unfolding grammar
 nothing_before = (refl, refl)
 
 -- ---- locality: `12,3` and `12,x` share `12,`
 comma : IsSettledAt 4 2 (partial standard u8 (49 ∷ 50 ∷ 44 ∷ 51 ∷ []))
-unfolding partial numeral_in numeral_stop head_of sign octal_zero_at prefix_radix marked_radix literal_radix suffix_at is_affix range_fault end_of is_in_numeral digits_between digit_at separator_at are_same
+unfolding grammar
 comma = (refl, omega arith)
 
 comma_same : partial standard u8 (49 ∷ 50 ∷ 44 ∷ 120 ∷ []) ≡ partial standard u8 (49 ∷ 50 ∷ 44 ∷ 51 ∷ [])
@@ -114,7 +114,7 @@ comma_same = is_local standard u8 refl refl (49 ∷ 50 ∷ 44 ∷ 51 ∷ []) (49
 
 -- `256` and `25679` share the digit that leaves the type
 leaves : IsSettledAt 3 2 (partial standard u8 (50 ∷ 53 ∷ 54 ∷ []))
-unfolding partial numeral_in numeral_stop head_of sign octal_zero_at prefix_radix marked_radix literal_radix suffix_at is_affix range_fault end_of is_in_numeral digits_between digit_at separator_at are_same
+unfolding grammar
 leaves = refl
 
 leaves_same : partial standard u8 (50 ∷ 53 ∷ 54 ∷ 55 ∷ 57 ∷ []) ≡ partial standard u8 (50 ∷ 53 ∷ 54 ∷ [])
@@ -122,17 +122,17 @@ leaves_same = is_local standard u8 refl refl (50 ∷ 53 ∷ 54 ∷ []) (50 ∷ 5
 
 -- the byte at the place counts: `1,` and `12` share one byte
 one_less : (partial standard u8 (49 ∷ 44 ∷ []) ≡ Ok (pos 1, 1)) × (partial standard u8 (49 ∷ 50 ∷ []) ≡ Ok (pos 12, 2))
-unfolding partial numeral_in numeral_stop head_of sign octal_zero_at prefix_radix marked_radix literal_radix suffix_at is_affix range_fault end_of is_in_numeral digits_between digit_at separator_at are_same
+unfolding grammar
 one_less = (refl, refl)
 
 -- an answer at the end isn't settled: `12` and `123`
 at_end : IsSettledAt 2 2 (partial standard u8 (49 ∷ 50 ∷ [])) → ⊥
-unfolding partial numeral_in numeral_stop head_of sign octal_zero_at prefix_radix marked_radix literal_radix suffix_at is_affix range_fault end_of is_in_numeral digits_between digit_at separator_at are_same
+unfolding grammar
 at_end h = omega arith
 
 -- with a separator a later byte can matter: of `1_,` the front is `1`, and of `1_2` it is all
 separated_differ : (partial internal u8 (49 ∷ 95 ∷ 44 ∷ []) ≡ Ok (pos 1, 1)) × (partial internal u8 (49 ∷ 95 ∷ 50 ∷ []) ≡ Ok (pos 12, 3)) × SameFront 2 (49 ∷ 95 ∷ 44 ∷ []) (49 ∷ 95 ∷ 50 ∷ [])
-unfolding partial numeral_in numeral_stop head_of sign octal_zero_at prefix_radix marked_radix literal_radix suffix_at is_affix range_fault end_of is_in_numeral run_passes flag_for begin_of digits_between digit_at separator_at are_same
+unfolding grammar
 separated_differ = (refl, refl, refl)
 
 -- ---- numerals: `-fF` in radix 16 is -255
@@ -163,7 +163,7 @@ not_shortest w =
 
 -- a number outside the type has a numeral too, but isn't read: `-129` as `i8`
 minus_129 : (is_number i8 (negsuc 128) ≡ false) × (complete standard i8 (45 ∷ 49 ∷ 50 ∷ 57 ∷ []) ≡ Err (Underflow 3))
-unfolding complete numeral_in numeral_stop head_of sign octal_zero_at prefix_radix marked_radix literal_radix suffix_at is_affix range_fault end_of is_in_numeral digits_between digit_at separator_at are_same
+unfolding grammar
 minus_129 = (refl, refl)
 
 -- ---- zeros in front: `-7` and `-007`
@@ -180,7 +180,7 @@ padded : PadsZeros (45 ∷ 55 ∷ []) (45 ∷ 48 ∷ 48 ∷ 55 ∷ [])
 padded = record { front = 45 ∷ []; rest = 55 ∷ []; zeros = 2; text_is = refl; padded_is = refl; no_digit_before = none_before_7; digit_behind = seven_there }
 
 minus_seven : complete standard i16 (45 ∷ 55 ∷ []) ≡ Ok (negsuc 6)
-unfolding complete numeral_in numeral_stop head_of sign octal_zero_at prefix_radix marked_radix literal_radix suffix_at is_affix range_fault end_of is_in_numeral digits_between digit_at separator_at are_same
+unfolding grammar
 minus_seven = refl
 
 padded_read : complete standard i16 (45 ∷ 48 ∷ 48 ∷ 55 ∷ []) ≡ Ok (negsuc 6)
@@ -188,7 +188,7 @@ padded_read = reads_padded i16 (45 ∷ 55 ∷ []) (45 ∷ 48 ∷ 48 ∷ 55 ∷ [
 
 -- zeros in front of the sign don't pad, and `0-7` isn't read
 zero_minus : complete standard i16 (48 ∷ 45 ∷ 55 ∷ []) ≡ Err (InvalidDigit 1)
-unfolding complete numeral_in numeral_stop head_of sign octal_zero_at prefix_radix marked_radix literal_radix suffix_at is_affix range_fault end_of is_in_numeral digits_between digit_at separator_at are_same
+unfolding grammar
 zero_minus = refl
 
 no_digit_first : IsSome (digit_at 10 (45 ∷ 55 ∷ []) 0) → ⊥
@@ -210,12 +210,12 @@ not_padded p =
 
 -- a format that forbids leading zeros refuses them: `7` and `07` as JSON
 seven_json : (complete json i16 (55 ∷ []) ≡ Ok (pos 7)) × (complete json i16 (48 ∷ 55 ∷ []) ≡ Err (InvalidLeadingZeros 0))
-unfolding complete numeral_in numeral_stop head_of sign octal_zero_at prefix_radix marked_radix literal_radix suffix_at is_affix range_fault end_of is_in_numeral digits_between digit_at separator_at are_same
+unfolding grammar
 seven_json = (refl, refl)
 
 -- ---- turns: the head of `12345678` is read in radix 10, and its eight digits have room in 64 bits
 pub eight_digits : (head_of standard (integer_type 64 false) (codes "12345678") ≡ Ok (record { is_minus = false; is_marked = false; start = 0; radix = 10 })) × (digit_count (numeral_in standard (codes "12345678") 0 10) ≡ 8) × (overflow_digits (integer_type 64 false) 10 ≡ 16)
-unfolding head_of sign octal_zero_at prefix_radix marked_radix literal_radix is_affix numeral_in numeral_stop suffix_at end_of is_in_numeral digits_between digit_at separator_at are_same
+unfolding grammar
 eight_digits = (refl, refl, refl)
 
 -- a plus that is forbidden is a fault of the sign
@@ -225,5 +225,5 @@ plus_forbidden = refl
 
 -- in radix 16 any number of turns is few: nothing is promised there
 any_in_radix_16 : (turns : ℕ) → HasFewTurns (with_radix 16) (integer_type 64 false) (49 ∷ []) turns
-unfolding head_of sign octal_zero_at prefix_radix marked_radix literal_radix is_affix are_same
+unfolding grammar
 any_in_radix_16 turns = λ ten. absurd (omega arith)

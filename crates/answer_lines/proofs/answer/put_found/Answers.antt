@@ -6,10 +6,16 @@ use Rattle.answer_lines.proofs.Sending.{front_first, front_second, gathers_more}
 use Rattle.answer_lines.proofs.answer.put_found.Goals as goal
 
 pub returns-in_err-put_value-clause-front : goal.returns-in_err-put_value-clause-front
-returns-in_err-put_value-clause-front g c = front_first _ _ _ (codes "ok " ++ signed_text c.args.value.now) (place_text (Some c.args.stop)) c.in_err-put_value.ensures.front
+returns-in_err-put_value-clause-front g c =
+    front_first _ _ _ (codes "ok " ++ signed_text c.args.value.now) (place_text (Some c.args.stop))
+    c.in_err-put_value.ensures.front
 
 pub returns-clause-ok : goal.returns-clause-ok
-returns-clause-ok g c = on_ok_weaker _ (gathers_more _ _ _ _ _ _ (codes "ok " ++ signed_text c.args.value.now) (place_text (Some c.args.stop)) c.in_ok-put_value.ensures.ok) c.put_place.ensures.ok
+returns-clause-ok g c =
+    on_ok_weaker _ (gathers_more _ _ _ _ _ _ (codes "ok " ++ signed_text c.args.value.now)
+    (place_text (Some c.args.stop)) c.in_ok-put_value.ensures.ok) c.put_place.ensures.ok
 
 pub returns-clause-front : goal.returns-clause-front
-returns-clause-front g c = front_second _ _ _ _ _ (codes "ok " ++ signed_text c.args.value.now) (place_text (Some c.args.stop)) c.in_ok-put_value.ensures.ok c.put_place.ensures.front
+returns-clause-front g c =
+    front_second _ _ _ _ _ (codes "ok " ++ signed_text c.args.value.now)
+    (place_text (Some c.args.stop)) c.in_ok-put_value.ensures.ok c.put_place.ensures.front

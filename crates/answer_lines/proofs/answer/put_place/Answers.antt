@@ -5,10 +5,15 @@ use Rattle.answer_lines.proofs.Sending.{front_first, front_second, gathers_more}
 use Rattle.answer_lines.proofs.answer.put_place.Goals as goal
 
 pub returns-in_err-put-clause-front : goal.returns-in_err-put-clause-front
-returns-in_err-put-clause-front g c = front_first _ _ _ (codes " ") (decimal_text c.args.place) c.in_err-put.ensures.front
+returns-in_err-put-clause-front g c =
+    front_first _ _ _ (codes " ") (decimal_text c.args.place) c.in_err-put.ensures.front
 
 pub returns-clause-ok : goal.returns-clause-ok
-returns-clause-ok g c = on_ok_weaker _ (gathers_more _ _ _ _ _ _ (codes " ") (decimal_text c.args.place) c.in_ok-put.ensures.ok) c.put_decimal.ensures.ok
+returns-clause-ok g c =
+    on_ok_weaker _ (gathers_more _ _ _ _ _ _ (codes " ") (decimal_text c.args.place)
+    c.in_ok-put.ensures.ok) c.put_decimal.ensures.ok
 
 pub returns-clause-front : goal.returns-clause-front
-returns-clause-front g c = front_second _ _ _ _ _ (codes " ") (decimal_text c.args.place) c.in_ok-put.ensures.ok c.put_decimal.ensures.front
+returns-clause-front g c =
+    front_second _ _ _ _ _ (codes " ") (decimal_text c.args.place) c.in_ok-put.ensures.ok
+    c.put_decimal.ensures.front

@@ -12,14 +12,17 @@ loop-rest-preserved c =
       some = omega arith;
       size = search rules;
       room = room;
-      written = decimal_pair _ l.rest l.start l.place c.put_pair.new.place (omega arith) l.invariant.written c.put_pair.ensures.written;
+      written =
+          decimal_pair _ l.rest l.start l.place c.put_pair.new.place (omega arith)
+          l.invariant.written c.put_pair.ensures.written;
       kept = kept_less _ l.place _ (l.start - 2) l.start (omega arith) l.invariant.kept c.put_pair.ensures.kept;
     }
 
 pub returns-then-rest-ge10-clause-written : goal.returns-then-rest-ge10-clause-written
 returns-then-rest-ge10-clause-written c =
     let l = c.loop-rest in
-    decimal_pair_last _ l.rest l.start l.place c.put_pair-then-rest-ge10.new.place (omega arith) (omega arith) l.invariant.written c.put_pair-then-rest-ge10.ensures.written
+    decimal_pair_last _ l.rest l.start l.place c.put_pair-then-rest-ge10.new.place (omega arith)
+    (omega arith) l.invariant.written c.put_pair-then-rest-ge10.ensures.written
 
 pub returns-clause-written : goal.returns-clause-written
 returns-clause-written c =

@@ -23,16 +23,23 @@ loop-rest-preserved c =
       some = omega arith;
       size = omega (arith, length-set {A = ℕ});
       room = room_next l.rest l.start l.invariant.room (omega arith);
-      written = decimal_more (decimal_text c.args.n) l.rest l.start l.place (omega arith) (omega arith) (omega arith) l.invariant.written;
-      kept = kept_less _ l.place _ (l.start - 1) l.start (omega arith) l.invariant.kept (take-set l.place (l.start - 1) _);
+      written =
+          decimal_more (decimal_text c.args.n) l.rest l.start l.place (omega arith) (omega arith)
+          (omega arith) l.invariant.written;
+      kept =
+          kept_less _ l.place _ (l.start - 1) l.start (omega arith) l.invariant.kept
+          (take-set l.place (l.start - 1) _);
     }
 
 pub returns-clause-room : goal.returns-clause-room
 returns-clause-room c =
     let l = c.loop-rest in
-    leaves_room c.args.n c.write_before.new.place c.write_before.result (omega arith) (c.write_before.ensures.size ∙ l.invariant.size) (c.write_before.ensures.written ∙ sym l.invariant.written)
+    leaves_room c.args.n c.write_before.new.place c.write_before.result (omega arith)
+    (c.write_before.ensures.size ∙ l.invariant.size)
+    (c.write_before.ensures.written ∙ sym l.invariant.written)
 
 pub returns-clause-kept : goal.returns-clause-kept
 returns-clause-kept c =
     let l = c.loop-rest in
-    kept_less _ l.place _ c.write_before.result l.start c.write_before.ensures.within l.invariant.kept c.write_before.ensures.kept
+    kept_less _ l.place _ c.write_before.result l.start c.write_before.ensures.within
+    l.invariant.kept c.write_before.ensures.kept

@@ -8,7 +8,8 @@ loop-init g c = takes_none _ _
 
 pub loop-preserved : goal.loop-preserved
 loop-preserved g c = elim c.match-read.branch [
-  | in-Ok+else-is_err w ↦ takes_more _ _ _ _ _ _ (take w.in-Ok.count c.read.new.buf) c.loop.invariant w.in-Ok.ensures.bytes.0 (search rules)
+  | in-Ok+else-is_err w ↦ takes_more _ _ _ _ _ _ (take w.in-Ok.count c.read.new.buf)
+      c.loop.invariant w.in-Ok.ensures.bytes.0 (search rules)
   | in-Err+else-ne w ↦ rw w.bytes-is (takes_kept _ _ _ _ _ c.loop.invariant w.in-Err.ensures.bytes)
 ]
 

@@ -10,13 +10,15 @@ use Rattle.answer_lines.proofs.program.run.Goals as goal
 pub loop-rest-init : goal.loop-rest-init
 loop-rest-init g c =
     let texts = lines c.args.input.now in
-    sends_held _ _ _ (ap (λ batch. batch ++ answers c.standard-settings.result texts) c.new-batch.ensures ∙ ap (λ settings. answers settings texts) c.standard-settings.ensures)
+    sends_held _ _ _ (ap (λ batch. batch ++ answers c.standard-settings.result texts)
+    c.new-batch.ensures ∙ ap (λ settings. answers settings texts) c.standard-settings.ensures)
 
 pub loop-rest-preserved : goal.loop-rest-preserved
 loop-rest-preserved g c =
     let r = c.line_end-end.ensures in
     let a = c.in_ok-answer.ensures in
-    Sends-next _ _ _ c.loop-rest.settings c.answer.new.settings c.loop-rest.rest.now _ c.loop-rest.batch _ c.line_end-end.result
+    Sends-next _ _ _ c.loop-rest.settings c.answer.new.settings c.loop-rest.rest.now _
+    c.loop-rest.batch _ c.line_end-end.result
     (omega arith) r.within r.before r.found c.loop-rest.invariant a.ok a.settings
 
 pub overflow_add-rest : goal.overflow_add-rest
@@ -36,7 +38,8 @@ returns-then-end-rest-clause-ok g c =
     let some : 0 < length c.loop-rest.rest.now = grind (arith, nat_tests) in
     on_ok_weaker _
     (sends_sent _ _ _ _ _
-    (Sends-last _ _ _ c.loop-rest.settings c.answer.new.settings c.loop-rest.rest.now _ c.loop-rest.batch _ c.line_end-end.result
+    (Sends-last _ _ _ c.loop-rest.settings c.answer.new.settings c.loop-rest.rest.now _
+    c.loop-rest.batch _ c.line_end-end.result
     some c.if-end-rest.true r.before c.loop-rest.invariant a.ok a.settings))
     c.send.ensures.ok
 
@@ -46,16 +49,20 @@ returns-then-end-rest-clause-front g c =
     let a = c.in_ok-answer.ensures in
     let some : 0 < length c.loop-rest.rest.now = grind (arith, nat_tests) in
     front_more _ _ _ _ _
-    (Sends-last _ _ _ c.loop-rest.settings c.answer.new.settings c.loop-rest.rest.now _ c.loop-rest.batch _ c.line_end-end.result
+    (Sends-last _ _ _ c.loop-rest.settings c.answer.new.settings c.loop-rest.rest.now _
+    c.loop-rest.batch _ c.line_end-end.result
     some c.if-end-rest.true r.before c.loop-rest.invariant a.ok a.settings)
     c.send.ensures.front
 
 pub returns-clause-ok : goal.returns-clause-ok
 returns-clause-ok g c =
     let none : length c.loop-rest.rest.now ≡ 0 = grind (arith, nat_tests) in
-    on_ok_weaker _ (sends_sent _ _ _ _ _ (Sends-end _ _ c.loop-rest.settings c.loop-rest.rest.now _ _ none c.loop-rest.invariant)) c.send-2.ensures.ok
+    on_ok_weaker _ (sends_sent _ _ _ _ _
+    (Sends-end _ _ c.loop-rest.settings c.loop-rest.rest.now _ _ none c.loop-rest.invariant))
+    c.send-2.ensures.ok
 
 pub returns-clause-front : goal.returns-clause-front
 returns-clause-front g c =
     let none : length c.loop-rest.rest.now ≡ 0 = grind (arith, nat_tests) in
-    front_more _ _ _ _ _ (Sends-end _ _ c.loop-rest.settings c.loop-rest.rest.now _ _ none c.loop-rest.invariant) c.send-2.ensures.front
+    front_more _ _ _ _ _ (Sends-end _ _ c.loop-rest.settings c.loop-rest.rest.now _ _ none
+    c.loop-rest.invariant) c.send-2.ensures.front

@@ -3,10 +3,17 @@ use Rattle.lexical_literals.specs.Tokens.{literals}
 use Rattle.lexical_literals.proofs.Tokens.new.Goals as goal
 
 pub returns-clause-order : goal.returns-clause-order
-returns-clause-order c = tokens_in_turn (record { within = c.front_end.ensures.within; some = c.front_end.ensures.some }) literals c.args.source.now
+returns-clause-order c =
+    tokens_in_turn (record { within = c.front_end.ensures.within; some = c.front_end.ensures.some })
+    literals c.args.source.now
 
 pub returns-clause-parts : goal.returns-clause-parts
-returns-clause-parts c = tokens_are_parts (record { within = c.front_end.ensures.within; some = c.front_end.ensures.some }) literals c.args.source.now
+returns-clause-parts c =
+    tokens_are_parts (record {
+      within = c.front_end.ensures.within;
+      some =
+          c.front_end.ensures.some;
+    }) literals c.args.source.now
 
 pub returns-clause-count : goal.returns-clause-count
 returns-clause-count c = tokens_are_few literals c.args.source.now

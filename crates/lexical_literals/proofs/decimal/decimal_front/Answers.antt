@@ -3,4 +3,6 @@ use Rattle.lexical_literals.proofs.decimal.decimal_front.Goals as goal
 
 pub returns-then-stand_alone : goal.returns-then-stand_alone
 returns-then-stand_alone c =
-    λ some. decimal_read c.args.format.now c.args.text.now _ _ c.requires.decimal c.requires.first c.in-Ok.ensures (c.stand_alone.ensures.word c.if-stand_alone.true) (c.stand_alone.ensures.separator c.if-stand_alone.true)
+    λ some. decimal_read c.args.format.now c.args.text.now _ _ c.requires.decimal c.requires.first
+    c.in-Ok.ensures (c.stand_alone.ensures.word c.if-stand_alone.true)
+    (c.stand_alone.ensures.separator c.if-stand_alone.true)

@@ -10,4 +10,5 @@ is_not true told = absurd (false≢true told)
 
 pub returns-then-not-is_word_byte-clause-separator : goal.returns-then-not-is_word_byte-clause-separator
 returns-then-not-is_word_byte-clause-separator c = λ told low.
-    no_separator_at c.args.format.now c.args.text.now c.args.count (sym c.is_separator.ensures ∙ is_not c.is_separator.result told) low
+    no_separator_at c.args.format.now c.args.text.now c.args.count
+    (sym c.is_separator.ensures ∙ is_not c.is_separator.result told) low

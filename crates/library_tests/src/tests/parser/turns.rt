@@ -1,102 +1,110 @@
 // How many turns a parse takes. The numbers stand in contracts, which the check proves for the texts at hand; a run
 // shows the answers alone.
-ghost use Rattle.std.specs.Prelude.{◌≡◌, ◌≤◌, OnOk};
+ghost use Rattle.std.specs.Prelude.{◌≡◌, ◌≤◌, IsNone, OnOk, false};
+ghost use Rattle.lexical_util.specs.Validity.{fault};
+ghost use Rattle.lexical_parse_integer.specs.Turns.{AsksWords, HasFewTurns};
 
 use crate::tests::answers;
 use lexical_parse_integer::algorithm::{algorithm_complete_on, algorithm_partial_on};
 use lexical_parse_integer::cursor::Cursor;
 use lexical_parse_integer::format::STANDARD;
 use lexical_parse_integer::options::{LARGE_NUMBERS, SMALL_NUMBERS};
-use lexical_parse_integer::{Error, NumberFormatBuilder, Result};
+use lexical_parse_integer::{Error, NumberFormat, NumberFormatBuilder, Result};
+use lexical_util::num::Integer;
+
+// Reads a whole text by words of digits; the cursor has the turns.
+fn complete<T: Integer>(text: &'static [u8], format: &NumberFormat) -> (Result<T>, Cursor<'static>)
+    requires valid { IsNone (fault format.now) }
+    requires words { AsksWords T.BITS false format.now }
+    ensures { HasFewTurns format.now T.TYPE text.now result.1.turns }
+{
+    let mut c = Cursor::new(text, format);
+    let answer = algorithm_complete_on::<T>(&mut c, &LARGE_NUMBERS);
+    (answer, c)
+}
+
+// Reads the front of a text so.
+fn partial<T: Integer>(
+    text: &'static [u8],
+    format: &NumberFormat,
+) -> (Result<(T, usize)>, Cursor<'static>)
+    requires valid { IsNone (fault format.now) }
+    requires words { AsksWords T.BITS false format.now }
+    ensures { HasFewTurns format.now T.TYPE text.now result.1.turns }
+{
+    let mut c = Cursor::new(text, format);
+    let answer = algorithm_partial_on::<T>(&mut c, &LARGE_NUMBERS);
+    (answer, c)
+}
 
 // Eight digits have room in 32 bits: two words of four.
 fn eight_of_u32() -> (Result<u32>, Cursor<'static>)
     ensures { result.1.turns ≤ 2 }
 {
-    let mut c = Cursor::new(b"12345678", &STANDARD);
-    let answer = algorithm_complete_on::<u32>(&mut c, &LARGE_NUMBERS);
-    (answer, c)
+    complete(b"12345678", &STANDARD)
 }
 
 // Of nine digits seven have room: a word of four and three digits, and then two that are tested.
 fn nine_of_i32() -> (Result<i32>, Cursor<'static>)
     ensures { result.1.turns ≤ 6 }
 {
-    let mut c = Cursor::new(b"123456789", &STANDARD);
-    let answer = algorithm_complete_on::<i32>(&mut c, &LARGE_NUMBERS);
-    (answer, c)
+    complete(b"123456789", &STANDARD)
 }
 
 // Seven digits are no word of eight.
 fn seven_of_u64() -> (Result<u64>, Cursor<'static>)
     ensures { result.1.turns ≤ 7 }
 {
-    let mut c = Cursor::new(b"1234567", &STANDARD);
-    let answer = algorithm_complete_on::<u64>(&mut c, &LARGE_NUMBERS);
-    (answer, c)
+    complete(b"1234567", &STANDARD)
 }
 
 // Sixteen digits have room in 64 bits: two words of eight.
 fn sixteen_of_u64() -> (Result<u64>, Cursor<'static>)
     ensures { result.1.turns ≤ 2 }
 {
-    let mut c = Cursor::new(b"1234567812345678", &STANDARD);
-    let answer = algorithm_complete_on::<u64>(&mut c, &LARGE_NUMBERS);
-    (answer, c)
+    complete(b"1234567812345678", &STANDARD)
 }
 
 // Of twenty digits sixteen have room, and four are tested.
 fn twenty_of_u64() -> (Result<u64>, Cursor<'static>)
     ensures { result.1.turns ≤ 6 }
 {
-    let mut c = Cursor::new(b"12345678901234567890", &STANDARD);
-    let answer = algorithm_complete_on::<u64>(&mut c, &LARGE_NUMBERS);
-    (answer, c)
+    complete(b"12345678901234567890", &STANDARD)
 }
 
 // Of sixteen digits fifteen have room behind a sign: a word, seven digits, and one that is tested.
 fn sixteen_of_i64() -> (Result<i64>, Cursor<'static>)
     ensures { result.1.turns ≤ 9 }
 {
-    let mut c = Cursor::new(b"1234567812345678", &STANDARD);
-    let answer = algorithm_complete_on::<i64>(&mut c, &LARGE_NUMBERS);
-    (answer, c)
+    complete(b"1234567812345678", &STANDARD)
 }
 
 // Thirty-two digits have room in 128 bits: four words of eight.
 fn thirty_two_of_u128() -> (Result<u128>, Cursor<'static>)
     ensures { result.1.turns ≤ 4 }
 {
-    let mut c = Cursor::new(b"12345678123456781234567812345678", &STANDARD);
-    let answer = algorithm_complete_on::<u128>(&mut c, &LARGE_NUMBERS);
-    (answer, c)
+    complete(b"12345678123456781234567812345678", &STANDARD)
 }
 
 // Whatever follows the digits, a word of them is taken as one: twelve are a word and four digits.
 fn twelve_before_a_brace() -> (Result<(u64, usize)>, Cursor<'static>)
     ensures { result.1.turns ≤ 5 }
 {
-    let mut c = Cursor::new(b"123456789012}                    ", &STANDARD);
-    let answer = algorithm_partial_on::<u64>(&mut c, &LARGE_NUMBERS);
-    (answer, c)
+    partial(b"123456789012}                    ", &STANDARD)
 }
 
 // Five digits are a word of four and one.
 fn five_before_a_letter() -> (Result<(i32, usize)>, Cursor<'static>)
     ensures { result.1.turns ≤ 2 }
 {
-    let mut c = Cursor::new(b"12345x", &STANDARD);
-    let answer = algorithm_partial_on::<i32>(&mut c, &LARGE_NUMBERS);
-    (answer, c)
+    partial(b"12345x", &STANDARD)
 }
 
 // Eight digits are one word.
 fn eight_before_a_comma() -> (Result<(u64, usize)>, Cursor<'static>)
     ensures { result.1.turns ≤ 1 }
 {
-    let mut c = Cursor::new(b"12345678, 9", &STANDARD);
-    let answer = algorithm_partial_on::<u64>(&mut c, &LARGE_NUMBERS);
-    (answer, c)
+    partial(b"12345678, 9", &STANDARD)
 }
 
 // The bound holds at a fault too: of eight zeros that may not lead, the first alone is taken.
@@ -106,9 +114,7 @@ fn eight_zeros() -> (Result<u64>, Cursor<'static>)
     let format = NumberFormatBuilder::new()
         .no_integer_leading_zeros(true)
         .build_unchecked();
-    let mut c = Cursor::new(b"00000000", &format);
-    let answer = algorithm_complete_on::<u64>(&mut c, &LARGE_NUMBERS);
-    (answer, c)
+    complete(b"00000000", &format)
 }
 
 // Of sixty-four digits of radix 2, which the text chooses, sixteen are two words.
@@ -118,73 +124,67 @@ fn sixty_four_binary() -> (Result<u64>, Cursor<'static>)
     let format = NumberFormatBuilder::new()
         .literal_prefixes(true)
         .build_unchecked();
-    let mut c = Cursor::new(
+    complete(
         b"0b1111111111111111111111111111111111111111111111111111111111111111",
         &format,
-    );
-    let answer = algorithm_complete_on::<u64>(&mut c, &LARGE_NUMBERS);
-    (answer, c)
+    )
 }
 
 // Behind a sign eight digits of 64 bits are a word.
 fn minus_eight_of_i64() -> (Result<i64>, Cursor<'static>)
     ensures { result.1.turns ≤ 1 }
 {
-    let mut c = Cursor::new(b"-12345678", &STANDARD);
-    let answer = algorithm_complete_on::<i64>(&mut c, &LARGE_NUMBERS);
-    (answer, c)
+    complete(b"-12345678", &STANDARD)
 }
 
 // Of sixty-five digits thirty-two have room in 128 bits, and thirty-three are tested.
 fn sixty_five_of_u128() -> (Result<u128>, Cursor<'static>)
     ensures { result.1.turns ≤ 37 }
 {
-    let mut c = Cursor::new(
+    complete(
         b"00000000000000000000000000123456789012345678901234567890123456789",
         &STANDARD,
-    );
-    let answer = algorithm_complete_on::<u128>(&mut c, &LARGE_NUMBERS);
-    (answer, c)
+    )
 }
 
 // In radix 8 sixteen digits are two words of eight too.
 fn sixteen_octal() -> (Result<u64>, Cursor<'static>)
     ensures { result.1.turns ≤ 2 }
 {
-    let format = NumberFormatBuilder::from_radix(8);
-    let mut c = Cursor::new(b"1234567012345670", &format);
-    let answer = algorithm_complete_on::<u64>(&mut c, &LARGE_NUMBERS);
-    (answer, c)
+    let format = NumberFormatBuilder::new()
+        .mantissa_radix(8)
+        .build_unchecked();
+    complete(b"1234567012345670", &format)
 }
 
 // In radix 3 eleven digits are a word and three.
 fn eleven_ternary() -> (Result<u64>, Cursor<'static>)
     ensures { result.1.turns ≤ 4 }
 {
-    let format = NumberFormatBuilder::from_radix(3);
-    let mut c = Cursor::new(b"12012012012", &format);
-    let answer = algorithm_complete_on::<u64>(&mut c, &LARGE_NUMBERS);
-    (answer, c)
+    let format = NumberFormatBuilder::new()
+        .mantissa_radix(3)
+        .build_unchecked();
+    complete(b"12012012012", &format)
 }
 
 // A byte that is no digit of the radix takes no turn, nor does what is behind it.
 fn two_before_an_eight() -> (Result<(u32, usize)>, Cursor<'static>)
     ensures { result.1.turns ≤ 2 }
 {
-    let format = NumberFormatBuilder::from_radix(8);
-    let mut c = Cursor::new(b"1281", &format);
-    let answer = algorithm_partial_on::<u32>(&mut c, &LARGE_NUMBERS);
-    (answer, c)
+    let format = NumberFormatBuilder::new()
+        .mantissa_radix(8)
+        .build_unchecked();
+    partial(b"1281", &format)
 }
 
 // In radix 9 seven digits have room in 32 bits behind a sign: a word of four, three digits, and one that is tested.
 fn eight_in_radix_nine() -> (Result<i32>, Cursor<'static>)
     ensures { result.1.turns ≤ 5 }
 {
-    let format = NumberFormatBuilder::from_radix(9);
-    let mut c = Cursor::new(b"12345678", &format);
-    let answer = algorithm_complete_on::<i32>(&mut c, &LARGE_NUMBERS);
-    (answer, c)
+    let format = NumberFormatBuilder::new()
+        .mantissa_radix(9)
+        .build_unchecked();
+    complete(b"12345678", &format)
 }
 
 // A suffix takes no turn.
@@ -194,9 +194,7 @@ fn eight_before_a_suffix() -> (Result<u64>, Cursor<'static>)
     let format = NumberFormatBuilder::new()
         .base_suffix(Some(b'h'))
         .build_unchecked();
-    let mut c = Cursor::new(b"12345678h", &format);
-    let answer = algorithm_complete_on::<u64>(&mut c, &LARGE_NUMBERS);
-    (answer, c)
+    complete(b"12345678h", &format)
 }
 
 // Neither does a prefix, nor the sign in front of it.
@@ -206,9 +204,7 @@ fn eight_behind_a_prefix() -> (Result<i64>, Cursor<'static>)
     let format = NumberFormatBuilder::new()
         .base_prefix(Some(b'x'))
         .build_unchecked();
-    let mut c = Cursor::new(b"+0x12345678", &format);
-    let answer = algorithm_complete_on::<i64>(&mut c, &LARGE_NUMBERS);
-    (answer, c)
+    complete(b"+0x12345678", &format)
 }
 
 // A prefix by which the text chooses radix 8 takes no turn either.
@@ -218,21 +214,18 @@ fn sixteen_behind_a_literal_prefix() -> (Result<u64>, Cursor<'static>)
     let format = NumberFormatBuilder::new()
         .literal_prefixes(true)
         .build_unchecked();
-    let mut c = Cursor::new(b"0o1234567012345670", &format);
-    let answer = algorithm_complete_on::<u64>(&mut c, &LARGE_NUMBERS);
-    (answer, c)
+    complete(b"0o1234567012345670", &format)
 }
 
 // At the fault of a sign there is none.
+#[tactic(auto, unfolding(lexical_parse_integer::specs::Computed::grammar))]
 fn refused_plus() -> (Result<i32>, Cursor<'static>)
     ensures { result.1.turns ≡ 0 }
 {
     let format = NumberFormatBuilder::new()
         .no_positive_mantissa_sign(true)
         .build_unchecked();
-    let mut c = Cursor::new(b"+1", &format);
-    let answer = algorithm_complete_on::<i32>(&mut c, &LARGE_NUMBERS);
-    (answer, c)
+    complete(b"+1", &format)
 }
 
 // Without words an answer takes a turn for each digit, for every type.

@@ -7,4 +7,6 @@ use Rattle.uses.proofs.fixed_point.read_digits.Goals as goal
 pub returns-clause-within : goal.returns-clause-within
 returns-clause-within c =
     let type = integer_type 64 false in
-    front_within unsigned type c.args.text.now _ (c.front_end.ensures.within unsigned type c.args.text.now) (rw c.unsigned.ensures at c.from_lexical_partial_with_options.ensures)
+    front_within unsigned type c.args.text.now _
+    (c.front_end.ensures.within unsigned type c.args.text.now)
+    (rw c.unsigned.ensures at c.from_lexical_partial_with_options.ensures)

@@ -6,8 +6,12 @@ use Rattle.uses.proofs.json.integer_part.Goals as goal
 
 pub returns-then-stops_after_digit-clause-settled : goal.returns-then-stops_after_digit-clause-settled
 returns-then-stops_after_digit-clause-settled c =
-    final_behind c.args.read.now c.in-Ok.value c.in-Ok.end (c.locality.ensures json (integer_type 64 true) refl refl) (sym c.in-Ok.ensures) c.if-end-read.true
+    final_behind c.args.read.now c.in-Ok.value c.in-Ok.end
+    (c.locality.ensures json (integer_type 64 true) refl refl) (sym c.in-Ok.ensures)
+    c.if-end-read.true
 
 pub returns-else-stops_after_digit-clause-settled : goal.returns-else-stops_after_digit-clause-settled
 returns-else-stops_after_digit-clause-settled c =
-    final_behind c.args.read.now c.in-Ok.value c.in-Ok.end (c.locality.ensures json (integer_type 64 true) refl refl) (sym c.in-Ok.ensures) c.if-end-read.true
+    final_behind c.args.read.now c.in-Ok.value c.in-Ok.end
+    (c.locality.ensures json (integer_type 64 true) refl refl) (sym c.in-Ok.ensures)
+    c.if-end-read.true

@@ -4,7 +4,8 @@ use Rattle.answer_lines.proofs.DecimalSteps.{added, room_behind}
 use Rattle.answer_lines.proofs.batch.Batch.add_decimal.Goals as goal
 
 pub write_before-requires-clause-room : goal.write_before-requires-clause-room
-write_before-requires-clause-room c = room_behind c.args.number c.self.inside.count c.digit_count.result c.digit_count.ensures.room
+write_before-requires-clause-room c =
+    room_behind c.args.number c.self.inside.count c.digit_count.result c.digit_count.ensures.room
 
 pub returns : goal.returns
 returns c =

@@ -2,21 +2,16 @@ use Rattle.lexical_util.proofs.Steps.{difference_fits, difference_is, product_fi
 use Rattle.lexical_util.proofs.num.signed.IsizeInteger.mul_add.Goals as goal
 
 pub overflow_mul-product : goal.overflow_mul-product
-overflow_mul-product c =
-    product_fits c.args.negative c.args.add c.ranges.self c.ranges.scale c.requires.scale c.requires.add c.requires.sign c.requires.fits
+overflow_mul-product c = search product_fits
 
 pub overflow_sub-result : goal.overflow_sub-result
-overflow_sub-result c =
-    difference_fits c.if-negative.true c.ranges.self c.ranges.scale c.ranges.add c.requires.scale c.requires.add c.requires.sign c.requires.fits
+overflow_sub-result c = search difference_fits
 
 pub overflow_add-result : goal.overflow_add-result
-overflow_add-result c =
-    sum_fits c.if-negative.false c.ranges.self c.ranges.scale c.ranges.add c.requires.scale c.requires.add c.requires.sign c.requires.fits
+overflow_add-result c = search sum_fits
 
 pub returns-then-negative : goal.returns-then-negative
-returns-then-negative c =
-    difference_is c.if-negative.true c.ranges.self c.ranges.scale c.ranges.add c.requires.scale c.requires.add c.requires.sign c.requires.fits
+returns-then-negative c = search difference_is
 
 pub returns-else-negative : goal.returns-else-negative
-returns-else-negative c =
-    sum_is c.if-negative.false c.ranges.self c.ranges.scale c.ranges.add c.requires.scale c.requires.add c.requires.sign c.requires.fits
+returns-else-negative c = search sum_is

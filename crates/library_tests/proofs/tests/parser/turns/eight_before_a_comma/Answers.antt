@@ -1,8 +1,8 @@
-use Rattle.std.proofs.Common.{refl, lit≤}
-use Rattle.library_tests.proofs.WorkedTurns.{eight_before_a_comma}
+use Rattle.std.proofs.Common.{lit≤}
+use Rattle.lexical_parse_integer.specs.Computed.{grammar}
+use Rattle.lexical_parse_integer.specs.Turns.{digits_per_word}
 use Rattle.library_tests.proofs.tests.parser.turns.eight_before_a_comma.Goals as goal
 
 pub returns : goal.returns
-returns c =
-    let few = rw c.new-c.ensures at c.algorithm_partial_on-answer.ensures.few in
-    eight_before_a_comma _ (few (record { multi = refl; wide = lit≤ tt; contiguous = refl }))
+unfolding grammar digits_per_word
+returns c = c.partial.ensures (lit≤ tt)

@@ -1,8 +1,8 @@
-use Rattle.std.proofs.Common.{refl, lit≤}
-use Rattle.library_tests.proofs.WorkedTurns.{seven_of_u64}
+use Rattle.std.proofs.Common.{lit≤}
+use Rattle.lexical_parse_integer.specs.Computed.{grammar}
+use Rattle.lexical_parse_integer.specs.Turns.{digits_per_word}
 use Rattle.library_tests.proofs.tests.parser.turns.seven_of_u64.Goals as goal
 
 pub returns : goal.returns
-returns c =
-    let few = rw c.new-c.ensures at c.algorithm_complete_on-answer.ensures.few in
-    seven_of_u64 _ (few (record { multi = refl; wide = lit≤ tt; contiguous = refl }))
+unfolding grammar digits_per_word
+returns c = c.complete.ensures (lit≤ tt)

@@ -1,8 +1,9 @@
-use Rattle.std.proofs.Common.{refl, lit≤}
-use Rattle.library_tests.proofs.WorkedTurns.{two_before_an_eight}
+use Rattle.std.proofs.Common.{lit≤}
+use Rattle.lexical_parse_integer.specs.Computed.{grammar}
+use Rattle.lexical_parse_integer.specs.Turns.{digits_per_word}
 use Rattle.library_tests.proofs.tests.parser.turns.two_before_an_eight.Goals as goal
 
 pub returns : goal.returns
+unfolding grammar digits_per_word
 returns c =
-    let few = rw (c.new-c.ensures, c.from_radix-format.ensures) at c.algorithm_partial_on-answer.ensures.few in
-    two_before_an_eight _ (few (record { multi = refl; wide = lit≤ tt; contiguous = refl }))
+    (rw (c.build_unchecked-format.ensures, c.mantissa_radix.ensures, c.new.ensures) at c.partial.ensures) (lit≤ tt)
