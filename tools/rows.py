@@ -136,7 +136,8 @@ def antt_table(name: str, says: str, rows: List[Row]) -> str:
 
 def antt_group(group: Group) -> str:
     """The theorems of a group: that of its fields, and one for each definition that rows ask."""
-    found, asked = [], {}
+    found = []
+    asked: Dict[str, List[Row]] = {}
     if group.fields is not None:
         name, form = f"{group.name}_fields", antt_format(group.fields)
         found.append(f"{name} : {group.name} ≡ {form}\n{name} = refl\n")
