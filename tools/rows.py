@@ -25,7 +25,7 @@ from __future__ import annotations
 import os
 import re
 import sys
-from typing import Iterable, List
+from typing import Dict, Iterable, List
 
 from row_data import (DATA, LANGUAGES, OF_FORMATS, OF_TEXTS, TOP, TYPES, Answer, Bad, File, Format,
                       Group, Row, escaped, read_data, read_row)
