@@ -1,5 +1,5 @@
 -- Where a numeral of digits with separators between them ends, and which digits it has.
-use Rattle.std.proofs.Common.{◌≡◌, ℕ, zero, suc, ◌+◌, ◌-◌, ◌<◌, ◌≤◌, Bool, true, false, ◌&&◌, ◌||◌, List, length, get_or, refl, sym, ap, ◌∙◌, arith, Option, Some, None, is_some, inl, inr}
+use Rattle.std.proofs.Common.{◌≡◌, ℕ, zero, suc, ◌+◌, ◌-◌, ◌<◌, ◌≤◌, Bool, true, false, ◌&&◌, ◌||◌, List, length, get_or, refl, sym, ap, ◌∙◌, arith, Option, Some, is_some, inl, inr}
 use Rattle.std.specs.Prelude.{◌==◌, nat_lt}
 use Rattle.std.proofs.lemmas.Bool.{cases_lt, false≢true, lt-ltb}
 use Rattle.std.proofs.lemmas.Bool.Decides.{nat_tests}
@@ -11,10 +11,6 @@ use Rattle.lexical_parse_integer.proofs.grammar.NumeralEnd.{IsStop-end_of, belon
 use Rattle.lexical_parse_integer.proofs.grammar.Stretches.{HoldsBetween, IsStop, IsStop-stop_of, IsStop-unique, true_or_false}
 use Rattle.lexical_parse_integer.proofs.marked.DigitsAmong.{digit_there, separator_there}
 use Rattle.lexical_parse_integer.proofs.words.WordsInTexts.{StandsAt}
-
-pub none_from : (o : Option ℕ) → is_some o ≡ false → o ≡ None
-none_from None e = refl
-none_from (Some d) e = absurd (false≢true (sym e))
 
 same_number : (n : ℕ) → (n == n) ≡ true
 same_number n = grind (arith, nat_tests)
