@@ -154,7 +154,7 @@ pub fn algorithm_partial_on<T: Integer>(c: &mut Cursor<'_>, options: &Options) -
 pub fn algorithm_complete<T: Integer>(
     bytes: &[u8],
     format: &NumberFormat,
-    _options: &Options,
+    options: &Options,
 ) -> Result<T>
     requires valid { IsNone (fault format.now) }
     ensures { view_of T.number result ≡ complete format.now T.TYPE bytes.now }
@@ -185,7 +185,7 @@ fn complete_out_of_line<T: Integer>(bytes: &[u8], format: &NumberFormat) -> Resu
 pub fn algorithm_partial<T: Integer>(
     bytes: &[u8],
     format: &NumberFormat,
-    _options: &Options,
+    options: &Options,
 ) -> Result<(T, usize)>
     requires valid { IsNone (fault format.now) }
     ensures { view_of (with_place T.number) result ≡ partial format.now T.TYPE bytes.now }

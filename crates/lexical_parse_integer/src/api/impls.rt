@@ -173,7 +173,7 @@ impl<T: Integer> FromLexicalWithOptions for T {
     fn from_lexical_with_options(
         bytes: &[u8],
         format: &NumberFormat,
-        _options: &Options,
+        options: &Options,
     ) -> Result<T> {
         complete::<T>(bytes, format)
     }
@@ -182,7 +182,7 @@ impl<T: Integer> FromLexicalWithOptions for T {
     fn from_lexical_partial_with_options(
         bytes: &[u8],
         format: &NumberFormat,
-        _options: &Options,
+        options: &Options,
     ) -> Result<(T, usize)> {
         partial::<T>(bytes, format)
     }
