@@ -3,7 +3,6 @@ pub mod DigitsAlone
 pub mod DigitsByTable
 pub mod DigitsInFront
 pub mod FieldsInFront
-pub mod FrontsByTable
 pub mod LeavingNumbers
 pub mod LongNumbers
 pub mod Nibbles

@@ -1,19 +1,19 @@
 -- The digits that words of a text begin with.
 use Rattle.std.proofs.Common.{◌⊎◌, inl, inr, ◌≡◌, ℕ, zero, suc, ◌+◌, ◌-◌, ◌*◌, ◌/◌, ◌%◌, ◌^◌, ◌<◌, ◌≤◌, List, [], ◌∷◌, ◌++◌, length, get_or, take, drop, replicate, sym, ap, ◌∙◌, refl, subst, arith, bit_or}
-use Rattle.std.specs.Prelude.{slice_range, IsNone, ℤ, Bool}
+use Rattle.std.specs.Prelude.{slice_range, IsNone, ℤ, Bool, true}
 use Rattle.std.proofs.Math.Nat.{div-div-eq-div-mul, pow-suc, pow-zero}
 use Rattle.std.proofs.Math.Seq.{take-add, take-length}
 use Rattle.std.proofs.lemmas.Nat.{or_block}
 use Rattle.std.specs.Int.Bits.{or_self, or_zero_l, or_zero_r}
 use Rattle.std.proofs.lemmas.List.{drop-drop, get_or-drop, get_or-take, take_all, length-append, length-drop, length-take-le, take-append-le}
 use Rattle.lexical_util.specs.Digit.{digit}
-use Rattle.lexical_util.specs.Format.{standard}
+use Rattle.lexical_util.specs.Format.{Format}
 use Rattle.lexical_util.specs.Number.{IntegerType, IsNumber}
 use Rattle.lexical_parse_integer.specs.Value.{with_sign}
-use Rattle.lexical_parse_integer.specs.Plain.{BeginsWith, WritesDecimal, WritesFirst, bytes_number, with_more}
+use Rattle.lexical_parse_integer.specs.Plain.{BeginsWith, WritesDecimal, WritesFirst, bytes_number, keeps_zero_rule, with_more}
 use Rattle.lexical_parse_integer.specs.Words.{AreDigits, word_bytes, word_value}
 use Rattle.lexical_parse_integer.proofs.words.AsciiDigits.{AreAsciiDigits, ascii_from_digits, digits_from_ascii}
-use Rattle.lexical_parse_integer.proofs.plain.DigitsInFront.{stands, stop_none}
+use Rattle.lexical_parse_integer.proofs.plain.DigitsInFront.{longer_rule, stands, stop_none}
 use Rattle.lexical_parse_integer.proofs.plain.ShiftedWords.{IsShifted, ascii_bytes, padded_ascii, word_again, writes_text}
 use Rattle.lexical_parse_integer.proofs.plain.WordsOfDigits.{AllBytes, all_after, all_bytes, all_taken, bytes_after, all_dropped, bytes_again, digits_joined, holds_digits, value_joined, padded, padded_value, raised_none}
 
@@ -134,7 +134,7 @@ byte_power (suc (suc (suc (suc (suc (suc (suc (suc zero)))))))) few = refl
 byte_power (suc (suc (suc (suc (suc (suc (suc (suc (suc j))))))))) few = absurd (omega arith)
 
 -- what stands from a place on
-rest_is : (text : List ℕ) (at : ℕ) → slice_range text at (length text) ≡ drop at text
+pub rest_is : (text : List ℕ) (at : ℕ) → slice_range text at (length text) ≡ drop at text
 rest_is text at = ap (λ k. take k (drop at text)) (sym (length-drop at text)) ∙ take-length (drop at text)
 
 -- the last eight bytes, of which those before the place are shifted out
@@ -199,25 +199,40 @@ joined j count a b digits within w v =
     ∙ ap (λ n. n * 10 ^ count + word_value 10 (take count (slice_range digits j (length digits)))) (sym first_worth) ∙ ap (λ n. a * 10 ^ count + n) (sym last_worth) in
     writes_text (take (j + count) digits) (a * 10 ^ count + b) (subst (λ (bs : List ℕ). AreDigits 10 bs) (sym parts) (digits_joined 10 (take j digits) (take count (slice_range digits j (length digits))) first last)) (sym value ∙ ap (word_value 10) (sym parts))
 
--- where eight digits stand behind eight bytes there are sixteen
-pub sixteen_at_least : (digits : List ℕ) (b : ℕ) → WritesFirst (slice_range digits 8 (length digits)) b 8 → 16 ≤ length digits
-sixteen_at_least digits b v =
-    let size : length (slice_range digits 8 (length digits)) ≡ length digits - 8 = ap length (rest_is digits 8) ∙ length-drop 8 digits in
+-- what a word behind the first bytes reaches
+pub reaches : (digits : List ℕ) (j b count : ℕ) → WritesFirst (slice_range digits j (length digits)) b count → j ≤ length digits → j + count ≤ length digits
+reaches digits j b count v within =
+    let size : length (slice_range digits j (length digits)) ≡ length digits - j = ap length (rest_is digits j) ∙ length-drop j digits in
     let more = v.within in
     omega arith
 
 -- a front of such digits
-pub joined_begin : (t : IntegerType) (negative : Bool) (digits : List ℕ) (value : ℤ) (j count a b : ℕ) → 1 ≤ j → j ≤ length digits → WritesDecimal 0 (take j digits) a → WritesFirst (slice_range digits j (length digits)) b count → (count < 8) ⊎ (j + count ≡ length digits) →
-    value ≡ with_sign negative (a * 10 ^ count + b) → IsNumber t value → BeginsWith standard t negative digits value (j + count)
-joined_begin t negative digits value j count a b some within w v all worth fits =
+pub joined_begin : (f : Format) (t : IntegerType) (negative : Bool) (digits : List ℕ) (value : ℤ) (j count a b : ℕ) → 8 ≤ j → j ≤ length digits → WritesDecimal 0 (take j digits) a → WritesFirst (slice_range digits j (length digits)) b count → count < 8 →
+    keeps_zero_rule f (take 8 digits) ≡ true → value ≡ with_sign negative (a * 10 ^ count + b) → IsNumber t value → BeginsWith f t negative digits value (j + count)
+joined_begin f t negative digits value j count a b some within w v few rule worth fits =
     let size : length (slice_range digits j (length digits)) ≡ length digits - j = ap length (rest_is digits j) ∙ length-drop j digits in
-    let more = v.within in
+    let all = reaches digits j b count v within in
     record {
       some = omega arith;
-      within = omega arith;
+      within = all;
       stops = λ less.
           let byte : get_or (slice_range digits j (length digits)) count 0 ≡ get_or digits (j + count) 0 = ap (λ (bs : List ℕ). get_or bs count 0) (rest_is digits j) ∙ get_or-drop j digits count 0 in
-          subst (λ n. IsNone (digit n 10)) byte (v.stops (elim all [ inl few ↦ few | inr over ↦ absurd (omega arith) ]) (omega arith));
-      rule = refl;
+          subst (λ n. IsNone (digit n 10)) byte (v.stops few (omega arith));
+      rule = longer_rule f 8 (j + count) digits (omega arith) (omega arith) all rule;
       stands = stands t negative (take (j + count) digits) (a * 10 ^ count + b) value (joined j count a b digits within w v) worth fits;
     }
+
+-- a front of the first word alone
+pub first_begin : (f : Format) (t : IntegerType) (negative : Bool) (digits : List ℕ) (value : ℤ) (count a : ℕ) → 1 ≤ count → WritesFirst digits a count → count < 8 → keeps_zero_rule f (take count digits) ≡ true → value ≡ with_sign negative a → IsNumber t value →
+    BeginsWith f t negative digits value count
+first_begin f t negative digits value count a some w few rule worth fits = record {
+  some = some;
+  within = w.within;
+  stops = w.stops few;
+  rule = rule;
+  stands = stands t negative (take count digits) a value w.writes worth fits;
+}
+
+-- no digit stands at the text's end
+pub none_at_end : (text : List ℕ) (at : ℕ) → at ≡ length text → WritesFirst (slice_range text at (length text)) 0 0
+none_at_end text at end = record { few = omega arith; within = omega arith; writes = record { digits = tt; worth = refl }; stops = λ few less. let size : length (slice_range text at (length text)) ≡ length text - at = ap length (rest_is text at) ∙ length-drop at text in absurd (omega arith) }

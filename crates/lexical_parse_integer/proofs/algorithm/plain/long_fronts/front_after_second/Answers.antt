@@ -1,11 +1,20 @@
-use Rattle.std.proofs.Common.{◌+◌, ◌*◌, arith, ap, ◌∙◌, inl}
+use Rattle.std.proofs.Common.{◌+◌, ◌*◌, arith, ap, ◌∙◌}
 use Rattle.lexical_parse_integer.specs.Value.{with_sign}
-use Rattle.lexical_parse_integer.proofs.plain.WordsInFront.{joined, joined_begin, sixteen_at_least}
+use Rattle.lexical_parse_integer.proofs.plain.LongNumbers.{sum_worth, word_fits}
+use Rattle.lexical_parse_integer.proofs.plain.WordsInFront.{joined, joined_begin, reaches}
 use Rattle.lexical_parse_integer.proofs.algorithm.plain.long_fronts.front_after_second.Goals as goal
 
 pub returns-in-Some : goal.returns-in-Some
 returns-in-Some g c =
-    let two = joined 8 8 c.args.first c.args.second c.args.digits.now (omega arith) c.requires.first.writes c.requires.second in
-    let far = sixteen_at_least _ _ c.requires.second in
-    joined_begin _ _ _ _ 16 _ _ _ (omega arith) (omega (arith, far)) two c.number_behind-third.ensures.front (inl (omega arith))
-    (c.in-Some.ensures.value ∙ ap (λ n. with_sign c.args.negative ((c.args.first * 100000000 + c.args.second) * n + c.number_behind-third.result.0)) c.power_of_ten.ensures.power) c.in-Some.ensures.fits
+    let two = joined 8 8 c.args.first c.args.second c.args.digits.now c.requires.first.within c.requires.first.writes c.requires.second in
+    let far = reaches c.args.digits.now 8 c.args.second 8 c.requires.second c.requires.first.within in
+    let third = c.number_behind-third.ensures.front in
+    let sum = sum_worth c.args.negative _ _ _ _ _ _ c.joined-front.ensures.value c.from_u32-scale.ensures c.from_u32.ensures in
+    joined_begin _ _ _ _ _ 16 _ _ _ (omega arith) (omega (arith, far)) two third (omega (arith, third.few, c.if-count-eq8.false)) c.requires.rule
+    (c.in-Some.ensures.value ∙ sum ∙ ap (λ n. with_sign c.args.negative ((c.args.first * 100000000 + c.args.second) * n + c.number_behind-third.result.0)) c.power_of_ten.ensures.power) c.in-Some.ensures.fits
+
+pub from_u32-scale-requires : goal.from_u32-scale-requires
+from_u32-scale-requires g c = word_fits _ c.power_of_ten.result g.met.T.Integer.width_law (omega (arith, c.if-BITS-le32.false, c.BITS.ensures, g.met.T.Integer.bits_law)) (omega (arith, c.power_of_ten.ensures.small))
+
+pub from_u32-requires : goal.from_u32-requires
+from_u32-requires g c = word_fits _ c.number_behind-third.result.0 g.met.T.Integer.width_law (omega (arith, c.if-BITS-le32.false, c.BITS.ensures, g.met.T.Integer.bits_law)) (omega (arith, c.number_behind-third.ensures.small))
