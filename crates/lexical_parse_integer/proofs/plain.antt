@@ -4,8 +4,3 @@ pub mod DigitsByTable
 pub mod DigitsInFront
 pub mod FieldsInFront
 pub mod LeavingNumbers
-pub mod LongNumbers
-pub mod Nibbles
-pub mod ShiftedWords
-pub mod WordsInFront
-pub mod WordsOfDigits

@@ -1,9 +1,10 @@
 // The values of the digits that a text begins with, where the first word is digits.
 ghost use Rattle.std.specs.Prelude.{◌≡◌, ◌<◌, ◌≤◌, ◌^◌, IfSome, IsTrue, length, slice_range, take, true};
-ghost use Rattle.lexical_parse_integer.specs.Plain.{BeginsWith, WritesFirst, keeps_zero_rule};
+ghost use Rattle.lexical_parse_integer.specs.Plain.{BeginsWith, keeps_zero_rule};
+ghost use Rattle.lexical_digits.specs.WrittenNumbers.{WritesFirst};
 
-use crate::algorithm::plain::fronts::number_behind;
-use crate::algorithm::plain::values::{joined, value_if_fits, value_of_two};
+use lexical_digits::fronts::number_behind;
+use lexical_digits::values::{joined, value_if_fits, value_of_two};
 use lexical_util::format::NumberFormat;
 use lexical_util::num::Integer;
 

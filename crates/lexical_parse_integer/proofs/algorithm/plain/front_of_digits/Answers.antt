@@ -1,5 +1,5 @@
 use Rattle.std.proofs.Common.{sym, ◌∙◌, arith}
-use Rattle.lexical_parse_integer.proofs.plain.WordsInFront.{first_begin}
+use Rattle.lexical_parse_integer.proofs.plain.DigitsInFront.{first_begin}
 use Rattle.lexical_parse_integer.proofs.algorithm.plain.front_of_digits.Goals as goal
 
 pub returns-in-Some : goal.returns-in-Some

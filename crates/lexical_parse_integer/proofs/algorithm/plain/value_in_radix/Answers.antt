@@ -1,6 +1,6 @@
 use Rattle.std.proofs.Common.{ℕ, subst, sym}
-use Rattle.lexical_parse_integer.specs.Plain.{StandsFor}
-use Rattle.lexical_parse_integer.proofs.plain.DigitsAlone.{if_found}
+use Rattle.lexical_digits.specs.WrittenNumbers.{StandsFor}
+use Rattle.lexical_digits.proofs.LongNumbers.{if_found}
 use Rattle.lexical_parse_integer.proofs.plain.DigitsInFront.{value_stands}
 use Rattle.lexical_parse_integer.proofs.algorithm.plain.value_in_radix.Goals as goal
 

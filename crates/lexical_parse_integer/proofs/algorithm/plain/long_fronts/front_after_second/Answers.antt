@@ -1,7 +1,8 @@
 use Rattle.std.proofs.Common.{◌+◌, ◌*◌, arith, ap, ◌∙◌}
-use Rattle.lexical_parse_integer.specs.Value.{with_sign}
-use Rattle.lexical_parse_integer.proofs.plain.LongNumbers.{sum_worth, word_fits}
-use Rattle.lexical_parse_integer.proofs.plain.WordsInFront.{joined, joined_begin, reaches}
+use Rattle.lexical_digits.specs.Value.{with_sign}
+use Rattle.lexical_digits.proofs.LongNumbers.{sum_worth, word_fits}
+use Rattle.lexical_digits.proofs.WordsInFront.{joined, reaches}
+use Rattle.lexical_parse_integer.proofs.plain.DigitsInFront.{joined_begin}
 use Rattle.lexical_parse_integer.proofs.algorithm.plain.long_fronts.front_after_second.Goals as goal
 
 pub returns-in-Some : goal.returns-in-Some
