@@ -20,13 +20,13 @@ mod numeral;
 pub(crate) mod plain;
 mod zeros;
 
-use crate::algorithm::front::{complete_from_front, partial_from_front};
+use crate::algorithm::front::{complete_from_front, completion, partial_from_front};
 use crate::algorithm::head::{is_prefix_alone, read_head};
 use crate::algorithm::numeral::read_numeral;
 pub use crate::algorithm::plain::fields::{field_in_front, is_separated};
 use crate::algorithm::plain::overflow::fault_of_overflow;
 pub use crate::algorithm::plain::value_if_short;
-use crate::algorithm::plain::{front_if_plain, value_if_plain};
+use crate::algorithm::plain::{front_if_plain, signed_front, value_if_plain};
 use crate::cursor::Cursor;
 use crate::options::Options;
 pub use head::parse_sign;
@@ -205,14 +205,25 @@ fn partial_out_of_line<T: Integer>(bytes: &[u8], format: &NumberFormat) -> Resul
 
 // ---- under the standard format, whose fields the compiler then folds into the code
 
-// The complete answer for a text that the quick way leaves: mostly a fault.
+// The front of a text: its digits by words, behind a plus too, and what these leave one after another.
+#[inline(always)]
+fn standard_front<T: Integer>(bytes: &[u8]) -> Result<(T, usize)>
+    ensures { view_of (with_place T.number) result ≡ partial standard T.TYPE bytes.now }
+{
+    match signed_front::<T>(bytes) {
+        Some(found) => Ok(found),
+        None => partial_from_front::<T>(bytes, &format::STANDARD),
+    }
+}
+
+// The complete answer for a text that the quick way leaves: behind a plus, or at fault.
 #[inline(never)]
 pub(crate) fn standard_complete<T: Integer>(bytes: &[u8]) -> Result<T>
     ensures { view_of T.number result ≡ complete standard T.TYPE bytes.now }
 {
     match fault_of_overflow::<T>(bytes) {
         Some(fault) => Err(fault),
-        None => complete_from_front::<T>(bytes, &format::STANDARD),
+        None => completion::<T>(bytes, standard_front::<T>(bytes)),
     }
 }
 
@@ -221,5 +232,5 @@ pub(crate) fn standard_complete<T: Integer>(bytes: &[u8]) -> Result<T>
 pub(crate) fn standard_partial<T: Integer>(bytes: &[u8]) -> Result<(T, usize)>
     ensures { view_of (with_place T.number) result ≡ partial standard T.TYPE bytes.now }
 {
-    partial_from_front::<T>(bytes, &format::STANDARD)
+    standard_front::<T>(bytes)
 }

@@ -1,5 +1,5 @@
 -- Digits alone at the front of a text, behind an optional minus, under formats without marks.
-use Rattle.std.proofs.Common.{slice_get, ◌≡◌, ℕ, zero, suc, ◌+◌, ◌-◌, ◌%◌, ◌<◌, ◌≤◌, Bool, true, false, ◌&&◌, not, List, [], ◌∷◌, length, get_or, map, take, refl, sym, ap, ◌∙◌, subst, arith, Option, Some, None, Ok, Result, ◌*◌, ◌^◌}
+use Rattle.std.proofs.Common.{slice_get, ◌≡◌, ℕ, zero, suc, ◌+◌, ◌-◌, ◌%◌, ◌<◌, ◌≤◌, Bool, true, false, ◌&&◌, not, List, [], ◌∷◌, length, get_or, map, take, drop, refl, sym, ap, ◌∙◌, subst, arith, Option, Some, None, Ok, Result, ◌*◌, ◌^◌}
 use Rattle.std.specs.Prelude.{◌==◌, nat_le, is_some, slice_index, ℤ, pos, neg_ℤ, if◌then◌else◌, IsNone, slice_range}
 use Rattle.std.specs.Option.{option_and_then, unwrap_or}
 use Rattle.std.proofs.Math.Bool.{and-false, and-true}
@@ -32,6 +32,7 @@ use Rattle.lexical_parse_integer.proofs.grammar.Stretches.{HoldsBetween}
 use Rattle.lexical_parse_integer.proofs.plain.DigitsAlone.{have_digits, sign_of_digit_under, sign_of_minus_under}
 use Rattle.lexical_parse_integer.proofs.plain.DigitsByTable.{rule_in}
 use Rattle.lexical_digits.proofs.WordsOfDigits.{digits_below, raised_none}
+use Rattle.lexical_parse_integer.proofs.theorems.CompleteByPartial.{sign_within}
 use Rattle.lexical_parse_integer.proofs.theorems.SettledAnswers.{partial_by, partial_row}
 use Rattle.lexical_parse_integer.proofs.grammar.RangeOfFronts.{shorter_fronts_fit}
 use Rattle.lexical_digits.proofs.WordsInFront.{joined, reaches, rest_is}
@@ -138,6 +139,28 @@ begins_read f t negative text digits value count start plain ten behind at b =
     front_digits_read f t negative text digits w.values count plain (omega arith) behind here b.some b.within stops (rule_in f 10 bytes w.values all b.rule) (ap (is_number t) value_is ∙ b.stands.fits)
     ∙ ap (λ (z : ℤ). Ok (z, bool_byte negative + count)) value_is ∙ ap (λ (k : ℕ). Ok (value, k + count)) (sym at)
 
+-- what stands from a place on
+pub from_place : (start : ℕ) (text : List ℕ) → StandsFrom start text (drop start text)
+from_place zero text k = let e : 0 + k ≡ k = omega arith in ap (slice_get text) e
+from_place (suc n) [] k = refl
+from_place (suc n) (b ∷ bs) k = let e : suc n + k ≡ suc (n + k) = omega arith in ap (slice_get (b ∷ bs)) e ∙ from_place n bs k
+
+-- the same behind any sign
+pub signed_read : (f : Format) (t : IntegerType) (text : List ℕ) (s : Bool × ℕ) (value : ℤ) (count : ℕ) → IsPlain f → f.mantissa_radix ≡ 10 → sign f t text ≡ Ok s → BeginsWith f t s.0 (slice_range text s.1 (length text)) value count → partial f t text ≡ Ok (value, s.1 + count)
+signed_read f t text s value count plain ten sign_is begins =
+    let within = sign_within f t text s sign_is in
+    let size = length-drop s.1 text in
+    let digits : List ℕ = drop s.1 text in
+    let b : BeginsWith f t s.0 digits value count = subst (λ (ds : List ℕ). BeginsWith f t s.0 ds value count) (rest_is text s.1) begins in
+    let w = b.stands.writes in
+    let bytes : List ℕ = take count digits in
+    let all : HaveDigits 10 bytes w.values = ap (map (λ byte. digit byte 10)) (sym (take-length bytes)) ∙ w.digits in
+    let here : HaveDigits f.mantissa_radix bytes w.values = subst (λ (n : ℕ). HaveDigits n bytes w.values) (sym ten) all in
+    let value_is : with_sign s.0 (positional_value f.mantissa_radix w.values) ≡ value = ap (λ (n : ℕ). with_sign s.0 (positional_value n w.values)) ten ∙ ap (λ (z : ℤ). if s.0 then neg_ℤ z else z) (sym w.worth) ∙ sym b.stands.worth in
+    let stops : (count < length digits → is_some (digit (get_or digits count 0) f.mantissa_radix) ≡ false) = λ l. ap (λ (n : ℕ). is_some (digit (get_or digits count 0) n)) ten ∙ b.stops l in
+    values_in_front f t text digits w.values s count plain (omega arith) sign_is (from_place s.1 text) (omega arith) here b.some b.within stops (rule_in f 10 bytes w.values all b.rule) (ap (is_number t) value_is ∙ b.stands.fits)
+    ∙ ap (λ (z : ℤ). Ok (z, s.1 + count)) value_is
+
 -- decimal digits stand for a number, by what is known of it
 pub stands : (t : IntegerType) (negative : Bool) (text : List ℕ) (number : ℕ) (value : ℤ) → WritesDecimal 0 text number → value ≡ with_sign negative number → IsNumber t value → StandsFor t 10 negative text value
 stands t negative text number value writes worth fits =
@@ -192,7 +215,7 @@ joined_begin f t negative digits value j count a b some within w v few rule wort
           let byte : get_or (slice_range digits j (length digits)) count 0 ≡ get_or digits (j + count) 0 = ap (λ (bs : List ℕ). get_or bs count 0) (rest_is digits j) ∙ get_or-drop j digits count 0 in
           subst (λ n. IsNone (digit n 10)) byte (v.stops few (omega arith));
       rule = longer_rule f 8 (j + count) digits (omega arith) (omega arith) all rule;
-      stands = stands t negative (take (j + count) digits) (a * 10 ^ count + b) value (joined j count a b digits within w v) worth fits;
+      stands = stands t negative (take (j + count) digits) (a * 10 ^ count + b) value (joined j count a b digits w v) worth fits;
     }
 
 -- a front of the first word alone

@@ -1,7 +1,6 @@
 -- Decimal numbers at the front of a text that leave their type: for the answers of `algorithm::plain::overflow`.
 use Rattle.std.proofs.Common.{slice_get, ◌≡◌, ℕ, zero, suc, ◌+◌, ◌-◌, ◌*◌, ◌<◌, ◌≤◌, Bool, true, false, ◌&&◌, not, List, [], ◌∷◌, ◌++◌, length, get_or, map, take, drop, refl, sym, ap, ◌∙◌, subst, arith, rules, Some, Ok, Err, pos}
 use Rattle.std.specs.Prelude.{◌==◌, ◌||◌, is_some, slice_range, ℤ}
-use Rattle.std.specs.Int.Signed.{≤ℤ_refl}
 use Rattle.std.proofs.lemmas.Bool.{and_parts, eqb-true}
 use Rattle.std.proofs.lemmas.Bool.Decides.{nat_tests}
 use Rattle.std.proofs.lemmas.List.{length-drop, length-take-le, take_more}
@@ -21,7 +20,7 @@ use Rattle.lexical_digits.proofs.DigitValues.{with_sign-step, HaveDigits, digits
 use Rattle.lexical_parse_integer.proofs.grammar.RangeOfFronts.{shorter_fronts_fit}
 use Rattle.lexical_parse_integer.proofs.grammar.Stretches.{HoldsBetween, below_stop}
 use Rattle.lexical_parse_integer.proofs.plain.DigitsAlone.{have_digits}
-use Rattle.lexical_parse_integer.proofs.plain.DigitsInFront.{StandsFrom, at_front, front_between}
+use Rattle.lexical_parse_integer.proofs.plain.DigitsInFront.{StandsFrom, at_front, from_place, front_between}
 use Rattle.lexical_digits.proofs.WordsInFront.{rest_is}
 use Rattle.lexical_parse_integer.proofs.theorems.CompleteByPartial.{sign_within}
 use Rattle.lexical_digits.proofs.WordsOfDigits.{digits_joined, raised_none, value_joined}
@@ -57,14 +56,6 @@ worth_of t b text value w = w.worth ∙ ap (with_sign b) (w.writes.worth ∙ ap 
 
 digits_of : (t : IntegerType) (b : Bool) (text : List ℕ) (value : ℤ) → WritesValue t 0 b text value → AreDigits 10 text
 digits_of t b text value w = subst (λ (bs : List ℕ). AreDigits 10 bs) (raised_none text) w.writes.digits
-
-pub sign_of_value : (t : IntegerType) (b : Bool) (text : List ℕ) (value : ℤ) → WritesValue t 0 b text value → HasSign b value
-sign_of_value t b text value w = subst (HasSign b) (sym w.worth) (by_sign b w.number)
-  where
-    by_sign : (b : Bool) (n : ℕ) → HasSign b (with_sign b n)
-    by_sign true zero = ≤ℤ_refl (pos 0)
-    by_sign true (suc n) = search rules
-    by_sign false n = grind (arith, nat_tests)
 
 -- the value with one digit more
 step_worth : (t : IntegerType) (b : Bool) (k d : ℕ) (text : List ℕ) (value : ℤ) → WritesValue t 0 b (take k text) value → k < length text → digit (get_or text k 0) 10 ≡ Some d → mul_add b value (pos 10) (pos d) ≡ with_sign b (word_value 10 (take (k + 1) text))
@@ -140,12 +131,6 @@ leaving_read t text digits s count sign_is on size l =
     let place : get_or x.places count 0 ≡ s.1 + count = place_of_row s.1 n count inside in
     let answer : complete_by f t text h x ≡ Err (range_error s.0 (get_or x.places count 0)) = rw fault refl in
     complete_row f t text h n refl (head_is f t text s refl refl refl sign_is) low ends ∙ answer ∙ ap (λ (k : ℕ). Err (range_error s.0 k)) place
-
--- what stands from a place on
-from_place : (start : ℕ) (text : List ℕ) → StandsFrom start text (drop start text)
-from_place zero text k = let e : 0 + k ≡ k = omega arith in ap (slice_get text) e
-from_place (suc n) [] k = refl
-from_place (suc n) (b ∷ bs) k = let e : suc n + k ≡ suc (n + k) = omega arith in ap (slice_get (b ∷ bs)) e ∙ from_place n bs k
 
 -- behind the sign
 pub signed_leaving_read : (t : IntegerType) (text : List ℕ) (s : Bool × ℕ) (negative : Bool) (count : ℕ) → sign standard t text ≡ Ok s → s.0 ≡ negative → LeavesAfter t s.0 (slice_range text s.1 (length text)) count → complete standard t text ≡ Err (range_error negative (s.1 + count))

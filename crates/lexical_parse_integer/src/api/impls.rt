@@ -9,7 +9,7 @@ use crate::algorithm::marked::lone_mark::fault_of;
 use crate::algorithm::marked::prefixed::{value_if_behind_prefix, value_if_literal};
 use crate::algorithm::marked::value_if_between_separators;
 use crate::algorithm::plain::{
-    front_if_plain, is_plain, value_if_plain, value_if_short, value_of_rest,
+    front_if_plain, is_plain, value_if_plain, value_if_short, value_of_plain,
 };
 use crate::algorithm::{standard_complete, standard_partial};
 use crate::api::{FromLexical, FromLexicalWithOptions};
@@ -73,7 +73,7 @@ fn value_by_kind<T: Integer>(bytes: &[u8], format: &NumberFormat) -> Option<T>
     if format.mantissa_radix() == 10 && bytes.len() <= 16 {
         return None;
     }
-    value_of_rest::<T>(bytes, format)
+    value_of_plain::<T>(bytes, format)
 }
 
 // The same under a format with marks. It stays out of line, so that the test of all marks needn't keep which they are.

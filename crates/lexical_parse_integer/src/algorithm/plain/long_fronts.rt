@@ -4,7 +4,7 @@ ghost use Rattle.lexical_parse_integer.specs.Plain.{BeginsWith, keeps_zero_rule}
 ghost use Rattle.lexical_digits.specs.WrittenNumbers.{WritesFirst};
 
 use lexical_digits::fronts::number_behind;
-use lexical_digits::values::{joined, value_if_fits, value_of_two};
+use lexical_digits::values::value_of_two;
 use lexical_util::format::NumberFormat;
 use lexical_util::num::Integer;
 
@@ -83,9 +83,9 @@ fn front_after_second<T: Integer>(
     if count == 8 {
         return None;
     }
-    let front = joined::<T>(first, 100_000_000, second);
+    let front = value_of_two::<T>(first, second, 100_000_000, negative)?;
     let scale = T::from_u32(power_of_ten(count));
-    match value_if_fits::<T>(front, scale, T::from_u32(third), negative) {
+    match front.checked_mul_add(scale, T::from_u32(third), negative) {
         Some(value) => Some((value, 16 + count)),
         None => None,
     }

@@ -47,6 +47,9 @@ fn digits_before_overflow<T: Integer>(digits: &[u8], negative: bool) -> Option<u
 pub(in crate::algorithm) fn fault_of_overflow<T: Integer>(bytes: &[u8]) -> Option<Error>
     ensures { IfSome result (λ error. complete standard T.TYPE bytes.now ≡ Err error) }
 {
+    if bytes.len() <= digits_that_fit::<T>() {
+        return None;
+    }
     let Ok((negative, start)) = sign_of::<T>(bytes, &format::STANDARD) else {
         return None;
     };

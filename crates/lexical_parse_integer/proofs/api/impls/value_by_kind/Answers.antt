@@ -7,7 +7,7 @@ pub returns-then-not-is_plain-clause-answer : goal.returns-then-not-is_plain-cla
 returns-then-not-is_plain-clause-answer g c = c.value_beside_marks.ensures.answer
 
 pub returns-clause-valid : goal.returns-clause-valid
-returns-clause-valid g c = c.value_of_rest.ensures.valid
+returns-clause-valid g c = c.value_of_plain.ensures.valid
 
 pub returns-clause-answer : goal.returns-clause-answer
-returns-clause-answer g c = c.value_of_rest.ensures.answer
+returns-clause-answer g c = c.value_of_plain.ensures.answer

@@ -2,7 +2,7 @@ use Rattle.std.proofs.Common.{sym, ◌∙◌, arith}
 use Rattle.lexical_util.specs.Digit.{IsRadix}
 use Rattle.lexical_digits.proofs.LongNumbers.{if_found}
 use Rattle.lexical_parse_integer.proofs.plain.DigitsByTable.{some_bytes, table_read}
-use Rattle.lexical_parse_integer.proofs.algorithm.plain.value_of_rest.Goals as goal
+use Rattle.lexical_parse_integer.proofs.algorithm.plain.value_of_plain.Goals as goal
 
 pub returns-clause-answer : goal.returns-clause-answer
 returns-clause-answer g c =
