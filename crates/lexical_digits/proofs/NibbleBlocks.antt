@@ -42,9 +42,6 @@ next_joined k n v next text before more is sum small = by_value (digit (get_or t
 abbrev pub IsSum : ℕ → ℕ → Type 0
 IsSum k n = 15 * n + 4294967296 ≤ 4294967296 * 16 ^ k
 
-pub first_sum : IsSum 0 0
-first_sum = let one = pow-zero 16 in omega arith
-
 pub next_sum : (k n v : ℕ) → IsSum k n → v ≤ 4294967296 → IsSum (k + 1) (n * 16 + v)
 next_sum k n v before small =
     let more : 16 ^ (k + 1) ≡ 16 ^ k * 16 = let e : k + 1 ≡ suc k = omega arith in ap (λ m. 16 ^ m) e ∙ pow-suc 16 k in
@@ -171,46 +168,8 @@ written_small n k text few w =
     let most : 16 ^ length text ≤ 16 ^ k = pow-le-pow_right {n = 16} (omega arith) few in
     omega arith
 
-pub eight_fit : (high low : ℕ) (text : List ℕ) → length text ≤ 8 → WritesFront 16 text (length text) (pos (high * 65536 + low)) → high * 65536 + low < 4294967296
-eight_fit high low text few w = let small = written_small (high * 65536 + low) 8 text few w in omega arith
-
-pub four_fit : (high low : ℕ) (text : List ℕ) → length text ≤ 4 → WritesFront 16 text (length text) (pos (high * 256 + low)) → high * 256 + low < 4294967296
-four_fit high low text few w = let small = written_small (high * 256 + low) 4 text few w in omega arith
-
--- ---- one to three bytes
-
--- where a value is below the limit, the byte is a digit
-value_of_digit : (c v : ℕ) → v ≡ unwrap_or (digit c 16) 4294967296 → v < 4294967296 → digit c 16 ≡ Some v
-value_of_digit c v is small = by_value (digit c 16) refl
-  where
-    by_value : (value : Option ℕ) → digit c 16 ≡ value → digit c 16 ≡ Some v
-    by_value None none = absurd (let large : v ≡ 4294967296 = is ∙ ap (λ o. unwrap_or o 4294967296) none in omega arith)
-    by_value (Some d) some = let same : v ≡ d = is ∙ ap (λ o. unwrap_or o 4294967296) some in some ∙ ap Some (sym same)
-
-pub few_fit : (a b d n : ℕ) → a ≤ 4294967296 → b ≤ 4294967296 → d ≤ 4294967296 → n ≤ 3 →
-    a * get_or (0 ∷ 0 ∷ 16 ∷ 256 ∷ []) n 0 + b * get_or (0 ∷ 0 ∷ 0 ∷ 16 ∷ []) n 0 + d < 18446744073709551616
-few_fit a b d zero la lb ld few = omega arith
-few_fit a b d (suc zero) la lb ld few = omega arith
-few_fit a b d (suc (suc zero)) la lb ld few = omega arith
-few_fit a b d (suc (suc (suc zero))) la lb ld few = omega arith
-few_fit a b d (suc (suc (suc (suc n)))) la lb ld few = absurd (omega arith)
-
-pub few_write : (text : List ℕ) (first middle last : ℕ) → 1 ≤ length text → length text ≤ 3 → first ≡ unwrap_or (digit (get_or text 0 0) 16) 4294967296 →
-    middle ≡ unwrap_or (digit (get_or text (length text / 2) 0) 16) 4294967296 → last ≡ unwrap_or (digit (get_or text (length text - 1) 0) 16) 4294967296 →
-    first * get_or (0 ∷ 0 ∷ 16 ∷ 256 ∷ []) (length text) 0 + middle * get_or (0 ∷ 0 ∷ 0 ∷ 16 ∷ []) (length text) 0 + last < 4294967296 →
-    WritesFront 16 text (length text) (pos (first * get_or (0 ∷ 0 ∷ 16 ∷ 256 ∷ []) (length text) 0 + middle * get_or (0 ∷ 0 ∷ 0 ∷ 16 ∷ []) (length text) 0 + last))
-few_write [] first middle last some few is_first is_middle is_last small = absurd (omega arith)
-few_write (a ∷ []) first middle last some few is_first is_middle is_last small =
-    let a_is : digit a 16 ≡ Some last = value_of_digit a last is_last (omega arith) in
-    all_written 16 _ (a ∷ []) (last ∷ []) (ap (λ (o : Option ℕ). o ∷ []) a_is) (omega arith)
-few_write (a ∷ b ∷ []) first middle last some few is_first is_middle is_last small =
-    let a_is : digit a 16 ≡ Some first = value_of_digit a first is_first (omega arith) in
-    let b_is : digit b 16 ≡ Some last = value_of_digit b last is_last (omega arith) in
-    all_written 16 _ (a ∷ b ∷ []) (first ∷ last ∷ []) (ap (λ (o : Option ℕ). o ∷ digit b 16 ∷ []) a_is ∙ ap (λ (o : Option ℕ). Some first ∷ o ∷ []) b_is) (omega arith)
-few_write (a ∷ b ∷ d ∷ []) first middle last some few is_first is_middle is_last small =
-    let a_is : digit a 16 ≡ Some first = value_of_digit a first is_first (omega arith) in
-    let b_is : digit b 16 ≡ Some middle = value_of_digit b middle is_middle (omega arith) in
-    let d_is : digit d 16 ≡ Some last = value_of_digit d last is_last (omega arith) in
-    all_written 16 _ (a ∷ b ∷ d ∷ []) (first ∷ middle ∷ last ∷ [])
-    (ap (λ (o : Option ℕ). o ∷ digit b 16 ∷ digit d 16 ∷ []) a_is ∙ ap (λ (o : Option ℕ). Some first ∷ o ∷ digit d 16 ∷ []) b_is ∙ ap (λ (o : Option ℕ). Some first ∷ Some middle ∷ o ∷ []) d_is) (omega arith)
-few_write (a ∷ b ∷ d ∷ e ∷ rest) first middle last some few is_first is_middle is_last small = absurd (omega arith)
+pub blocks_fit : (high low size scale : ℕ) (text : List ℕ) → size ≤ 4 → length text ≤ 2 * size → scale ≡ 16 ^ size → WritesFront 16 text (length text) (pos (high * 16 ^ size + low)) → high * scale + low < 4294967296
+blocks_fit high low size scale text few all is w =
+    let small = written_small (high * 16 ^ size + low) 8 text (omega arith) w in
+    let same : high * scale + low ≡ high * 16 ^ size + low = ap (λ n. high * n + low) is in
+    omega arith

@@ -18,29 +18,6 @@ word_again (suc n) word small =
     let rest = word_again n (word / 256) (omega arith) in
     omega arith
 
--- eight digits, of which so many stay, behind digits 0
-shifted_bytes : (k a b c d e f g h : ℕ) → 1 ≤ k → k ≤ 8 → IsAsciiDigit 10 a → IsAsciiDigit 10 b → IsAsciiDigit 10 c → IsAsciiDigit 10 d → IsAsciiDigit 10 e → IsAsciiDigit 10 f → IsAsciiDigit 10 g → IsAsciiDigit 10 h →
-    (bytes_number (a ∷ b ∷ c ∷ d ∷ e ∷ f ∷ g ∷ h ∷ []) - 3472328296227680304) * 2 ^ (64 - 8 * k) % 18446744073709551616 + 3472328296227680304
-    ≡ bytes_number (padded (8 - k) (with_more 0 (take k (a ∷ b ∷ c ∷ d ∷ e ∷ f ∷ g ∷ h ∷ []))))
-shifted_bytes zero a b c d e f g h low high ia ib ic id ie if_ ig ih = absurd (omega arith)
-shifted_bytes (suc zero) a b c d e f g h low high ia ib ic id ie if_ ig ih = omega (arith, ia, ib, ic, id, ie, if_, ig, ih)
-shifted_bytes (suc (suc zero)) a b c d e f g h low high ia ib ic id ie if_ ig ih = omega (arith, ia, ib, ic, id, ie, if_, ig, ih)
-shifted_bytes (suc (suc (suc zero))) a b c d e f g h low high ia ib ic id ie if_ ig ih = omega (arith, ia, ib, ic, id, ie, if_, ig, ih)
-shifted_bytes (suc (suc (suc (suc zero)))) a b c d e f g h low high ia ib ic id ie if_ ig ih = omega (arith, ia, ib, ic, id, ie, if_, ig, ih)
-shifted_bytes (suc (suc (suc (suc (suc zero))))) a b c d e f g h low high ia ib ic id ie if_ ig ih = omega (arith, ia, ib, ic, id, ie, if_, ig, ih)
-shifted_bytes (suc (suc (suc (suc (suc (suc zero)))))) a b c d e f g h low high ia ib ic id ie if_ ig ih = omega (arith, ia, ib, ic, id, ie, if_, ig, ih)
-shifted_bytes (suc (suc (suc (suc (suc (suc (suc zero))))))) a b c d e f g h low high ia ib ic id ie if_ ig ih = omega (arith, ia, ib, ic, id, ie, if_, ig, ih)
-shifted_bytes (suc (suc (suc (suc (suc (suc (suc (suc zero)))))))) a b c d e f g h low high ia ib ic id ie if_ ig ih = omega (arith, ia, ib, ic, id, ie, if_, ig, ih)
-shifted_bytes (suc (suc (suc (suc (suc (suc (suc (suc (suc k))))))))) a b c d e f g h low high ia ib ic id ie if_ ig ih = absurd (omega arith)
-
--- the same of a word
-shifted_word : (k word : ℕ) → 1 ≤ k → k ≤ 8 → word < 18446744073709551616 → AreAsciiDigits 10 (word_bytes 8 word) →
-    (word - 3472328296227680304) * 2 ^ (64 - 8 * k) % 18446744073709551616 + 3472328296227680304 ≡ bytes_number (padded (8 - k) (with_more 0 (take k (word_bytes 8 word))))
-shifted_word k word low high small ascii =
-    let again : bytes_number (word_bytes 8 word) ≡ word = word_again 8 word small in
-    ap (λ (w : ℕ). (w - 3472328296227680304) * 2 ^ (64 - 8 * k) % 18446744073709551616 + 3472328296227680304) (sym again)
-    ∙ shifted_bytes k _ _ _ _ _ _ _ _ low high ascii.0 ascii.1.0 ascii.1.1.0 ascii.1.1.1.0 ascii.1.1.1.1.0 ascii.1.1.1.1.1.0 ascii.1.1.1.1.1.1.0 ascii.1.1.1.1.1.1.1.0
-
 taken_ascii : (k : ℕ) (bs : List ℕ) → AreAsciiDigits 10 bs → AreAsciiDigits 10 (take k bs)
 taken_ascii zero bs all = tt
 taken_ascii (suc k) [] all = tt
@@ -59,23 +36,6 @@ pub record IsShifted (k word shifted : ℕ) : Type 0 where
   pub digits : AreDigits 10 (word_bytes 8 shifted)
   pub worth : word_value 10 (word_bytes 8 shifted) ≡ word_value 10 (take k (word_bytes 8 word))
   pub small : shifted < 18446744073709551616
-
-pub shifted : (k word : ℕ) → 1 ≤ k → k ≤ 8 → word < 18446744073709551616 → AreDigits 10 (word_bytes 8 word) →
-    IsShifted k word ((word - 3472328296227680304) * 2 ^ (64 - 8 * k) % 18446744073709551616 + 3472328296227680304)
-shifted k word low high small digits =
-    let bs : List ℕ = word_bytes 8 word in
-    let ascii = ascii_from_digits 10 bs (omega arith) digits in
-    let taken = taken_ascii k bs ascii in
-    let size : length (take k bs) ≡ k = length-take-le k bs high in
-    let here : get_or (take k bs) 0 0 ≡ word % 256 = get_or-take k bs 0 0 low in
-    let holds = holds_digits (8 - k) 0 (take k bs) _ (omega arith) (ascii_bytes (take k bs) taken) (omega arith) (shifted_word k word low high small ascii) in
-    let bytes : word_bytes 8 ((word - 3472328296227680304) * 2 ^ (64 - 8 * k) % 18446744073709551616 + 3472328296227680304) ≡ padded (8 - k) (take k bs) =
-    holds.bytes ∙ ap (λ (cs : List ℕ). padded (8 - k) cs) (raised_none (take k bs)) in
-    record {
-      digits = subst (λ (cs : List ℕ). AreDigits 10 cs) (sym bytes) (digits_from_ascii 10 (padded (8 - k) (take k bs)) (omega arith) (padded_ascii (8 - k) (take k bs) taken));
-      worth = ap (word_value 10) bytes ∙ padded_value (8 - k) (take k bs);
-      small = holds.small;
-    }
 
 -- ---- four bytes
 
@@ -228,13 +188,14 @@ text_written text first last front back low high below is_first is_last digits m
 
 -- ---- nine to sixteen bytes
 
+pub taken_digits : (k : ℕ) (bs : List ℕ) → AreDigits 10 bs → AreDigits 10 (take k bs)
+taken_digits k bs digits = digits_from_ascii 10 (take k bs) (omega arith) (taken_ascii k bs (ascii_from_digits 10 bs (omega arith) digits))
+
 -- the first digits of the first eight bytes write the number of what stands before the last eight
-pub front_writes : (k first : ℕ) (text : List ℕ) (found : Option (ℕ × ℕ)) → k ≤ 8 → 8 ≤ length text → ((j : ℕ) → get_or text j 0 < 256) → first ≡ bytes_number (slice_range text 0 8) →
-    IfSome found (λ p. AreDigits 10 (word_bytes 8 first)) → IfSome found (λ p. p.0 ≡ word_value 10 (take k (word_bytes 8 first))) → IfSome found (λ p. WritesDecimal 0 (take k text) p.0)
-front_writes k first text None few many below is digits worth = tt
-front_writes k first text (Some p) few many below is digits worth =
+pub front_written : (k first high : ℕ) (text : List ℕ) → k ≤ 8 → 8 ≤ length text → ((j : ℕ) → get_or text j 0 < 256) → first ≡ bytes_number (slice_range text 0 8) →
+    AreDigits 10 (word_bytes 8 first) → high ≡ word_value 10 (take k (word_bytes 8 first)) → WritesDecimal 0 (take k text) high
+front_written k first high text few many below is digits worth =
     let size : length (take 8 text) ≡ 8 = length-take-le 8 text many in
     let again : word_bytes 8 first ≡ take 8 text = ap (word_bytes 8) is ∙ ap (λ n. word_bytes n (bytes_number (take 8 text))) (sym size) ∙ bytes_again (take 8 text) (all_taken 8 text (all_bytes text below)) in
     let front : take k (word_bytes 8 first) ≡ take k text = ap (λ (bs : List ℕ). take k bs) again ∙ take_twice k 8 text few in
-    let ascii = taken_ascii k (word_bytes 8 first) (ascii_from_digits 10 (word_bytes 8 first) (omega arith) digits) in
-    writes_text (take k text) p.0 (subst (λ (bs : List ℕ). AreDigits 10 bs) front (digits_from_ascii 10 (take k (word_bytes 8 first)) (omega arith) ascii)) (worth ∙ ap (word_value 10) front)
+    writes_text (take k text) high (subst (λ (bs : List ℕ). AreDigits 10 bs) front (taken_digits k (word_bytes 8 first) digits)) (worth ∙ ap (word_value 10) front)

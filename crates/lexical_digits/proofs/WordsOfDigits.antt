@@ -35,10 +35,6 @@ all_padded : (count : ℕ) (bytes : List ℕ) → AllBytes bytes → AllBytes (p
 all_padded zero bytes all = all
 all_padded (suc count) bytes all = (omega arith, all_padded count bytes all)
 
-padded_digits : (count : ℕ) (bytes : List ℕ) → AreDigits 10 (padded count bytes) → AreDigits 10 bytes
-padded_digits zero bytes d = d
-padded_digits (suc count) bytes d = padded_digits count bytes d.1
-
 pub padded_value : (count : ℕ) (bytes : List ℕ) → word_value 10 (padded count bytes) ≡ word_value 10 bytes
 padded_value zero bytes = refl
 padded_value (suc count) bytes = omega (arith, padded_value count bytes)
@@ -53,9 +49,6 @@ bytes_again (b ∷ bs) all =
     rw (low, rest, bytes_again bs all.1) refl
 
 -- ---- a word behind zeros
-
-pub zeros_are : (shift : ℕ) → shift < 64 → bit_and 3472328296227680304 (1 * 2 ^ shift % 18446744073709551616 - 1) ≡ 3472328296227680304 % 2 ^ shift
-zeros_are shift low = let one = one_shl shift 64 low in ap (λ m. bit_and 3472328296227680304 (m - 1)) one ∙ and_mask 3472328296227680304 shift
 
 -- what is known of a word that is made of digits with zeros in front
 pub record HoldsDigits (count more : ℕ) (text : List ℕ) (word : ℕ) : Type 0 where
@@ -89,45 +82,7 @@ holds_digits count more text word size all fits is =
       small = omega arith;
     }
 
-pub writes_padded : (count more word n : ℕ) (text : List ℕ) → word_bytes 8 word ≡ padded count (with_more more text) → AreDigits 10 (word_bytes 8 word) → n ≡ word_value 10 (word_bytes 8 word) → WritesDecimal more text n
-writes_padded count more word n text bytes digits worth = record {
-  digits = padded_digits count (with_more more text) (subst (λ (bs : List ℕ). AreDigits 10 bs) bytes digits);
-  worth = worth ∙ ap (word_value 10) bytes ∙ padded_value count (with_more more text);
-}
-
--- a word that is digits writes the number of the text
-pub word_writes : (count more word : ℕ) (text : List ℕ) (found : Option ℕ) → HoldsDigits count more text word → IfSome found (λ n. AreDigits 10 (word_bytes 8 word)) → IfSome found (λ n. n ≡ word_value 10 (word_bytes 8 word)) → IfSome found (λ n. WritesDecimal more text n)
-word_writes count more word text None holds digits worth = tt
-word_writes count more word text (Some n) holds digits worth = writes_padded count more word n text holds.bytes digits worth
-
 -- ---- nine to sixteen bytes
-
-front_word : (k a b c d e f g h more first filled : ℕ) (rest : List ℕ) → 1 ≤ k → k ≤ 8 → a + more < 256 → b < 256 → c < 256 → d < 256 → e < 256 → f < 256 → g < 256 → h < 256 →
-    first ≡ bytes_number (a ∷ b ∷ c ∷ d ∷ e ∷ f ∷ g ∷ h ∷ []) → filled ≡ 3472328296227680304 % 2 ^ (64 - 8 * k) →
-    (first + more) * 2 ^ (64 - 8 * k) % 18446744073709551616 + filled ≡ bytes_number (padded (8 - k) (with_more more (take k (a ∷ b ∷ c ∷ d ∷ e ∷ f ∷ g ∷ h ∷ rest))))
-front_word zero a b c d e f g h more first filled rest low high la lb lc ld le lf lg lh is_first is_filled = absurd (omega arith)
-front_word (suc zero) a b c d e f g h more first filled rest low high la lb lc ld le lf lg lh is_first is_filled = omega arith
-front_word (suc (suc zero)) a b c d e f g h more first filled rest low high la lb lc ld le lf lg lh is_first is_filled = omega arith
-front_word (suc (suc (suc zero))) a b c d e f g h more first filled rest low high la lb lc ld le lf lg lh is_first is_filled = omega arith
-front_word (suc (suc (suc (suc zero)))) a b c d e f g h more first filled rest low high la lb lc ld le lf lg lh is_first is_filled = omega arith
-front_word (suc (suc (suc (suc (suc zero))))) a b c d e f g h more first filled rest low high la lb lc ld le lf lg lh is_first is_filled = omega arith
-front_word (suc (suc (suc (suc (suc (suc zero)))))) a b c d e f g h more first filled rest low high la lb lc ld le lf lg lh is_first is_filled = omega arith
-front_word (suc (suc (suc (suc (suc (suc (suc zero))))))) a b c d e f g h more first filled rest low high la lb lc ld le lf lg lh is_first is_filled = omega arith
-front_word (suc (suc (suc (suc (suc (suc (suc (suc zero)))))))) a b c d e f g h more first filled rest low high la lb lc ld le lf lg lh is_first is_filled = omega arith
-front_word (suc (suc (suc (suc (suc (suc (suc (suc (suc k))))))))) a b c d e f g h more first filled rest low high la lb lc ld le lf lg lh is_first is_filled = absurd (omega arith)
-
-pub front_by_text : (k : ℕ) (text : List ℕ) (more first filled : ℕ) → 1 ≤ k → k ≤ 8 → 8 ≤ length text → AllBytes text → get_or text 0 0 + more < 256 →
-    first ≡ bytes_number (slice_range text 0 8) → filled ≡ 3472328296227680304 % 2 ^ (64 - 8 * k) →
-    (first + more) * 2 ^ (64 - 8 * k) % 18446744073709551616 + filled ≡ bytes_number (padded (8 - k) (with_more more (take k text)))
-front_by_text k [] more first filled low high many all fits is_first is_filled = absurd (omega arith)
-front_by_text k (a ∷ []) more first filled low high many all fits is_first is_filled = absurd (omega arith)
-front_by_text k (a ∷ b ∷ []) more first filled low high many all fits is_first is_filled = absurd (omega arith)
-front_by_text k (a ∷ b ∷ c ∷ []) more first filled low high many all fits is_first is_filled = absurd (omega arith)
-front_by_text k (a ∷ b ∷ c ∷ d ∷ []) more first filled low high many all fits is_first is_filled = absurd (omega arith)
-front_by_text k (a ∷ b ∷ c ∷ d ∷ e ∷ []) more first filled low high many all fits is_first is_filled = absurd (omega arith)
-front_by_text k (a ∷ b ∷ c ∷ d ∷ e ∷ f ∷ []) more first filled low high many all fits is_first is_filled = absurd (omega arith)
-front_by_text k (a ∷ b ∷ c ∷ d ∷ e ∷ f ∷ g ∷ []) more first filled low high many all fits is_first is_filled = absurd (omega arith)
-front_by_text k (a ∷ b ∷ c ∷ d ∷ e ∷ f ∷ g ∷ h ∷ rest) more first filled low high many all fits is_first is_filled = front_word k a b c d e f g h more first filled rest low high fits (omega arith) (omega arith) (omega arith) (omega arith) (omega arith) (omega arith) (omega arith) is_first is_filled
 
 pub all_taken : (count : ℕ) (bytes : List ℕ) → AllBytes bytes → AllBytes (take count bytes)
 all_taken zero bytes all = tt
@@ -198,29 +153,6 @@ all_after zero [] all = tt
 all_after (suc k) [] all = (omega arith, all_after k [] tt)
 all_after k (b ∷ bs) all = (all.0, all_after k bs all.1)
 
-first_here : (k n : ℕ) (bytes : List ℕ) → 1 ≤ length bytes → get_or (bytes ++ replicate k 0) 0 0 ≡ get_or bytes 0 0
-first_here k n [] some = absurd (omega arith)
-first_here k n (b ∷ bs) some = refl
-
--- the first bytes of a text's first word, so many
-pub first_writes : (k : ℕ) (text : List ℕ) (first filled : ℕ) → 1 ≤ k → k ≤ 8 → k ≤ length text → ((j : ℕ) → get_or text j 0 < 256) → first ≡ bytes_number (take 8 text) → filled ≡ 3472328296227680304 % 2 ^ (64 - 8 * k) →
-    HoldsDigits (8 - k) 0 (take k text) (first * 2 ^ (64 - 8 * k) % 18446744073709551616 + filled)
-first_writes k text first filled some few within below is_first is_filled =
-    let longer : List ℕ = text ++ replicate 8 0 in
-    let all = all_bytes text below in
-    let here = below 0 in
-    let size : length (take k text) ≡ k = length-take-le k text within in
-    let same : get_or (take k text) 0 0 ≡ get_or text 0 0 = get_or-take k text 0 0 (omega arith) in
-    let head : get_or longer 0 0 ≡ get_or text 0 0 = first_here 8 0 text (omega arith) in
-    let many : 8 ≤ length longer = let e = length-append text (replicate 8 0) in omega arith in
-    let front : take k longer ≡ take k text = take-append-le k text (replicate 8 0) within in
-    let word_of : first + 0 ≡ bytes_number (slice_range longer 0 8) = omega (arith, is_first) ∙ sym (bytes_after 8 8 text) in
-    let none : first ≡ first + 0 = omega arith in
-    let word : first * 2 ^ (64 - 8 * k) % 18446744073709551616 + filled ≡ bytes_number (padded (8 - k) (with_more 0 (take k text))) =
-    ap (λ n. n * 2 ^ (64 - 8 * k) % 18446744073709551616 + filled) none ∙ front_by_text k longer 0 first filled some few many (all_after 8 text all) (omega arith) (none ∙ word_of) is_filled
-    ∙ ap (λ (bs : List ℕ). bytes_number (padded (8 - k) (with_more 0 bs))) front in
-    holds_digits (8 - k) 0 (take k text) _ (omega arith) (all_taken k text all) (omega arith) word
-
 -- the word of the last eight
 last_bytes : (text : List ℕ) (low : ℕ) → 8 < length text → ((k : ℕ) → get_or text k 0 < 256) → low ≡ bytes_number (slice_range text (length text - 8) (length text - 8 + 8)) → word_bytes 8 low ≡ drop (length text - 8) text
 last_bytes text low many below is =
@@ -250,7 +182,8 @@ raised_parts more (suc k) (b ∷ bs) some = ap (λ (rest : List ℕ). (b + more)
     take_drop (suc k) [] = refl
     take_drop (suc k) (b ∷ bs) = ap (λ (rest : List ℕ). b ∷ rest) (take_drop k bs)
 
-both_write : (last high low : ℕ) (text : List ℕ) → 8 < length text → ((k : ℕ) → get_or text k 0 < 256) → WritesDecimal 0 (take (length text - 8) text) high →
+-- the digits before the last eight, and those, write the number of the text
+pub both_write : (last high low : ℕ) (text : List ℕ) → 8 < length text → ((k : ℕ) → get_or text k 0 < 256) → WritesDecimal 0 (take (length text - 8) text) high →
     last ≡ bytes_number (slice_range text (length text - 8) (length text - 8 + 8)) → AreDigits 10 (word_bytes 8 last) → low ≡ word_value 10 (word_bytes 8 last) →
     WritesDecimal 0 text (high * 100000000 + low)
 both_write last high low text many below before is_last last_digits last_value =
@@ -268,13 +201,6 @@ both_write last high low text many below before is_last last_digits last_value =
       digits = subst (λ (bs : List ℕ). AreDigits 10 bs) (sym parts) (digits_joined 10 (with_more 0 (take k text)) (drop k text) before.digits digits);
       worth = omega arith;
     }
-
--- the digits before the last eight, and those, write the number of the text
-pub words_write : (last : ℕ) (text : List ℕ) (found : Option (ℕ × ℕ)) → 8 < length text → ((k : ℕ) → get_or text k 0 < 256) → IfSome found (λ p. WritesDecimal 0 (take (length text - 8) text) p.0) →
-    last ≡ bytes_number (slice_range text (length text - 8) (length text - 8 + 8)) → IfSome found (λ p. AreDigits 10 (word_bytes 8 last)) → IfSome found (λ p. p.1 ≡ word_value 10 (word_bytes 8 last)) →
-    IfSome found (λ p. WritesDecimal 0 text (p.0 * 100000000 + p.1))
-words_write last text None many below before is_last last_digits last_value = tt
-words_write last text (Some p) many below before is_last last_digits last_value = both_write last p.0 p.1 text many below before is_last last_digits last_value
 
 -- digits write a number below that power of ten
 pub digits_below : (bs : List ℕ) (n : ℕ) → AreDigits 10 bs → n ≡ word_value 10 bs → n < 10 ^ length bs
@@ -332,23 +258,3 @@ few_write (a ∷ b ∷ c ∷ d ∷ []) word some few below is digits =
 few_write (a ∷ b ∷ c ∷ d ∷ e ∷ rest) word some few below is digits = absurd (omega arith)
 
 -- ---- seventeen bytes and more
-
--- a front and the last sixteen write the number of the text
-pub parts_write : (first rest : ℕ) (text front back : List ℕ) → 16 < length text → front ≡ take (length text - 16) text → back ≡ drop (length text - 16) text →
-    WritesDecimal 0 front first → WritesDecimal 0 back rest → WritesDecimal 0 text (first * 10000000000000000 + rest)
-parts_write first rest text front back many is_front is_back w v =
-    let k : ℕ = length text - 16 in
-    let parts = raised_parts 0 k text (omega arith) in
-    let plain : with_more 0 back ≡ drop k text = raised_none back ∙ is_back in
-    let before : WritesDecimal 0 (take k text) first = subst (λ (bs : List ℕ). WritesDecimal 0 bs first) is_front w in
-    let digits : AreDigits 10 (drop k text) = subst (λ (bs : List ℕ). AreDigits 10 bs) plain v.digits in
-    let worth : rest ≡ word_value 10 (drop k text) = v.worth ∙ ap (word_value 10) plain in
-    let size : length (drop k text) ≡ 16 = length-drop k text ∙ omega arith in
-    let power : 10 ^ length (drop k text) ≡ 10000000000000000 = ap (λ n. 10 ^ n) size in
-    let whole : word_value 10 (with_more 0 text) ≡ word_value 10 (with_more 0 (take k text)) * 10000000000000000 + word_value 10 (drop k text) =
-    ap (word_value 10) parts ∙ value_joined 10 (with_more 0 (take k text)) (drop k text) ∙ ap (λ n. word_value 10 (with_more 0 (take k text)) * n + word_value 10 (drop k text)) power in
-    let first_worth = before.worth in
-    record {
-      digits = subst (λ (bs : List ℕ). AreDigits 10 bs) (sym parts) (digits_joined 10 (with_more 0 (take k text)) (drop k text) before.digits digits);
-      worth = omega arith;
-    }

@@ -53,38 +53,19 @@ pub(crate) fn number_of_digits(word: u64) -> u32
     parse_8digits(word, 10) as u32
 }
 
-// The number that the first digits of a word of eight write: the rest is shifted out.
+// The number that the first digits of a word write, so many: what stands after them is shifted out, and digits 0 come
+// in front.
 #[inline(always)]
-fn number_of_first_digits(word: u64, count: usize) -> u32
+pub(crate) fn number_of_front(word: u64, count: u32) -> u32
     requires some { 1 ≤ count }
     requires few { count ≤ 8 }
-    requires digits { AreDigits 10 (word_bytes 8 word) }
+    requires digits { AreDigits 10 (take count (word_bytes 8 word)) }
     ensures value { result ≡ word_value 10 (take count (word_bytes 8 word)) }
     ensures small { result < 100000000 }
 {
-    let shift = 64 - 8 * count as u32;
-    let first = (word - ZEROS) << shift;
-    number_of_digits(first + ZEROS)
-}
-
-// The numbers that the first digits of one word and all of another write; one test says whether both are digits.
-#[inline(always)]
-fn numbers_of_words(first: u64, count: usize, last: u64) -> Option<(u32, u32)>
-    requires some { 1 ≤ count }
-    requires few { count ≤ 8 }
-    ensures first_digits { IfSome result (λ parts. AreDigits 10 (word_bytes 8 first)) }
-    ensures first_value { IfSome result
-        (λ parts. parts.0 ≡ word_value 10 (take count (word_bytes 8 first))) }
-    ensures first_small { IfSome result (λ parts. parts.0 < 100000000) }
-    ensures last_digits { IfSome result (λ parts. AreDigits 10 (word_bytes 8 last)) }
-    ensures last_value { IfSome result (λ parts. parts.1 ≡ word_value 10 (word_bytes 8 last)) }
-    ensures last_small { IfSome result (λ parts. parts.1 < 100000000) }
-{
-    if is_8digits(first, 10) & is_8digits(last, 10) {
-        Some((number_of_first_digits(first, count), number_of_digits(last)))
-    } else {
-        None
-    }
+    let shift = 64 - 8 * count;
+    let digits = word.wrapping_sub(ZEROS) << shift;
+    number_of_digits(digits + ZEROS)
 }
 
 // What the digits of a text of up to four bytes are worth, by the length of the text and in the lanes of `spread`. A
@@ -197,5 +178,10 @@ pub(crate) fn numbers_to_16(text: &[u8]) -> Option<(u32, u32)>
 {
     let n = text.len();
     let last = word_at(text, n - 8);
-    numbers_of_words(word_at(text, 0), n - 8, last)
+    let first = word_at(text, 0);
+    if !(is_8digits(first, 10) & is_8digits(last, 10)) {
+        return None;
+    }
+    let high = number_of_front(first, (n - 8) as u32);
+    Some((high, number_of_digits(last)))
 }

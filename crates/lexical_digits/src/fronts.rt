@@ -6,7 +6,7 @@ ghost use Rattle.std.specs.Prelude.{◌≡◌, ◌+◌, ◌%◌, ◌<◌, ◌≤
 ghost use Rattle.lexical_digits.specs.WrittenNumbers.{WritesFirst, WritesValue, bytes_number};
 ghost use Rattle.lexical_digits.specs.Words.{AreDigits, word_bytes, word_value};
 
-use crate::digits::{ZEROS, first_word, number_of_digits, word_at};
+use crate::digits::{ZEROS, first_word, number_of_front, word_at};
 use crate::values::{value_of, value_of_long};
 use lexical_util::num::Integer;
 
@@ -21,21 +21,6 @@ fn digits_ahead(word: u64) -> u32
 {
     let stops = word.wrapping_add(0x4646_4646_4646_4646) | word.wrapping_sub(ZEROS);
     (stops & 0x8080_8080_8080_8080).trailing_zeros() / 8
-}
-
-// The number that the first digits of a word write, so many: what stands after them is shifted out, and digits 0 come
-// in front.
-#[inline(always)]
-fn number_of_front(word: u64, count: u32) -> u32
-    requires some { 1 ≤ count }
-    requires few { count ≤ 8 }
-    requires digits { AreDigits 10 (take count (word_bytes 8 word)) }
-    ensures value { result ≡ word_value 10 (take count (word_bytes 8 word)) }
-    ensures small { result < 100000000 }
-{
-    let shift = 64 - 8 * count;
-    let digits = word.wrapping_sub(ZEROS) << shift;
-    number_of_digits(digits + ZEROS)
 }
 
 // The number of the digits that a text begins with, and how many they are, where its first eight bytes are this word.

@@ -37,32 +37,6 @@ fn number_or_more(text: &[u8]) -> u64
     number
 }
 
-// What the first and the middle one of up to three digits are worth. The last is worth 1, and one that is the last too
-// is worth nothing more.
-static FIRST: [u64; 4] = [0, 0, 16, 256];
-
-static MIDDLE: [u64; 4] = [0, 0, 0, 16];
-
-// The number of one to three digits, with no branch for their count.
-#[inline(always)]
-fn number_to_3(text: &[u8]) -> Option<u32>
-    requires some { 1 ≤ length text.now }
-    requires few { length text.now ≤ 3 }
-    ensures { IfSome result
-        (λ number. WritesFront 16 text.now (length text.now) (pos number)) }
-{
-    let n = text.len();
-    let last = value_or_more(text[n - 1]);
-    let middle = value_or_more(text[n / 2]);
-    let first = value_or_more(text[0]);
-    let number = first * FIRST[n] + middle * MIDDLE[n] + last;
-    if number < LIMIT {
-        Some(number as u32)
-    } else {
-        None
-    }
-}
-
 // The numbers of the last digits, so many, and of those before, which are no more: of the first so many, those that are
 // among the last too are shifted out.
 #[inline(always)]
@@ -84,42 +58,37 @@ fn numbers_of_blocks(text: &[u8], size: usize) -> Option<(u32, u32)>
     }
 }
 
-// The number of four digits. Each is read once, which `number_to_8` would do twice.
+// The number of digits that two such blocks of up to four make up.
 #[inline(always)]
-fn number_of_4(text: &[u8]) -> Option<u32>
-    requires some { 2 ≤ length text.now }
-    requires few { length text.now ≤ 4 }
+fn number_of_blocks(text: &[u8], size: usize, scale: u32) -> Option<u32>
+    requires small { size ≤ 4 }
+    requires many { size ≤ length text.now }
+    requires few { length text.now ≤ 2 * size }
+    requires scale { scale ≡ 16 ^ size }
     ensures { IfSome result
         (λ number. WritesFront 16 text.now (length text.now) (pos number)) }
 {
-    match numbers_of_blocks(text, 2) {
-        Some((high, low)) => Some(high * 0x100 + low),
+    match numbers_of_blocks(text, size) {
+        Some((high, low)) => Some(high * scale + low),
         None => None,
     }
 }
 
-// The number of four to eight digits.
+// The number of one to eight digits.
 #[inline(always)]
 fn number_to_8(text: &[u8]) -> Option<u32>
-    requires some { 3 < length text.now }
+    requires some { 1 ≤ length text.now }
     requires few { length text.now ≤ 8 }
     ensures { IfSome result
         (λ number. WritesFront 16 text.now (length text.now) (pos number)) }
 {
-    match numbers_of_blocks(text, 4) {
-        Some((high, low)) => Some(high * 0x1_0000 + low),
-        None => None,
+    if text.len() == 1 {
+        return number_of_blocks(text, 1, 0x10);
     }
-}
-
-// What the first of two blocks is scaled by, where the second has eight digits.
-#[inline(always)]
-fn scale_of_blocks<T: Integer>() -> T
-    requires bits { 32 < T.TYPE.bits }
-    ensures value { T.number result ≡ pos 4294967296 }
-    ensures some { pos 1 ≤ℤ T.number result }
-{
-    joined::<T>(0x1_0000, 0x1_0000, 0)
+    if text.len() <= 4 {
+        return number_of_blocks(text, 2, 0x100);
+    }
+    number_of_blocks(text, 4, 0x1_0000)
 }
 
 // The number of nine to sixteen digits, where the type has room for them.
@@ -135,28 +104,15 @@ fn number_to_16<T: Integer>(text: &[u8], most: usize) -> Option<T>
     if T::BITS < 64 {
         return None;
     }
-    let scale = scale_of_blocks::<T>();
+    let scale = joined::<T>(0x1_0000, 0x1_0000, 0);
     match numbers_of_blocks(text, 8) {
         Some((high, low)) => Some(T::from_u32(high).mul_add(scale, T::from_u32(low), false)),
         None => None,
     }
 }
 
-// The value of the number that digits write, behind a minus where that is negative, where the type has room for them.
+/// The value of hexadecimal digits, behind a minus where that is negative.
 #[inline(always)]
-fn value_of_number<T: Integer>(number: u32, digits: &[u8], most: usize, negative: bool) -> T
-    requires writes { WritesFront 16 digits.now (length digits.now) (pos number) }
-    requires fits { length digits.now ≤ most }
-    requires room { HasRoom T.TYPE 16 most }
-    requires minus { IsTrue negative → IsTrue T.TYPE.is_signed }
-    ensures { StandsFor T.TYPE 16 negative digits.now (T.number result) }
-{
-    signed_value::<T>(T::from_u32(number), negative)
-}
-
-/// The value of hexadecimal digits, behind a minus where that is negative. Each range of lengths ends on its own, so that
-/// no test of one is made again for all.
-#[inline(never)]
 pub fn value_of_nibbles<T: Integer>(digits: &[u8], negative: bool) -> Option<T>
     requires some { 1 ≤ length digits.now }
     requires minus { IsTrue negative → IsTrue T.TYPE.is_signed }
@@ -169,17 +125,9 @@ pub fn value_of_nibbles<T: Integer>(digits: &[u8], negative: bool) -> Option<T>
     if digits.len() > most {
         return None;
     }
-    if digits.len() <= 3 {
-        let number = number_to_3(digits)?;
-        return Some(value_of_number::<T>(number, digits, most, negative));
-    }
-    if digits.len() == 4 {
-        let number = number_of_4(digits)?;
-        return Some(value_of_number::<T>(number, digits, most, negative));
-    }
     if digits.len() <= 8 {
         let number = number_to_8(digits)?;
-        return Some(value_of_number::<T>(number, digits, most, negative));
+        return Some(signed_value::<T>(T::from_u32(number), negative));
     }
     match number_to_16::<T>(digits, most) {
         Some(value) => Some(signed_value::<T>(value, negative)),

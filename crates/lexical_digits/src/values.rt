@@ -50,20 +50,6 @@ pub fn value_to_8<T: Integer>(number: u32, negative: bool) -> Option<T>
     Some(signed_value::<T>(T::from_u32(number), negative))
 }
 
-// The value of a number, where a type of up to 32 bits has it.
-#[inline(always)]
-fn value_within<T: Integer>(number: u64, negative: bool) -> Option<T>
-    requires bits { T.TYPE.bits ≤ 32 }
-    requires minus { IsTrue negative → IsTrue T.TYPE.is_signed }
-    ensures value { IfSome result (λ value. T.number value ≡ with_sign negative number) }
-    ensures fits { IfSome result (λ value. IsNumber T.TYPE (T.number value)) }
-{
-    if number >= limit::<T>() {
-        return None;
-    }
-    Some(signed_value::<T>(T::from_u32(number as u32), negative))
-}
-
 /// Two parts of a number joined.
 #[inline(always)]
 pub fn joined<T: Integer>(high: u32, scale: u32, low: u32) -> T
@@ -92,7 +78,11 @@ pub fn value_of_two<T: Integer>(first: u32, second: u32, scale: u32, negative: b
     ensures fits { IfSome result (λ value. IsNumber T.TYPE (T.number value)) }
 {
     if T::BITS <= 32 {
-        return value_within::<T>(first as u64 * scale as u64 + second as u64, negative);
+        let number = first as u64 * scale as u64 + second as u64;
+        if number >= limit::<T>() {
+            return None;
+        }
+        return Some(signed_value::<T>(T::from_u32(number as u32), negative));
     }
     Some(signed_value::<T>(joined::<T>(first, scale, second), negative))
 }

@@ -205,20 +205,28 @@ fn partial_out_of_line<T: Integer>(bytes: &[u8], format: &NumberFormat) -> Resul
 
 // ---- under the standard format, whose fields the compiler then folds into the code
 
-// The front of a text: its digits by words, behind a plus too, and what these leave one after another.
+// The front of a text, one digit after another.
+#[inline(never)]
+fn standard_from_front<T: Integer>(bytes: &[u8]) -> Result<(T, usize)>
+    ensures { view_of (with_place T.number) result ≡ partial standard T.TYPE bytes.now }
+{
+    partial_from_front::<T>(bytes, &format::STANDARD)
+}
+
+// The front of a text: its digits by words, behind a plus too, and what these leave in one call.
 #[inline(always)]
 fn standard_front<T: Integer>(bytes: &[u8]) -> Result<(T, usize)>
     ensures { view_of (with_place T.number) result ≡ partial standard T.TYPE bytes.now }
 {
     match signed_front::<T>(bytes) {
         Some(found) => Ok(found),
-        None => partial_from_front::<T>(bytes, &format::STANDARD),
+        None => standard_from_front::<T>(bytes),
     }
 }
 
-// The complete answer for a text that the quick way leaves: behind a plus, or at fault.
+// The complete answer for a text behind a plus, or at fault.
 #[inline(never)]
-pub(crate) fn standard_complete<T: Integer>(bytes: &[u8]) -> Result<T>
+fn standard_whole<T: Integer>(bytes: &[u8]) -> Result<T>
     ensures { view_of T.number result ≡ complete standard T.TYPE bytes.now }
 {
     match fault_of_overflow::<T>(bytes) {
@@ -227,10 +235,26 @@ pub(crate) fn standard_complete<T: Integer>(bytes: &[u8]) -> Result<T>
     }
 }
 
+// The complete answer for a text that the quick way leaves. The place for it is made ready here, and so not for a value.
+#[inline(always)]
+pub(crate) fn standard_complete<T: Integer>(bytes: &[u8]) -> Result<T>
+    ensures { view_of T.number result ≡ complete standard T.TYPE bytes.now }
+{
+    standard_whole::<T>(bytes)
+}
+
 // The partial answer for such a text.
 #[inline(never)]
-pub(crate) fn standard_partial<T: Integer>(bytes: &[u8]) -> Result<(T, usize)>
+fn standard_rest<T: Integer>(bytes: &[u8]) -> Result<(T, usize)>
     ensures { view_of (with_place T.number) result ≡ partial standard T.TYPE bytes.now }
 {
     standard_front::<T>(bytes)
+}
+
+// The place for its answer is made ready here, and so not for a front that the quick way reads.
+#[inline(always)]
+pub(crate) fn standard_partial<T: Integer>(bytes: &[u8]) -> Result<(T, usize)>
+    ensures { view_of (with_place T.number) result ≡ partial standard T.TYPE bytes.now }
+{
+    standard_rest::<T>(bytes)
 }

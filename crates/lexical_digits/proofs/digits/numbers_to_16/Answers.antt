@@ -1,16 +1,17 @@
 use Rattle.std.proofs.Common.{arith}
-use Rattle.lexical_digits.proofs.ShiftedWords.{front_writes}
-use Rattle.lexical_digits.proofs.WordsOfDigits.{words_write}
+use Rattle.std.proofs.lemmas.Bool.{and_parts}
+use Rattle.lexical_digits.proofs.ShiftedWords.{front_written, taken_digits}
+use Rattle.lexical_digits.proofs.WordsOfDigits.{both_write}
 use Rattle.lexical_digits.proofs.digits.numbers_to_16.Goals as goal
+
+pub number_of_front-high-requires-clause-digits : goal.number_of_front-high-requires-clause-digits
+number_of_front-high-requires-clause-digits c = taken_digits _ _ (c.is_8digits.ensures.0 (and_parts _ _ c.if-not-is_8digits.false).0)
+
+pub number_of_digits-requires : goal.number_of_digits-requires
+number_of_digits-requires c = c.is_8digits-2.ensures.0 (and_parts _ _ c.if-not-is_8digits.false).1
 
 pub returns-clause-writes : goal.returns-clause-writes
 returns-clause-writes c =
-    let told = c.numbers_of_words.ensures in
-    let front = front_writes _ _ c.args.text.now c.numbers_of_words.result (omega arith) (omega arith) (λ k. let f = c.type_inv.text k in omega arith) c.word_at.ensures told.first_digits told.first_value in
-    words_write _ c.args.text.now c.numbers_of_words.result c.requires.some (λ k. let f = c.type_inv.text k in omega arith) front c.word_at-last.ensures told.last_digits told.last_value
-
-pub returns-clause-high : goal.returns-clause-high
-returns-clause-high c = c.numbers_of_words.ensures.first_small
-
-pub returns-clause-low : goal.returns-clause-low
-returns-clause-low c = c.numbers_of_words.ensures.last_small
+    let both = and_parts _ _ c.if-not-is_8digits.false in
+    let front = front_written _ _ _ c.args.text.now (omega arith) (omega arith) (λ k. let f = c.type_inv.text k in omega arith) c.word_at-first.ensures (c.is_8digits.ensures.0 both.0) c.number_of_front-high.ensures.value in
+    both_write _ _ _ c.args.text.now c.requires.some (λ k. let f = c.type_inv.text k in omega arith) front c.word_at-last.ensures (c.is_8digits-2.ensures.0 both.1) c.number_of_digits.ensures.value

@@ -1,6 +1,6 @@
 use Rattle.std.proofs.Common.{arith, ◌∙◌}
 use Rattle.lexical_digits.proofs.WordsInFront.{shifted_front}
-use Rattle.lexical_digits.proofs.fronts.number_of_front.Goals as goal
+use Rattle.lexical_digits.proofs.digits.number_of_front.Goals as goal
 
 pub overflow_add-digits : goal.overflow_add-digits
 overflow_add-digits c =
