@@ -5,8 +5,3 @@ pub mod DigitsInFront
 pub mod FieldsInFront
 pub mod FrontsByTable
 pub mod LeavingNumbers
-pub mod LongNumbers
-pub mod Nibbles
-pub mod ShiftedWords
-pub mod WordsInFront
-pub mod WordsOfDigits

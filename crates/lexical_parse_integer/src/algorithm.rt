@@ -14,12 +14,10 @@ ghost use Rattle.lexical_parse_integer.specs.Turns.{AsksWords, HasFewTurns};
 mod digits;
 pub(crate) mod front;
 mod head;
-mod lanes;
 pub(crate) mod marked;
 mod multi;
 mod numeral;
 pub(crate) mod plain;
-mod words;
 mod zeros;
 
 use crate::algorithm::front::{complete_from_front, partial_from_front};
@@ -31,12 +29,12 @@ use crate::algorithm::plain::{front_if_plain, signed_front, value_if_plain};
 use crate::cursor::Cursor;
 use crate::options::Options;
 pub use head::parse_sign;
+pub use lexical_digits::words::{is_4digits, is_8digits, parse_4digits, parse_8digits};
 use lexical_util::error::Error;
 use lexical_util::format::{self, NumberFormat};
 use lexical_util::num::Integer;
 use lexical_util::result::Result;
 pub use multi::{try_parse_4digits, try_parse_8digits};
-pub use words::{is_4digits, is_8digits, parse_4digits, parse_8digits};
 
 // Reads sign, prefix, numeral and suffix: all that the two parsers have in common.
 #[inline(always)]

@@ -1,35 +1,38 @@
 -- Digits alone at the front of a text, behind an optional minus, under formats without marks.
-use Rattle.std.proofs.Common.{slice_get, ◌≡◌, ℕ, zero, suc, ◌+◌, ◌-◌, ◌%◌, ◌<◌, ◌≤◌, Bool, true, false, ◌&&◌, not, List, [], ◌∷◌, length, get_or, map, take, refl, sym, ap, ◌∙◌, subst, arith, Option, Some, None, Ok, Result}
-use Rattle.std.specs.Prelude.{◌==◌, nat_le, is_some, slice_index, ℤ, IsNone}
+use Rattle.std.proofs.Common.{slice_get, ◌≡◌, ℕ, zero, suc, ◌+◌, ◌-◌, ◌%◌, ◌<◌, ◌≤◌, Bool, true, false, ◌&&◌, not, List, [], ◌∷◌, length, get_or, map, take, refl, sym, ap, ◌∙◌, subst, arith, Option, Some, None, Ok, Result, ◌⊎◌, inl, inr, ◌*◌, ◌^◌}
+use Rattle.std.specs.Prelude.{◌==◌, nat_le, is_some, slice_index, ℤ, IsNone, slice_range}
 use Rattle.std.specs.Option.{option_and_then, unwrap_or}
 use Rattle.std.proofs.Math.Bool.{and-false, and-true}
 use Rattle.std.proofs.lemmas.Bool.{ne_eqb}
-use Rattle.std.proofs.lemmas.List.{length-take-le}
+use Rattle.std.proofs.lemmas.List.{length-take-le, get_or-drop, length-drop}
 use Rattle.std.proofs.lemmas.List.FromFn.{length-map-range_with_len}
 use mir.Val.{bool_byte}
 use Rattle.lexical_util.specs.declared.error.Error.{Error}
 use Rattle.lexical_util.specs.declared.error.Error.TheVariants.{InvalidLeadingZeros}
 use Rattle.lexical_util.specs.Digit.{digit}
-use Rattle.lexical_util.specs.Format.{Format}
+use Rattle.lexical_util.specs.Format.{Format, standard}
 use Rattle.lexical_util.specs.Number.{IntegerType, IsNumber, is_number}
 use Rattle.lexical_util.specs.Validity.{fault}
 use Rattle.lexical_parse_integer.specs.Grammar.{fault_if, if_valid, partial, partial_if_valid, range_fault, zero_fault}
 use Rattle.lexical_parse_integer.specs.Head.{Head, sign}
 use Rattle.lexical_parse_integer.specs.Numeral.{Numeral, digit_count, numeral_value}
-use Rattle.lexical_parse_integer.specs.Plain.{BeginsWith, IsBehind, IsPlain, WritesDecimal, WritesValue, keeps_zero_rule}
+use Rattle.lexical_parse_integer.specs.Plain.{BeginsWith, IsBehind, IsPlain, keeps_zero_rule}
+use Rattle.lexical_digits.specs.WrittenNumbers.{WritesDecimal, WritesValue, WritesFirst}
 use Rattle.lexical_parse_integer.specs.Runs.{digit_at}
-use Rattle.lexical_parse_integer.specs.Value.{positional_value, with_sign}
-use Rattle.lexical_parse_integer.specs.Words.{AreDigits, word_value}
-use Rattle.lexical_parse_integer.proofs.words.AsciiDigits.{ascii_from_digits, digit_to}
+use Rattle.lexical_digits.specs.Value.{positional_value, with_sign}
+use Rattle.lexical_digits.specs.Words.{AreDigits, word_value}
+use Rattle.lexical_digits.proofs.AsciiDigits.{ascii_from_digits}
 use Rattle.lexical_parse_integer.proofs.theorems.DigitTexts.{head_is, stop_plain, take_row}
 use Rattle.lexical_parse_integer.proofs.grammar.FrontValues.{fitting_fault}
 use Rattle.lexical_parse_integer.proofs.grammar.DigitsInARow.{EndsRow, has_digit, row, row_numeral}
-use Rattle.lexical_parse_integer.proofs.theorems.ReadBack.{HaveDigits, digit_there, digits_size, first_digit, row_is}
+use Rattle.lexical_digits.proofs.DigitValues.{HaveDigits, digits_size}
+use Rattle.lexical_parse_integer.proofs.theorems.ReadBack.{digit_there, first_digit, row_is}
 use Rattle.lexical_parse_integer.proofs.grammar.Stretches.{HoldsBetween}
 use Rattle.lexical_parse_integer.proofs.plain.DigitsAlone.{have_digits, rule_told, sign_of_digit_under, sign_of_minus_under}
-use Rattle.lexical_parse_integer.proofs.plain.WordsOfDigits.{raised_none}
+use Rattle.lexical_digits.proofs.WordsOfDigits.{raised_none}
 use Rattle.lexical_parse_integer.proofs.theorems.SettledAnswers.{partial_by, partial_row}
 use Rattle.lexical_parse_integer.proofs.grammar.RangeOfFronts.{shorter_fronts_fit}
+use Rattle.lexical_digits.proofs.WordsInFront.{stop_none, rest_is, joined}
 
 -- so many digits behind the sign, and then none
 pub front_read_under : (f : Format) (t : IntegerType) (text : List ℕ) (s : Bool × ℕ) (n : ℕ) → IsPlain f → 1 ≤ f.mantissa_radix → sign f t text ≡ Ok s → 0 < n → s.1 + n ≤ length text →
@@ -120,18 +123,6 @@ front_digits_read f t true text (c ∷ cs) ds (suc n) plain positive behind all 
 
 -- ---- what the parts of the code say
 
--- a byte that is no decimal digit
-pub stop_none : (byte : ℕ) → byte < 256 → 10 ≤ (byte + 208) % 256 → is_some (digit byte 10) ≡ false
-stop_none byte below stops = by_test (is_some (digit byte 10)) refl
-  where
-    by_test : (b : Bool) → is_some (digit byte 10) ≡ b → b ≡ false
-    by_test false e = refl
-    by_test true e =
-        let d = digit_to 10 byte e (omega arith) in
-        let low = d.0 in
-        let high = d.1 in
-        absurd (omega arith)
-
 -- decimal digits at the front of what stands behind the minus
 pub begins_read : (f : Format) (t : IntegerType) (negative : Bool) (text digits : List ℕ) (value : ℤ) (count : ℕ) → IsPlain f → f.mantissa_radix ≡ 10 → IsBehind negative t text digits → BeginsWith f t negative digits value count →
     partial f t text ≡ Ok (value, bool_byte negative + count)
@@ -176,3 +167,19 @@ front_answered_if_valid f t text found valid is = sym (by_fault (fault f) (parti
 pub begins_placed : (f : Format) (t : IntegerType) (negative : Bool) (text digits : List ℕ) (value : ℤ) (count start : ℕ) → IsPlain f → f.mantissa_radix ≡ 10 → IsBehind negative t text digits → start ≡ bool_byte negative → BeginsWith f t negative digits value count →
     partial f t text ≡ Ok (value, start + count)
 begins_placed f t negative text digits value count start plain ten behind at b = begins_read f t negative text digits value count plain ten behind b ∙ ap (λ (k : ℕ). Ok (value, k + count)) (sym at)
+
+-- a front of such digits
+pub joined_begin : (t : IntegerType) (negative : Bool) (digits : List ℕ) (value : ℤ) (j count a b : ℕ) → 1 ≤ j → j ≤ length digits → WritesDecimal 0 (take j digits) a → WritesFirst (slice_range digits j (length digits)) b count → (count < 8) ⊎ (j + count ≡ length digits) →
+    value ≡ with_sign negative (a * 10 ^ count + b) → IsNumber t value → BeginsWith standard t negative digits value (j + count)
+joined_begin t negative digits value j count a b some within w v all worth fits =
+    let size : length (slice_range digits j (length digits)) ≡ length digits - j = ap length (rest_is digits j) ∙ length-drop j digits in
+    let more = v.within in
+    record {
+      some = omega arith;
+      within = omega arith;
+      stops = λ less.
+          let byte : get_or (slice_range digits j (length digits)) count 0 ≡ get_or digits (j + count) 0 = ap (λ (bs : List ℕ). get_or bs count 0) (rest_is digits j) ∙ get_or-drop j digits count 0 in
+          subst (λ n. IsNone (digit n 10)) byte (v.stops (elim all [ inl few ↦ few | inr over ↦ absurd (omega arith) ]) (omega arith));
+      rule = refl;
+      stands = stands t negative (take (j + count) digits) (a * 10 ^ count + b) value (joined j count a b digits within w v) worth fits;
+    }

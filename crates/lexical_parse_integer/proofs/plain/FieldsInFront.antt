@@ -11,9 +11,9 @@ use Rattle.lexical_util.specs.Number.{IntegerType}
 use Rattle.lexical_parse_integer.specs.Grammar.{complete}
 use Rattle.lexical_parse_integer.specs.Plain.{BeginsWith, IsBehind, IsPlain}
 use Rattle.lexical_parse_integer.specs.Separated.{IsSeparated, bytes_before}
-use Rattle.lexical_parse_integer.specs.Words.{AreDigits}
+use Rattle.lexical_digits.specs.Words.{AreDigits}
 use Rattle.lexical_parse_integer.proofs.plain.DigitsAlone.{behind_read}
-use Rattle.lexical_parse_integer.proofs.plain.WordsOfDigits.{raised_none}
+use Rattle.lexical_digits.proofs.WordsOfDigits.{raised_none}
 
 -- the front of a text is behind the same minus
 front_behind : (t : IntegerType) (negative : Bool) (text digits : List ℕ) (count : ℕ) → IsBehind negative t text digits → IsBehind negative t (take (bool_byte negative + count) text) (take count digits)

@@ -12,16 +12,18 @@ use Rattle.lexical_util.specs.Number.{IntegerType, is_number}
 use Rattle.lexical_parse_integer.specs.Grammar.{complete, partial}
 use Rattle.lexical_parse_integer.specs.Head.{sign}
 use Rattle.lexical_parse_integer.specs.Laws.{completion_of}
-use Rattle.lexical_parse_integer.specs.Plain.{BeginsInRadix, BeginsWith, IsPlain, WritesValue}
-use Rattle.lexical_parse_integer.specs.Value.{positional_value, with_sign}
-use Rattle.lexical_parse_integer.specs.Words.{AreDigits, word_value}
-use Rattle.lexical_parse_integer.proofs.words.AsciiDigits.{ascii_from_digits}
-use Rattle.lexical_parse_integer.proofs.plain.WordsOfDigits.{digits_below, raised_none}
+use Rattle.lexical_parse_integer.specs.Plain.{BeginsInRadix, BeginsWith, IsPlain}
+use Rattle.lexical_digits.specs.WrittenNumbers.{WritesValue}
+use Rattle.lexical_digits.specs.Value.{positional_value, with_sign}
+use Rattle.lexical_digits.specs.Words.{AreDigits, word_value}
+use Rattle.lexical_digits.proofs.AsciiDigits.{ascii_from_digits}
+use Rattle.lexical_digits.proofs.WordsOfDigits.{digits_below, raised_none}
 use Rattle.lexical_parse_integer.proofs.plain.DigitsAlone.{behind_first, from_front, have_digits, sign_of_digit_under, sign_of_minus_under}
 use Rattle.lexical_parse_integer.proofs.plain.DigitsByTable.{rule_in}
 use Rattle.lexical_parse_integer.proofs.plain.DigitsInFront.{StandsFrom, values_in_front}
 use Rattle.lexical_parse_integer.proofs.theorems.CompleteByPartial.{complete_is_completion}
-use Rattle.lexical_parse_integer.proofs.theorems.ReadBack.{HaveDigits, first_digit}
+use Rattle.lexical_digits.proofs.DigitValues.{HaveDigits}
+use Rattle.lexical_parse_integer.proofs.theorems.ReadBack.{first_digit}
 
 -- ---- the front of a text
 

@@ -12,21 +12,23 @@ use Rattle.lexical_util.specs.Number.{HasSign, IntegerType, is_number, mul_add}
 use Rattle.lexical_parse_integer.specs.Grammar.{complete, range_error, range_fault}
 use Rattle.lexical_parse_integer.specs.Head.{Head, sign}
 use Rattle.lexical_parse_integer.specs.Numeral.{Numeral, digit_count, front_value}
-use Rattle.lexical_parse_integer.specs.Plain.{LeavesAfter, WritesValue}
-use Rattle.lexical_parse_integer.specs.Value.{positional_value, with_sign}
-use Rattle.lexical_parse_integer.specs.Words.{AreDigits, word_value}
+use Rattle.lexical_parse_integer.specs.Plain.{LeavesAfter}
+use Rattle.lexical_digits.specs.WrittenNumbers.{WritesValue}
+use Rattle.lexical_digits.specs.Value.{positional_value, with_sign}
+use Rattle.lexical_digits.specs.Words.{AreDigits, word_value}
 use Rattle.lexical_parse_integer.proofs.grammar.DigitsInARow.{EndsRow, has_digit, row, row_count, row_ends, row_numeral}
-use Rattle.lexical_parse_integer.proofs.grammar.FrontValues.{leaving_fault, with_sign-step}
+use Rattle.lexical_parse_integer.proofs.grammar.FrontValues.{leaving_fault}
+use Rattle.lexical_digits.proofs.DigitValues.{with_sign-step, HaveDigits, digits_size}
 use Rattle.lexical_parse_integer.proofs.grammar.RangeOfFronts.{shorter_fronts_fit}
 use Rattle.lexical_parse_integer.proofs.grammar.Stretches.{HoldsBetween, below_stop}
 use Rattle.lexical_parse_integer.proofs.plain.DigitsAlone.{behind_first, from_front, have_digits, sign_of_digit_under, sign_of_minus_under}
 use Rattle.lexical_parse_integer.proofs.plain.DigitsInFront.{StandsFrom, at_front, front_between}
 use Rattle.lexical_parse_integer.proofs.plain.FrontsByTable.{from_second, sign_of_plus_under}
-use Rattle.lexical_parse_integer.proofs.plain.WordsOfDigits.{digits_joined, raised_none, value_joined}
+use Rattle.lexical_digits.proofs.WordsOfDigits.{digits_joined, raised_none, value_joined}
 use Rattle.lexical_parse_integer.proofs.theorems.DigitTexts.{complete_by, complete_row, head_is}
-use Rattle.lexical_parse_integer.proofs.theorems.ReadBack.{HaveDigits, digits_size, row_is}
+use Rattle.lexical_parse_integer.proofs.theorems.ReadBack.{row_is}
 use Rattle.lexical_parse_integer.proofs.theorems.SettledAnswers.{digits_of_row, front_of_row, place_of_row}
-use Rattle.lexical_parse_integer.proofs.words.AsciiDigits.{ascii_from_digits, digit_from, digit_to}
+use Rattle.lexical_digits.proofs.AsciiDigits.{ascii_from_digits, digit_from, digit_to}
 
 -- ---- one digit more
 

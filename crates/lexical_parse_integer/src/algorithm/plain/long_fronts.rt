@@ -2,11 +2,12 @@
 ghost use Rattle.std.specs.Prelude.{◌≡◌, ◌+◌, ◌*◌, ◌<◌, ◌≤◌, ◌^◌, ◌⊎◌, IfSome, IsTrue, length, slice_range};
 ghost use Rattle.lexical_util.specs.Format.{standard};
 ghost use Rattle.lexical_util.specs.Number.{IsNumber};
-ghost use Rattle.lexical_parse_integer.specs.Plain.{BeginsWith, WritesFirst};
-ghost use Rattle.lexical_parse_integer.specs.Value.{with_sign};
+ghost use Rattle.lexical_parse_integer.specs.Plain.{BeginsWith};
+ghost use Rattle.lexical_digits.specs.WrittenNumbers.{WritesFirst};
+ghost use Rattle.lexical_digits.specs.Value.{with_sign};
 
-use crate::algorithm::plain::fronts::number_behind;
-use crate::algorithm::plain::values::{joined, value_if_fits, value_of_two, value_to_8};
+use lexical_digits::fronts::number_behind;
+use lexical_digits::values::{joined, value_if_fits, value_of_two, value_to_8};
 use lexical_util::num::Integer;
 
 // 1, 10, 100 and so on.

@@ -7,8 +7,8 @@ ghost use Rattle.lexical_util.specs.Format.{standard};
 ghost use Rattle.lexical_util.specs.declared.error.Error.TheVariants.{InvalidDigit};
 ghost use Rattle.lexical_parse_integer.specs.Grammar.{complete};
 
-use crate::algorithm::plain::fronts::value_of_digits;
 use crate::algorithm::plain::signed_front;
+use lexical_digits::fronts::value_of_digits;
 use lexical_util::num::Integer;
 
 // The value of the digits behind a plus, where they are all of the text.

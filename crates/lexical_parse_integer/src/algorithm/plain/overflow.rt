@@ -6,8 +6,8 @@ ghost use Rattle.lexical_parse_integer.specs.Grammar.{complete, range_error};
 ghost use Rattle.lexical_parse_integer.specs.Plain.{LeavesAfter};
 
 use crate::algorithm::digits::join_checked;
-use crate::algorithm::plain::fronts::value_of_digits;
 use crate::algorithm::plain::{has_minus, has_plus};
+use lexical_digits::fronts::value_of_digits;
 use lexical_util::digit::char_to_digit;
 use lexical_util::error::Error;
 use lexical_util::format;

@@ -1,7 +1,8 @@
 use Rattle.std.proofs.Common.{◌<◌, length, sym, ◌∙◌}
 use Rattle.std.specs.Prelude.{slice_range}
 use Rattle.lexical_parse_integer.proofs.marked.MarkedAnswers.{if_both}
-use Rattle.lexical_parse_integer.proofs.plain.DigitsAlone.{behind_is, behind_read, if_found}
+use Rattle.lexical_parse_integer.proofs.plain.DigitsAlone.{behind_is, behind_read}
+use Rattle.lexical_digits.proofs.LongNumbers.{if_found}
 use Rattle.lexical_parse_integer.proofs.plain.DigitsByTable.{some_bytes}
 use Rattle.lexical_parse_integer.proofs.algorithm.plain.decimal.Goals as goal
 

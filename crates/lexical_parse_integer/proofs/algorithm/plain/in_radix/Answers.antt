@@ -1,6 +1,7 @@
 use Rattle.std.proofs.Common.{◌<◌, length, sym, ◌∙◌}
 use Rattle.std.specs.Prelude.{slice_range}
-use Rattle.lexical_parse_integer.proofs.plain.DigitsAlone.{behind_is, if_found}
+use Rattle.lexical_parse_integer.proofs.plain.DigitsAlone.{behind_is}
+use Rattle.lexical_digits.proofs.LongNumbers.{if_found}
 use Rattle.lexical_parse_integer.proofs.plain.DigitsByTable.{some_bytes, table_read}
 use Rattle.lexical_parse_integer.proofs.algorithm.plain.in_radix.Goals as goal
 

@@ -1,6 +1,7 @@
 use Rattle.std.proofs.Common.{◌+◌, ◌*◌, arith, ap, ◌∙◌, inl}
-use Rattle.lexical_parse_integer.specs.Value.{with_sign}
-use Rattle.lexical_parse_integer.proofs.plain.WordsInFront.{joined, joined_begin, sixteen_at_least}
+use Rattle.lexical_digits.specs.Value.{with_sign}
+use Rattle.lexical_digits.proofs.WordsInFront.{joined, sixteen_at_least}
+use Rattle.lexical_parse_integer.proofs.plain.DigitsInFront.{joined_begin}
 use Rattle.lexical_parse_integer.proofs.algorithm.plain.long_fronts.front_after_second.Goals as goal
 
 pub returns-in-Some : goal.returns-in-Some

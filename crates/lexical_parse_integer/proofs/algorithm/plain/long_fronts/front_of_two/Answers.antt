@@ -1,6 +1,6 @@
 use Rattle.std.proofs.Common.{◌+◌, ◌*◌, arith, ap, ◌∙◌}
-use Rattle.lexical_parse_integer.specs.Value.{with_sign}
-use Rattle.lexical_parse_integer.proofs.plain.WordsInFront.{joined_begin}
+use Rattle.lexical_digits.specs.Value.{with_sign}
+use Rattle.lexical_parse_integer.proofs.plain.DigitsInFront.{joined_begin}
 use Rattle.lexical_parse_integer.proofs.algorithm.plain.long_fronts.front_of_two.Goals as goal
 
 pub returns-in-Some : goal.returns-in-Some

@@ -1,6 +1,5 @@
 use Rattle.std.proofs.Common.{◌∙◌}
-use Rattle.lexical_parse_integer.proofs.plain.DigitsAlone.{if_found}
-use Rattle.lexical_parse_integer.proofs.plain.LongNumbers.{sum_worth}
+use Rattle.lexical_digits.proofs.LongNumbers.{if_found, sum_worth}
 use Rattle.lexical_parse_integer.proofs.algorithm.plain.long_fronts.value_of_three.Goals as goal
 
 pub returns-clause-value : goal.returns-clause-value

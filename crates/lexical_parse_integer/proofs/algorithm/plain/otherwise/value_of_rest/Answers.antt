@@ -1,4 +1,4 @@
-use Rattle.lexical_parse_integer.proofs.plain.DigitsAlone.{if_found}
+use Rattle.lexical_digits.proofs.LongNumbers.{if_found}
 use Rattle.lexical_parse_integer.proofs.plain.FrontsByTable.{plus_read}
 use Rattle.lexical_parse_integer.proofs.algorithm.plain.otherwise.value_of_rest.Goals as goal
 
