@@ -138,7 +138,7 @@ pub fn value_if_fits<T: Integer>(front: T, scale: T, last: T, negative: bool) ->
     }
 }
 
-// The same where it is known that the type has it.
+// The value of a front and a last part, where it is known that the type has it.
 #[inline(always)]
 fn value_of_sum<T: Integer>(front: T, scale: T, last: T, negative: bool) -> T
     requires minus { IsTrue negative → IsTrue T.TYPE.is_signed }
