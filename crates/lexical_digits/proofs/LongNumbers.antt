@@ -1,14 +1,18 @@
 -- Numbers in parts: for the answers of `values`, and of what joins the words of a front.
-use Rattle.std.proofs.Common.{◌≡◌, ℕ, ◌+◌, ◌*◌, ◌^◌, ◌<◌, ◌≤◌, Bool, true, false, refl, ap, ◌∙◌, arith, pos, Option, Some, None, List, sym}
-use Rattle.std.specs.Prelude.{ℤ, ◌+ℤ◌, ◌*ℤ◌, ◌≤ℤ◌, neg_ℤ, if◌then◌else◌, IfSome}
+use Rattle.std.proofs.Common.{◌≡◌, ℕ, ◌+◌, ◌*◌, ◌^◌, ◌<◌, ◌≤◌, Bool, true, false, refl, ap, ◌∙◌, arith, pos, Option, Some, None, List, sym, subst, rules, zero, suc, ◌-◌, take, drop, length}
+use Rattle.std.specs.Prelude.{ℤ, ◌+ℤ◌, ◌*ℤ◌, ◌≤ℤ◌, neg_ℤ, if◌then◌else◌, slice_range, IfSome}
+use Rattle.std.specs.Int.Signed.{≤ℤ_refl}
+use Rattle.std.proofs.Math.Seq.{take-length}
+use Rattle.std.proofs.lemmas.List.{length-drop}
 use Rattle.std.proofs.lemmas.Bool.{lt-ltb}
 use Rattle.std.proofs.lemmas.Bool.Decides.{nat_tests}
 use Rattle.std.proofs.lemmas.Nat.{mul-le}
-use Rattle.lexical_util.specs.Number.{IntegerType, IsNumber, IsWidth, integer_type, number_if_fits, is_number}
+use Rattle.lexical_util.specs.Number.{HasSign, mul_add, IntegerType, IsNumber, IsWidth, integer_type, number_if_fits, is_number}
 use Rattle.lexical_util.specs.Number.IsWidth.{w8, w16, w32, w64, w128}
-use Rattle.lexical_digits.specs.Parts.{signed_sum}
 use Rattle.lexical_digits.specs.WrittenNumbers.{WritesDecimal, WritesValue}
 use Rattle.lexical_digits.specs.Value.{with_sign}
+use Rattle.lexical_digits.proofs.DigitValues.{with_sign-step}
+use Rattle.lexical_digits.proofs.WordsInFront.{joined_texts}
 
 -- ---- numbers of a type
 
@@ -22,15 +26,6 @@ short_is_number _ false n w64 short small = lt-ltb n (2 ^ 64) (omega arith)
 short_is_number _ true n w128 short small = lt-ltb n (2 ^ 127) (omega arith)
 short_is_number _ false n w128 short small = lt-ltb n (2 ^ 128) (omega arith)
 
--- types of more than 64 bits have all numbers of up to thirty-eight digits
-long_is_number : (bits : ℕ) (signed : Bool) (n : ℕ) → IsWidth bits → 64 < bits → n < 100000000000000000000000000000000000000 → IsNumber (integer_type bits signed) (pos n)
-long_is_number _ signed n w8 long small = absurd (omega arith)
-long_is_number _ signed n w16 long small = absurd (omega arith)
-long_is_number _ signed n w32 long small = absurd (omega arith)
-long_is_number _ signed n w64 long small = absurd (omega arith)
-long_is_number _ true n w128 long small = lt-ltb n (2 ^ 127) (omega arith)
-long_is_number _ false n w128 long small = lt-ltb n (2 ^ 128) (omega arith)
-
 -- a word's number
 pub word_fits : (t : IntegerType) (n : ℕ) → IsWidth t.bits → 32 < t.bits → n < 4294967296 → IsNumber t (pos n)
 word_fits t n width wide small = short_is_number t.bits t.is_signed n width wide (omega arith)
@@ -42,36 +37,10 @@ joined_fit t front scale last n s m width wide is_front few is_scale low is_last
     let most : n * s ≤ 100000000 * 100000000 = mul-le n s 100000000 100000000 few low in
     rw (is_front, is_scale, is_last) (short_is_number t.bits t.is_signed (n * s + m) width wide (omega arith))
 
--- a part of up to twenty-two digits, and sixteen after it
-pub parts_fit : (t : IntegerType) (before whole last : ℤ) (n m : ℕ) → IsWidth t.bits → 64 < t.bits → before ≡ pos n → n < 10000000000000000000000 → whole ≡ pos 10000000000000000 → last ≡ pos m → m < 10000000000000000 →
-    IsNumber t ((before *ℤ whole) +ℤ last)
-parts_fit t before whole last n m width long is_before few is_whole is_last rest =
-    rw (is_before, is_whole, is_last) (long_is_number t.bits t.is_signed (n * 10000000000000000 + m) width long (omega arith))
-
--- a part of up to sixteen digits, and eight after it
-pub three_fit : (t : IntegerType) (front scale last : ℤ) (n s m : ℕ) → IsWidth t.bits → 64 < t.bits → front ≡ pos n → n < 10000000000000000 → scale ≡ pos s → s ≤ 100000000 → last ≡ pos m → m < 100000000 →
-    IsNumber t ((front *ℤ scale) +ℤ last)
-three_fit t front scale last n s m width long is_front few is_scale low is_last rest =
-    let most : n * s ≤ 10000000000000000 * 100000000 = mul-le n s 10000000000000000 100000000 (omega arith) low in
-    rw (is_front, is_scale, is_last) (long_is_number t.bits t.is_signed (n * s + m) width long (omega arith))
-
 -- ---- what parts are worth
 
 pub parts_worth : (front scale last : ℤ) (n s m : ℕ) → front ≡ pos n → scale ≡ pos s → last ≡ pos m → (front *ℤ scale) +ℤ last ≡ pos (n * s + m)
 parts_worth front scale last n s m is_front is_scale is_last = rw (is_front, is_scale, is_last) refl
-
--- behind a sign
-pub sum_worth : (negative : Bool) (front scale last : ℤ) (n s m : ℕ) → front ≡ pos n → scale ≡ pos s → last ≡ pos m → signed_sum negative front scale last ≡ with_sign negative (n * s + m)
-unfolding signed_sum
-sum_worth negative front scale last n s m is_front is_scale is_last = rw (is_front, is_scale, is_last) refl
-
-pub sum_signed : (negative : Bool) (value front scale last : ℤ) → value ≡ (front *ℤ scale) +ℤ last → (if negative then neg_ℤ value else value) ≡ signed_sum negative front scale last
-unfolding signed_sum
-sum_signed negative value front scale last is = rw is refl
-
--- three parts of eight digits
-pub three_parts : (first second third : ℕ) → (first * 100000000 + second) * 100000000 + third ≡ first * 10000000000000000 + (second * 100000000 + third)
-three_parts first second third = omega arith
 
 -- what is at least 0, and at least 1
 pub from_zero : (value : ℤ) (n : ℕ) → value ≡ pos n → pos 0 ≤ℤ value
@@ -109,3 +78,44 @@ value_written number_of t more negative text number (Some v) writes worth fits =
 pub if_found : {X : Type 0} {P Q : X → Type 0} (found : Option X) → ((x : X) → P x → Q x) → IfSome found P → IfSome found Q
 if_found None step h = tt
 if_found (Some x) step h = step x h
+
+-- a number behind a sign has it
+pub sign_held : (b : Bool) (value : ℤ) (n : ℕ) → value ≡ with_sign b n → HasSign b value
+sign_held b value n is = subst (HasSign b) (sym is) (by_sign b n)
+  where
+    by_sign : (b : Bool) (n : ℕ) → HasSign b (with_sign b n)
+    by_sign true zero = ≤ℤ_refl (pos 0)
+    by_sign true (suc n) = search rules
+    by_sign false n = grind (arith, nat_tests)
+
+pub sign_of_value : (t : IntegerType) (b : Bool) (text : List ℕ) (value : ℤ) → WritesValue t 0 b text value → HasSign b value
+sign_of_value t b text value w = sign_held b value w.number w.worth
+
+-- the value with more digits
+pub more_digits : (t : IntegerType) (b : Bool) (k count m : ℕ) (text : List ℕ) (value next : ℤ) → count ≤ length (drop k text) → WritesValue t 0 b (take k text) value → WritesDecimal 0 (take count (drop k text)) m →
+    next ≡ mul_add b value (pos (10 ^ count)) (pos m) → IsNumber t next → WritesValue t 0 b (take (k + count) text) next
+more_digits t b k count m text value next few w v step fits =
+    let worth : next ≡ with_sign b (w.number * 10 ^ count + m) = step ∙ ap (λ (z : ℤ). mul_add b z (pos (10 ^ count)) (pos m)) w.worth ∙ with_sign-step b w.number (10 ^ count) m in
+    record {
+      number = w.number * 10 ^ count + m;
+      writes = joined_texts k count w.number m text few w.writes v;
+      worth = worth;
+      fits = ap (is_number t) (sym worth) ∙ fits;
+    }
+
+-- all digits
+pub all_digits : (t : IntegerType) (b : Bool) (k : ℕ) (text : List ℕ) (value : ℤ) → k ≡ length text → WritesValue t 0 b (take k text) value → WritesValue t 0 b text value
+all_digits t b k text value all w = subst (λ (bs : List ℕ). WritesValue t 0 b bs value) (ap (λ (n : ℕ). take n text) all ∙ take-length text) w
+
+-- sixteen digits more
+pub sixteen_more : (t : IntegerType) (b : Bool) (k m : ℕ) (text : List ℕ) (value next scale rest : ℤ) → k + 16 ≤ length text → WritesValue t 0 b (take k text) value → WritesDecimal 0 (slice_range text k (k + 16)) m →
+    scale ≡ pos 10000000000000000 → rest ≡ pos m → next ≡ mul_add b value scale rest → IsNumber t next → WritesValue t 0 b (take (k + 16) text) next
+sixteen_more t b k m text value next scale rest within w v is_scale is_rest step fits =
+    let size : k + 16 - k ≡ 16 = omega arith in
+    let left = length-drop k text in
+    more_digits t b k 16 m text value next (omega arith) w (subst (λ (n : ℕ). WritesDecimal 0 (take n (drop k text)) m) size v)
+    (step ∙ ap (λ (z : ℤ). mul_add b value z rest) is_scale ∙ ap (λ (z : ℤ). mul_add b value (pos 10000000000000000) z) is_rest) fits
+
+-- a front behind its sign, and a last part
+pub stepped : (b : Bool) (front scale last next : ℤ) (n s m : ℕ) → front ≡ with_sign b n → scale ≡ pos s → last ≡ pos m → next ≡ mul_add b front scale last → next ≡ with_sign b (n * s + m)
+stepped b front scale last next n s m is_front is_scale is_last step = step ∙ ap (λ (z : ℤ). mul_add b z scale last) is_front ∙ ap (λ (z : ℤ). mul_add b (with_sign b n) z last) is_scale ∙ ap (λ (z : ℤ). mul_add b (with_sign b n) (pos s) z) is_last ∙ with_sign-step b n s m

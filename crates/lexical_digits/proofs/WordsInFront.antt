@@ -189,27 +189,31 @@ few_bytes (a ∷ b ∷ c ∷ d ∷ rest) some few below = absurd (omega arith)
 
 -- ---- words one behind another
 
--- digits, and those of a word behind them
-pub joined : (j count a b : ℕ) (digits : List ℕ) → j ≤ length digits → WritesDecimal 0 (take j digits) a → WritesFirst (slice_range digits j (length digits)) b count → WritesDecimal 0 (take (j + count) digits) (a * 10 ^ count + b)
-joined j count a b digits within w v =
-    let rest : slice_range digits j (length digits) ≡ drop j digits = rest_is digits j in
-    let few : count ≤ length (slice_range digits j (length digits)) = v.within in
-    let size : length (take count (slice_range digits j (length digits))) ≡ count = length-take-le count (slice_range digits j (length digits)) few in
-    let parts : take (j + count) digits ≡ take j digits ++ take count (slice_range digits j (length digits)) = take-add j count digits ∙ ap (λ (bs : List ℕ). take j digits ++ take count bs) (sym rest) in
+-- digits, and others behind them
+pub joined_texts : (j count a b : ℕ) (digits : List ℕ) → count ≤ length (drop j digits) → WritesDecimal 0 (take j digits) a → WritesDecimal 0 (take count (drop j digits)) b → WritesDecimal 0 (take (j + count) digits) (a * 10 ^ count + b)
+joined_texts j count a b digits few w v =
+    let size : length (take count (drop j digits)) ≡ count = length-take-le count (drop j digits) few in
+    let parts : take (j + count) digits ≡ take j digits ++ take count (drop j digits) = take-add j count digits in
     let before = raised_none (take j digits) in
-    let behind = raised_none (take count (slice_range digits j (length digits))) in
+    let behind = raised_none (take count (drop j digits)) in
     let first : AreDigits 10 (take j digits) = subst (λ (bs : List ℕ). AreDigits 10 bs) before w.digits in
-    let last : AreDigits 10 (take count (slice_range digits j (length digits))) = subst (λ (bs : List ℕ). AreDigits 10 bs) behind v.writes.digits in
+    let last : AreDigits 10 (take count (drop j digits)) = subst (λ (bs : List ℕ). AreDigits 10 bs) behind v.digits in
     let first_worth : a ≡ word_value 10 (take j digits) = w.worth ∙ ap (word_value 10) before in
-    let last_worth : b ≡ word_value 10 (take count (slice_range digits j (length digits))) = v.writes.worth ∙ ap (word_value 10) behind in
-    let value : word_value 10 (take j digits ++ take count (slice_range digits j (length digits))) ≡ a * 10 ^ count + b =
-    value_joined 10 (take j digits) (take count (slice_range digits j (length digits))) ∙ ap (λ n. word_value 10 (take j digits) * 10 ^ n + word_value 10 (take count (slice_range digits j (length digits)))) size
-    ∙ ap (λ n. n * 10 ^ count + word_value 10 (take count (slice_range digits j (length digits)))) (sym first_worth) ∙ ap (λ n. a * 10 ^ count + n) (sym last_worth) in
-    writes_text (take (j + count) digits) (a * 10 ^ count + b) (subst (λ (bs : List ℕ). AreDigits 10 bs) (sym parts) (digits_joined 10 (take j digits) (take count (slice_range digits j (length digits))) first last)) (sym value ∙ ap (word_value 10) (sym parts))
+    let last_worth : b ≡ word_value 10 (take count (drop j digits)) = v.worth ∙ ap (word_value 10) behind in
+    let value : word_value 10 (take j digits ++ take count (drop j digits)) ≡ a * 10 ^ count + b =
+    value_joined 10 (take j digits) (take count (drop j digits)) ∙ ap (λ n. word_value 10 (take j digits) * 10 ^ n + word_value 10 (take count (drop j digits))) size
+    ∙ ap (λ n. n * 10 ^ count + word_value 10 (take count (drop j digits))) (sym first_worth) ∙ ap (λ n. a * 10 ^ count + n) (sym last_worth) in
+    writes_text (take (j + count) digits) (a * 10 ^ count + b) (subst (λ (bs : List ℕ). AreDigits 10 bs) (sym parts) (digits_joined 10 (take j digits) (take count (drop j digits)) first last)) (sym value ∙ ap (word_value 10) (sym parts))
 
--- where eight digits stand behind eight bytes there are sixteen
-pub sixteen_at_least : (digits : List ℕ) (b : ℕ) → WritesFirst (slice_range digits 8 (length digits)) b 8 → 16 ≤ length digits
-sixteen_at_least digits b v =
-    let size : length (slice_range digits 8 (length digits)) ≡ length digits - 8 = ap length (rest_is digits 8) ∙ length-drop 8 digits in
+-- digits, and those of a word behind them
+pub joined : (j count a b : ℕ) (digits : List ℕ) → WritesDecimal 0 (take j digits) a → WritesFirst (slice_range digits j (length digits)) b count → WritesDecimal 0 (take (j + count) digits) (a * 10 ^ count + b)
+joined j count a b digits w v =
+    let rest : slice_range digits j (length digits) ≡ drop j digits = rest_is digits j in
+    joined_texts j count a b digits (subst (λ (bs : List ℕ). count ≤ length bs) rest v.within) w (subst (λ (bs : List ℕ). WritesDecimal 0 (take count bs) b) rest v.writes)
+
+-- what a word behind the first bytes reaches
+pub reaches : (digits : List ℕ) (j b count : ℕ) → WritesFirst (slice_range digits j (length digits)) b count → j ≤ length digits → j + count ≤ length digits
+reaches digits j b count v within =
+    let size : length (slice_range digits j (length digits)) ≡ length digits - j = ap length (rest_is digits j) ∙ length-drop j digits in
     let more = v.within in
     omega arith

@@ -43,15 +43,6 @@ fn half_at(text: &[u8], at: usize) -> u32
     u32::from_le_bytes([t[0], t[1], t[2], t[3]])
 }
 
-// The digits 0 that fill a word below a shift.
-#[inline(always)]
-pub(crate) fn zeros_below(shift: u32) -> u64
-    requires { shift < 64 }
-    ensures { result ≡ 3472328296227680304 % 2 ^ shift }
-{
-    ZEROS & ((1 << shift) - 1)
-}
-
 // The number that a word writes, of which it is known that it is eight digits.
 #[inline(always)]
 pub(crate) fn number_of_digits(word: u64) -> u32
@@ -60,20 +51,6 @@ pub(crate) fn number_of_digits(word: u64) -> u32
     ensures small { result < 100000000 }
 {
     parse_8digits(word, 10) as u32
-}
-
-// The number that a word of eight digits writes.
-#[inline(always)]
-pub(crate) fn number_of_word(word: u64) -> Option<u32>
-    ensures digits { IfSome result (λ number. AreDigits 10 (word_bytes 8 word)) }
-    ensures value { IfSome result (λ number. number ≡ word_value 10 (word_bytes 8 word)) }
-    ensures small { IfSome result (λ number. number < 100000000) }
-{
-    if is_8digits(word, 10) {
-        Some(number_of_digits(word))
-    } else {
-        None
-    }
 }
 
 // The number that the first digits of a word of eight write: the rest is shifted out.
@@ -221,72 +198,4 @@ pub(crate) fn numbers_to_16(text: &[u8]) -> Option<(u32, u32)>
     let n = text.len();
     let last = word_at(text, n - 8);
     numbers_of_words(word_at(text, 0), n - 8, last)
-}
-
-// The number of the first one to eight bytes of a longer text, which are digits: what stands after them in the first
-// eight bytes is shifted out.
-#[inline(always)]
-fn number_of_first(text: &[u8], count: usize) -> Option<u32>
-    requires some { 1 ≤ count }
-    requires few { count ≤ 8 }
-    requires many { 8 ≤ length text.now }
-    ensures writes { IfSome result (λ number. WritesDecimal 0 (take count text.now) number) }
-    ensures small { IfSome result (λ number. number < 100000000) }
-{
-    let shift = 64 - 8 * count as u32;
-    let first = word_at(text, 0) << shift;
-    number_of_word(first + zeros_below(shift))
-}
-
-// The numbers of nine to twenty-four digits: of the last sixteen, eight by eight, and of those before.
-#[inline(always)]
-pub(crate) fn numbers_to_24(text: &[u8]) -> Option<(u32, u32, u32)>
-    requires some { 8 < length text.now }
-    requires few { length text.now ≤ 24 }
-    ensures writes { IfSome result
-        (λ parts. WritesDecimal 0 text.now
-        (parts.0 * 10000000000000000 + (parts.1 * 100000000 + parts.2))) }
-    ensures first { IfSome result (λ parts. parts.0 < 100000000) }
-    ensures high { IfSome result (λ parts. parts.1 < 100000000) }
-    ensures low { IfSome result (λ parts. parts.2 < 100000000) }
-{
-    let n = text.len();
-    if n <= 16 {
-        return match numbers_to_16(text) {
-            Some((high, low)) => Some((0, high, low)),
-            None => None,
-        };
-    }
-    match (
-        number_of_first(text, n - 16),
-        numbers_to_16(&text[n - 16..]),
-    ) {
-        (Some(first), Some((high, low))) => Some((first, high, low)),
-        _ => None,
-    }
-}
-
-// The numbers of twenty-five to forty digits: of the last sixteen, eight by eight, and of those before.
-#[inline(always)]
-pub(crate) fn numbers_to_40(text: &[u8]) -> Option<((u32, u32, u32), (u32, u32))>
-    requires some { 24 < length text.now }
-    requires few { length text.now ≤ 40 }
-    ensures writes { IfSome result
-        (λ parts. WritesDecimal 0 text.now
-        ((parts.0.0 * 10000000000000000 + (parts.0.1 * 100000000 + parts.0.2))
-        * 10000000000000000 + (parts.1.0 * 100000000 + parts.1.1))) }
-    ensures first { IfSome result (λ parts. parts.0.0 < 100000000) }
-    ensures second { IfSome result (λ parts. parts.0.1 < 100000000) }
-    ensures third { IfSome result (λ parts. parts.0.2 < 100000000) }
-    ensures fourth { IfSome result (λ parts. parts.1.0 < 100000000) }
-    ensures fifth { IfSome result (λ parts. parts.1.1 < 100000000) }
-{
-    let n = text.len();
-    match (
-        numbers_to_24(&text[..n - 16]),
-        numbers_to_16(&text[n - 16..]),
-    ) {
-        (Some(front), Some(back)) => Some((front, back)),
-        _ => None,
-    }
 }

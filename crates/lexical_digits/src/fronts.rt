@@ -95,14 +95,18 @@ fn next_word(text: &[u8], at: usize) -> u64
     word_at(text, n - 8) >> (64 - 8 * rest as u32)
 }
 
-/// The number of the digits among the eight bytes from a place on that has eight before it, and how many they are.
+/// The number of the digits among the eight bytes from a place on that has eight before it, or from the text's end, and
+/// how many they are.
 #[inline(always)]
 pub fn number_behind(text: &[u8], at: usize) -> (u32, usize)
     requires behind { 8 ≤ at }
-    requires within { at < length text.now }
+    requires within { at ≤ length text.now }
     ensures front { WritesFirst (slice_range text.now at (length text.now)) result.0 result.1 }
     ensures small { result.0 < 100000000 }
 {
+    if at == text.len() {
+        return (0, 0);
+    }
     front_in_word(&text[at..], next_word(text, at))
 }
 

@@ -156,7 +156,7 @@ fn value_of_number<T: Integer>(number: u32, digits: &[u8], most: usize, negative
 
 /// The value of hexadecimal digits, behind a minus where that is negative. Each range of lengths ends on its own, so that
 /// no test of one is made again for all.
-#[inline(always)]
+#[inline(never)]
 pub fn value_of_nibbles<T: Integer>(digits: &[u8], negative: bool) -> Option<T>
     requires some { 1 ≤ length digits.now }
     requires minus { IsTrue negative → IsTrue T.TYPE.is_signed }

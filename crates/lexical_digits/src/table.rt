@@ -30,7 +30,7 @@ fn number_by_table<T: Integer>(digits: &[u8], radix: u32, most: usize) -> Option
 }
 
 /// The value of digits of the radix, behind a minus where that is negative.
-#[inline(always)]
+#[inline(never)]
 pub fn value_by_table<T: Integer>(digits: &[u8], radix: u32, negative: bool) -> Option<T>
     requires radix { IsRadix radix }
     requires minus { IsTrue negative → IsTrue T.TYPE.is_signed }

@@ -3,5 +3,4 @@ pub mod DigitsAlone
 pub mod DigitsByTable
 pub mod DigitsInFront
 pub mod FieldsInFront
-pub mod FrontsByTable
 pub mod LeavingNumbers

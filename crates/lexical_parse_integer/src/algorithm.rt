@@ -20,10 +20,11 @@ mod numeral;
 pub(crate) mod plain;
 mod zeros;
 
-use crate::algorithm::front::{complete_from_front, partial_from_front};
+use crate::algorithm::front::{complete_from_front, completion, partial_from_front};
 use crate::algorithm::head::{is_prefix_alone, read_head};
 use crate::algorithm::numeral::read_numeral;
 pub use crate::algorithm::plain::fields::{field_in_front, is_separated};
+use crate::algorithm::plain::overflow::fault_of_overflow;
 pub use crate::algorithm::plain::value_if_short;
 use crate::algorithm::plain::{front_if_plain, signed_front, value_if_plain};
 use crate::cursor::Cursor;
@@ -204,16 +205,8 @@ fn partial_out_of_line<T: Integer>(bytes: &[u8], format: &NumberFormat) -> Resul
 
 // ---- under the standard format, whose fields the compiler then folds into the code
 
-// A fault of a whole text, mostly.
-#[inline(never)]
-pub(crate) fn standard_complete<T: Integer>(bytes: &[u8]) -> Result<T>
-    ensures { view_of T.number result ≡ complete standard T.TYPE bytes.now }
-{
-    complete_from_front::<T>(bytes, &format::STANDARD)
-}
-
 // The front of a text: its digits by words, behind a plus too, and what these leave one after another.
-#[inline(never)]
+#[inline(always)]
 fn standard_front<T: Integer>(bytes: &[u8]) -> Result<(T, usize)>
     ensures { view_of (with_place T.number) result ≡ partial standard T.TYPE bytes.now }
 {
@@ -223,8 +216,19 @@ fn standard_front<T: Integer>(bytes: &[u8]) -> Result<(T, usize)>
     }
 }
 
-// The place for its answer is made ready here, and so not for a front that a quick way reads.
-#[inline(always)]
+// The complete answer for a text that the quick way leaves: behind a plus, or at fault.
+#[inline(never)]
+pub(crate) fn standard_complete<T: Integer>(bytes: &[u8]) -> Result<T>
+    ensures { view_of T.number result ≡ complete standard T.TYPE bytes.now }
+{
+    match fault_of_overflow::<T>(bytes) {
+        Some(fault) => Err(fault),
+        None => completion::<T>(bytes, standard_front::<T>(bytes)),
+    }
+}
+
+// The partial answer for such a text.
+#[inline(never)]
 pub(crate) fn standard_partial<T: Integer>(bytes: &[u8]) -> Result<(T, usize)>
     ensures { view_of (with_place T.number) result ≡ partial standard T.TYPE bytes.now }
 {
