@@ -100,7 +100,7 @@ static void faults_of_formats(void)
     format.mantissa_radix = 1;
     CHECK(jadvolni_format_error(&format) == JADVOLNI_INVALID_MANTISSA_RADIX);
     EXPECT(jadvolni_i64_with_format, int64_t, UNDER(format), "1", JADVOLNI_INVALID_MANTISSA_RADIX, 0, 77);
-    format.reserved[2] = 1;
+    format.reserved[12] = 1;
     CHECK(jadvolni_format_error(&format) == JADVOLNI_UNKNOWN_FIELD);
     EXPECT(jadvolni_i64_with_format, int64_t, UNDER(format), "1", JADVOLNI_UNKNOWN_FIELD, 0, 77);
     EXPECT(jadvolni_i64_partial_with_format, int64_t, UNDER(format), "1", JADVOLNI_UNKNOWN_FIELD, 0, 77);
@@ -135,18 +135,16 @@ static void nul_as_punctuation(void)
     nul.integer_internal_digit_separator = 1;
     nul.integer_trailing_digit_separator = 1;
     EXPECT(jadvolni_u16_with_format, uint16_t, UNDER(nul), "1\0002\0003\0", JADVOLNI_INVALID_DIGIT, 1, 77);
-    nul.digit_separator_is_nul = 255;
+    nul.nul_is_punctuation = JADVOLNI_NUL_IS_SEPARATOR;
     EXPECT(jadvolni_u16_partial_with_format, uint16_t, UNDER(nul), "1\0002 3", JADVOLNI_OK, 3, 12);
-    nul.digit_separator_is_nul = 1;
     EXPECT(jadvolni_u16_with_format, uint16_t, UNDER(nul), "1\0002\0003\0", JADVOLNI_OK, 6, 123);
     /* That reads no UTF-16: the bytes 31 31, there the one letter U+3131, are two digits. */
     EXPECT(jadvolni_u16_with_format, uint16_t, UNDER(nul), "\x31\x31", JADVOLNI_OK, 2, 11);
-    nul.base_suffix_is_nul = 1;
+    nul.nul_is_punctuation = JADVOLNI_NUL_IS_SEPARATOR | JADVOLNI_NUL_IS_SUFFIX;
     CHECK(jadvolni_format_error(&nul) == JADVOLNI_INVALID_PUNCTUATION);
-    nul.digit_separator_is_nul = 0;
+    nul.nul_is_punctuation = JADVOLNI_NUL_IS_SUFFIX;
     EXPECT(jadvolni_u16_with_format, uint16_t, UNDER(nul), "12\0", JADVOLNI_OK, 3, 12);
-    nul.base_suffix_is_nul = 0;
-    nul.base_prefix_is_nul = 1;
+    nul.nul_is_punctuation = JADVOLNI_NUL_IS_PREFIX;
     EXPECT(jadvolni_u16_with_format, uint16_t, UNDER(nul), "0\00012", JADVOLNI_OK, 4, 12);
 }
 
@@ -187,6 +185,11 @@ static void each_radix(void)
             r = jadvolni_u32_with_format("10", 2, &format, &value);
             CHECK(r.status == JADVOLNI_UNKNOWN_FIELD && r.place == 0);
             format.reserved[k] = 0;
+        }
+        for (unsigned bit = 8; bit < 256; bit *= 2) {
+            format.nul_is_punctuation = (uint8_t)bit;
+            r = jadvolni_u32_with_format("10", 2, &format, &value);
+            CHECK(r.status == JADVOLNI_UNKNOWN_FIELD && r.place == 0);
         }
     }
 }

@@ -5,7 +5,7 @@
 //!
 //! assert_eq!(parse::<u64>("18446744073709551616"), Err(Error::Overflow(19)));
 //! assert_eq!(parse_partial::<u64>(b"1234 }"), Ok((1234, 4)));
-//! let hexadecimal = Format { mantissa_radix: 16, base_prefix: Some(b'x'), ..Format::STANDARD };
+//! let hexadecimal = Format::STANDARD.mantissa_radix(16).base_prefix(Some(b'x'));
 //! assert_eq!(parse_with::<u8>("0x1F", &hexadecimal), Ok(31));
 //! ```
 //!

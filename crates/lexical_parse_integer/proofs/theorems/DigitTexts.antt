@@ -127,7 +127,7 @@ find_none_told test a (suc n) m i e l h = by_test (test a) refl h m e l (λ k at
     by_test false here g (suc m) e l more = more m (omega arith) (omega arith) g
 
 -- where the range has no fault, the value is a number of the type
-fits_told : (t : IntegerType) (b : Bool) (x : Numeral) → 0 < digit_count x → range_fault t b x ≡ None → is_number t (numeral_value b x) ≡ true
+pub fits_told : (t : IntegerType) (b : Bool) (x : Numeral) → 0 < digit_count x → range_fault t b x ≡ None → is_number t (numeral_value b x) ≡ true
 unfolding range_fault
 fits_told t b x some none =
     let all : first_outside t b x ≡ None = no_map (first_outside t b x) none in
