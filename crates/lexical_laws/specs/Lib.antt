@@ -1,0 +1,2 @@
+-- The definitions that the laws name.
+pub mod Integer
