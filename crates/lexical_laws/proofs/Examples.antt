@@ -1,6 +1,7 @@
 -- The laws at examples: their premises can be met, and without them they fail.
-use Rattle.std.proofs.Common.{◌≡◌, true, false, [], ◌∷◌, refl, Some, Ok}
+use Rattle.std.proofs.Common.{◌≡◌, true, false, [], ◌∷◌, refl, Some, Ok, Err}
 use Rattle.std.proofs.Math.IntN.{pos, negsuc}
+use Rattle.lexical_util.specs.declared.error.Error.TheVariants.{InvalidDigit, Overflow}
 use Rattle.lexical_util.specs.Format.{Format, standard}
 use Rattle.lexical_util.specs.Number.{IntegerType, integer_type}
 use Rattle.lexical_parse_integer.specs.Computed.{grammar}
@@ -13,6 +14,9 @@ use Rattle.lexical_laws.proofs.ReadIsMade.{read_is_integer}
 
 abbrev u8 : IntegerType
 u8 = integer_type 8 false
+
+abbrev u16 : IntegerType
+u16 = integer_type 16 false
 
 abbrev i16 : IntegerType
 i16 = integer_type 16 true
@@ -57,3 +61,14 @@ eleven = (
   },
   refl,
 )
+
+-- ---- types: `300` is a value of `u16`, and leaves `u8` with its last digit
+
+three_hundred : (complete standard u16 (51 ∷ 48 ∷ 48 ∷ []) ≡ Ok (pos 300)) × (complete standard u8 (51 ∷ 48 ∷ 48 ∷ []) ≡ Err (Overflow 2))
+unfolding grammar
+three_hundred = (refl, refl)
+
+-- an unsigned type has 0, and reads no `-0`
+minus_zero : (complete standard i16 (45 ∷ 48 ∷ []) ≡ Ok (pos 0)) × (complete standard u8 (45 ∷ 48 ∷ []) ≡ Err (InvalidDigit 0))
+unfolding grammar
+minus_zero = (refl, refl)

@@ -9,3 +9,4 @@ pub mod WhatIsRead
 pub mod MadeIsRead
 pub mod ReadIsMade
 pub mod Examples
+pub mod OtherTypes
