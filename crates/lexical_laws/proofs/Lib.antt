@@ -10,3 +10,4 @@ pub mod MadeIsRead
 pub mod ReadIsMade
 pub mod Examples
 pub mod OtherTypes
+pub mod LooserFormats

@@ -37,3 +37,14 @@ pub fn types()
         → complete format type text ≡ Ok value → is_number other value ≡ false
         → IsRangeFault (complete format other text) }
 {}
+
+/// A text keeps its value under a format that admits more: a mark where there was none, separators in more places, or
+/// less that is asked for.
+///
+/// So a program may relax its format, and what it has read before stays as it was. Octal zeros and literal prefixes
+/// stay out of it: they give digits another worth.
+pub fn relaxing()
+    ensures { (strict loose : Format) (type : IntegerType) (text : List ℕ) (value : ℤ)
+        → IsNone (fault strict) → IsNone (fault loose) → AdmitsMore strict loose
+        → complete strict type text ≡ Ok value → complete loose type text ≡ Ok value }
+{}
