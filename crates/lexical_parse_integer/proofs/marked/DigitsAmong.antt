@@ -1,23 +1,19 @@
 -- The digits among bytes that stand in a text, and what values are known of them.
-use Rattle.std.proofs.Common.{◌≡◌, ℕ, zero, suc, ◌+◌, ◌-◌, ◌<◌, Bool, true, false, List, [], ◌∷◌, length, get_or, map, filter, refl, sym, ap, ◌∙◌, subst, arith, Option, Some, None, is_some, option_and_then}
+use Rattle.std.proofs.Common.{◌≡◌, ℕ, zero, suc, ◌+◌, ◌-◌, ◌<◌, Bool, true, false, List, [], ◌∷◌, length, get_or, map, filter, refl, sym, ap, ◌∙◌, arith, Option, Some, None, is_some, option_and_then}
 use Rattle.std.specs.Prelude.{ℤ, neg_ℤ, pos, if◌then◌else◌}
 use Rattle.std.specs.List.{range_with_len}
 use Rattle.std.specs.Option.{unwrap_or}
 use Rattle.std.proofs.Math.Seq.{take-length}
 use Rattle.std.proofs.lemmas.Bool.{false≢true}
 use Rattle.lexical_util.specs.Digit.{digit}
-use Rattle.lexical_util.specs.Number.{IntegerType, IsNumber}
+use Rattle.lexical_util.specs.Number.{IntegerType}
 use Rattle.lexical_parse_integer.specs.Marked.{AreGrouped, AreWorth, digits_among, is_digit_in}
-use Rattle.lexical_parse_integer.specs.Plain.{StandsFor, WritesValue}
+use Rattle.lexical_digits.specs.WrittenNumbers.{StandsFor}
 use Rattle.lexical_parse_integer.specs.Runs.{digit_at, separator_at, are_same}
-use Rattle.lexical_parse_integer.specs.Value.{positional_value}
-use Rattle.lexical_parse_integer.specs.Words.{AreDigits, word_value}
+use Rattle.lexical_digits.specs.Value.{positional_value}
 use Rattle.lexical_util.specs.Format.{Format}
-use Rattle.lexical_parse_integer.proofs.words.AsciiDigits.{ascii_from_digits}
 use Rattle.lexical_parse_integer.proofs.words.WordsInTexts.{StandsAt}
-use Rattle.lexical_parse_integer.proofs.plain.DigitsAlone.{have_digits}
-use Rattle.lexical_parse_integer.proofs.plain.WordsOfDigits.{digits_below, raised_none}
-use Rattle.lexical_parse_integer.proofs.theorems.ReadBack.{HaveDigits}
+use Rattle.lexical_digits.proofs.DigitValues.{HaveDigits}
 
 -- ---- places of a text
 
@@ -96,21 +92,3 @@ row_grouped f r bytes some all = record {
   last = all (length bytes - 1) (omega arith);
   alone = λ e k l none. all (k + 1) l;
 }
-
--- digits that words read
-pub words_stand : (t : IntegerType) (negative : Bool) (bytes : List ℕ) (value : ℤ) → WritesValue t 0 negative bytes value → StandsFor t 10 negative bytes value
-words_stand t negative bytes value w =
-    let same = raised_none bytes in
-    let digits_are : AreDigits 10 bytes = rw same at w.writes.digits in
-    let worth : w.number ≡ word_value 10 bytes = rw same at w.writes.worth in
-    record {
-      size = pos w.number;
-      writes = record {
-        values = map (λ byte. byte - 48) bytes;
-        digits = ap (map (λ byte. digit byte 10)) (take-length bytes) ∙ have_digits 10 bytes (omega arith) (ascii_from_digits 10 bytes (omega arith) digits_are);
-        worth = ap pos worth;
-        below = digits_below bytes (word_value 10 bytes) digits_are refl;
-      };
-      worth = w.worth;
-      fits = subst (λ (z : ℤ). IsNumber t z) (sym w.worth) w.fits;
-    }

@@ -9,7 +9,8 @@ ghost use Rattle.lexical_util.specs.Validity.{fault};
 ghost use Rattle.lexical_parse_integer.specs.Affixes.{marked_radix, octal_zero_at, prefix_radix};
 ghost use Rattle.lexical_parse_integer.specs.Grammar.{complete};
 ghost use Rattle.lexical_parse_integer.specs.Head.{head_of, sign};
-ghost use Rattle.lexical_parse_integer.specs.Plain.{StandsFor, keeps_zero_rule};
+ghost use Rattle.lexical_parse_integer.specs.Plain.{keeps_zero_rule};
+ghost use Rattle.lexical_digits.specs.WrittenNumbers.{StandsFor};
 
 mod threes;
 pub(crate) mod validity;
@@ -17,9 +18,9 @@ pub(crate) mod validity;
 use crate::algorithm::front::{Head, head_of, sign_of};
 use crate::algorithm::marked::threes::value_of_threes;
 use crate::algorithm::marked::validity::{is_valid_with_separator, is_valid_without_separator};
-use crate::algorithm::plain::fronts::value_of_digits;
 use crate::algorithm::plain::keeps_zero_rule;
-use crate::algorithm::plain::nibbles::value_of_nibbles;
+use lexical_digits::fronts::value_of_digits;
+use lexical_digits::nibbles::value_of_nibbles;
 use lexical_util::format::NumberFormat;
 use lexical_util::num::Integer;
 

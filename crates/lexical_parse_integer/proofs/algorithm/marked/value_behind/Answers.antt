@@ -1,6 +1,6 @@
 use Rattle.std.proofs.Common.{sym, ◌∙◌}
 use Rattle.lexical_parse_integer.proofs.marked.MarkedAnswers.{digits_read, head_signed}
-use Rattle.lexical_parse_integer.proofs.plain.DigitsAlone.{if_found}
+use Rattle.lexical_digits.proofs.LongNumbers.{if_found}
 use Rattle.lexical_parse_integer.proofs.algorithm.marked.value_behind.Goals as goal
 
 pub value_in_radix-requires-clause-minus : goal.value_in_radix-requires-clause-minus
