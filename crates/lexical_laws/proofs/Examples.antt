@@ -1,8 +1,8 @@
 -- The laws at examples: their premises can be met, and without them they fail.
 use Rattle.std.proofs.Common.{◌≡◌, true, false, [], ◌∷◌, refl, Some, Ok, Err, inl}
 use Rattle.std.proofs.Math.IntN.{pos, negsuc}
-use Rattle.lexical_util.specs.declared.error.Error.TheVariants.{InvalidDigit, Overflow}
-use Rattle.lexical_util.specs.Format.{Format, standard}
+use Rattle.lexical_util.specs.declared.error.Error.TheVariants.{InvalidDigit, InvalidLeadingZeros, Overflow}
+use Rattle.lexical_util.specs.Format.{Format, json, standard}
 use Rattle.lexical_util.specs.Number.{IntegerType, integer_type}
 use Rattle.lexical_parse_integer.specs.Computed.{grammar}
 use Rattle.lexical_parse_integer.specs.Grammar.{complete}
@@ -112,3 +112,18 @@ octal = record standard { literal_octal_zero = true }
 ten_changes : (complete standard u8 (48 ∷ 49 ∷ 48 ∷ []) ≡ Ok (pos 10)) × (complete octal u8 (48 ∷ 49 ∷ 48 ∷ []) ≡ Ok (pos 8))
 unfolding grammar
 ten_changes = (refl, refl)
+
+-- ---- dead places: whatever follows `1x`, it is no integer
+
+one_x : (complete standard u8 (49 ∷ 120 ∷ []) ≡ Err (InvalidDigit 1)) × (complete standard u8 (49 ∷ 120 ∷ 50 ∷ []) ≡ Err (InvalidDigit 1))
+unfolding grammar
+one_x = (refl, refl)
+
+-- with a separator `0_` can go on as `0_0`, and under the zero rule a lone zero passes
+mended : (complete grouped u8 (48 ∷ 95 ∷ []) ≡ Err (InvalidDigit 1)) × (complete grouped u8 (48 ∷ 95 ∷ 48 ∷ []) ≡ Ok (pos 0))
+unfolding grammar
+mended = (refl, refl)
+
+lone_zero : (complete json u8 (48 ∷ 49 ∷ []) ≡ Err (InvalidLeadingZeros 0)) × (complete json u8 (48 ∷ []) ≡ Ok (pos 0))
+unfolding grammar
+lone_zero = (refl, refl)
