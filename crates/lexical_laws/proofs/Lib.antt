@@ -12,3 +12,4 @@ pub mod Examples
 pub mod OtherTypes
 pub mod LooserFormats
 pub mod DeadPlaces
+pub mod WithoutSeparators

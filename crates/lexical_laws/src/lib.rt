@@ -64,3 +64,15 @@ pub fn dead_places()
     locality();
     complete_by_partial();
 }
+
+/// Separators count for nothing: a text has the same value without them, under a valid format that asks for a digit and
+/// has no octal zeros.
+///
+/// Else a separator may part what would be read together: `-_09` is -9 and `-09` a fault under octal zeros. And where no
+/// digit is asked for, `0x_` may be 0, but `0x` is `Empty(2)`.
+pub fn separators()
+    ensures { (format : Format) (type : IntegerType) (text : List ℕ) (value : ℤ)
+        → IsNone (fault format) → format.literal_octal_zero ≡ false
+        → digits_required format ≡ true → complete format type text ≡ Ok value
+        → complete format type (without_separators format text) ≡ Ok value }
+{}
