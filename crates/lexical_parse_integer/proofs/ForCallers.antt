@@ -24,8 +24,7 @@ use Rattle.lexical_parse_integer.specs.Affixes.{prefix_radix}
 use Rattle.lexical_parse_integer.specs.Grammar.{after_head, common_faults, first_fault_or, partial, partial_faults}
 use Rattle.lexical_parse_integer.specs.Head.{Head, head_after, head_behind, head_of, sign}
 use Rattle.lexical_parse_integer.specs.Numeral.{Numeral, numeral_in, numeral_value}
-use Rattle.lexical_parse_integer.proofs.theorems.CompleteByPartial.{head_within, numeral_within, sign_within}
-use Rattle.lexical_parse_integer.proofs.theorems.CompleteByPartial.{ok_told}
+use Rattle.lexical_parse_integer.proofs.theorems.CompleteByPartial.{head_within, numeral_within, sign_within, ok_told}
 
 -- the front is within the text
 pub partial_within : (f : Format) (t : IntegerType) (text : List ℕ) (v : ℤ) (k : ℕ) → partial f t text ≡ Ok (v, k) → k ≤ length text

@@ -14,29 +14,28 @@ ghost use Rattle.lexical_parse_integer.specs.Turns.{AsksWords, HasFewTurns};
 mod digits;
 pub(crate) mod front;
 mod head;
-mod lanes;
 pub(crate) mod marked;
 mod multi;
 mod numeral;
 pub(crate) mod plain;
-mod words;
 mod zeros;
 
-use crate::algorithm::front::{complete_from_front, partial_from_front};
+use crate::algorithm::front::{complete_from_front, completion, partial_from_front};
 use crate::algorithm::head::{is_prefix_alone, read_head};
 use crate::algorithm::numeral::read_numeral;
 pub use crate::algorithm::plain::fields::{field_in_front, is_separated};
+use crate::algorithm::plain::overflow::fault_of_overflow;
 pub use crate::algorithm::plain::value_if_short;
 use crate::algorithm::plain::{front_if_plain, signed_front, value_if_plain};
 use crate::cursor::Cursor;
 use crate::options::Options;
 pub use head::parse_sign;
+pub use lexical_digits::words::{is_4digits, is_8digits, parse_4digits, parse_8digits};
 use lexical_util::error::Error;
 use lexical_util::format::{self, NumberFormat};
 use lexical_util::num::Integer;
 use lexical_util::result::Result;
 pub use multi::{try_parse_4digits, try_parse_8digits};
-pub use words::{is_4digits, is_8digits, parse_4digits, parse_8digits};
 
 // Reads sign, prefix, numeral and suffix: all that the two parsers have in common.
 #[inline(always)]
@@ -206,29 +205,56 @@ fn partial_out_of_line<T: Integer>(bytes: &[u8], format: &NumberFormat) -> Resul
 
 // ---- under the standard format, whose fields the compiler then folds into the code
 
-// A fault of a whole text, mostly.
+// The front of a text, one digit after another.
 #[inline(never)]
-pub(crate) fn standard_complete<T: Integer>(bytes: &[u8]) -> Result<T>
-    ensures { view_of T.number result ≡ complete standard T.TYPE bytes.now }
+fn standard_from_front<T: Integer>(bytes: &[u8]) -> Result<(T, usize)>
+    ensures { view_of (with_place T.number) result ≡ partial standard T.TYPE bytes.now }
 {
-    complete_from_front::<T>(bytes, &format::STANDARD)
+    partial_from_front::<T>(bytes, &format::STANDARD)
 }
 
-// The front of a text: its digits by words, behind a plus too, and what these leave one after another.
-#[inline(never)]
+// The front of a text: its digits by words, behind a plus too, and what these leave in one call.
+#[inline(always)]
 fn standard_front<T: Integer>(bytes: &[u8]) -> Result<(T, usize)>
     ensures { view_of (with_place T.number) result ≡ partial standard T.TYPE bytes.now }
 {
     match signed_front::<T>(bytes) {
         Some(found) => Ok(found),
-        None => partial_from_front::<T>(bytes, &format::STANDARD),
+        None => standard_from_front::<T>(bytes),
     }
 }
 
-// The place for its answer is made ready here, and so not for a front that a quick way reads.
+// The complete answer for a text behind a plus, or at fault.
+#[inline(never)]
+fn standard_whole<T: Integer>(bytes: &[u8]) -> Result<T>
+    ensures { view_of T.number result ≡ complete standard T.TYPE bytes.now }
+{
+    match fault_of_overflow::<T>(bytes) {
+        Some(fault) => Err(fault),
+        None => completion::<T>(bytes, standard_front::<T>(bytes)),
+    }
+}
+
+// The complete answer for a text that the quick way leaves. The place for it is made ready here, and so not for a value.
+#[inline(always)]
+pub(crate) fn standard_complete<T: Integer>(bytes: &[u8]) -> Result<T>
+    ensures { view_of T.number result ≡ complete standard T.TYPE bytes.now }
+{
+    standard_whole::<T>(bytes)
+}
+
+// The partial answer for such a text.
+#[inline(never)]
+fn standard_rest<T: Integer>(bytes: &[u8]) -> Result<(T, usize)>
+    ensures { view_of (with_place T.number) result ≡ partial standard T.TYPE bytes.now }
+{
+    standard_front::<T>(bytes)
+}
+
+// The place for its answer is made ready here, and so not for a front that the quick way reads.
 #[inline(always)]
 pub(crate) fn standard_partial<T: Integer>(bytes: &[u8]) -> Result<(T, usize)>
     ensures { view_of (with_place T.number) result ≡ partial standard T.TYPE bytes.now }
 {
-    standard_front::<T>(bytes)
+    standard_rest::<T>(bytes)
 }

@@ -7,16 +7,16 @@ use Rattle.std.proofs.Math.Seq.{take-length}
 use Rattle.lexical_util.specs.Digit.{digit}
 use Rattle.lexical_util.specs.Number.{IntegerType, IsNumber}
 use Rattle.lexical_parse_integer.specs.Marked.{AreDigitsOnly, AreWorth, digits_among}
-use Rattle.lexical_parse_integer.specs.Plain.{StandsFor, WritesValue}
+use Rattle.lexical_digits.specs.WrittenNumbers.{StandsFor, WritesValue}
 use Rattle.lexical_parse_integer.specs.Runs.{digit_at, separator_at, are_same}
-use Rattle.lexical_parse_integer.specs.Value.{positional_value, with_sign}
-use Rattle.lexical_parse_integer.specs.Words.{AreDigits, word_value}
+use Rattle.lexical_digits.specs.Value.{positional_value, with_sign}
+use Rattle.lexical_digits.specs.Words.{AreDigits, word_value}
 use Rattle.lexical_util.specs.Format.{Format}
-use Rattle.lexical_parse_integer.proofs.words.AsciiDigits.{ascii_from_digits}
+use Rattle.lexical_digits.proofs.AsciiDigits.{ascii_from_digits}
 use Rattle.lexical_parse_integer.proofs.words.WordsInTexts.{StandsAt}
 use Rattle.lexical_parse_integer.proofs.plain.DigitsAlone.{have_digits}
-use Rattle.lexical_parse_integer.proofs.plain.WordsOfDigits.{raised_none}
-use Rattle.lexical_parse_integer.proofs.theorems.ReadBack.{HaveDigits}
+use Rattle.lexical_digits.proofs.WordsOfDigits.{raised_none}
+use Rattle.lexical_digits.proofs.DigitValues.{HaveDigits}
 
 -- ---- places of a text
 

@@ -20,7 +20,7 @@ use Rattle.lexical_parse_integer.specs.Laws.{with_radix}
 use Rattle.lexical_parse_integer.specs.Numeral.{Numeral, digit_count, front_value, numeral_value}
 use Rattle.lexical_parse_integer.specs.Plain.{IsPlain}
 use Rattle.lexical_parse_integer.specs.Runs.{are_same, digit_at}
-use Rattle.lexical_parse_integer.specs.Value.{positional_value, with_sign}
+use Rattle.lexical_digits.specs.Value.{positional_value, with_sign}
 use Rattle.lexical_parse_integer.proofs.theorems.CompleteByPartial.{sign_within}
 use Rattle.lexical_parse_integer.proofs.grammar.FrontValues.{fitting_fault}
 use Rattle.lexical_parse_integer.proofs.grammar.DigitsInARow.{EndsRow, has_digit, numeral_in_a_row, row, row_count, row_ends, row_numeral}

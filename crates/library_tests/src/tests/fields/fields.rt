@@ -49,42 +49,50 @@ fn fields_go_on_behind_a_fault(rt: HostRuntime) {
     );
 }
 
+// The next field of a text starts and stops there and has this answer, or there is none.
+fn next_is(
+    rt: &impl Abort,
+    fields: &mut Fields<'_, u8>,
+    text: &[u8],
+    want: Option<(usize, usize, Parse<u8>)>,
+) {
+    match (fields.next(), want) {
+        (Some(field), Some((start, stop, answer))) => answers_to(
+            rt,
+            text,
+            (field.start, Some(field.text), field.answer),
+            (start, text.get(start..stop), answer),
+        ),
+        (field, want) => answers_to(rt, text, field.is_some(), want.is_some()),
+    }
+}
+
+// The separator of a text of zeros stands at this place.
+fn is_parted_at(rt: &impl Abort, text: &[u8], place: usize) {
+    answers(rt, field_length(text, b';'), place);
+    let mut fields = Fields::<u8>::new(text, b';', &format::STANDARD, &options::STANDARD);
+    let front = if place == 0 {
+        Err(Error::Empty(0))
+    } else {
+        Ok(0)
+    };
+    next_is(rt, &mut fields, text, Some((0, place, front)));
+    let start = place.saturating_add(1);
+    if start < text.len() {
+        next_is(rt, &mut fields, text, Some((start, text.len(), Ok(0))));
+    }
+    next_is(rt, &mut fields, text, None);
+}
+
 #[test]
 fn the_separator_is_found_at_each_place(rt: HostRuntime) {
-    let zeros = b"0000000000000000000000000000000000000000";
-    answers(&rt, field_length(zeros, b';'), 40);
+    let zeros = [b'0'; 40];
+    answers(&rt, field_length(&zeros, b';'), 40);
     answers(&rt, field_length(b"", b';'), 0);
-    let mut text = [b'0'; 40];
-    for place in 0..text.len() {
+    for place in 0..40 {
+        let mut text = zeros;
         text[place] = b';';
-        answers(&rt, field_length(&text, b';'), place);
-        let mut fields = Fields::<u8>::new(&text, b';', &format::STANDARD, &options::STANDARD);
-        let front = if place == 0 {
-            Err(Error::Empty(0))
-        } else {
-            Ok(0)
-        };
-        answers(
-            &rt,
-            fields.next(),
-            Some(Field {
-                start: 0,
-                text: &zeros[..place],
-                answer: front,
-            }),
-        );
-        let behind = if place == 39 {
-            None
-        } else {
-            Some(Field {
-                start: place + 1,
-                text: &zeros[place + 1..],
-                answer: Ok(0),
-            })
-        };
-        answers(&rt, fields.next(), behind);
-        answers(&rt, fields.next(), None);
-        text[place] = b'0';
+        is_parted_at(&rt, &text, place);
     }
 }
 

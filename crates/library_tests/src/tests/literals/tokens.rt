@@ -1,11 +1,10 @@
-// Sources and their tokens.
+// Sources and their tokens, beside those of tools/lines.txt.
 
 use super::{Span, are_tokens};
 use crate::tests::answers;
 use lexical_literals::{Kind, Token, Tokens, literal_format};
 use lexical_parse_integer::{Error, FromLexicalWithOptions, Result as Parse, options};
 use std::process::Abort;
-use std::test::Fail;
 
 // The source has these tokens, each with its bytes, and no other.
 fn has_tokens(rt: &impl Abort, source: &[u8], expected: &[Span]) {
@@ -13,63 +12,9 @@ fn has_tokens(rt: &impl Abort, source: &[u8], expected: &[Span]) {
 }
 
 #[test]
-fn numbers_are_read_whole(rt: HostRuntime) {
-    has_tokens(&rt, b"007", &[(Kind::Number(7), 0, 3)]);
-    has_tokens(&rt, b"1_000", &[(Kind::Number(1000), 0, 5)]);
-    has_tokens(&rt, b"1__2", &[(Kind::Number(12), 0, 4)]);
-    has_tokens(&rt, b"0XFF", &[(Kind::Number(255), 0, 4)]);
-    has_tokens(&rt, b"0b1_0", &[(Kind::Number(2), 0, 5)]);
-    has_tokens(
-        &rt,
-        b"340282366920938463463374607431768211455",
-        &[(Kind::Number(u128::MAX), 0, 39)],
-    );
-}
-
-#[test]
-fn words_begin_where_a_number_ends(rt: HostRuntime) {
-    has_tokens(&rt, b"1_", &[(Kind::Number(1), 0, 1), (Kind::Word, 1, 2)]);
-    has_tokens(&rt, b"1__", &[(Kind::Number(1), 0, 1), (Kind::Word, 1, 3)]);
-    has_tokens(
-        &rt,
-        b"12abc",
-        &[(Kind::Number(12), 0, 2), (Kind::Word, 2, 5)],
-    );
-    has_tokens(
-        &rt,
-        b"0b102",
-        &[(Kind::Number(2), 0, 4), (Kind::Number(2), 4, 5)],
-    );
-}
-
-#[test]
-fn words_are_letters_digits_and_underscores(rt: HostRuntime) {
-    has_tokens(&rt, b"_", &[(Kind::Word, 0, 1)]);
-    has_tokens(&rt, b"_1", &[(Kind::Word, 0, 2)]);
-    has_tokens(&rt, b"aZ_09", &[(Kind::Word, 0, 5)]);
-    has_tokens(
-        &rt,
-        b"a_1 9",
-        &[(Kind::Word, 0, 3), (Kind::Number(9), 4, 5)],
-    );
-}
-
-#[test]
-fn faults_go_over_the_bytes_of_a_word(rt: HostRuntime) {
-    has_tokens(&rt, b"0x", &[(Kind::Fault(Error::Empty(2)), 0, 2)]);
+fn a_number_and_a_fault_are_tokens(rt: HostRuntime) {
+    has_tokens(&rt, b"12 ", &[(Kind::Number(12), 0, 2)]);
     has_tokens(&rt, b"0xg", &[(Kind::Fault(Error::Empty(2)), 0, 3)]);
-    has_tokens(&rt, b"0x_", &[(Kind::Fault(Error::Empty(2)), 0, 3)]);
-    has_tokens(&rt, b"0x_1", &[(Kind::Fault(Error::Empty(2)), 0, 4)]);
-    has_tokens(
-        &rt,
-        b"  0xg_9Z+",
-        &[(Kind::Fault(Error::Empty(2)), 2, 8), (Kind::Byte, 8, 9)],
-    );
-    has_tokens(
-        &rt,
-        b"340282366920938463463374607431768211456",
-        &[(Kind::Fault(Error::Overflow(38)), 0, 39)],
-    );
 }
 
 #[test]
@@ -92,30 +37,6 @@ fn blanks_and_line_ends_are_skipped(rt: HostRuntime) {
         b"\r\n1\t\r\n 2\n",
         &[(Kind::Number(1), 2, 3), (Kind::Number(2), 7, 8)],
     );
-}
-
-#[test]
-fn long_tokens_are_one(rt: HostRuntime) -> Result<(), Fail> {
-    let mut source = Vec::new(rt.alloc());
-    source.resize(100_000, b'9')?;
-    has_tokens(
-        &rt,
-        &source,
-        &[(Kind::Fault(Error::Overflow(38)), 0, 100_000)],
-    );
-    source.clear();
-    source.resize(99_999, b'0')?;
-    source.push(b'7')?;
-    has_tokens(&rt, &source, &[(Kind::Number(7), 0, 100_000)]);
-    source.clear();
-    source.push(b'1')?;
-    source.resize(100_000, b'_')?;
-    has_tokens(
-        &rt,
-        &source,
-        &[(Kind::Number(1), 0, 1), (Kind::Word, 1, 100_000)],
-    );
-    Ok(())
 }
 
 // The bytes of the first token outlive the iterator that gave it.

@@ -13,14 +13,15 @@ use std::test::Fail;
 
 #[test]
 fn all_options_are_valid(rt: HostRuntime) {
-    let valid = [
-        OptionsBuilder::new().is_valid(),
+    answers(&rt, OptionsBuilder::new().is_valid(), true);
+    answers(
+        &rt,
         OptionsBuilder::new().build_unchecked().is_valid(),
-        OptionsBuilder::default().is_valid(),
-        Options::new().is_valid(),
-        ParseOptions::is_valid(&LARGE_NUMBERS),
-    ];
-    answers(&rt, valid, [true; 5]);
+        true,
+    );
+    answers(&rt, OptionsBuilder::default().is_valid(), true);
+    answers(&rt, Options::new().is_valid(), true);
+    answers(&rt, ParseOptions::is_valid(&LARGE_NUMBERS), true);
 }
 
 #[test]
@@ -33,15 +34,12 @@ fn every_build_answers(rt: HostRuntime) {
 
 #[test]
 fn new_options_take_digits_one_at_a_time(rt: HostRuntime) {
-    let one_at_a_time = [
-        OptionsBuilder::new().get_no_multi_digit(),
-        OptionsBuilder::default().get_no_multi_digit(),
-        Options::new().get_no_multi_digit(),
-        Options::default().get_no_multi_digit(),
-        Options::from_radix(10).get_no_multi_digit(),
-        Options::from_radix(36).get_no_multi_digit(),
-    ];
-    answers(&rt, one_at_a_time, [true; 6]);
+    answers(&rt, OptionsBuilder::new().get_no_multi_digit(), true);
+    answers(&rt, OptionsBuilder::default().get_no_multi_digit(), true);
+    answers(&rt, Options::new().get_no_multi_digit(), true);
+    answers(&rt, Options::default().get_no_multi_digit(), true);
+    answers(&rt, Options::from_radix(10).get_no_multi_digit(), true);
+    answers(&rt, Options::from_radix(36).get_no_multi_digit(), true);
 }
 
 #[test]
@@ -66,12 +64,9 @@ fn setters_of_options(rt: HostRuntime) {
 
 #[test]
 fn ready_made_options(rt: HostRuntime) {
-    let one_at_a_time = [
-        STANDARD.get_no_multi_digit(),
-        SMALL_NUMBERS.get_no_multi_digit(),
-        LARGE_NUMBERS.get_no_multi_digit(),
-    ];
-    answers(&rt, one_at_a_time, [true, true, false]);
+    answers(&rt, STANDARD.get_no_multi_digit(), true);
+    answers(&rt, SMALL_NUMBERS.get_no_multi_digit(), true);
+    answers(&rt, LARGE_NUMBERS.get_no_multi_digit(), false);
 }
 
 // ---- the derives: the clauses are the laws, and the calls below only run them

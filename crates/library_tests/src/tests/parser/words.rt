@@ -9,6 +9,7 @@ use lexical_parse_integer::algorithm::{
 };
 use lexical_parse_integer::cursor::Cursor;
 use lexical_parse_integer::format::STANDARD;
+use std::process::Abort;
 
 // The value of a word, and `None` where its bytes are not all digits.
 fn value_of_4(v: u32, radix: u32) -> Option<u32>
@@ -35,47 +36,35 @@ fn value_of_8(v: u64, radix: u32) -> Option<u64>
 
 #[test]
 fn four_bytes_that_are_digits(rt: HostRuntime) {
-    let all_digits = [
-        is_4digits(0x3132_3334, 5),
-        is_4digits(0x3132_3334, 10),
-        is_4digits(0x3132_3339, 10),
-    ];
-    answers(&rt, all_digits, [true; 3]);
+    answers(&rt, is_4digits(0x3132_3334, 5), true);
+    answers(&rt, is_4digits(0x3132_3334, 10), true);
+    answers(&rt, is_4digits(0x3132_3339, 10), true);
 }
 
 #[test]
 fn four_bytes_that_are_not(rt: HostRuntime) {
-    let all_digits = [
-        is_4digits(0x3132_3334, 4),
-        is_4digits(0x3132_3339, 9),
-        is_4digits(0x2930_3938, 10),
-        is_4digits(0x3132_3340, 10),
-        is_4digits(0x3132_33ff, 10),
-        is_4digits(0x3132_b334, 10),
-    ];
-    answers(&rt, all_digits, [false; 6]);
+    answers(&rt, is_4digits(0x3132_3334, 4), false);
+    answers(&rt, is_4digits(0x3132_3339, 9), false);
+    answers(&rt, is_4digits(0x2930_3938, 10), false);
+    answers(&rt, is_4digits(0x3132_3340, 10), false);
+    answers(&rt, is_4digits(0x3132_33ff, 10), false);
+    answers(&rt, is_4digits(0x3132_b334, 10), false);
 }
 
 #[test]
 fn eight_bytes_that_are_digits(rt: HostRuntime) {
-    let all_digits = [
-        is_8digits(0x3132_3334_3536_3738, 10),
-        is_8digits(0x3132_3334_3536_3739, 10),
-    ];
-    answers(&rt, all_digits, [true; 2]);
+    answers(&rt, is_8digits(0x3132_3334_3536_3738, 10), true);
+    answers(&rt, is_8digits(0x3132_3334_3536_3739, 10), true);
 }
 
 #[test]
 fn eight_bytes_that_are_not(rt: HostRuntime) {
-    let all_digits = [
-        is_8digits(0x3132_3334_3536_3738, 4),
-        is_8digits(0x3132_3334_3536_3738, 5),
-        is_8digits(0x3132_3334_3536_3739, 9),
-        is_8digits(0x2930_3132_3334_3536, 10),
-        is_8digits(0x3031_3233_3435_3640, 10),
-        is_8digits(0x8030_3030_3030_3030, 10),
-    ];
-    answers(&rt, all_digits, [false; 6]);
+    answers(&rt, is_8digits(0x3132_3334_3536_3738, 4), false);
+    answers(&rt, is_8digits(0x3132_3334_3536_3738, 5), false);
+    answers(&rt, is_8digits(0x3132_3334_3536_3739, 9), false);
+    answers(&rt, is_8digits(0x2930_3132_3334_3536, 10), false);
+    answers(&rt, is_8digits(0x3031_3233_3435_3640, 10), false);
+    answers(&rt, is_8digits(0x8030_3030_3030_3030, 10), false);
 }
 
 #[test]
@@ -117,33 +106,31 @@ fn taken_8(text: &[u8]) -> (Option<u64>, usize) {
     (word, c.cursor())
 }
 
+fn takes_4(rt: &impl Abort, text: &[u8], word: Option<u32>, place: usize) {
+    answers_to(rt, text, taken_4(text), (word, place));
+}
+
+fn takes_8(rt: &impl Abort, text: &[u8], word: Option<u64>, place: usize) {
+    answers_to(rt, text, taken_8(text), (word, place));
+}
+
 #[test]
 fn cursors_take_four_digits(rt: HostRuntime) {
-    let rows: [(&[u8], Option<u32>, usize); 6] = [
-        (b"1234", Some(1234), 4),
-        (b"1234_", Some(1234), 4),
-        (b"123", None, 0),
-        (b"123\0", None, 0),
-        (b"123.", None, 0),
-        (b"123_", None, 0),
-    ];
-    for (text, word, place) in rows {
-        answers_to(&rt, text, taken_4(text), (word, place));
-    }
+    takes_4(&rt, b"1234", Some(1234), 4);
+    takes_4(&rt, b"1234_", Some(1234), 4);
+    takes_4(&rt, b"123", None, 0);
+    takes_4(&rt, b"123\0", None, 0);
+    takes_4(&rt, b"123.", None, 0);
+    takes_4(&rt, b"123_", None, 0);
 }
 
 #[test]
 fn cursors_take_eight_digits(rt: HostRuntime) {
-    let rows: [(&[u8], Option<u64>, usize); 5] = [
-        (b"12345678", Some(12_345_678), 8),
-        (b"1234567", None, 0),
-        (b"1234567\0", None, 0),
-        (b"1234567.", None, 0),
-        (b"1234567_", None, 0),
-    ];
-    for (text, word, place) in rows {
-        answers_to(&rt, text, taken_8(text), (word, place));
-    }
+    takes_8(&rt, b"12345678", Some(12_345_678), 8);
+    takes_8(&rt, b"1234567", None, 0);
+    takes_8(&rt, b"1234567\0", None, 0);
+    takes_8(&rt, b"1234567.", None, 0);
+    takes_8(&rt, b"1234567_", None, 0);
 }
 
 #[test]

@@ -12,18 +12,18 @@ fn reads(rt: &impl Abort, text: &[u8], expected: Result<(i64, usize), FixedPoint
 
 #[test]
 fn prices_are_read_in_cents(rt: HostRuntime) {
-    for (text, units, end) in [
-        (b"12.5".as_slice(), 1250, 4),
-        (b"12", 1200, 2),
-        (b"12.05 EUR", 1205, 5),
-        (b"-0.05", -5, 5),
-        (b"+7.00;", 700, 5),
-        (b"-3x", -300, 2),
-        (b"92233720368547758.07", 9223372036854775807, 20),
-        (b"-92233720368547758.08", -9223372036854775808, 21),
-    ] {
-        reads(&rt, text, Ok((units, end)));
-    }
+    reads(&rt, b"12.5", Ok((1250, 4)));
+    reads(&rt, b"12", Ok((1200, 2)));
+    reads(&rt, b"12.05 EUR", Ok((1205, 5)));
+    reads(&rt, b"-0.05", Ok((-5, 5)));
+    reads(&rt, b"+7.00;", Ok((700, 5)));
+    reads(&rt, b"-3x", Ok((-300, 2)));
+    reads(&rt, b"92233720368547758.07", Ok((9223372036854775807, 20)));
+    reads(
+        &rt,
+        b"-92233720368547758.08",
+        Ok((-9223372036854775808, 21)),
+    );
 }
 
 #[test]
@@ -39,33 +39,49 @@ fn other_numbers_of_digits_are_read(rt: HostRuntime) {
 
 #[test]
 fn broken_prices_say_where(rt: HostRuntime) {
-    for (text, want) in [
-        (b"".as_slice(), FixedPointError::Whole(Error::Empty(0))),
-        (b"EUR", FixedPointError::Whole(Error::InvalidDigit(0))),
-        (b".5", FixedPointError::Whole(Error::InvalidDigit(0))),
-        (b"-.5", FixedPointError::Whole(Error::InvalidDigit(1))),
-        (
-            b"9223372036854775808",
-            FixedPointError::Whole(Error::Overflow(18)),
-        ),
-        (b"12.505", FixedPointError::TooManyDigits(5)),
-        (b"92233720368547758.08", FixedPointError::OutOfRange(20)),
-        (b"-92233720368547759 EUR", FixedPointError::OutOfRange(18)),
-    ] {
-        reads(&rt, text, Err(want));
-    }
+    reads(&rt, b"", Err(FixedPointError::Whole(Error::Empty(0))));
+    reads(
+        &rt,
+        b"EUR",
+        Err(FixedPointError::Whole(Error::InvalidDigit(0))),
+    );
+    reads(
+        &rt,
+        b".5",
+        Err(FixedPointError::Whole(Error::InvalidDigit(0))),
+    );
+    reads(
+        &rt,
+        b"-.5",
+        Err(FixedPointError::Whole(Error::InvalidDigit(1))),
+    );
+    reads(
+        &rt,
+        b"9223372036854775808",
+        Err(FixedPointError::Whole(Error::Overflow(18))),
+    );
+    reads(&rt, b"12.505", Err(FixedPointError::TooManyDigits(5)));
+    reads(
+        &rt,
+        b"92233720368547758.08",
+        Err(FixedPointError::OutOfRange(20)),
+    );
+    reads(
+        &rt,
+        b"-92233720368547759 EUR",
+        Err(FixedPointError::OutOfRange(18)),
+    );
+}
+
+fn breaks_behind_the_point(rt: &impl Abort, text: &[u8], error: Error) {
+    reads(rt, text, Err(FixedPointError::Fraction { start: 3, error }));
 }
 
 #[test]
 fn broken_fractions_say_where(rt: HostRuntime) {
-    for (text, error) in [
-        (b"12.".as_slice(), Error::Empty(0)),
-        (b"12. EUR", Error::InvalidDigit(0)),
-        (b"12.-5", Error::InvalidDigit(0)),
-        (b"12.+5", Error::InvalidPositiveSign(0)),
-        (b"12.18446744073709551616", Error::Overflow(19)),
-    ] {
-        let want = FixedPointError::Fraction { start: 3, error };
-        reads(&rt, text, Err(want));
-    }
+    breaks_behind_the_point(&rt, b"12.", Error::Empty(0));
+    breaks_behind_the_point(&rt, b"12. EUR", Error::InvalidDigit(0));
+    breaks_behind_the_point(&rt, b"12.-5", Error::InvalidDigit(0));
+    breaks_behind_the_point(&rt, b"12.+5", Error::InvalidPositiveSign(0));
+    breaks_behind_the_point(&rt, b"12.18446744073709551616", Error::Overflow(19));
 }

@@ -2,6 +2,7 @@
 
 use crate::tests::{answers, answers_to};
 use lexical_parse_integer::Error;
+use std::process::Abort;
 use uses::fixed_width::{RowError, values};
 
 // A station's number, a day's number, and the tenths of a degree.
@@ -15,43 +16,27 @@ fn rows_of_a_table_are_read(rt: HostRuntime) {
     answers(&rt, values(b"", &[]), Ok([]));
 }
 
+// The column of such a row that isn't read.
+fn breaks(rt: &impl Abort, row: &[u8], column: usize, start: usize, error: Error) {
+    let want = Err(RowError::Column {
+        column,
+        start,
+        error,
+    });
+    answers_to(rt, row, values(row, &WIDTHS), want);
+}
+
 #[test]
 fn broken_rows_say_where(rt: HostRuntime) {
-    for (row, want) in [
-        (
-            b"01024032-008".as_slice(),
-            RowError::Length {
-                expected: 13,
-                found: 12,
-            },
-        ),
-        (
-            b"01024032-0O87",
-            RowError::Column {
-                column: 2,
-                start: 8,
-                error: Error::InvalidDigit(2),
-            },
-        ),
-        (
-            b" 1024 32  -87",
-            RowError::Column {
-                column: 0,
-                start: 0,
-                error: Error::InvalidDigit(0),
-            },
-        ),
-        (
-            b"01024---01024",
-            RowError::Column {
-                column: 1,
-                start: 5,
-                error: Error::InvalidDigit(1),
-            },
-        ),
-    ] {
-        answers_to(&rt, row, values(row, &WIDTHS), Err(want));
-    }
+    let (expected, found) = (13, 12);
+    answers(
+        &rt,
+        values(b"01024032-008", &WIDTHS),
+        Err(RowError::Length { expected, found }),
+    );
+    breaks(&rt, b"01024032-0O87", 2, 8, Error::InvalidDigit(2));
+    breaks(&rt, b" 1024 32  -87", 0, 0, Error::InvalidDigit(0));
+    breaks(&rt, b"01024---01024", 1, 5, Error::InvalidDigit(1));
     let error = Error::Overflow(18);
     answers(
         &rt,

@@ -33,6 +33,15 @@ fn reads(rt: &impl Abort, read: &[u8], expected: Result<Part, NumberError>) {
     answers_to(rt, read, integer_part(read), expected);
 }
 
+// The number is whole, with this value and this end.
+fn ends(rt: &impl Abort, read: &[u8], value: i64, end: usize) {
+    reads(rt, read, Ok(Part::Whole { value, end }));
+}
+
+fn breaks(rt: &impl Abort, read: &[u8], error: NumberError) {
+    reads(rt, read, Err(error));
+}
+
 #[test]
 fn a_number_comes_piece_by_piece(rt: HostRuntime) {
     let text = b"-1204.50,";
@@ -40,43 +49,41 @@ fn a_number_comes_piece_by_piece(rt: HostRuntime) {
         reads(&rt, &text[..read], Ok(Part::Unfinished));
     }
     for read in 6..10 {
-        let (value, end) = (-1204, 5);
-        reads(&rt, &text[..read], Ok(Part::Whole { value, end }));
+        ends(&rt, &text[..read], -1204, 5);
     }
 }
 
 #[test]
 fn a_number_ends_where_json_goes_on(rt: HostRuntime) {
-    for (text, value, end) in [
-        (b"1234 }, {\"Key\"".as_slice(), 1234, 4),
-        (b"0]", 0, 1),
-        (b"6e4", 6, 1),
-        (b"-9223372036854775808,", -9223372036854775808, 20),
-    ] {
-        reads(&rt, text, Ok(Part::Whole { value, end }));
-    }
+    ends(&rt, b"1234 }, {\"Key\"", 1234, 4);
+    ends(&rt, b"0]", 0, 1);
+    ends(&rt, b"6e4", 6, 1);
+    ends(&rt, b"-9223372036854775808,", -9223372036854775808, 20);
 }
 
 #[test]
 fn broken_numbers_say_where(rt: HostRuntime) {
-    for (text, want) in [
-        (b"null".as_slice(), NumberError::NoDigit(0)),
-        (b"-x", NumberError::NoDigit(1)),
-        (b".5", NumberError::NoDigit(0)),
-        (
-            b"9223372036854775808",
-            NumberError::OutOfRange(Error::Overflow(18)),
-        ),
-        (
-            b"-92233720368547758099",
-            NumberError::OutOfRange(Error::Underflow(19)),
-        ),
-        (b"+1", NumberError::Malformed(Error::InvalidPositiveSign(0))),
-        (
-            b"-012",
-            NumberError::Malformed(Error::InvalidLeadingZeros(1)),
-        ),
-    ] {
-        reads(&rt, text, Err(want));
-    }
+    breaks(&rt, b"null", NumberError::NoDigit(0));
+    breaks(&rt, b"-x", NumberError::NoDigit(1));
+    breaks(&rt, b".5", NumberError::NoDigit(0));
+    breaks(
+        &rt,
+        b"9223372036854775808",
+        NumberError::OutOfRange(Error::Overflow(18)),
+    );
+    breaks(
+        &rt,
+        b"-92233720368547758099",
+        NumberError::OutOfRange(Error::Underflow(19)),
+    );
+    breaks(
+        &rt,
+        b"+1",
+        NumberError::Malformed(Error::InvalidPositiveSign(0)),
+    );
+    breaks(
+        &rt,
+        b"-012",
+        NumberError::Malformed(Error::InvalidLeadingZeros(1)),
+    );
 }

@@ -2,48 +2,34 @@
 
 use crate::tests::{answers, answers_to};
 use lexical_parse_integer::Error;
+use std::process::Abort;
 use uses::ledger::{Entry, LedgerError, LineError, total};
+
+// The line is an entry.
+fn reads(rt: &impl Abort, line: &[u8], name: &[u8], cents: i64) {
+    answers_to(rt, line, Entry::of(line), Ok(Entry { name, cents }));
+}
+
+// The amount that starts there isn't read.
+fn breaks(rt: &impl Abort, line: &[u8], start: usize, error: Error) {
+    let want = Err(LineError::Amount { start, error });
+    answers_to(rt, line, Entry::of(line), want);
+}
 
 #[test]
 fn a_line_has_a_name_and_an_amount(rt: HostRuntime) {
-    for (line, name, cents) in [
-        (b"salary 250000".as_slice(), b"salary".as_slice(), 250000),
-        (b"rent\t-85000", b"rent", -85000),
-        (b"refund +1999", b"refund", 1999),
-        (b"caf\xc3\xa9 -0350", b"caf\xc3\xa9", -350),
-    ] {
-        answers_to(&rt, line, Entry::of(line), Ok(Entry { name, cents }));
-    }
+    reads(&rt, b"salary 250000", b"salary", 250000);
+    reads(&rt, b"rent\t-85000", b"rent", -85000);
+    reads(&rt, b"refund +1999", b"refund", 1999);
+    reads(&rt, b"caf\xc3\xa9 -0350", b"caf\xc3\xa9", -350);
 }
 
 #[test]
 fn a_broken_line_says_where(rt: HostRuntime) {
-    for (line, want) in [
-        (b"salary".as_slice(), LineError::NoAmount),
-        (
-            b"rent -85x00",
-            LineError::Amount {
-                start: 5,
-                error: Error::InvalidDigit(3),
-            },
-        ),
-        (
-            b"rent\t",
-            LineError::Amount {
-                start: 5,
-                error: Error::Empty(0),
-            },
-        ),
-        (
-            b"a 9223372036854775808",
-            LineError::Amount {
-                start: 2,
-                error: Error::Overflow(18),
-            },
-        ),
-    ] {
-        answers_to(&rt, line, Entry::of(line), Err(want));
-    }
+    answers(&rt, Entry::of(b"salary"), Err(LineError::NoAmount));
+    breaks(&rt, b"rent -85x00", 5, Error::InvalidDigit(3));
+    breaks(&rt, b"rent\t", 5, Error::Empty(0));
+    breaks(&rt, b"a 9223372036854775808", 2, Error::Overflow(18));
 }
 
 #[test]

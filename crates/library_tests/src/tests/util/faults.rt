@@ -5,8 +5,9 @@ ghost use Rattle.lexical_util.specs.Faults.{fault_text};
 
 use crate::tests::answers;
 use lexical_util::error::Error;
-use std::alloc::{AllocError, Allocator};
+use std::alloc::{AllocError, Allocator, Global};
 use std::error;
+use std::process::Abort;
 use std::test::Fail;
 
 // Which of the thirteen tests hold, in the order of the variants.
@@ -28,28 +29,34 @@ fn tests_of(fault: &Error) -> [bool; 13] {
     ]
 }
 
+// The fault has this place, and of the thirteen tests the one of this number alone holds.
+fn is_of(rt: &impl Abort, fault: Error, place: Option<usize>, variant: usize) {
+    let mut want = [false; 13];
+    if let Some(holds) = want.get_mut(variant) {
+        *holds = true;
+    }
+    answers(
+        rt,
+        (fault, fault.index(), tests_of(&fault)),
+        (fault, place, want),
+    );
+}
+
 #[test]
 fn faults_and_their_places(rt: HostRuntime) {
-    for (fault, place, variant) in [
-        (Error::Overflow(19), Some(19), 0),
-        (Error::Underflow(3), Some(3), 1),
-        (Error::InvalidDigit(1), Some(1), 2),
-        (Error::Empty(0), Some(0), 3),
-        (Error::MissingSign(0), Some(0), 4),
-        (Error::InvalidPositiveSign(0), Some(0), 5),
-        (Error::InvalidLeadingZeros(1), Some(1), 6),
-        (Error::InvalidMantissaRadix, None, 7),
-        (Error::InvalidDigitSeparator, None, 8),
-        (Error::InvalidBasePrefix, None, 9),
-        (Error::InvalidBaseSuffix, None, 10),
-        (Error::InvalidPunctuation, None, 11),
-        (Error::InvalidLiteralPrefixes, None, 12),
-    ] {
-        answers(&rt, (fault, fault.index()), (fault, place));
-        for (i, holds) in tests_of(&fault).iter().enumerate() {
-            answers(&rt, (fault, i, *holds), (fault, i, i == variant));
-        }
-    }
+    is_of(&rt, Error::Overflow(19), Some(19), 0);
+    is_of(&rt, Error::Underflow(3), Some(3), 1);
+    is_of(&rt, Error::InvalidDigit(1), Some(1), 2);
+    is_of(&rt, Error::Empty(0), Some(0), 3);
+    is_of(&rt, Error::MissingSign(0), Some(0), 4);
+    is_of(&rt, Error::InvalidPositiveSign(0), Some(0), 5);
+    is_of(&rt, Error::InvalidLeadingZeros(1), Some(1), 6);
+    is_of(&rt, Error::InvalidMantissaRadix, None, 7);
+    is_of(&rt, Error::InvalidDigitSeparator, None, 8);
+    is_of(&rt, Error::InvalidBasePrefix, None, 9);
+    is_of(&rt, Error::InvalidBaseSuffix, None, 10);
+    is_of(&rt, Error::InvalidPunctuation, None, 11);
+    is_of(&rt, Error::InvalidLiteralPrefixes, None, 12);
 }
 
 // A caller knows the text of a fault by the contract of `Display`.
@@ -59,58 +66,84 @@ fn text_of<A: Allocator>(alloc: A, fault: &Error) -> Result<String<A>, AllocErro
     fault.to_string(alloc)
 }
 
-// The same through the bound that callers of many crates' errors have.
+// A caller of many crates' errors has it by a bound.
 fn message_of<A: Allocator, E: error::Error>(alloc: A, e: &E) -> Result<String<A>, AllocError> {
     format!(in alloc; "{e}")
 }
 
+// Both calls write this text of a fault.
+fn has_text(rt: &impl Abort, alloc: Global, fault: Error, text: &str) -> Result<(), Fail> {
+    answers(rt, text_of(alloc, &fault)?.as_str(), text);
+    answers(rt, message_of(alloc, &fault)?.as_str(), text);
+    Ok(())
+}
+
 #[test]
 fn texts_of_faults(rt: HostRuntime) -> Result<(), Fail> {
-    for (fault, text) in [
-        (Error::Overflow(19), "overflow at byte 19"),
-        (Error::Underflow(3), "underflow at byte 3"),
-        (Error::InvalidDigit(1), "invalid digit at byte 1"),
-        (Error::Empty(0), "missing digit at byte 0"),
-        (Error::MissingSign(0), "missing sign at byte 0"),
-        (
-            Error::InvalidPositiveSign(0),
-            "forbidden plus sign at byte 0",
-        ),
-        (
-            Error::InvalidLeadingZeros(10),
-            "forbidden leading zero at byte 10",
-        ),
-        (
-            Error::InvalidMantissaRadix,
-            "the radix of the format is not from 2 to 36",
-        ),
-        (
-            Error::InvalidDigitSeparator,
-            "the separator of the format is not ASCII, or is a sign or a digit",
-        ),
-        (
-            Error::InvalidBasePrefix,
-            "the prefix of the format is not ASCII, or is a sign or a digit",
-        ),
-        (
-            Error::InvalidBaseSuffix,
-            "the suffix of the format is not ASCII, or is a sign or a digit",
-        ),
-        (
-            Error::InvalidPunctuation,
-            "two of separator, prefix and suffix of the format are alike",
-        ),
-        (
-            Error::InvalidLiteralPrefixes,
-            "the format cannot have literal prefixes",
-        ),
-        (
-            Error::Overflow(18446744073709551615),
-            "overflow at byte 18446744073709551615",
-        ),
-    ] {
-        answers(&rt, text_of(rt.alloc(), &fault)?.as_str(), text);
-        answers(&rt, message_of(rt.alloc(), &fault)?.as_str(), text);
-    }
+    let alloc = rt.alloc();
+    has_text(&rt, alloc, Error::Overflow(19), "overflow at byte 19")?;
+    has_text(&rt, alloc, Error::Underflow(3), "underflow at byte 3")?;
+    has_text(
+        &rt,
+        alloc,
+        Error::InvalidDigit(1),
+        "invalid digit at byte 1",
+    )?;
+    has_text(&rt, alloc, Error::Empty(0), "missing digit at byte 0")?;
+    has_text(&rt, alloc, Error::MissingSign(0), "missing sign at byte 0")?;
+    has_text(
+        &rt,
+        alloc,
+        Error::InvalidPositiveSign(0),
+        "forbidden plus sign at byte 0",
+    )?;
+    has_text(
+        &rt,
+        alloc,
+        Error::InvalidLeadingZeros(10),
+        "forbidden leading zero at byte 10",
+    )?;
+    has_text(
+        &rt,
+        alloc,
+        Error::InvalidMantissaRadix,
+        "the radix of the format is not from 2 to 36",
+    )?;
+    has_text(
+        &rt,
+        alloc,
+        Error::InvalidDigitSeparator,
+        "the separator of the format is not ASCII, or is a sign or a digit",
+    )?;
+    has_text(
+        &rt,
+        alloc,
+        Error::InvalidBasePrefix,
+        "the prefix of the format is not ASCII, or is a sign or a digit",
+    )?;
+    has_text(
+        &rt,
+        alloc,
+        Error::InvalidBaseSuffix,
+        "the suffix of the format is not ASCII, or is a sign or a digit",
+    )?;
+    has_text(
+        &rt,
+        alloc,
+        Error::InvalidPunctuation,
+        "two of separator, prefix and suffix of the format are alike",
+    )?;
+    has_text(
+        &rt,
+        alloc,
+        Error::InvalidLiteralPrefixes,
+        "the format cannot have literal prefixes",
+    )?;
+    has_text(
+        &rt,
+        alloc,
+        Error::Overflow(18446744073709551615),
+        "overflow at byte 18446744073709551615",
+    )?;
     Ok(())
 }

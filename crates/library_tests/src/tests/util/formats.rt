@@ -25,39 +25,39 @@ fn flags_of(format: &NumberFormat) -> [bool; 14] {
     ]
 }
 
+// Of the flags the one of this number alone is set.
+fn has_one_flag(rt: &impl Abort, builder: NumberFormatBuilder, number: usize) {
+    let mut want = [false; 14];
+    if let Some(flag) = want.get_mut(number) {
+        *flag = true;
+    }
+    let format = builder.build_unchecked();
+    answers(
+        rt,
+        (flags_of(&format), format.required_digits()),
+        (want, number == 2 || number == 3),
+    );
+}
+
 #[test]
 fn each_flag_alone(rt: HostRuntime) {
     let bare = NumberFormatBuilder::new().required_digits(false);
     answers(&rt, flags_of(&bare.build_strict()), [false; 14]);
     answers(&rt, bare.build_strict().required_digits(), false);
-    for (i, builder) in [
-        bare.case_sensitive_base_prefix(true),
-        bare.case_sensitive_base_suffix(true),
-        bare.required_integer_digits(true),
-        bare.required_mantissa_digits(true),
-        bare.no_positive_mantissa_sign(true),
-        bare.required_mantissa_sign(true),
-        bare.no_integer_leading_zeros(true),
-        bare.integer_leading_digit_separator(true),
-        bare.integer_internal_digit_separator(true),
-        bare.integer_trailing_digit_separator(true),
-        bare.integer_consecutive_digit_separator(true),
-        bare.integer_prefix_digit_separator(true),
-        bare.literal_prefixes(true),
-        bare.literal_octal_zero(true),
-    ]
-    .iter()
-    .enumerate()
-    {
-        let mut want = [false; 14];
-        want[i] = true;
-        let format = builder.build_unchecked();
-        answers(
-            &rt,
-            (i, flags_of(&format), format.required_digits()),
-            (i, want, i == 2 || i == 3),
-        );
-    }
+    has_one_flag(&rt, bare.case_sensitive_base_prefix(true), 0);
+    has_one_flag(&rt, bare.case_sensitive_base_suffix(true), 1);
+    has_one_flag(&rt, bare.required_integer_digits(true), 2);
+    has_one_flag(&rt, bare.required_mantissa_digits(true), 3);
+    has_one_flag(&rt, bare.no_positive_mantissa_sign(true), 4);
+    has_one_flag(&rt, bare.required_mantissa_sign(true), 5);
+    has_one_flag(&rt, bare.no_integer_leading_zeros(true), 6);
+    has_one_flag(&rt, bare.integer_leading_digit_separator(true), 7);
+    has_one_flag(&rt, bare.integer_internal_digit_separator(true), 8);
+    has_one_flag(&rt, bare.integer_trailing_digit_separator(true), 9);
+    has_one_flag(&rt, bare.integer_consecutive_digit_separator(true), 10);
+    has_one_flag(&rt, bare.integer_prefix_digit_separator(true), 11);
+    has_one_flag(&rt, bare.literal_prefixes(true), 12);
+    has_one_flag(&rt, bare.literal_octal_zero(true), 13);
 }
 
 #[test]
@@ -103,25 +103,26 @@ fn other_setters(rt: HostRuntime) {
     );
 }
 
+// The format has this radix, asks for a digit, and has nothing else set.
+fn is_plain(rt: &impl Abort, format: NumberFormat, radix: u32) {
+    let mut want = [false; 14];
+    want[3] = true;
+    answers(rt, (format.radix(), flags_of(&format)), (radix, want));
+    let marks = (
+        format.digit_separator(),
+        format.base_prefix(),
+        format.has_base_prefix(),
+        format.base_suffix(),
+    );
+    answers(rt, marks, (None, None, false, None));
+}
+
 #[test]
 fn ready_made_formats(rt: HostRuntime) {
-    let digits_required = [
-        false, false, false, true, false, false, false, false, false, false, false, false, false,
-        false,
-    ];
-    for (format, radix) in [
-        (STANDARD, 10),
-        (NumberFormatBuilder::new().build_strict(), 10),
-        (NumberFormatBuilder::from_radix(36), 36),
-        (NumberFormatBuilder::binary(), 2),
-    ] {
-        answers(&rt, format.radix(), radix);
-        answers(&rt, flags_of(&format), digits_required);
-        answers(&rt, format.digit_separator(), None);
-        answers(&rt, format.base_prefix(), None);
-        answers(&rt, format.has_base_prefix(), false);
-        answers(&rt, format.base_suffix(), None);
-    }
+    is_plain(&rt, STANDARD, 10);
+    is_plain(&rt, NumberFormatBuilder::new().build_strict(), 10);
+    is_plain(&rt, NumberFormatBuilder::from_radix(36), 36);
+    is_plain(&rt, NumberFormatBuilder::binary(), 2);
     let json = NumberFormatBuilder::new()
         .required_integer_digits(true)
         .no_positive_mantissa_sign(true)

@@ -1,5 +1,6 @@
 use Rattle.std.proofs.Common.{sym}
-use Rattle.lexical_parse_integer.proofs.plain.LeavingNumbers.{leaves_after, next_value, sign_of_value}
+use Rattle.lexical_parse_integer.proofs.plain.LeavingNumbers.{leaves_after, next_value}
+use Rattle.lexical_digits.proofs.LongNumbers.{sign_of_value}
 use Rattle.lexical_parse_integer.proofs.algorithm.plain.overflow.digits_before_overflow.Goals as goal
 
 pub loop-count-init : goal.loop-count-init

@@ -1,5 +1,5 @@
 use Rattle.std.proofs.Common.{length, take, ◌-◌}
-use Rattle.lexical_parse_integer.specs.Plain.{WritesValue}
+use Rattle.lexical_digits.specs.WrittenNumbers.{WritesValue}
 use Rattle.lexical_parse_integer.proofs.algorithm.plain.overflow.digits_before_overflow.Given as goal
 
 abbrev pub invariant-loop-count : goal.invariant-loop-count

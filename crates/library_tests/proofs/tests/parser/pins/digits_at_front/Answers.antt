@@ -1,4 +1,4 @@
-use Rattle.std.proofs.Common.{◌≡◌, ◌≤◌, ◌⊎◌, false, inl, inr, refl, ◌∙◌, arith}
+use Rattle.std.proofs.Common.{inl, inr, refl, ◌∙◌, arith}
 use Rattle.lexical_parse_integer.proofs.ForCallers.{is_fresh, not_asked}
 use Rattle.library_tests.proofs.tests.parser.pins.digits_at_front.Goals as goal
 
