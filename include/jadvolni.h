@@ -5,17 +5,19 @@
  * follow them:
  *
  *     uint16_t port;
- *     jadvolni_result r = jadvolni_u16(text, len, &port);
+ *     jadvolni_result r = jadvolni_parse_u16(text, len, &port);
  *     if (r.status != JADVOLNI_OK)
  *         fprintf(stderr, "%s at byte %zu\n", jadvolni_status_message(r.status), r.place);
  *
  * THE CALLS. Each of the twelve types u8, u16, u32, u64, u128, usize, i8, i16, i32, i64, i128 and
  * isize has four, shown here for u64:
  *
- *     jadvolni_u64(text, len, &value)                               the whole text
- *     jadvolni_u64_partial(text, len, &value)                       the front of the text
- *     jadvolni_u64_with_format(text, len, &format, &value)          the whole text, under a format
- *     jadvolni_u64_partial_with_format(text, len, &format, &value)  its front, under a format
+ *     jadvolni_parse_u64(text, len, &value)                       the whole text
+ *     jadvolni_parse_u64_partial(text, len, &value)               its front
+ *     jadvolni_parse_u64_with_format(text, len, &format, &value)  the whole text, under a format
+ *     jadvolni_parse_u64_partial_with_format(text, len, &format, &value)
+ *
+ * From C11 on jadvolni_parse(text, len, &value) is the first of these for the type of `value`.
  *
  * The first two read what JADVOLNI_FORMAT_STANDARD says: decimal digits, after a "+" or nothing,
  * or after a "-" where the type is signed. The calls on the front stop at the first byte that
@@ -27,7 +29,7 @@
  * Eight of the types, u8 to u64 and i8 to i64, have a call that reads many numbers at once, described
  * at its declaration below:
  *
- *     jadvolni_u64_column(text, len, separator, &format, values, capacity, &count)
+ *     jadvolni_parse_u64_column(text, len, separator, &format, values, capacity, &count)
  *
  * WHAT A CALL ANSWERS
  *
@@ -276,11 +278,11 @@ typedef struct jadvolni_int128 {
 
 /* The four calls of the type `name`, whose numbers C keeps in a `type`. */
 #define JADVOLNI_CALLS_(name, type)                                                             \
-    jadvolni_result jadvolni_##name(const char *text, size_t len, type *value);                 \
-    jadvolni_result jadvolni_##name##_partial(const char *text, size_t len, type *value);       \
-    jadvolni_result jadvolni_##name##_with_format(const char *text, size_t len,                 \
+    jadvolni_result jadvolni_parse_##name(const char *text, size_t len, type *value);           \
+    jadvolni_result jadvolni_parse_##name##_partial(const char *text, size_t len, type *value); \
+    jadvolni_result jadvolni_parse_##name##_with_format(const char *text, size_t len,           \
                                                   const jadvolni_format *format, type *value);  \
-    jadvolni_result jadvolni_##name##_partial_with_format(const char *text, size_t len,         \
+    jadvolni_result jadvolni_parse_##name##_partial_with_format(const char *text, size_t len,   \
                                                           const jadvolni_format *format,        \
                                                           type *value)
 
@@ -299,6 +301,23 @@ JADVOLNI_CALLS_(isize, ptrdiff_t);
 
 #undef JADVOLNI_CALLS_
 
+#if !defined __cplusplus && defined __STDC_VERSION__ && __STDC_VERSION__ >= 201112L
+/* The whole text as a number of the type that `value` points to. A size_t and a ptrdiff_t are read as
+ * the uint64_t and int64_t that they are. */
+#define jadvolni_parse(text, len, value)         \
+    _Generic((value),                            \
+        uint8_t *: jadvolni_parse_u8,            \
+        uint16_t *: jadvolni_parse_u16,          \
+        uint32_t *: jadvolni_parse_u32,          \
+        uint64_t *: jadvolni_parse_u64,          \
+        jadvolni_uint128 *: jadvolni_parse_u128, \
+        int8_t *: jadvolni_parse_i8,             \
+        int16_t *: jadvolni_parse_i16,           \
+        int32_t *: jadvolni_parse_i32,           \
+        int64_t *: jadvolni_parse_i64,           \
+        jadvolni_int128 *: jadvolni_parse_i128)(text, len, value)
+#endif
+
 /* ---- columns ---- */
 
 /*
@@ -309,7 +328,7 @@ JADVOLNI_CALLS_(isize, ptrdiff_t);
  *     int64_t values[1000];
  *     size_t count;
  *     jadvolni_format format = JADVOLNI_FORMAT_STANDARD;
- *     jadvolni_result r = jadvolni_i64_column(text, len, '\n', &format, values, 1000, &count);
+ *     jadvolni_result r = jadvolni_parse_i64_column(text, len, '\n', &format, values, 1000, &count);
  *     if (r.status != JADVOLNI_OK)
  *         fprintf(stderr, "line %zu, byte %zu: %s\n", count + 1, r.place,
  *                 jadvolni_status_name(r.status));
@@ -345,15 +364,15 @@ JADVOLNI_CALLS_(isize, ptrdiff_t);
  *     if (ferror(file) || kept == size) return 0; // or a line is longer than the block
  *     read_lines(block, kept);                    // a last line without a line feed
  *
- * `read_lines` stands for a loop of jadvolni_i64_column until it has read all of its text.
+ * `read_lines` stands for a loop of jadvolni_parse_i64_column until it has read all of its text.
  *
  * Beside what the head of this file says, `values` points to `capacity` numbers that may be written,
  * and may be NULL where `capacity` is 0; `count` is not NULL. Neither lies in the text, in the format
  * or in the other.
  */
-#define JADVOLNI_COLUMN_(name, type)                                                            \
-    jadvolni_result jadvolni_##name##_column(const char *text, size_t len, uint8_t separator,   \
-                                             const jadvolni_format *format, type *values,       \
+#define JADVOLNI_COLUMN_(name, type)                                                                \
+    jadvolni_result jadvolni_parse_##name##_column(const char *text, size_t len, uint8_t separator, \
+                                             const jadvolni_format *format, type *values,           \
                                              size_t capacity, size_t *count)
 
 JADVOLNI_COLUMN_(u8, uint8_t);

@@ -100,7 +100,7 @@ class Library:
         self.library = ctypes.CDLL(path)
         self.library.jadvolni_format_error.restype = ctypes.c_uint32
         forms = ("", "_partial", "_with_format", "_partial_with_format")
-        self.calls = {name.decode() + form: self.call_of(f"jadvolni_{name.decode()}{form}")
+        self.calls = {name.decode() + form: self.call_of(f"jadvolni_parse_{name.decode()}{form}")
                       for name in TYPES for form in forms}
 
     def call_of(self, name: str) -> Callable[..., CResult]:

@@ -55,7 +55,7 @@ pub fn column_under<T: ParseInteger>(
 
 /// The numbers of a text's fields as `u8`, under a format.
 #[unsafe(no_mangle)]
-pub extern "C" fn jadvolni_u8_column(
+pub extern "C" fn jadvolni_parse_u8_column(
     text: &[u8],
     separator: u8,
     format: &FormatFields,
@@ -70,7 +70,7 @@ pub extern "C" fn jadvolni_u8_column(
 
 /// The numbers of a text's fields as `u16`, under a format.
 #[unsafe(no_mangle)]
-pub extern "C" fn jadvolni_u16_column(
+pub extern "C" fn jadvolni_parse_u16_column(
     text: &[u8],
     separator: u8,
     format: &FormatFields,
@@ -85,7 +85,7 @@ pub extern "C" fn jadvolni_u16_column(
 
 /// The numbers of a text's fields as `u32`, under a format.
 #[unsafe(no_mangle)]
-pub extern "C" fn jadvolni_u32_column(
+pub extern "C" fn jadvolni_parse_u32_column(
     text: &[u8],
     separator: u8,
     format: &FormatFields,
@@ -100,7 +100,7 @@ pub extern "C" fn jadvolni_u32_column(
 
 /// The numbers of a text's fields as `u64`, under a format.
 #[unsafe(no_mangle)]
-pub extern "C" fn jadvolni_u64_column(
+pub extern "C" fn jadvolni_parse_u64_column(
     text: &[u8],
     separator: u8,
     format: &FormatFields,
@@ -115,7 +115,7 @@ pub extern "C" fn jadvolni_u64_column(
 
 /// The numbers of a text's fields as `i8`, under a format.
 #[unsafe(no_mangle)]
-pub extern "C" fn jadvolni_i8_column(
+pub extern "C" fn jadvolni_parse_i8_column(
     text: &[u8],
     separator: u8,
     format: &FormatFields,
@@ -130,7 +130,7 @@ pub extern "C" fn jadvolni_i8_column(
 
 /// The numbers of a text's fields as `i16`, under a format.
 #[unsafe(no_mangle)]
-pub extern "C" fn jadvolni_i16_column(
+pub extern "C" fn jadvolni_parse_i16_column(
     text: &[u8],
     separator: u8,
     format: &FormatFields,
@@ -145,7 +145,7 @@ pub extern "C" fn jadvolni_i16_column(
 
 /// The numbers of a text's fields as `i32`, under a format.
 #[unsafe(no_mangle)]
-pub extern "C" fn jadvolni_i32_column(
+pub extern "C" fn jadvolni_parse_i32_column(
     text: &[u8],
     separator: u8,
     format: &FormatFields,
@@ -160,7 +160,7 @@ pub extern "C" fn jadvolni_i32_column(
 
 /// The numbers of a text's fields as `i64`, under a format.
 #[unsafe(no_mangle)]
-pub extern "C" fn jadvolni_i64_column(
+pub extern "C" fn jadvolni_parse_i64_column(
     text: &[u8],
     separator: u8,
     format: &FormatFields,

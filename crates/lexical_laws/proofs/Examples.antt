@@ -1,6 +1,7 @@
 -- The laws at examples: their premises can be met, and without them they fail.
-use Rattle.std.proofs.Common.{◌≡◌, true, false, [], ◌∷◌, refl, Some, Ok}
+use Rattle.std.proofs.Common.{◌≡◌, true, false, [], ◌∷◌, refl, Some, Ok, Err, inl}
 use Rattle.std.proofs.Math.IntN.{pos, negsuc}
+use Rattle.lexical_util.specs.declared.error.Error.TheVariants.{InvalidDigit, Overflow}
 use Rattle.lexical_util.specs.Format.{Format, standard}
 use Rattle.lexical_util.specs.Number.{IntegerType, integer_type}
 use Rattle.lexical_parse_integer.specs.Computed.{grammar}
@@ -9,10 +10,14 @@ use Rattle.lexical_laws.specs.Integer.{IsInteger}
 use Rattle.lexical_laws.specs.Integer.IsPrefix.{no_prefix}
 use Rattle.lexical_laws.specs.Integer.IsSign.{no_sign as none}
 use Rattle.lexical_laws.specs.Integer.IsSuffix.{a_suffix}
+use Rattle.lexical_laws.specs.Keeping.{AdmitsMore}
 use Rattle.lexical_laws.proofs.ReadIsMade.{read_is_integer}
 
 abbrev u8 : IntegerType
 u8 = integer_type 8 false
+
+abbrev u16 : IntegerType
+u16 = integer_type 16 false
 
 abbrev i16 : IntegerType
 i16 = integer_type 16 true
@@ -57,3 +62,53 @@ eleven = (
   },
   refl,
 )
+
+-- ---- types: `300` is a value of `u16`, and leaves `u8` with its last digit
+
+three_hundred : (complete standard u16 (51 ∷ 48 ∷ 48 ∷ []) ≡ Ok (pos 300)) × (complete standard u8 (51 ∷ 48 ∷ 48 ∷ []) ≡ Err (Overflow 2))
+unfolding grammar
+three_hundred = (refl, refl)
+
+-- an unsigned type has 0, and reads no `-0`
+minus_zero : (complete standard i16 (45 ∷ 48 ∷ []) ≡ Ok (pos 0)) × (complete standard u8 (45 ∷ 48 ∷ []) ≡ Err (InvalidDigit 0))
+unfolding grammar
+minus_zero = (refl, refl)
+
+-- ---- relaxing: a separator between digits and a prefix may come in
+
+abbrev grouped : Format
+grouped = record standard { digit_separator = Some 95; integer_internal_digit_separator = true; base_prefix = Some 120 }
+
+grouped_admits_more : AdmitsMore standard grouped
+grouped_admits_more = record {
+  radix = refl;
+  literals = refl;
+  octal = refl;
+  separator = inl refl;
+  prefix = inl refl;
+  suffix = inl refl;
+  leading = λ e. e;
+  internal = λ e. refl;
+  trailing = λ e. e;
+  consecutive = λ e. e;
+  behind_prefix = λ e. e;
+  prefix_case = λ e. e;
+  suffix_case = λ e. e;
+  integer_digits = λ e. e;
+  mantissa_digits = λ e. e;
+  no_plus = λ e. e;
+  sign = λ e. e;
+  no_zeros = λ e. e;
+}
+
+ten_stays : (complete standard u8 (49 ∷ 48 ∷ []) ≡ Ok (pos 10)) × (complete grouped u8 (49 ∷ 48 ∷ []) ≡ Ok (pos 10))
+unfolding grammar
+ten_stays = (refl, refl)
+
+-- octal zeros give digits another worth
+abbrev octal : Format
+octal = record standard { literal_octal_zero = true }
+
+ten_changes : (complete standard u8 (48 ∷ 49 ∷ 48 ∷ []) ≡ Ok (pos 10)) × (complete octal u8 (48 ∷ 49 ∷ 48 ∷ []) ≡ Ok (pos 8))
+unfolding grammar
+ten_changes = (refl, refl)

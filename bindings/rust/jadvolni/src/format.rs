@@ -6,9 +6,9 @@ use jadvolni_sys as sys;
 /// What a text may look like. Begin with one of the constants, and set what differs.
 ///
 /// ```
-/// use jadvolni::{parse_with, Format};
+/// use jadvolni::{parse_with_format, Format};
 /// const HEXADECIMAL: Format = Format::STANDARD.mantissa_radix(16).base_prefix(Some(b'x'));
-/// assert_eq!(parse_with::<u8>("0x1F", &HEXADECIMAL), Ok(31));
+/// assert_eq!(parse_with_format::<u8>("0x1F", &HEXADECIMAL), Ok(31));
 /// ```
 ///
 /// Anything may be set: the calls refuse a format that breaks a rule, and `error` tells it beforehand.

@@ -103,15 +103,15 @@ fn signed(halves: sys::jadvolni_int128) -> i128 {
     (halves.high as i128) << 64 | halves.low as i128
 }
 
-integer!(u8, u8, identity, jadvolni_u8 jadvolni_u8_partial jadvolni_u8_with_format jadvolni_u8_partial_with_format);
-integer!(u16, u16, identity, jadvolni_u16 jadvolni_u16_partial jadvolni_u16_with_format jadvolni_u16_partial_with_format);
-integer!(u32, u32, identity, jadvolni_u32 jadvolni_u32_partial jadvolni_u32_with_format jadvolni_u32_partial_with_format);
-integer!(u64, u64, identity, jadvolni_u64 jadvolni_u64_partial jadvolni_u64_with_format jadvolni_u64_partial_with_format);
-integer!(u128, sys::jadvolni_uint128, unsigned, jadvolni_u128 jadvolni_u128_partial jadvolni_u128_with_format jadvolni_u128_partial_with_format);
-integer!(usize, usize, identity, jadvolni_usize jadvolni_usize_partial jadvolni_usize_with_format jadvolni_usize_partial_with_format);
-integer!(i8, i8, identity, jadvolni_i8 jadvolni_i8_partial jadvolni_i8_with_format jadvolni_i8_partial_with_format);
-integer!(i16, i16, identity, jadvolni_i16 jadvolni_i16_partial jadvolni_i16_with_format jadvolni_i16_partial_with_format);
-integer!(i32, i32, identity, jadvolni_i32 jadvolni_i32_partial jadvolni_i32_with_format jadvolni_i32_partial_with_format);
-integer!(i64, i64, identity, jadvolni_i64 jadvolni_i64_partial jadvolni_i64_with_format jadvolni_i64_partial_with_format);
-integer!(i128, sys::jadvolni_int128, signed, jadvolni_i128 jadvolni_i128_partial jadvolni_i128_with_format jadvolni_i128_partial_with_format);
-integer!(isize, isize, identity, jadvolni_isize jadvolni_isize_partial jadvolni_isize_with_format jadvolni_isize_partial_with_format);
+integer!(u8, u8, identity, jadvolni_parse_u8 jadvolni_parse_u8_partial jadvolni_parse_u8_with_format jadvolni_parse_u8_partial_with_format);
+integer!(u16, u16, identity, jadvolni_parse_u16 jadvolni_parse_u16_partial jadvolni_parse_u16_with_format jadvolni_parse_u16_partial_with_format);
+integer!(u32, u32, identity, jadvolni_parse_u32 jadvolni_parse_u32_partial jadvolni_parse_u32_with_format jadvolni_parse_u32_partial_with_format);
+integer!(u64, u64, identity, jadvolni_parse_u64 jadvolni_parse_u64_partial jadvolni_parse_u64_with_format jadvolni_parse_u64_partial_with_format);
+integer!(u128, sys::jadvolni_uint128, unsigned, jadvolni_parse_u128 jadvolni_parse_u128_partial jadvolni_parse_u128_with_format jadvolni_parse_u128_partial_with_format);
+integer!(usize, usize, identity, jadvolni_parse_usize jadvolni_parse_usize_partial jadvolni_parse_usize_with_format jadvolni_parse_usize_partial_with_format);
+integer!(i8, i8, identity, jadvolni_parse_i8 jadvolni_parse_i8_partial jadvolni_parse_i8_with_format jadvolni_parse_i8_partial_with_format);
+integer!(i16, i16, identity, jadvolni_parse_i16 jadvolni_parse_i16_partial jadvolni_parse_i16_with_format jadvolni_parse_i16_partial_with_format);
+integer!(i32, i32, identity, jadvolni_parse_i32 jadvolni_parse_i32_partial jadvolni_parse_i32_with_format jadvolni_parse_i32_partial_with_format);
+integer!(i64, i64, identity, jadvolni_parse_i64 jadvolni_parse_i64_partial jadvolni_parse_i64_with_format jadvolni_parse_i64_partial_with_format);
+integer!(i128, sys::jadvolni_int128, signed, jadvolni_parse_i128 jadvolni_parse_i128_partial jadvolni_parse_i128_with_format jadvolni_parse_i128_partial_with_format);
+integer!(isize, isize, identity, jadvolni_parse_isize jadvolni_parse_isize_partial jadvolni_parse_isize_with_format jadvolni_parse_isize_partial_with_format);

@@ -1,5 +1,5 @@
 //! Each fault of each call, and the calls beside those of std.
-use jadvolni::{parse, parse_partial, parse_partial_with, parse_with, Error, Format, Integer};
+use jadvolni::{parse, parse_partial, parse_partial_with_format, parse_with_format, Error, Format, Integer};
 
 #[test]
 fn faults_of_texts() {
@@ -8,11 +8,11 @@ fn faults_of_texts() {
     assert_eq!(parse::<i8>("-129"), Err(Error::Underflow(3)));
     assert_eq!(parse::<u8>("1a"), Err(Error::InvalidDigit(1)));
     assert_eq!(parse::<u8>(""), Err(Error::Empty(0)));
-    assert_eq!(parse_with::<i64>("12", &with_sign), Err(Error::MissingSign(0)));
-    assert_eq!(parse_with::<i64>("+1", &Format::JSON), Err(Error::InvalidPositiveSign(0)));
-    assert_eq!(parse_with::<i64>("-01", &Format::JSON), Err(Error::InvalidLeadingZeros(1)));
+    assert_eq!(parse_with_format::<i64>("12", &with_sign), Err(Error::MissingSign(0)));
+    assert_eq!(parse_with_format::<i64>("+1", &Format::JSON), Err(Error::InvalidPositiveSign(0)));
+    assert_eq!(parse_with_format::<i64>("-01", &Format::JSON), Err(Error::InvalidLeadingZeros(1)));
     assert_eq!(parse_partial::<u64>("1234 }, {\"Key\""), Ok((1234, 4)));
-    assert_eq!(parse_partial_with::<u64>("0b102", &Format::LITERAL), Ok((2, 4)));
+    assert_eq!(parse_partial_with_format::<u64>("0b102", &Format::LITERAL), Ok((2, 4)));
 }
 
 #[test]
@@ -33,8 +33,8 @@ fn faults_of_formats() {
     ];
     for (format, fault) in broken {
         assert_eq!(format.error(), Some(fault));
-        assert_eq!(parse_with::<u8>("1", &format), Err(fault));
-        assert_eq!(parse_partial_with::<u8>("1", &format), Err(fault));
+        assert_eq!(parse_with_format::<u8>("1", &format), Err(fault));
+        assert_eq!(parse_partial_with_format::<u8>("1", &format), Err(fault));
         assert_eq!(fault.place(), None);
     }
     assert_eq!(Format::default().error(), None);
@@ -47,13 +47,13 @@ fn nul_is_a_byte_like_others() {
         .integer_internal_digit_separator(true)
         .integer_trailing_digit_separator(true);
     let prefixed = with_nuls.digit_separator(None).base_prefix(Some(0));
-    assert_eq!(parse_with::<u16>(b"1\x002\x003\x00", &with_nuls), Ok(123));
+    assert_eq!(parse_with_format::<u16>(b"1\x002\x003\x00", &with_nuls), Ok(123));
     // That isn't UTF-16, in which these two bytes are the letter U+3131.
-    assert_eq!(parse_with::<u16>(b"11", &with_nuls), Ok(11));
+    assert_eq!(parse_with_format::<u16>(b"11", &with_nuls), Ok(11));
     assert_eq!(parse::<u16>(b"1\x002\x003\x00"), Err(Error::InvalidDigit(1)));
-    assert_eq!(parse_with::<u16>(b"0\x0012", &prefixed), Ok(12));
+    assert_eq!(parse_with_format::<u16>(b"0\x0012", &prefixed), Ok(12));
     assert_eq!(
-        parse_with::<u16>(b"12\x00", &prefixed.base_prefix(None).base_suffix(Some(0))),
+        parse_with_format::<u16>(b"12\x00", &prefixed.base_prefix(None).base_suffix(Some(0))),
         Ok(12)
     );
     assert_eq!(prefixed.base_suffix(Some(0)).error(), Some(Error::InvalidPunctuation));
@@ -65,16 +65,16 @@ fn nul_is_a_byte_like_others() {
 
 #[test]
 fn literal_format_is_no_language() {
-    assert_eq!(parse_with::<u32>("0777", &Format::LITERAL), Ok(777));
-    assert_eq!(parse_with::<u32>("+1", &Format::LITERAL), Ok(1));
+    assert_eq!(parse_with_format::<u32>("0777", &Format::LITERAL), Ok(777));
+    assert_eq!(parse_with_format::<u32>("+1", &Format::LITERAL), Ok(1));
 }
 
 #[test]
 fn empty_text_without_required_digit_is_zero() {
     let none = Format::STANDARD.required_mantissa_digits(false);
     let integer = none.required_integer_digits(true);
-    assert_eq!(parse_with::<u32>("", &none), Ok(0));
-    assert_eq!(parse_with::<u32>("", &integer), Err(Error::Empty(0)));
+    assert_eq!(parse_with_format::<u32>("", &none), Ok(0));
+    assert_eq!(parse_with_format::<u32>("", &integer), Err(Error::Empty(0)));
 }
 
 #[test]
@@ -126,8 +126,8 @@ fn ends<T: Integer + ToString + PartialEq + std::fmt::Debug>(ends: [T; 2]) {
         let text = end.to_string();
         assert_eq!(parse::<T>(&text), Ok(end));
         assert_eq!(parse_partial::<T>(&text), Ok((end, text.len())));
-        assert_eq!(parse_with::<T>(&text, &Format::STANDARD), Ok(end));
-        assert_eq!(parse_partial_with::<T>(&text, &Format::STANDARD), Ok((end, text.len())));
+        assert_eq!(parse_with_format::<T>(&text, &Format::STANDARD), Ok(end));
+        assert_eq!(parse_partial_with_format::<T>(&text, &Format::STANDARD), Ok((end, text.len())));
     }
 }
 

@@ -131,11 +131,14 @@ fn beginnings(rt: &impl Abort, format: &NumberFormat, texts: &str) {
     }
 }
 
+fn with_fields(rt: &impl Abort, fields: u32, texts: &str) {
+    beginnings(rt, &format_of(10, fields), texts);
+}
+
 #[test]
 fn beginnings_of_rows(rt: HostRuntime) {
-    for format in [STANDARD, JSON] {
-        beginnings(&rt, &format, TEXTS);
-    }
+    beginnings(&rt, &STANDARD, TEXTS);
+    beginnings(&rt, &JSON, TEXTS);
 }
 
 #[test]
@@ -149,28 +152,24 @@ fn beginnings_in_radixes(rt: HostRuntime) {
 #[test]
 fn beginnings_with_separators(rt: HostRuntime) {
     for flags in 0..16 {
-        for fields in [SEPARATOR, SEPARATOR | OPTIONAL, 0] {
-            beginnings(&rt, &format_of(10, fields | flags), SEPARATED);
-        }
+        with_fields(&rt, SEPARATOR | flags, SEPARATED);
+        with_fields(&rt, SEPARATOR | OPTIONAL | flags, SEPARATED);
+        with_fields(&rt, flags, SEPARATED);
     }
 }
 
 #[test]
 fn beginnings_with_affixes(rt: HostRuntime) {
-    for fields in [
-        PREFIX,
-        PREFIX | PREFIX_CASE,
-        PREFIX | NO_ZEROS,
-        PREFIX | OPTIONAL,
-        SUFFIX,
-        SUFFIX | SUFFIX_CASE,
-        SUFFIX | NO_ZEROS,
-        PREFIX | SUFFIX,
-        SEPARATOR | LEADING | SUFFIX,
-        SEPARATOR | LEADING | PREFIX,
-        NO_ZEROS,
-        NO_ZEROS | INTEGER_DIGITS,
-    ] {
-        beginnings(&rt, &format_of(10, fields), AFFIXED);
-    }
+    with_fields(&rt, PREFIX, AFFIXED);
+    with_fields(&rt, PREFIX | PREFIX_CASE, AFFIXED);
+    with_fields(&rt, PREFIX | NO_ZEROS, AFFIXED);
+    with_fields(&rt, PREFIX | OPTIONAL, AFFIXED);
+    with_fields(&rt, SUFFIX, AFFIXED);
+    with_fields(&rt, SUFFIX | SUFFIX_CASE, AFFIXED);
+    with_fields(&rt, SUFFIX | NO_ZEROS, AFFIXED);
+    with_fields(&rt, PREFIX | SUFFIX, AFFIXED);
+    with_fields(&rt, SEPARATOR | LEADING | SUFFIX, AFFIXED);
+    with_fields(&rt, SEPARATOR | LEADING | PREFIX, AFFIXED);
+    with_fields(&rt, NO_ZEROS, AFFIXED);
+    with_fields(&rt, NO_ZEROS | INTEGER_DIGITS, AFFIXED);
 }

@@ -45,42 +45,45 @@ fn each_byte(rt: &impl Abort, radix: u8, fields: u32, text: &[u8]) {
 // Texts that are read by words, in radixes up to 10, and one digit at a time, in greater ones.
 #[test]
 fn each_byte_among_digits(rt: HostRuntime) {
-    let texts: [(u8, u32, &[u8]); 8] = [
-        (10, 0, b"12345678123456781234"),
-        (10, 0, b"-00000000128"),
-        (2, 0, b"101010101010101010"),
-        (9, 0, b"888888881234"),
-        (11, 0, b"A987654321"),
-        (36, 0, b"zZaA09"),
-        (10, NO_ZEROS | NO_PLUS | SIGN, b"-12345678"),
-        (10, NO_ZEROS | NO_PLUS | SIGN, b"+1"),
-    ];
-    for (radix, fields, text) in texts {
-        each_byte(&rt, radix, fields, text);
-    }
+    each_byte(&rt, 10, 0, b"12345678123456781234");
+    each_byte(&rt, 10, 0, b"-00000000128");
+    each_byte(&rt, 2, 0, b"101010101010101010");
+    each_byte(&rt, 9, 0, b"888888881234");
+    each_byte(&rt, 11, 0, b"A987654321");
+    each_byte(&rt, 36, 0, b"zZaA09");
+    each_byte(&rt, 10, NO_ZEROS | NO_PLUS | SIGN, b"-12345678");
+    each_byte(&rt, 10, NO_ZEROS | NO_PLUS | SIGN, b"+1");
 }
 
-// Words of four and of eight bytes whose other bytes are `0`, or the greatest digit of the radix.
+// Words of four and of eight bytes whose other bytes are this digit.
+fn each_byte_beside(rt: &impl Abort, radix: u8, digit: u8) {
+    each_byte(rt, radix, 0, &[digit; 4]);
+    each_byte(rt, radix, 0, &[digit; 8]);
+}
+
+// The other digits are `0`, or the greatest of the radix.
 #[test]
 fn each_byte_of_a_word(rt: HostRuntime) {
     for radix in 2..=10_u8 {
-        for digit in [b'0', b'/'.saturating_add(radix)] {
-            each_byte(&rt, radix, 0, &[digit; 4]);
-            each_byte(&rt, radix, 0, &[digit; 8]);
-        }
+        each_byte_beside(&rt, radix, b'0');
+        each_byte_beside(&rt, radix, b'/'.saturating_add(radix));
     }
+}
+
+fn each_byte_beside_affixes(rt: &impl Abort, radix: u8, fields: u32) {
+    each_byte(rt, radix, fields | PREFIX | SUFFIX, b"-0x12345678h");
+    each_byte(rt, radix, fields | PREFIX | SUFFIX, b"00h");
 }
 
 #[test]
 fn each_byte_beside_prefix_and_suffix(rt: HostRuntime) {
-    for (radix, fields) in [(10, 0), (16, 0), (10, PREFIX_CASE), (10, SUFFIX_CASE)] {
-        each_byte(&rt, radix, fields | PREFIX | SUFFIX, b"-0x12345678h");
-        each_byte(&rt, radix, fields | PREFIX | SUFFIX, b"00h");
-    }
-    let literals: [&[u8]; 3] = [b"0x1F", b"-0b1010", b"+0o17"];
-    for text in literals {
-        each_byte(&rt, 10, LITERALS, text);
-    }
+    each_byte_beside_affixes(&rt, 10, 0);
+    each_byte_beside_affixes(&rt, 16, 0);
+    each_byte_beside_affixes(&rt, 10, PREFIX_CASE);
+    each_byte_beside_affixes(&rt, 10, SUFFIX_CASE);
+    each_byte(&rt, 10, LITERALS, b"0x1F");
+    each_byte(&rt, 10, LITERALS, b"-0b1010");
+    each_byte(&rt, 10, LITERALS, b"+0o17");
 }
 
 #[test]

@@ -46,9 +46,9 @@ fn of_length(
 // Texts of each length, of a small digit and of the greatest.
 fn of_each_length(rt: &impl Abort, kind: Kind, format: &NumberFormat) {
     for length in LENGTHS {
-        for digits in [(b'1', b'1'), (b'9', b'-'), (b'7', b'0')] {
-            of_length(rt, kind, format, length, digits);
-        }
+        of_length(rt, kind, format, length, (b'1', b'1'));
+        of_length(rt, kind, format, length, (b'9', b'-'));
+        of_length(rt, kind, format, length, (b'7', b'0'));
     }
 }
 
@@ -60,31 +60,38 @@ fn each_length_of_each_type(rt: HostRuntime) {
     }
 }
 
+fn under(rt: &impl Abort, fields: u32) {
+    let format = format_of(10, fields);
+    for kind in [U64, I32, I64] {
+        of_each_length(rt, kind, &format);
+    }
+}
+
 // Zeros in front that the format forbids, and a plus that it forbids. A mark that no digit stands beside changes
 // nothing: neither a separator, nor a prefix, nor a suffix.
 #[test]
 fn each_length_under_other_formats(rt: HostRuntime) {
-    for fields in [
-        NO_ZEROS | NO_PLUS,
-        SEPARATOR | INTERNAL,
-        PREFIX,
-        SUFFIX,
-        LITERALS,
-        SIGN,
-    ] {
-        let format = format_of(10, fields);
-        for kind in [U64, I32, I64] {
-            of_each_length(&rt, kind, &format);
-        }
-    }
+    under(&rt, NO_ZEROS | NO_PLUS);
+    under(&rt, SEPARATOR | INTERNAL);
+    under(&rt, PREFIX);
+    under(&rt, SUFFIX);
+    under(&rt, LITERALS);
+    under(&rt, SIGN);
+}
+
+fn in_radix(rt: &impl Abort, radix: u8) {
+    let format = format_of(radix, 0);
+    of_each_length(rt, U64, &format);
+    of_each_length(rt, I64, &format);
 }
 
 // Radixes that are read by a table, with letters or without.
 #[test]
 fn each_length_of_other_radixes(rt: HostRuntime) {
-    for radix in [2, 8, 9, 11, 16, 36] {
-        let format = format_of(radix, 0);
-        of_each_length(&rt, U64, &format);
-        of_each_length(&rt, I64, &format);
-    }
+    in_radix(&rt, 2);
+    in_radix(&rt, 8);
+    in_radix(&rt, 9);
+    in_radix(&rt, 11);
+    in_radix(&rt, 16);
+    in_radix(&rt, 36);
 }

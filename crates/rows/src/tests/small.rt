@@ -67,51 +67,40 @@ fn without_separators(rt: &impl Abort, radix: u8, fields: u32, bytes: &Bytes) {
 
 #[test]
 fn small_texts_with_separators(rt: HostRuntime) {
-    for fields in [
-        0,
-        OPTIONAL,
-        PREFIX | SUFFIX,
-        PREFIX | SUFFIX | OPTIONAL | NO_ZEROS,
-        NO_ZEROS | NO_PLUS,
-        PREFIX | SUFFIX | SIGN,
-        LITERALS | SUFFIX,
-        OCTAL | NO_ZEROS,
-    ] {
-        with_separators(&rt, 10, fields, &PLAIN);
-    }
+    let affixes = PREFIX | SUFFIX;
+    with_separators(&rt, 10, 0, &PLAIN);
+    with_separators(&rt, 10, OPTIONAL, &PLAIN);
+    with_separators(&rt, 10, affixes, &PLAIN);
+    with_separators(&rt, 10, affixes | OPTIONAL | NO_ZEROS, &PLAIN);
+    with_separators(&rt, 10, NO_ZEROS | NO_PLUS, &PLAIN);
+    with_separators(&rt, 10, affixes | SIGN, &PLAIN);
+    with_separators(&rt, 10, LITERALS | SUFFIX, &PLAIN);
+    with_separators(&rt, 10, OCTAL | NO_ZEROS, &PLAIN);
 }
 
 #[test]
 fn small_texts_with_separators_and_prefixes(rt: HostRuntime) {
-    for fields in [BEHIND_PREFIX, BEHIND_PREFIX | OPTIONAL] {
-        with_separators(&rt, 10, fields | PREFIX | SUFFIX, &PLAIN);
-    }
-    for fields in [
-        LITERALS,
-        LITERALS | BEHIND_PREFIX,
-        OCTAL,
-        OCTAL | LITERALS | BEHIND_PREFIX,
-    ] {
-        with_separators(&rt, 10, fields, &LITERAL);
-    }
-    with_separators(&rt, 16, PREFIX | SUFFIX, &HEXADECIMAL);
+    let affixes = PREFIX | SUFFIX;
+    with_separators(&rt, 10, BEHIND_PREFIX | affixes, &PLAIN);
+    with_separators(&rt, 10, BEHIND_PREFIX | OPTIONAL | affixes, &PLAIN);
+    with_separators(&rt, 10, LITERALS, &LITERAL);
+    with_separators(&rt, 10, LITERALS | BEHIND_PREFIX, &LITERAL);
+    with_separators(&rt, 10, OCTAL, &LITERAL);
+    with_separators(&rt, 10, OCTAL | LITERALS | BEHIND_PREFIX, &LITERAL);
+    with_separators(&rt, 16, affixes, &HEXADECIMAL);
 }
 
 #[test]
 fn small_texts_without_separators(rt: HostRuntime) {
-    for fields in [
-        0,
-        OPTIONAL,
-        NO_ZEROS,
-        PREFIX,
-        SUFFIX,
-        PREFIX | SUFFIX | NO_ZEROS,
-        OCTAL | NO_ZEROS,
-    ] {
-        without_separators(&rt, 10, fields, &PLAIN);
-    }
-    for fields in [LITERALS, OCTAL] {
-        without_separators(&rt, 10, fields, &LITERAL);
-    }
-    without_separators(&rt, 16, PREFIX | SUFFIX, &HEXADECIMAL);
+    let affixes = PREFIX | SUFFIX;
+    without_separators(&rt, 10, 0, &PLAIN);
+    without_separators(&rt, 10, OPTIONAL, &PLAIN);
+    without_separators(&rt, 10, NO_ZEROS, &PLAIN);
+    without_separators(&rt, 10, PREFIX, &PLAIN);
+    without_separators(&rt, 10, SUFFIX, &PLAIN);
+    without_separators(&rt, 10, affixes | NO_ZEROS, &PLAIN);
+    without_separators(&rt, 10, OCTAL | NO_ZEROS, &PLAIN);
+    without_separators(&rt, 10, LITERALS, &LITERAL);
+    without_separators(&rt, 10, OCTAL, &LITERAL);
+    without_separators(&rt, 16, affixes, &HEXADECIMAL);
 }
