@@ -195,10 +195,6 @@ few_fit t k m text value rest width long few s is_rest small =
     length-take-most (suc k) zero (b ∷ bs) few = absurd (omega arith)
     length-take-most (suc k) (suc m) (b ∷ bs) few = let rest = length-take-most k m bs (omega arith) in omega arith
 
--- digits behind their sign
-pub with_its_sign : (t : IntegerType) (negative : Bool) (text : List ℕ) (value signed : ℤ) → StandsFor t 10 false text value → signed ≡ (if negative then neg_ℤ value else value) → IsNumber t signed → StandsFor t 10 negative text signed
-with_its_sign t negative text value signed s is fits = record { size = s.size; writes = s.writes; worth = is ∙ ap (λ (z : ℤ). if negative then neg_ℤ z else z) s.worth; fits = fits }
-
 pub at_least_zero : (t : IntegerType) (text : List ℕ) (value : ℤ) → StandsFor t 10 false text value → pos 0 ≤ℤ value
 at_least_zero t text value s = from_zero value (positional_value 10 s.writes.values) (s.worth ∙ s.writes.worth)
 
