@@ -11,3 +11,5 @@ pub mod ReadIsMade
 pub mod Examples
 pub mod OtherTypes
 pub mod LooserFormats
+pub mod DeadPlaces
+pub mod WithoutSeparators

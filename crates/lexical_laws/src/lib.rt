@@ -48,3 +48,31 @@ pub fn relaxing()
         → IsNone (fault strict) → IsNone (fault loose) → AdmitsMore strict loose
         → complete strict type text ≡ Ok value → complete loose type text ≡ Ok value }
 {}
+
+/// The place of a fault is dead: no text with the same bytes up to and with it has a value, under a valid format
+/// without a separator byte and without the rule on leading zeros.
+///
+/// So whoever reads byte after byte may stop there. A fault at the text's end is about no byte: `+` is `Empty(1)`, and
+/// `+1` is 1. With a separator more bytes may mend a text: `0_` may be `InvalidDigit(1)`, and `0_0` a value. So they may
+/// under the zero rule, which blames the zero in `01`.
+pub fn dead_places()
+    ensures { (format : Format) (type : IntegerType) (text : List ℕ) (error : Error) (place : ℕ)
+        → IsNone (fault format) → IsNone format.digit_separator
+        → format.no_integer_leading_zeros ≡ false → complete format type text ≡ Err error
+        → place_of error ≡ Some place → place < length text → IsDead format type text place }
+{
+    locality();
+    complete_by_partial();
+}
+
+/// Separators count for nothing: a text has the same value without them, under a valid format that asks for a digit and
+/// has no octal zeros.
+///
+/// Else a separator may part what would be read together: `-_09` is -9 and `-09` a fault under octal zeros. And where no
+/// digit is asked for, `0x_` may be 0, but `0x` is `Empty(2)`.
+pub fn separators()
+    ensures { (format : Format) (type : IntegerType) (text : List ℕ) (value : ℤ)
+        → IsNone (fault format) → format.literal_octal_zero ≡ false
+        → digits_required format ≡ true → complete format type text ≡ Ok value
+        → complete format type (without_separators format text) ≡ Ok value }
+{}
