@@ -3,7 +3,7 @@
 RT ?= rt
 PREFIX ?= /usr/local
 PROGRAM := crates/lexint/out/lexint
-PROGRAM_CRATES := lexint answer_lines $(shell sed -n 's/^answer_lines: *//p' crates.txt)
+PROGRAM_CRATES := lexint answer_lines lexical_digits $(shell sed -n 's/^answer_lines: *//p' crates.txt)
 SOURCES := $(shell find $(addprefix crates/,$(PROGRAM_CRATES)) -name out -prune -o -type f \( -name '*.rt' -o -name '*.antt' \) -print) crates.txt
 
 .PHONY: help toolchain run check test devices answers lexint install uninstall install-lexint uninstall-lexint rows docs

@@ -12,7 +12,10 @@ import loops
 
 HERE = os.path.dirname(os.path.abspath(__file__))
 TOP = os.path.dirname(HERE)
-CRATES = ("lexical_util", "lexical_parse_integer")
+CRATES = ("lexical_util", "lexical_digits", "lexical_parse_integer")
+# Their lines of crates.txt.
+LINES = ("lexical_util:\nlexical_digits: lexical_util\n"
+         "lexical_parse_integer: lexical_util lexical_digits\n")
 # The programs that the build needs.
 NEEDED = (os.environ.get("RT", "rt"), "cargo", "make", "cc", "c++", "ar")
 # How many drivers are linked, each with its code sixteen bytes further on: that moves times.
@@ -78,8 +81,8 @@ def library(room: str) -> None:
     os.makedirs(os.path.join(tree, "crates", "bench_calls", "src"), exist_ok=True)
     for crate in CRATES:
         copy(os.path.join(TOP, "crates", crate), os.path.join(tree, "crates", crate))
-    write(os.path.join(tree, "crates.txt"), "lexical_util:\nlexical_parse_integer: lexical_util\n"
-          "bench_calls staticlib: lexical_util lexical_parse_integer\n")
+    write(os.path.join(tree, "crates.txt"),
+          LINES + "bench_calls staticlib: lexical_util lexical_parse_integer\n")
     folder = os.path.join(tree, "crates", "bench_calls")
     write(os.path.join(folder, "src", "lib.rt"), loops.source())
     run([os.environ.get("RT", "rt"), "lib"], folder)

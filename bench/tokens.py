@@ -20,7 +20,7 @@ from typing import Callable
 import drivers
 import page
 
-CRATES = ("lexical_util", "lexical_parse_integer", "lexical_literals")
+CRATES = (*drivers.CRATES, "lexical_literals")
 COUNTED = 100_000
 PEERS = ("a lexer by hand", "ours")
 
@@ -104,8 +104,8 @@ def driver() -> str:
         of_crate = os.path.join("crates", crate)
         drivers.copy(os.path.join(drivers.TOP, of_crate), os.path.join(room, of_crate))
     drivers.write(
-        os.path.join(room, "crates.txt"), "lexical_util:\nlexical_parse_integer: lexical_util\n"
-        "lexical_literals: lexical_util lexical_parse_integer\n"
+        os.path.join(room, "crates.txt"),
+        drivers.LINES + "lexical_literals: lexical_util lexical_parse_integer\n"
         "bench_tokens staticlib: lexical_util lexical_parse_integer lexical_literals\n")
     drivers.write(os.path.join(folder, "src", "lib.rt"), CALLERS)
     drivers.run([os.environ.get("RT", "rt"), "lib"], folder)

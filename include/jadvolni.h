@@ -5,17 +5,19 @@
  * follow them:
  *
  *     uint16_t port;
- *     jadvolni_result r = jadvolni_u16(text, len, &port);
+ *     jadvolni_result r = jadvolni_parse_u16(text, len, &port);
  *     if (r.status != JADVOLNI_OK)
  *         fprintf(stderr, "%s at byte %zu\n", jadvolni_status_message(r.status), r.place);
  *
  * THE CALLS. Each of the twelve types u8, u16, u32, u64, u128, usize, i8, i16, i32, i64, i128 and
  * isize has four, shown here for u64:
  *
- *     jadvolni_u64(text, len, &value)                               the whole text
- *     jadvolni_u64_partial(text, len, &value)                       the front of the text
- *     jadvolni_u64_with_format(text, len, &format, &value)          the whole text, under a format
- *     jadvolni_u64_partial_with_format(text, len, &format, &value)  its front, under a format
+ *     jadvolni_parse_u64(text, len, &value)                       the whole text
+ *     jadvolni_parse_u64_partial(text, len, &value)               its front
+ *     jadvolni_parse_u64_with_format(text, len, &format, &value)  the whole text, under a format
+ *     jadvolni_parse_u64_partial_with_format(text, len, &format, &value)
+ *
+ * From C11 on jadvolni_parse(text, len, &value) is the first of these for the type of `value`.
  *
  * The first two read what JADVOLNI_FORMAT_STANDARD says: decimal digits, after a "+" or nothing,
  * or after a "-" where the type is signed. The calls on the front stop at the first byte that
@@ -27,7 +29,7 @@
  * Eight of the types, u8 to u64 and i8 to i64, have a call that reads many numbers at once, described
  * at its declaration below:
  *
- *     jadvolni_u64_column(text, len, separator, &format, values, capacity, &count)
+ *     jadvolni_parse_u64_column(text, len, separator, &format, values, capacity, &count)
  *
  * WHAT A CALL ANSWERS
  *
@@ -130,8 +132,8 @@ typedef enum jadvolni_status {
      * part of "0x", "0o", "0b" or of their digits. */
     JADVOLNI_INVALID_LITERAL_PREFIXES = 13,
 
-    /* A reserved byte of the format isn't 0: it was written for a later version of the library, or
-     * it was never set. It comes before the rules of formats. */
+    /* A reserved byte or bit of the format isn't 0: it was written for a later version of the
+     * library, or it was never set. It comes before the rules of formats. */
     JADVOLNI_UNKNOWN_FIELD = 64
 } jadvolni_status;
 
@@ -153,7 +155,7 @@ typedef struct jadvolni_result {
  * an empty line of a column, is 0 and no fault.
  *
  * A flag is set by every byte but 0. A separator, prefix or suffix of 0 is none; to have the byte 0
- * itself, set the flag `.._is_nul` beside it. A format is plain bytes, and nothing has to free it.
+ * itself, set its bit in `nul_is_punctuation`. A format is plain bytes, and nothing has to free it.
  * Any bytes may be in one: each call refuses a format that breaks a rule, whatever the text is, and
  * jadvolni_format_error tells beforehand.
  */
@@ -218,23 +220,23 @@ typedef struct jadvolni_format {
      * to be 10. */
     uint8_t literal_octal_zero;
 
-    /* Flag: the separator is the byte 0, where `digit_separator` is 0. */
-    uint8_t digit_separator_is_nul;
-
-    /* Flag: the prefix is the byte 0, where `base_prefix` is 0. */
-    uint8_t base_prefix_is_nul;
-
-    /* Flag: the suffix is the byte 0, where `base_suffix` is 0. */
-    uint8_t base_suffix_is_nul;
+    /* Bits: what is the byte 0 itself, where its own field is 0. JADVOLNI_NUL_IS_SEPARATOR,
+     * JADVOLNI_NUL_IS_PREFIX and JADVOLNI_NUL_IS_SUFFIX; the other bits are 0. */
+    uint8_t nul_is_punctuation;
 
     /* 0, each of them. They are for fields of later versions: a program that sets such a field, and
      * runs with this version of the library, is told so by JADVOLNI_UNKNOWN_FIELD. */
-    uint8_t reserved[3];
+    uint8_t reserved[13];
 } jadvolni_format;
+
+/* The bits of `nul_is_punctuation`. */
+#define JADVOLNI_NUL_IS_SEPARATOR 1
+#define JADVOLNI_NUL_IS_PREFIX 2
+#define JADVOLNI_NUL_IS_SUFFIX 4
 
 /* Decimal digits after an optional sign. A digit is required. */
 #define JADVOLNI_FORMAT_STANDARD \
-    {10, 0, 0, 0, 0, 0, 0, 1, 0, 0, 0, 0, 0, 0, 0, 0, 0, 0, 0, 0, 0, {0, 0, 0}}
+    {10, 0, 0, 0, 0, 0, 0, 1, 0, 0, 0, 0, 0, 0, 0, 0, 0, 0, 0, {0}}
 
 /* The standard format with digits of a radix from 2 to 36. One of any other radix is refused by each
  * call, with JADVOLNI_INVALID_MANTISSA_RADIX. */
@@ -247,14 +249,14 @@ static inline jadvolni_format jadvolni_format_of_radix(int radix)
 
 /* Integers as JSON has them (RFC 8259): no "+", and no zero before another digit. */
 #define JADVOLNI_FORMAT_JSON \
-    {10, 0, 0, 0, 0, 0, 1, 1, 1, 0, 1, 0, 0, 0, 0, 0, 0, 0, 0, 0, 0, {0, 0, 0}}
+    {10, 0, 0, 0, 0, 0, 1, 1, 1, 0, 1, 0, 0, 0, 0, 0, 0, 0, 0, {0}}
 
 /* The format of the project's tokenizer, and of no language: "1_000", "0xFF", "0o17", "0b1". "0777",
  * which is 511 in C, is 777 unless `literal_octal_zero` is set, and a sign is taken, as in "+1". */
 #define JADVOLNI_FORMAT_LITERAL \
-    {10, '_', 0, 0, 0, 0, 0, 1, 0, 0, 0, 0, 1, 0, 1, 0, 1, 0, 0, 0, 0, {0, 0, 0}}
+    {10, '_', 0, 0, 0, 0, 0, 1, 0, 0, 0, 0, 1, 0, 1, 0, 1, 0, 0, {0}}
 
-/* JADVOLNI_UNKNOWN_FIELD where a reserved byte isn't 0; else JADVOLNI_OK where the format breaks no
+/* JADVOLNI_UNKNOWN_FIELD where a reserved byte or bit isn't 0; else JADVOLNI_OK where the format breaks no
  * rule, and the status of the first that it breaks. */
 uint32_t jadvolni_format_error(const jadvolni_format *format);
 
@@ -276,11 +278,11 @@ typedef struct jadvolni_int128 {
 
 /* The four calls of the type `name`, whose numbers C keeps in a `type`. */
 #define JADVOLNI_CALLS_(name, type)                                                             \
-    jadvolni_result jadvolni_##name(const char *text, size_t len, type *value);                 \
-    jadvolni_result jadvolni_##name##_partial(const char *text, size_t len, type *value);       \
-    jadvolni_result jadvolni_##name##_with_format(const char *text, size_t len,                 \
+    jadvolni_result jadvolni_parse_##name(const char *text, size_t len, type *value);           \
+    jadvolni_result jadvolni_parse_##name##_partial(const char *text, size_t len, type *value); \
+    jadvolni_result jadvolni_parse_##name##_with_format(const char *text, size_t len,           \
                                                   const jadvolni_format *format, type *value);  \
-    jadvolni_result jadvolni_##name##_partial_with_format(const char *text, size_t len,         \
+    jadvolni_result jadvolni_parse_##name##_partial_with_format(const char *text, size_t len,   \
                                                           const jadvolni_format *format,        \
                                                           type *value)
 
@@ -299,6 +301,23 @@ JADVOLNI_CALLS_(isize, ptrdiff_t);
 
 #undef JADVOLNI_CALLS_
 
+#if !defined __cplusplus && defined __STDC_VERSION__ && __STDC_VERSION__ >= 201112L
+/* The whole text as a number of the type that `value` points to. A size_t and a ptrdiff_t are read as
+ * the uint64_t and int64_t that they are. */
+#define jadvolni_parse(text, len, value)         \
+    _Generic((value),                            \
+        uint8_t *: jadvolni_parse_u8,            \
+        uint16_t *: jadvolni_parse_u16,          \
+        uint32_t *: jadvolni_parse_u32,          \
+        uint64_t *: jadvolni_parse_u64,          \
+        jadvolni_uint128 *: jadvolni_parse_u128, \
+        int8_t *: jadvolni_parse_i8,             \
+        int16_t *: jadvolni_parse_i16,           \
+        int32_t *: jadvolni_parse_i32,           \
+        int64_t *: jadvolni_parse_i64,           \
+        jadvolni_int128 *: jadvolni_parse_i128)(text, len, value)
+#endif
+
 /* ---- columns ---- */
 
 /*
@@ -309,7 +328,7 @@ JADVOLNI_CALLS_(isize, ptrdiff_t);
  *     int64_t values[1000];
  *     size_t count;
  *     jadvolni_format format = JADVOLNI_FORMAT_STANDARD;
- *     jadvolni_result r = jadvolni_i64_column(text, len, '\n', &format, values, 1000, &count);
+ *     jadvolni_result r = jadvolni_parse_i64_column(text, len, '\n', &format, values, 1000, &count);
  *     if (r.status != JADVOLNI_OK)
  *         fprintf(stderr, "line %zu, byte %zu: %s\n", count + 1, r.place,
  *                 jadvolni_status_name(r.status));
@@ -345,15 +364,15 @@ JADVOLNI_CALLS_(isize, ptrdiff_t);
  *     if (ferror(file) || kept == size) return 0; // or a line is longer than the block
  *     read_lines(block, kept);                    // a last line without a line feed
  *
- * `read_lines` stands for a loop of jadvolni_i64_column until it has read all of its text.
+ * `read_lines` stands for a loop of jadvolni_parse_i64_column until it has read all of its text.
  *
  * Beside what the head of this file says, `values` points to `capacity` numbers that may be written,
  * and may be NULL where `capacity` is 0; `count` is not NULL. Neither lies in the text, in the format
  * or in the other.
  */
-#define JADVOLNI_COLUMN_(name, type)                                                            \
-    jadvolni_result jadvolni_##name##_column(const char *text, size_t len, uint8_t separator,   \
-                                             const jadvolni_format *format, type *values,       \
+#define JADVOLNI_COLUMN_(name, type)                                                                \
+    jadvolni_result jadvolni_parse_##name##_column(const char *text, size_t len, uint8_t separator, \
+                                             const jadvolni_format *format, type *values,           \
                                              size_t capacity, size_t *count)
 
 JADVOLNI_COLUMN_(u8, uint8_t);
@@ -366,6 +385,11 @@ JADVOLNI_COLUMN_(i32, int32_t);
 JADVOLNI_COLUMN_(i64, int64_t);
 
 #undef JADVOLNI_COLUMN_
+
+/* Where the field starts that the first `len` bytes of a text end in: behind their last separator, or
+ * at 0. So with a fault's place as `len` it is where the wrong field starts, and of a block that more
+ * follows it is how many bytes are whole fields. */
+size_t jadvolni_field_start(const char *text, size_t len, uint8_t separator);
 
 /* ---- helpers, written in C: they are tested, and nothing of them is proved ---- */
 
@@ -418,17 +442,9 @@ static inline const char *jadvolni_status_message(uint32_t status)
         return "literal prefixes and octal zeros need the radix 10, and literal prefixes no "
                "prefix, and no separator or suffix that may be a part of 0x, 0o, 0b or of their "
                "digits";
-    case JADVOLNI_UNKNOWN_FIELD: return "the reserved bytes of the format have to be 0";
+    case JADVOLNI_UNKNOWN_FIELD: return "the reserved bytes and bits of the format have to be 0";
     default: return "a status that only a later library has";
     }
-}
-
-/* Where the field of a column starts that has its fault at `place`, or that is cut there. */
-static inline size_t jadvolni_field_start(const char *text, size_t place, uint8_t separator)
-{
-    while (place > 0 && (uint8_t)text[place - 1] != separator)
-        place--;
-    return place;
 }
 
 #ifdef __SIZEOF_INT128__
@@ -469,12 +485,12 @@ JADVOLNI_ASSERT_(size_t_has_64_bits, sizeof(size_t) == 8 && sizeof(ptrdiff_t) ==
 JADVOLNI_ASSERT_(result_has_16_bytes, sizeof(jadvolni_result) == 16);
 JADVOLNI_ASSERT_(status_is_at_0, offsetof(jadvolni_result, status) == 0);
 JADVOLNI_ASSERT_(place_is_at_8, offsetof(jadvolni_result, place) == 8);
-JADVOLNI_ASSERT_(format_has_24_bytes, sizeof(jadvolni_format) == 24);
+JADVOLNI_ASSERT_(format_has_32_bytes, sizeof(jadvolni_format) == 32);
 JADVOLNI_ASSERT_(mantissa_radix_is_at_0, offsetof(jadvolni_format, mantissa_radix) == 0);
 JADVOLNI_ASSERT_(base_suffix_is_at_3, offsetof(jadvolni_format, base_suffix) == 3);
 JADVOLNI_ASSERT_(literal_prefixes_is_at_16, offsetof(jadvolni_format, literal_prefixes) == 16);
-JADVOLNI_ASSERT_(base_suffix_is_nul_is_at_20, offsetof(jadvolni_format, base_suffix_is_nul) == 20);
-JADVOLNI_ASSERT_(reserved_is_at_21, offsetof(jadvolni_format, reserved) == 21);
+JADVOLNI_ASSERT_(nul_is_punctuation_is_at_18, offsetof(jadvolni_format, nul_is_punctuation) == 18);
+JADVOLNI_ASSERT_(reserved_is_at_19, offsetof(jadvolni_format, reserved) == 19);
 JADVOLNI_ASSERT_(uint128_has_16_bytes, sizeof(jadvolni_uint128) == 16);
 JADVOLNI_ASSERT_(uint128_high_is_at_8, offsetof(jadvolni_uint128, high) == 8);
 JADVOLNI_ASSERT_(int128_has_16_bytes, sizeof(jadvolni_int128) == 16);

@@ -8,7 +8,7 @@
 //     auto [ptr, ec] = jadvolni::from_chars(first, last, value); // as std::from_chars
 //
 //     std::vector<int> values(1000);
-//     auto read = jadvolni::column(text, '\n', values); // a number on each line
+//     auto read = jadvolni::parse_column(text, '\n', values); // a number on each line
 //
 // T may be any integer type of C++ but bool and the types of wide characters, and, with gcc and
 // clang, a type of 128 bits. No call throws or allocates, and the header compiles without exceptions
@@ -120,13 +120,13 @@ namespace detail {
 template <class Kept>
 struct calls;
 
-#define JADVOLNI_CALLS_OF_(kept, name)                                                 \
-    template <>                                                                        \
-    struct calls<kept> {                                                               \
-        static constexpr auto complete = &jadvolni_##name;                             \
-        static constexpr auto partial = &jadvolni_##name##_partial;                    \
-        static constexpr auto complete_under = &jadvolni_##name##_with_format;         \
-        static constexpr auto partial_under = &jadvolni_##name##_partial_with_format;  \
+#define JADVOLNI_CALLS_OF_(kept, name)                                                      \
+    template <>                                                                             \
+    struct calls<kept> {                                                                    \
+        static constexpr auto complete = &jadvolni_parse_##name;                            \
+        static constexpr auto partial = &jadvolni_parse_##name##_partial;                   \
+        static constexpr auto complete_under = &jadvolni_parse_##name##_with_format;        \
+        static constexpr auto partial_under = &jadvolni_parse_##name##_partial_with_format; \
     }
 JADVOLNI_CALLS_OF_(std::uint8_t, u8);
 JADVOLNI_CALLS_OF_(std::uint16_t, u16);
@@ -144,10 +144,10 @@ JADVOLNI_CALLS_OF_(jadvolni_int128, i128);
 template <class Kept>
 struct column_call;
 
-#define JADVOLNI_COLUMN_OF_(kept, name)                            \
-    template <>                                                    \
-    struct column_call<kept> {                                     \
-        static constexpr auto read = &jadvolni_##name##_column;    \
+#define JADVOLNI_COLUMN_OF_(kept, name)                               \
+    template <>                                                       \
+    struct column_call<kept> {                                        \
+        static constexpr auto read = &jadvolni_parse_##name##_column; \
     }
 JADVOLNI_COLUMN_OF_(std::uint8_t, u8);
 JADVOLNI_COLUMN_OF_(std::uint16_t, u16);
@@ -262,7 +262,7 @@ private:
 // far as it has room. The numbers before a fault stand, and the rest of the array is as it was.
 // Of a file that is read in blocks hand over whole lines, as jadvolni.h shows.
 template <class T>
-[[nodiscard]] column_result column(std::string_view text, char separator, T *values,
+[[nodiscard]] column_result parse_column(std::string_view text, char separator, T *values,
                                    std::size_t capacity, const format &under = standard) noexcept
 {
     using kept = typename detail::kept_as<T>::type;
@@ -276,11 +276,11 @@ template <class T>
 
 // A column into what has its numbers in a row: a std::vector, a std::array, a std::span, an array.
 template <class Values>
-[[nodiscard]] auto column(std::string_view text, char separator, Values &&values,
+[[nodiscard]] auto parse_column(std::string_view text, char separator, Values &&values,
                           const format &under = standard) noexcept
-    -> decltype(column(text, separator, std::data(values), std::size(values), under))
+    -> decltype(parse_column(text, separator, std::data(values), std::size(values), under))
 {
-    return column(text, separator, std::data(values), std::size(values), under);
+    return parse_column(text, separator, std::data(values), std::size(values), under);
 }
 
 namespace detail {
@@ -339,7 +339,7 @@ std::from_chars_result from_chars(const char *first, const char *last, T &value,
         while (stop != last && detail::digit_value(*stop) < base) ++stop;
         return {stop, std::errc::result_out_of_range};
     }
-    // A front without digits is 0 to jadvolni_*_partial, at the start or after the minus.
+    // A front without digits is 0 to jadvolni_parse_T_partial, at the start or after the minus.
     if (!read || stop == first || (stop == first + 1 && *first == '-'))
         return {first, std::errc::invalid_argument};
     value = *read;

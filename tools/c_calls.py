@@ -61,6 +61,8 @@ STATUSES: dict[int, str] = {
 }
 NUMBERS = {name: number for number, name in STATUSES.items()}
 RESERVED = len(CFormat().reserved)
+# The bit that says of a byte of punctuation that it is the byte 0.
+NUL_BITS = dict(zip(BYTE_FIELDS, map(int, re.findall(r"JADVOLNI_NUL_IS_\w+ (\d)", DECLARED))))
 
 
 class Answer(NamedTuple):
@@ -84,7 +86,7 @@ def c_format(form: Format, flag: int = 1) -> CFormat:
     for name in BYTE_FIELDS:
         byte = getattr(form, name)
         setattr(made, name, byte or 0)
-        setattr(made, f"{name}_is_nul", flag if byte == 0 else 0)
+        made.nul_is_punctuation |= NUL_BITS[name] if byte == 0 else 0
     for name in FLAG_FIELDS:
         setattr(made, name, flag if getattr(form, name) else 0)
     return made
@@ -98,7 +100,7 @@ class Library:
         self.library = ctypes.CDLL(path)
         self.library.jadvolni_format_error.restype = ctypes.c_uint32
         forms = ("", "_partial", "_with_format", "_partial_with_format")
-        self.calls = {name.decode() + form: self.call_of(f"jadvolni_{name.decode()}{form}")
+        self.calls = {name.decode() + form: self.call_of(f"jadvolni_parse_{name.decode()}{form}")
                       for name in TYPES for form in forms}
 
     def call_of(self, name: str) -> Callable[..., CResult]:

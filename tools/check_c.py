@@ -35,14 +35,15 @@ INSTALLED = ["PREFIX=/usr", f"LIBDIR={LIBDIR}"]
 BUILT = ["-o", "build/libjadvolni.a", "-o", "build/libjadvolni.so"]
 TYPES = [f"{sign}{size}" for sign in "ui" for size in ("8", "16", "32", "64", "128", "size")]
 FORMS = ["", "_partial", "_with_format", "_partial_with_format"]
-# The structs of the header, by their names in the crate and in jadvolni-sys.
-STRUCTS = {"result": ("Outcome", "Outcome"), "format": ("FormatFields", "Format"),
-           "uint128": ("Unsigned128", "Unsigned128"), "int128": ("Signed128", "Signed128")}
+# The structs of the header, by their names in the crate. jadvolni-sys has the header's names.
+STRUCTS = {"result": "Outcome", "format": "FormatFields", "uint128": "Unsigned128",
+           "int128": "Signed128"}
 OF_RUST = {"uint8_t": "u8", "uint32_t": "u32", "uint64_t": "u64", "int64_t": "i64",
            "size_t": "usize"}
-CALLS = sorted(["jadvolni_version", "jadvolni_format_error"]
-               + [f"jadvolni_{name}{form}" for name, form in product(TYPES, FORMS)]
-               + [f"jadvolni_{kind}{bits}_column" for kind, bits in product("ui", (8, 16, 32, 64))])
+COLUMN_TYPES = [f"{sign}{size}" for sign in "ui" for size in (8, 16, 32, 64)]
+CALLS = sorted(["jadvolni_version", "jadvolni_format_error", "jadvolni_field_start"]
+               + [f"jadvolni_parse_{name}{form}" for name, form in product(TYPES, FORMS)]
+               + [f"jadvolni_parse_{name}_column" for name in COLUMN_TYPES])
 
 
 # ---- what the library is
@@ -124,9 +125,9 @@ def layout() -> str:
     crate = "".join(text_of("crates", "jadvolni", "src", f"{name}.rt")
                     for name in ("outcome", "format", "halves"))
     bound = text_of("bindings", "rust", "jadvolni-sys", "src", "lib.rs")
-    for name, (of_crate, of_bound) in STRUCTS.items():
+    for name, of_crate in STRUCTS.items():
         wanted = fields_of_c(name)
-        for text, other in ((crate, of_crate), (bound, of_bound)):
+        for text, other in ((crate, of_crate), (bound, f"jadvolni_{name}")):
             found = fields_of_rust(text, other)
             if found != wanted or not found:
                 raise Failed(f"{other} has {found}, and jadvolni_{name} {wanted}")

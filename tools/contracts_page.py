@@ -10,6 +10,8 @@ import source
 VISIBLE = re.compile(r"\bpub\s+(?:(?:const|unsafe|extern\s+\"C\")\s+)*\Z")
 HEADER = re.compile(
     r"(?m)^[ \t]*((?:pub(?:\([a-z]+\))?\s+)?(?:unsafe\s+)?(?:impl|trait)\b[^{};]*)\{")
+# Of these crates the page has what others hand on: their other calls are the libraries' own.
+INNER = ("lexical_digits",)
 GHOST = re.compile(
     r"(?m)^    ((?:ghost (?!use\b)|const |type )[^{;]*(?:\{[^{}]*(?:\{[^{}]*\}[^{}]*)*\})?);")
 
@@ -108,10 +110,19 @@ def promises_of(file: str, text: str, seen: Seen, own_traits: set[str]) -> list[
     return found
 
 
+def handed_on(top: str, crate: str) -> set[str]:
+    """The names of a crate that others hand on by `pub use`."""
+    crates = os.path.join(top, "crates")
+    texts = [text for other in os.listdir(crates)
+             for text in source.sources_of(os.path.join(crates, other)).values()]
+    used = re.findall(rf"(?m)^pub use {crate}::([^;]*);", "\n".join(texts))
+    return set(re.findall(r"\w+", " ".join(used)))
+
+
 def of_crate(top: str, crate: str) -> list[str]:
     """The section of a crate: what it promises and its public calls, file by file."""
     sources = source.sources_of(os.path.join(top, "crates", crate))
-    seen = seen_of(sources)
+    seen = seen_of(sources) if crate not in INNER else Seen(set(), handed_on(top, crate))
     own_traits = set(re.findall(r"\btrait (\w+)", "\n".join(sources.values())))
     entries = [entry for file, text in sources.items()
                for entry in promises_of(file, text, seen, own_traits) + calls_of(file, text, seen)]

@@ -22,8 +22,8 @@ import tempfile
 from dataclasses import replace
 from typing import List, Optional, Tuple
 
-from c_calls import (BEFORE, NUMBERS, RESERVED, Answer, CFormat, Library, c_format, compare_rows,
-                     expected)
+from c_calls import (BEFORE, NUL_BITS, NUMBERS, RESERVED, Answer, CFormat, Library, c_format,
+                     compare_rows, expected)
 from fuzz_lines import CAPITALS, DOUBTFUL_BYTES, NAMES, ODD_RADIXES, RADIXES, SMALL, Lines
 from row_data import TOP
 from slow_grammar import (BYTE_FIELDS, FLAG_FIELDS, JSON, STANDARD, TYPES, Format, format_fault,
@@ -92,7 +92,7 @@ def random_parses(comparison: Comparison, chance: random.Random, wanted: int) ->
 def mark_of(made: CFormat, name: str) -> Optional[int]:
     """The byte of punctuation that a format asks for, by the words of the header."""
     byte: int = getattr(made, name)
-    return byte if byte or getattr(made, f"{name}_is_nul") else None
+    return byte if byte or made.nul_is_punctuation & NUL_BITS[name] else None
 
 
 def random_format(chance: random.Random) -> Tuple[CFormat, Format]:
@@ -100,7 +100,7 @@ def random_format(chance: random.Random) -> Tuple[CFormat, Format]:
     made = CFormat(mantissa_radix=chance.choice(RADIXES + ODD_RADIXES))
     for name in BYTE_FIELDS:
         setattr(made, name, chance.choice((0, 0, chance.choice(chance.choice(DOUBTFUL_BYTES)))))
-        setattr(made, f"{name}_is_nul", chance.choice((0, 0, 0, chance.randrange(256))))
+    made.nul_is_punctuation = chance.choice((0, chance.randrange(8)))
     for name in FLAG_FIELDS:
         setattr(made, name, chance.choice((0, 0, chance.randrange(256))))
     marks = {name: mark_of(made, name) for name in BYTE_FIELDS}
@@ -117,7 +117,10 @@ def random_formats(comparison: Comparison, chance: random.Random, wanted: int) -
         comparison.format(form, made)
         text = bytes(chance.choices(b"0129+-_xhXH\0aZ", k=chance.randint(0, 6)))
         comparison.parse(chance.choice(NAMES), text, chance.random() < 0.5, form, made)
-        made.reserved[chance.randrange(RESERVED)] = chance.randint(1, 255)
+        if chance.random() < 0.5:
+            made.reserved[chance.randrange(RESERVED)] = chance.randint(1, 255)
+        else:
+            made.nul_is_punctuation |= chance.randrange(8, 256, 8)
         comparison.same(form, "UnknownField", comparison.library.format_error(made))
         answered = comparison.library.parse("u8", text, chance.random() < 0.5, made)
         comparison.same(form, Answer("UnknownField", 0, BEFORE), answered)

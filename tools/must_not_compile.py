@@ -20,8 +20,9 @@ from typing import NamedTuple
 
 TOP = os.path.dirname(os.path.dirname(os.path.abspath(__file__)))
 RT = os.environ.get("RT", "rt")
-BELOW = ("lexical_util", "lexical_parse_integer")
-CRATES = "lexical_util:\nlexical_parse_integer: lexical_util\nprograms: " + " ".join(BELOW) + "\n"
+BELOW = ("lexical_util", "lexical_digits", "lexical_parse_integer")
+CRATES = ("lexical_util:\nlexical_digits: lexical_util\n"
+          "lexical_parse_integer: lexical_util lexical_digits\nprograms: " + " ".join(BELOW) + "\n")
 PROGRAMS = os.path.join(TOP, "tools", "must_not_compile.txt")
 
 

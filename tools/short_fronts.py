@@ -23,7 +23,7 @@ from slow_reading import Session  # noqa: E402
 
 NONE, NO_NUMBER, OUT_OF_RANGE = range(3)
 BEFORE = 77
-RECORD = struct.Struct("=24s8sQ4I")
+RECORD = struct.Struct("=32s8sQ4I")
 # Under these texts of four bytes are asked for too: a sign, a prefix and a byte have room in them.
 LONGER = [[OPTIONAL, PREFIX, SEPARATOR, BEHIND], [OPTIONAL, LITERAL, OCTAL, SEPARATOR, TRAILING]]
 

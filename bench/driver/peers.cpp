@@ -87,16 +87,16 @@ LOOP(c_u64) {
     });
 }
 
-LOOP(call_u64) { return called<std::uint64_t, jadvolni_u64>(texts, stops, count, all); }
-LOOP(call_i64) { return called<std::int64_t, jadvolni_i64>(texts, stops, count, all_but_the_sign); }
-LOOP(call_front) { return called<std::uint64_t, jadvolni_u64_partial>(texts, stops, count, all); }
+LOOP(call_u64) { return called<std::uint64_t, jadvolni_parse_u64>(texts, stops, count, all); }
+LOOP(call_i64) { return called<std::int64_t, jadvolni_parse_i64>(texts, stops, count, all_but_the_sign); }
+LOOP(call_front) { return called<std::uint64_t, jadvolni_parse_u64_partial>(texts, stops, count, all); }
 
 LOOP(call_hex) {
     jadvolni_format format = JADVOLNI_FORMAT_STANDARD;
     format.mantissa_radix = 16;
     return sum_of<std::uint64_t>(texts, stops, count, all, [&](const char *first, const char *last, std::uint64_t &value) {
         auto size = static_cast<std::size_t>(last - first);
-        return jadvolni_u64_with_format(first, size, &format, &value).status == JADVOLNI_OK;
+        return jadvolni_parse_u64_with_format(first, size, &format, &value).status == JADVOLNI_OK;
     });
 }
 

@@ -85,7 +85,7 @@ pub mod lexical {
     }
 }
 
-/// The same names with no loop behind them, where lexical-core isn't there.
+/// These names with no loop behind them, where lexical-core isn't there.
 #[cfg(not(feature = "lexical-core"))]
 pub mod lexical {}
 

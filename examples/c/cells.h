@@ -82,7 +82,7 @@ static int64_t sum_of(const text *input, find_cell *find, const text *cells)
     jadvolni_result r;
     for (size_t at = 0; at < cells->len; at += r.place, line += count) {
         const char *rest = cells->bytes + at;
-        r = jadvolni_i64_column(rest, cells->len - at, '\n', &format, values, 1000, &count);
+        r = jadvolni_parse_i64_column(rest, cells->len - at, '\n', &format, values, 1000, &count);
         added = add(&sum, values, count);
         if (added < count) tell(input, find, line + added, 0, "the sum leaves the type");
         if (r.status != JADVOLNI_OK)

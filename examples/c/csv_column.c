@@ -18,7 +18,7 @@ static int cell(const char *line, size_t len, size_t *start, size_t *stop)
 
 int main(int count, char **arguments)
 {
-    if (count != 2 || jadvolni_u64(arguments[1], strlen(arguments[1]), &column).status || column == 0) {
+    if (count != 2 || jadvolni_parse_u64(arguments[1], strlen(arguments[1]), &column).status || column == 0) {
         fprintf(stderr, "usage: csv_column COLUMN < FILE\n");
         return 2;
     }

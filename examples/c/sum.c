@@ -10,7 +10,7 @@ int main(void)
     size_t room = 0, number = 0;
     int64_t sum = 0, value;
     for (ssize_t len; (len = getline(&line, &room, stdin)) > 0; sum += value) {
-        jadvolni_result r = jadvolni_i64(line, (size_t)len - (line[len - 1] == '\n'), &value);
+        jadvolni_result r = jadvolni_parse_i64(line, (size_t)len - (line[len - 1] == '\n'), &value);
         number++;
         if (r.status != JADVOLNI_OK)
             errx(1, "line %zu, byte %zu: %s", number, r.place, jadvolni_status_message(r.status));

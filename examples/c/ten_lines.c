@@ -6,7 +6,7 @@ int main(void)
 {
     const char text[] = "18446744073709551616";
     uint64_t value;
-    jadvolni_result r = jadvolni_u64(text, sizeof text - 1, &value);
+    jadvolni_result r = jadvolni_parse_u64(text, sizeof text - 1, &value);
     if (r.status == JADVOLNI_OK)
         printf("ok %llu\n", (unsigned long long)value);
     else

@@ -23,20 +23,20 @@
 #define EACH_CALL(name, type, greatest, len)                                                             \
     do {                                                                                                 \
         jadvolni_format standard = JADVOLNI_FORMAT_STANDARD;                                             \
-        EXPECT(jadvolni_##name, type, NO_FORMAT, #greatest, JADVOLNI_OK, len, (type)greatest##u);        \
-        EXPECT(jadvolni_##name, type, NO_FORMAT, #greatest ",", JADVOLNI_INVALID_DIGIT, len, 77);        \
-        EXPECT(jadvolni_##name##_partial, type, NO_FORMAT, #greatest ",", JADVOLNI_OK, len,              \
+        EXPECT(jadvolni_parse_##name, type, NO_FORMAT, #greatest, JADVOLNI_OK, len, (type)greatest##u);        \
+        EXPECT(jadvolni_parse_##name, type, NO_FORMAT, #greatest ",", JADVOLNI_INVALID_DIGIT, len, 77);        \
+        EXPECT(jadvolni_parse_##name##_partial, type, NO_FORMAT, #greatest ",", JADVOLNI_OK, len,              \
                (type)greatest##u);                                                                       \
-        EXPECT(jadvolni_##name##_partial, type, NO_FORMAT, #greatest "0", JADVOLNI_OVERFLOW, len, 77);   \
-        EXPECT(jadvolni_##name##_with_format, type, UNDER(standard), #greatest, JADVOLNI_OK, len,        \
+        EXPECT(jadvolni_parse_##name##_partial, type, NO_FORMAT, #greatest "0", JADVOLNI_OVERFLOW, len, 77);   \
+        EXPECT(jadvolni_parse_##name##_with_format, type, UNDER(standard), #greatest, JADVOLNI_OK, len,        \
                (type)greatest##u);                                                                       \
-        EXPECT(jadvolni_##name##_with_format, type, UNDER(standard), "", JADVOLNI_EMPTY, 0, 77);         \
-        EXPECT(jadvolni_##name##_partial_with_format, type, UNDER(standard), #greatest ",", JADVOLNI_OK, \
+        EXPECT(jadvolni_parse_##name##_with_format, type, UNDER(standard), "", JADVOLNI_EMPTY, 0, 77);         \
+        EXPECT(jadvolni_parse_##name##_partial_with_format, type, UNDER(standard), #greatest ",", JADVOLNI_OK, \
                len, (type)greatest##u);                                                                  \
         standard.mantissa_radix = 37;                                                                    \
-        EXPECT(jadvolni_##name##_with_format, type, UNDER(standard), "1",                                \
+        EXPECT(jadvolni_parse_##name##_with_format, type, UNDER(standard), "1",                                \
                JADVOLNI_INVALID_MANTISSA_RADIX, 0, 77);                                                  \
-        EXPECT(jadvolni_##name##_partial_with_format, type, UNDER(standard), "1",                        \
+        EXPECT(jadvolni_parse_##name##_partial_with_format, type, UNDER(standard), "1",                        \
                JADVOLNI_INVALID_MANTISSA_RADIX, 0, 77);                                                  \
     } while (0)
 
@@ -52,12 +52,12 @@ static void each_type(void)
     EACH_CALL(i32, int32_t, 2147483647, 10);
     EACH_CALL(i64, int64_t, 9223372036854775807, 19);
     EACH_CALL(isize, ptrdiff_t, 9223372036854775807, 19);
-    EXPECT(jadvolni_i8, int8_t, NO_FORMAT, "-128", JADVOLNI_OK, 4, INT8_MIN);
-    EXPECT(jadvolni_i8, int8_t, NO_FORMAT, "-1290", JADVOLNI_UNDERFLOW, 3, 77);
-    EXPECT(jadvolni_i16, int16_t, NO_FORMAT, "-32768", JADVOLNI_OK, 6, INT16_MIN);
-    EXPECT(jadvolni_i32, int32_t, NO_FORMAT, "-2147483648", JADVOLNI_OK, 11, INT32_MIN);
-    EXPECT(jadvolni_i64, int64_t, NO_FORMAT, "-9223372036854775808", JADVOLNI_OK, 20, INT64_MIN);
-    EXPECT(jadvolni_isize, ptrdiff_t, NO_FORMAT, "-9223372036854775808", JADVOLNI_OK, 20, INT64_MIN);
+    EXPECT(jadvolni_parse_i8, int8_t, NO_FORMAT, "-128", JADVOLNI_OK, 4, INT8_MIN);
+    EXPECT(jadvolni_parse_i8, int8_t, NO_FORMAT, "-1290", JADVOLNI_UNDERFLOW, 3, 77);
+    EXPECT(jadvolni_parse_i16, int16_t, NO_FORMAT, "-32768", JADVOLNI_OK, 6, INT16_MIN);
+    EXPECT(jadvolni_parse_i32, int32_t, NO_FORMAT, "-2147483648", JADVOLNI_OK, 11, INT32_MIN);
+    EXPECT(jadvolni_parse_i64, int64_t, NO_FORMAT, "-9223372036854775808", JADVOLNI_OK, 20, INT64_MIN);
+    EXPECT(jadvolni_parse_isize, ptrdiff_t, NO_FORMAT, "-9223372036854775808", JADVOLNI_OK, 20, INT64_MIN);
 }
 
 /* Each fault of a text, where it stands. */
@@ -65,20 +65,20 @@ static void faults_of_texts(void)
 {
     jadvolni_format json = JADVOLNI_FORMAT_JSON, with_sign = JADVOLNI_FORMAT_STANDARD;
     with_sign.required_mantissa_sign = 255; /* every byte but 0 sets a flag */
-    EXPECT(jadvolni_u64, uint64_t, NO_FORMAT, "18446744073709551616", JADVOLNI_OVERFLOW, 19, 77);
-    EXPECT(jadvolni_u8, uint8_t, NO_FORMAT, "2566x", JADVOLNI_OVERFLOW, 2, 77);
-    EXPECT(jadvolni_i8, int8_t, NO_FORMAT, "-129", JADVOLNI_UNDERFLOW, 3, 77);
-    EXPECT(jadvolni_u8, uint8_t, NO_FORMAT, "1a", JADVOLNI_INVALID_DIGIT, 1, 77);
-    EXPECT(jadvolni_i64, int64_t, NO_FORMAT, "1\0002", JADVOLNI_INVALID_DIGIT, 1, 77);
-    EXPECT(jadvolni_u8, uint8_t, NO_FORMAT, "+", JADVOLNI_EMPTY, 1, 77);
-    EXPECT(jadvolni_usize, size_t, NO_FORMAT, "", JADVOLNI_EMPTY, 0, 77);
-    EXPECT(jadvolni_i64_with_format, int64_t, UNDER(with_sign), "12", JADVOLNI_MISSING_SIGN, 0, 77);
-    EXPECT(jadvolni_i64_with_format, int64_t, UNDER(with_sign), "-12", JADVOLNI_OK, 3, -12);
-    EXPECT(jadvolni_i32_with_format, int32_t, UNDER(json), "+1", JADVOLNI_INVALID_POSITIVE_SIGN, 0, 77);
-    EXPECT(jadvolni_i32_with_format, int32_t, UNDER(json), "-01", JADVOLNI_INVALID_LEADING_ZEROS, 1, 77);
-    EXPECT(jadvolni_u64_partial, uint64_t, NO_FORMAT, "1234 }, {\"Key\"", JADVOLNI_OK, 4, 1234);
-    EXPECT(jadvolni_u32_partial, uint32_t, NO_FORMAT, "-12345", JADVOLNI_OK, 0, 0);
-    EXPECT(jadvolni_i8_partial, int8_t, NO_FORMAT, "-128 }", JADVOLNI_OK, 4, INT8_MIN);
+    EXPECT(jadvolni_parse_u64, uint64_t, NO_FORMAT, "18446744073709551616", JADVOLNI_OVERFLOW, 19, 77);
+    EXPECT(jadvolni_parse_u8, uint8_t, NO_FORMAT, "2566x", JADVOLNI_OVERFLOW, 2, 77);
+    EXPECT(jadvolni_parse_i8, int8_t, NO_FORMAT, "-129", JADVOLNI_UNDERFLOW, 3, 77);
+    EXPECT(jadvolni_parse_u8, uint8_t, NO_FORMAT, "1a", JADVOLNI_INVALID_DIGIT, 1, 77);
+    EXPECT(jadvolni_parse_i64, int64_t, NO_FORMAT, "1\0002", JADVOLNI_INVALID_DIGIT, 1, 77);
+    EXPECT(jadvolni_parse_u8, uint8_t, NO_FORMAT, "+", JADVOLNI_EMPTY, 1, 77);
+    EXPECT(jadvolni_parse_usize, size_t, NO_FORMAT, "", JADVOLNI_EMPTY, 0, 77);
+    EXPECT(jadvolni_parse_i64_with_format, int64_t, UNDER(with_sign), "12", JADVOLNI_MISSING_SIGN, 0, 77);
+    EXPECT(jadvolni_parse_i64_with_format, int64_t, UNDER(with_sign), "-12", JADVOLNI_OK, 3, -12);
+    EXPECT(jadvolni_parse_i32_with_format, int32_t, UNDER(json), "+1", JADVOLNI_INVALID_POSITIVE_SIGN, 0, 77);
+    EXPECT(jadvolni_parse_i32_with_format, int32_t, UNDER(json), "-01", JADVOLNI_INVALID_LEADING_ZEROS, 1, 77);
+    EXPECT(jadvolni_parse_u64_partial, uint64_t, NO_FORMAT, "1234 }, {\"Key\"", JADVOLNI_OK, 4, 1234);
+    EXPECT(jadvolni_parse_u32_partial, uint32_t, NO_FORMAT, "-12345", JADVOLNI_OK, 0, 0);
+    EXPECT(jadvolni_parse_i8_partial, int8_t, NO_FORMAT, "-128 }", JADVOLNI_OK, 4, INT8_MIN);
 }
 
 /* The rules that a format may break, in their order. */
@@ -99,11 +99,11 @@ static void faults_of_formats(void)
     CHECK(jadvolni_format_error(&format) == JADVOLNI_INVALID_DIGIT_SEPARATOR);
     format.mantissa_radix = 1;
     CHECK(jadvolni_format_error(&format) == JADVOLNI_INVALID_MANTISSA_RADIX);
-    EXPECT(jadvolni_i64_with_format, int64_t, UNDER(format), "1", JADVOLNI_INVALID_MANTISSA_RADIX, 0, 77);
-    format.reserved[2] = 1;
+    EXPECT(jadvolni_parse_i64_with_format, int64_t, UNDER(format), "1", JADVOLNI_INVALID_MANTISSA_RADIX, 0, 77);
+    format.reserved[12] = 1;
     CHECK(jadvolni_format_error(&format) == JADVOLNI_UNKNOWN_FIELD);
-    EXPECT(jadvolni_i64_with_format, int64_t, UNDER(format), "1", JADVOLNI_UNKNOWN_FIELD, 0, 77);
-    EXPECT(jadvolni_i64_partial_with_format, int64_t, UNDER(format), "1", JADVOLNI_UNKNOWN_FIELD, 0, 77);
+    EXPECT(jadvolni_parse_i64_with_format, int64_t, UNDER(format), "1", JADVOLNI_UNKNOWN_FIELD, 0, 77);
+    EXPECT(jadvolni_parse_i64_partial_with_format, int64_t, UNDER(format), "1", JADVOLNI_UNKNOWN_FIELD, 0, 77);
     memset(&format, 0, sizeof format);
     CHECK(jadvolni_format_error(&format) == JADVOLNI_INVALID_MANTISSA_RADIX);
 }
@@ -111,21 +111,21 @@ static void faults_of_formats(void)
 static void formats(void)
 {
     jadvolni_format literal = JADVOLNI_FORMAT_LITERAL, hexadecimal = JADVOLNI_FORMAT_STANDARD;
-    EXPECT(jadvolni_u64_with_format, uint64_t, UNDER(literal), "0xFF_FF", JADVOLNI_OK, 7, 65535);
-    EXPECT(jadvolni_u64_partial_with_format, uint64_t, UNDER(literal), "0b102", JADVOLNI_OK, 4, 2);
-    EXPECT(jadvolni_u64_with_format, uint64_t, UNDER(literal), "0o8", JADVOLNI_INVALID_DIGIT, 2, 77);
-    EXPECT(jadvolni_u64_with_format, uint64_t, UNDER(literal), "0x_1", JADVOLNI_INVALID_DIGIT, 2, 77);
+    EXPECT(jadvolni_parse_u64_with_format, uint64_t, UNDER(literal), "0xFF_FF", JADVOLNI_OK, 7, 65535);
+    EXPECT(jadvolni_parse_u64_partial_with_format, uint64_t, UNDER(literal), "0b102", JADVOLNI_OK, 4, 2);
+    EXPECT(jadvolni_parse_u64_with_format, uint64_t, UNDER(literal), "0o8", JADVOLNI_INVALID_DIGIT, 2, 77);
+    EXPECT(jadvolni_parse_u64_with_format, uint64_t, UNDER(literal), "0x_1", JADVOLNI_INVALID_DIGIT, 2, 77);
     literal.integer_prefix_digit_separator = 1;
-    EXPECT(jadvolni_u64_with_format, uint64_t, UNDER(literal), "0x_1F", JADVOLNI_OK, 5, 31);
-    EXPECT(jadvolni_u64_with_format, uint64_t, UNDER(literal), "0777", JADVOLNI_OK, 4, 777);
-    EXPECT(jadvolni_u64_with_format, uint64_t, UNDER(literal), "+1", JADVOLNI_OK, 2, 1);
+    EXPECT(jadvolni_parse_u64_with_format, uint64_t, UNDER(literal), "0x_1F", JADVOLNI_OK, 5, 31);
+    EXPECT(jadvolni_parse_u64_with_format, uint64_t, UNDER(literal), "0777", JADVOLNI_OK, 4, 777);
+    EXPECT(jadvolni_parse_u64_with_format, uint64_t, UNDER(literal), "+1", JADVOLNI_OK, 2, 1);
     literal.literal_octal_zero = 1;
-    EXPECT(jadvolni_u64_with_format, uint64_t, UNDER(literal), "0777", JADVOLNI_OK, 4, 511);
+    EXPECT(jadvolni_parse_u64_with_format, uint64_t, UNDER(literal), "0777", JADVOLNI_OK, 4, 511);
     hexadecimal.mantissa_radix = 16;
     hexadecimal.base_prefix = 'x';
-    EXPECT(jadvolni_i64_with_format, int64_t, UNDER(hexadecimal), "-0XfF", JADVOLNI_OK, 5, -255);
-    EXPECT(jadvolni_u8_with_format, uint8_t, UNDER(hexadecimal), "0x", JADVOLNI_EMPTY, 2, 77);
-    EXPECT(jadvolni_u8_with_format, uint8_t, UNDER(hexadecimal), "0x1F", JADVOLNI_OK, 4, 31);
+    EXPECT(jadvolni_parse_i64_with_format, int64_t, UNDER(hexadecimal), "-0XfF", JADVOLNI_OK, 5, -255);
+    EXPECT(jadvolni_parse_u8_with_format, uint8_t, UNDER(hexadecimal), "0x", JADVOLNI_EMPTY, 2, 77);
+    EXPECT(jadvolni_parse_u8_with_format, uint8_t, UNDER(hexadecimal), "0x1F", JADVOLNI_OK, 4, 31);
 }
 
 /* 0 alone is no separator, prefix or suffix, and with the flag beside it it is. */
@@ -134,20 +134,18 @@ static void nul_as_punctuation(void)
     jadvolni_format nul = JADVOLNI_FORMAT_STANDARD;
     nul.integer_internal_digit_separator = 1;
     nul.integer_trailing_digit_separator = 1;
-    EXPECT(jadvolni_u16_with_format, uint16_t, UNDER(nul), "1\0002\0003\0", JADVOLNI_INVALID_DIGIT, 1, 77);
-    nul.digit_separator_is_nul = 255;
-    EXPECT(jadvolni_u16_partial_with_format, uint16_t, UNDER(nul), "1\0002 3", JADVOLNI_OK, 3, 12);
-    nul.digit_separator_is_nul = 1;
-    EXPECT(jadvolni_u16_with_format, uint16_t, UNDER(nul), "1\0002\0003\0", JADVOLNI_OK, 6, 123);
+    EXPECT(jadvolni_parse_u16_with_format, uint16_t, UNDER(nul), "1\0002\0003\0", JADVOLNI_INVALID_DIGIT, 1, 77);
+    nul.nul_is_punctuation = JADVOLNI_NUL_IS_SEPARATOR;
+    EXPECT(jadvolni_parse_u16_partial_with_format, uint16_t, UNDER(nul), "1\0002 3", JADVOLNI_OK, 3, 12);
+    EXPECT(jadvolni_parse_u16_with_format, uint16_t, UNDER(nul), "1\0002\0003\0", JADVOLNI_OK, 6, 123);
     /* That reads no UTF-16: the bytes 31 31, there the one letter U+3131, are two digits. */
-    EXPECT(jadvolni_u16_with_format, uint16_t, UNDER(nul), "\x31\x31", JADVOLNI_OK, 2, 11);
-    nul.base_suffix_is_nul = 1;
+    EXPECT(jadvolni_parse_u16_with_format, uint16_t, UNDER(nul), "\x31\x31", JADVOLNI_OK, 2, 11);
+    nul.nul_is_punctuation = JADVOLNI_NUL_IS_SEPARATOR | JADVOLNI_NUL_IS_SUFFIX;
     CHECK(jadvolni_format_error(&nul) == JADVOLNI_INVALID_PUNCTUATION);
-    nul.digit_separator_is_nul = 0;
-    EXPECT(jadvolni_u16_with_format, uint16_t, UNDER(nul), "12\0", JADVOLNI_OK, 3, 12);
-    nul.base_suffix_is_nul = 0;
-    nul.base_prefix_is_nul = 1;
-    EXPECT(jadvolni_u16_with_format, uint16_t, UNDER(nul), "0\00012", JADVOLNI_OK, 4, 12);
+    nul.nul_is_punctuation = JADVOLNI_NUL_IS_SUFFIX;
+    EXPECT(jadvolni_parse_u16_with_format, uint16_t, UNDER(nul), "12\0", JADVOLNI_OK, 3, 12);
+    nul.nul_is_punctuation = JADVOLNI_NUL_IS_PREFIX;
+    EXPECT(jadvolni_parse_u16_with_format, uint16_t, UNDER(nul), "0\00012", JADVOLNI_OK, 4, 12);
 }
 
 /* A format that begins with {0} requires no digit, and one of jadvolni_format_of_radix does. */
@@ -157,9 +155,9 @@ static void formats_of_a_radix(void)
     jadvolni_format decimal = jadvolni_format_of_radix(10), sixteen = jadvolni_format_of_radix(16);
     static const int wrong[] = {INT_MIN, -254, -1, 0, 1, 37, 256 + 10, INT_MAX};
     zeroed.mantissa_radix = 10;
-    EXPECT(jadvolni_i64_with_format, int64_t, UNDER(zeroed), "", JADVOLNI_OK, 0, 0);
-    EXPECT(jadvolni_i64_with_format, int64_t, UNDER(decimal), "", JADVOLNI_EMPTY, 0, 77);
-    EXPECT(jadvolni_i64_with_format, int64_t, UNDER(sixteen), "-fF", JADVOLNI_OK, 3, -255);
+    EXPECT(jadvolni_parse_i64_with_format, int64_t, UNDER(zeroed), "", JADVOLNI_OK, 0, 0);
+    EXPECT(jadvolni_parse_i64_with_format, int64_t, UNDER(decimal), "", JADVOLNI_EMPTY, 0, 77);
+    EXPECT(jadvolni_parse_i64_with_format, int64_t, UNDER(sixteen), "-fF", JADVOLNI_OK, 3, -255);
     CHECK(memcmp(&decimal, &standard, sizeof standard) == 0);
     for (size_t k = 0; k < sizeof wrong / sizeof *wrong; k++) {
         decimal = jadvolni_format_of_radix(wrong[k]);
@@ -176,17 +174,22 @@ static void each_radix(void)
         char beyond[2] = {'1', (char)(radix < 10 ? '0' + radix : radix < 36 ? 'a' + radix - 10 : '~')};
         uint32_t value = 77;
         format.mantissa_radix = (uint8_t)radix;
-        jadvolni_result r = jadvolni_u32_with_format("10", 2, &format, &value);
+        jadvolni_result r = jadvolni_parse_u32_with_format("10", 2, &format, &value);
         CHECK(r.status == (is_radix ? JADVOLNI_OK : JADVOLNI_INVALID_MANTISSA_RADIX));
         CHECK(r.place == (is_radix ? 2 : 0) && value == (is_radix ? radix : 77));
-        r = jadvolni_u32_partial_with_format(beyond, 2, &format, &value);
+        r = jadvolni_parse_u32_partial_with_format(beyond, 2, &format, &value);
         CHECK(r.status == (is_radix ? JADVOLNI_OK : JADVOLNI_INVALID_MANTISSA_RADIX));
         CHECK(r.place == (is_radix ? 1 : 0) && value == (is_radix ? 1 : 77));
         for (size_t k = 0; k < sizeof format.reserved; k++) {
             format.reserved[k] = 1;
-            r = jadvolni_u32_with_format("10", 2, &format, &value);
+            r = jadvolni_parse_u32_with_format("10", 2, &format, &value);
             CHECK(r.status == JADVOLNI_UNKNOWN_FIELD && r.place == 0);
             format.reserved[k] = 0;
+        }
+        for (unsigned bit = 8; bit < 256; bit *= 2) {
+            format.nul_is_punctuation = (uint8_t)bit;
+            r = jadvolni_parse_u32_with_format("10", 2, &format, &value);
+            CHECK(r.status == JADVOLNI_UNKNOWN_FIELD && r.place == 0);
         }
     }
 }
@@ -196,30 +199,30 @@ static void halves(void)
     jadvolni_format standard = JADVOLNI_FORMAT_STANDARD;
     jadvolni_uint128 u = {7, 7};
     jadvolni_int128 i = {7, 7};
-    jadvolni_result r = jadvolni_u128("340282366920938463463374607431768211456", 39, &u);
+    jadvolni_result r = jadvolni_parse_u128("340282366920938463463374607431768211456", 39, &u);
     CHECK(r.status == JADVOLNI_OVERFLOW && r.place == 38 && u.low == 7 && u.high == 7);
-    r = jadvolni_u128("340282366920938463463374607431768211455", 39, &u);
+    r = jadvolni_parse_u128("340282366920938463463374607431768211455", 39, &u);
     CHECK(r.status == JADVOLNI_OK && r.place == 39 && u.low == UINT64_MAX && u.high == UINT64_MAX);
-    r = jadvolni_u128_partial("18446744073709551616.", 21, &u);
+    r = jadvolni_parse_u128_partial("18446744073709551616.", 21, &u);
     CHECK(r.status == JADVOLNI_OK && r.place == 20 && u.low == 0 && u.high == 1);
-    r = jadvolni_u128_with_format("18446744073709551617", 20, &standard, &u);
+    r = jadvolni_parse_u128_with_format("18446744073709551617", 20, &standard, &u);
     CHECK(r.status == JADVOLNI_OK && r.place == 20 && u.low == 1 && u.high == 1);
-    r = jadvolni_u128_partial_with_format("5;", 2, &standard, &u);
+    r = jadvolni_parse_u128_partial_with_format("5;", 2, &standard, &u);
     CHECK(r.status == JADVOLNI_OK && r.place == 1 && u.low == 5 && u.high == 0);
-    r = jadvolni_i128("-170141183460469231731687303715884105729", 40, &i);
+    r = jadvolni_parse_i128("-170141183460469231731687303715884105729", 40, &i);
     CHECK(r.status == JADVOLNI_UNDERFLOW && r.place == 39 && i.low == 7 && i.high == 7);
-    r = jadvolni_i128("-170141183460469231731687303715884105728", 40, &i);
+    r = jadvolni_parse_i128("-170141183460469231731687303715884105728", 40, &i);
     CHECK(r.status == JADVOLNI_OK && r.place == 40 && i.low == 0 && i.high == INT64_MIN);
 #ifdef __SIZEOF_INT128__
     CHECK(jadvolni_i128_number(i) < 0 && jadvolni_u128_number(u) == 5);
 #endif
-    r = jadvolni_i128("-1", 2, &i);
+    r = jadvolni_parse_i128("-1", 2, &i);
     CHECK(r.status == JADVOLNI_OK && r.place == 2 && i.low == UINT64_MAX && i.high == -1);
-    r = jadvolni_i128_partial("-1e5", 4, &i);
+    r = jadvolni_parse_i128_partial("-1e5", 4, &i);
     CHECK(r.status == JADVOLNI_OK && r.place == 2 && i.low == UINT64_MAX && i.high == -1);
-    r = jadvolni_i128_with_format("-18446744073709551616", 21, &standard, &i);
+    r = jadvolni_parse_i128_with_format("-18446744073709551616", 21, &standard, &i);
     CHECK(r.status == JADVOLNI_OK && r.place == 21 && i.low == 0 && i.high == -1);
-    r = jadvolni_i128_partial_with_format("12", 2, &standard, &i);
+    r = jadvolni_parse_i128_partial_with_format("12", 2, &standard, &i);
     CHECK(r.status == JADVOLNI_OK && r.place == 2 && i.low == 12 && i.high == 0);
 }
 
@@ -228,14 +231,40 @@ static void null_texts(void)
 {
     jadvolni_format optional = JADVOLNI_FORMAT_STANDARD;
     uint64_t value = 77;
-    jadvolni_result r = jadvolni_u64(NULL, 0, &value);
+    jadvolni_result r = jadvolni_parse_u64(NULL, 0, &value);
     CHECK(r.status == JADVOLNI_EMPTY && r.place == 0 && value == 77);
-    r = jadvolni_u64_partial(NULL, 0, &value);
+    r = jadvolni_parse_u64_partial(NULL, 0, &value);
     CHECK(r.status == JADVOLNI_EMPTY && r.place == 0 && value == 77);
     optional.required_mantissa_digits = 0;
-    r = jadvolni_u64_with_format(NULL, 0, &optional, &value);
+    r = jadvolni_parse_u64_with_format(NULL, 0, &optional, &value);
     CHECK(r.status == JADVOLNI_OK && r.place == 0 && value == 0);
 }
+
+#if __STDC_VERSION__ >= 201112L
+/* The call of C11 for the type of the value. */
+#define EXPECT_GENERIC(type, text, wanted_status, wanted_place, wanted_number) \
+    EXPECT(jadvolni_parse, type, NO_FORMAT, text, wanted_status, wanted_place, wanted_number)
+
+static void by_type(void)
+{
+    jadvolni_uint128 u = {7, 7};
+    jadvolni_int128 i = {7, 7};
+    EXPECT_GENERIC(uint8_t, "255", JADVOLNI_OK, 3, 255);
+    EXPECT_GENERIC(uint16_t, "65535", JADVOLNI_OK, 5, 65535);
+    EXPECT_GENERIC(uint32_t, "4294967296", JADVOLNI_OVERFLOW, 9, 77);
+    EXPECT_GENERIC(uint64_t, "4294967296", JADVOLNI_OK, 10, 4294967296);
+    EXPECT_GENERIC(size_t, "4294967296", JADVOLNI_OK, 10, 4294967296);
+    EXPECT_GENERIC(int8_t, "-129", JADVOLNI_UNDERFLOW, 3, 77);
+    EXPECT_GENERIC(int16_t, "-129", JADVOLNI_OK, 4, -129);
+    EXPECT_GENERIC(int32_t, "-32769", JADVOLNI_OK, 6, -32769);
+    EXPECT_GENERIC(int64_t, "-2147483649", JADVOLNI_OK, 11, -2147483649);
+    EXPECT_GENERIC(ptrdiff_t, "-2147483649", JADVOLNI_OK, 11, -2147483649);
+    CHECK(jadvolni_parse("18446744073709551616", 20, &u).status == JADVOLNI_OK && u.high == 1);
+    CHECK(jadvolni_parse("-1", 2, &i).status == JADVOLNI_OK && i.high == -1);
+}
+#else
+static void by_type(void) {}
+#endif
 
 static void names(void)
 {
@@ -274,6 +303,7 @@ int main(void)
     each_radix();
     halves();
     null_texts();
+    by_type();
     names();
     return checked();
 }

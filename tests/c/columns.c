@@ -12,14 +12,14 @@ static const jadvolni_format STANDARD = JADVOLNI_FORMAT_STANDARD;
         char *bytes = exactly(text, sizeof text - 1);                                             \
         type *values = exactly(before, sizeof before);                                            \
         size_t count = 9;                                                                         \
-        jadvolni_result r = jadvolni_##name##_column(bytes, sizeof text - 1, ',', &STANDARD,      \
+        jadvolni_result r = jadvolni_parse_##name##_column(bytes, sizeof text - 1, ',', &STANDARD,      \
                                                      values, 4, &count);                          \
         CHECK(r.status == JADVOLNI_INVALID_DIGIT && r.place == (at) && count == 2);               \
         CHECK(jadvolni_field_start(bytes, r.place, ',') == (at));                                 \
         CHECK(values[0] == (type)strtoll(#least, NULL, 10));                                      \
         CHECK(values[1] == (type)strtoull(#greatest, NULL, 10));                                  \
         CHECK(values[2] == 77 && values[3] == 77);                                                \
-        r = jadvolni_##name##_column(bytes, sizeof text - 3, ',', &STANDARD, values, 4, &count);  \
+        r = jadvolni_parse_##name##_column(bytes, sizeof text - 3, ',', &STANDARD, values, 4, &count);  \
         CHECK(r.status == JADVOLNI_OK && r.place == (at)-1 && count == 2);                        \
         free(bytes);                                                                              \
         free(values);                                                                             \
@@ -43,7 +43,7 @@ static void each_type(void)
         int16_t values[3] = {77, 77, 77};                                                          \
         size_t count = 9;                                                                          \
         char *bytes = exactly(text, sizeof(text) - 1);                                             \
-        jadvolni_result r = jadvolni_i16_column(bytes, sizeof(text) - 1, separator, &(format),     \
+        jadvolni_result r = jadvolni_parse_i16_column(bytes, sizeof(text) - 1, separator, &(format),     \
                                                 values, 3, &count);                                \
         free(bytes);                                                                               \
         CHECK(r.status == (wanted_status) && r.place == (wanted_place));                           \
@@ -70,7 +70,7 @@ static void faults_of_fields(void)
 static void expect_invalid(const jadvolni_format *format, uint32_t status)
 {
     size_t count = 9;
-    jadvolni_result r = jadvolni_i16_column(NULL, 0, ',', format, NULL, 0, &count);
+    jadvolni_result r = jadvolni_parse_i16_column(NULL, 0, ',', format, NULL, 0, &count);
     CHECK(r.status == status && r.place == 0 && count == 0);
     EXPECT("1,x", ',', *format, status, 0, 0, 77, 77);
 }
@@ -125,16 +125,16 @@ static void no_room(void)
 {
     uint64_t value = 77;
     size_t count = 9;
-    jadvolni_result r = jadvolni_u64_column(NULL, 0, ',', &STANDARD, &value, 1, &count);
+    jadvolni_result r = jadvolni_parse_u64_column(NULL, 0, ',', &STANDARD, &value, 1, &count);
     CHECK(r.status == JADVOLNI_OK && r.place == 0 && count == 0 && value == 77);
     count = 9;
-    r = jadvolni_u64_column("x", 1, ',', &STANDARD, NULL, 0, &count);
+    r = jadvolni_parse_u64_column("x", 1, ',', &STANDARD, NULL, 0, &count);
     CHECK(r.status == JADVOLNI_OK && r.place == 0 && count == 0);
-    r = jadvolni_u64_column("5,x", 3, ',', &STANDARD, &value, 1, &count);
+    r = jadvolni_parse_u64_column("5,x", 3, ',', &STANDARD, &value, 1, &count);
     CHECK(r.status == JADVOLNI_OK && r.place == 2 && count == 1 && value == 5);
-    r = jadvolni_u64_column("6,", 2, ',', &STANDARD, &value, 1, &count);
+    r = jadvolni_parse_u64_column("6,", 2, ',', &STANDARD, &value, 1, &count);
     CHECK(r.status == JADVOLNI_OK && r.place == 2 && count == 1 && value == 6);
-    r = jadvolni_u64_column("x,7", 3, ',', &STANDARD, &value, 1, &count);
+    r = jadvolni_parse_u64_column("x,7", 3, ',', &STANDARD, &value, 1, &count);
     CHECK(r.status == JADVOLNI_INVALID_DIGIT && r.place == 0 && count == 0 && value == 6);
 }
 
@@ -148,7 +148,7 @@ static void pieces(void)
         size_t from = 0, read = 0, count;
         jadvolni_result r;
         do {
-            r = jadvolni_u8_column(text + from, len - from, '\n', &STANDARD, values, room, &count);
+            r = jadvolni_parse_u8_column(text + from, len - from, '\n', &STANDARD, values, room, &count);
             CHECK(count <= room);
             read += count;
             from += r.place;
@@ -171,7 +171,7 @@ static void each_field_wrong(void)
             memcpy(text + 3 * k, k == bad ? "1x," : field, 3);
             values[k] = 77;
         }
-        jadvolni_result r = jadvolni_u32_column(text, sizeof text, ',', &STANDARD, values, FIELDS, &count);
+        jadvolni_result r = jadvolni_parse_u32_column(text, sizeof text, ',', &STANDARD, values, FIELDS, &count);
         CHECK(r.status == JADVOLNI_INVALID_DIGIT && r.place == 3 * bad + 1 && count == bad);
         CHECK(jadvolni_field_start(text, r.place, ',') == 3 * bad);
         for (size_t k = 0; k < FIELDS; k++)
@@ -187,16 +187,16 @@ static void large(void)
     uint64_t *values = malloc(len / 2 * sizeof *values), value = 77, sum = 0;
     if (!text || !values) abort();
     memset(text, '9', len);
-    jadvolni_result r = jadvolni_u64_column(text, len, ',', &STANDARD, &value, 1, &count);
+    jadvolni_result r = jadvolni_parse_u64_column(text, len, ',', &STANDARD, &value, 1, &count);
     CHECK(r.status == JADVOLNI_OVERFLOW && r.place == 19 && count == 0 && value == 77);
     memset(text, '0', len);
-    r = jadvolni_u64_column(text, len, ',', &STANDARD, &value, 1, &count);
+    r = jadvolni_parse_u64_column(text, len, ',', &STANDARD, &value, 1, &count);
     CHECK(r.status == JADVOLNI_OK && r.place == len && count == 1 && value == 0);
     memset(text, ',', len);
-    r = jadvolni_u64_column(text, len, ',', &STANDARD, &value, 1, &count);
+    r = jadvolni_parse_u64_column(text, len, ',', &STANDARD, &value, 1, &count);
     CHECK(r.status == JADVOLNI_EMPTY && r.place == 0 && count == 0);
     for (size_t k = 0; k < len; k += 2) text[k] = (char)('0' + k / 2 % 10);
-    r = jadvolni_u64_column(text, len, ',', &STANDARD, values, len / 2, &count);
+    r = jadvolni_parse_u64_column(text, len, ',', &STANDARD, values, len / 2, &count);
     CHECK(r.status == JADVOLNI_OK && r.place == len && count == len / 2);
     for (size_t k = 0; k < count; k++) sum += values[k] != k % 10;
     CHECK(sum == 0);
@@ -216,7 +216,7 @@ static void read_lines(const char *text, size_t len)
     size_t at = 0, count;
     while (at < len) {
         jadvolni_result r =
-            jadvolni_i64_column(text + at, len - at, '\n', &STANDARD, values, 1000, &count);
+            jadvolni_parse_i64_column(text + at, len - at, '\n', &STANDARD, values, 1000, &count);
         if (r.status != JADVOLNI_OK) return;
         for (size_t k = 0; k < count; k++) numbers.sum += values[k];
         numbers.count += count;

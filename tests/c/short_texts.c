@@ -19,7 +19,7 @@ static uint64_t texts, wrong;
 static expected i8_complete(const char *text, size_t len, const jadvolni_format *format)
 {
     int8_t value = 77;
-    jadvolni_result r = jadvolni_i8_with_format(text, len, format, &value);
+    jadvolni_result r = jadvolni_parse_i8_with_format(text, len, format, &value);
     expected e = {r.status, (uint32_t)r.place, value};
     return e;
 }
@@ -27,7 +27,7 @@ static expected i8_complete(const char *text, size_t len, const jadvolni_format 
 static expected i8_partial(const char *text, size_t len, const jadvolni_format *format)
 {
     int8_t value = 77;
-    jadvolni_result r = jadvolni_i8_partial_with_format(text, len, format, &value);
+    jadvolni_result r = jadvolni_parse_i8_partial_with_format(text, len, format, &value);
     expected e = {r.status, (uint32_t)r.place, value};
     return e;
 }
@@ -35,7 +35,7 @@ static expected i8_partial(const char *text, size_t len, const jadvolni_format *
 static expected u64_complete(const char *text, size_t len, const jadvolni_format *format)
 {
     uint64_t value = 77;
-    jadvolni_result r = jadvolni_u64_with_format(text, len, format, &value);
+    jadvolni_result r = jadvolni_parse_u64_with_format(text, len, format, &value);
     expected e = {r.status, (uint32_t)r.place, (int64_t)value};
     return e;
 }
@@ -43,7 +43,7 @@ static expected u64_complete(const char *text, size_t len, const jadvolni_format
 static expected u64_partial(const char *text, size_t len, const jadvolni_format *format)
 {
     uint64_t value = 77;
-    jadvolni_result r = jadvolni_u64_partial_with_format(text, len, format, &value);
+    jadvolni_result r = jadvolni_parse_u64_partial_with_format(text, len, format, &value);
     expected e = {r.status, (uint32_t)r.place, (int64_t)value};
     return e;
 }

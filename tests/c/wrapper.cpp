@@ -180,23 +180,23 @@ static void beside_from_chars(int texts)
 static void columns()
 {
     std::vector<int> values(3, 77);
-    auto read = jadvolni::column("1,-2,", ',', values);
+    auto read = jadvolni::parse_column("1,-2,", ',', values);
     CHECK(read && read.count() == 2 && read.place() == 5 && values == std::vector<int>{1, -2, 77});
-    read = jadvolni::column("8,9,10,x", ',', values.data(), 2);
+    read = jadvolni::parse_column("8,9,10,x", ',', values.data(), 2);
     CHECK(read && read.count() == 2 && read.place() == 4 && values == std::vector<int>{8, 9, 77});
-    read = jadvolni::column("3,x", ',', values);
+    read = jadvolni::parse_column("3,x", ',', values);
     CHECK(!read && read.status() == status::invalid_digit && read.place() == 2 && read.count() == 1);
     CHECK(std::strcmp(read.message(), "invalid digit") == 0);
     CHECK(std::strcmp(read.name(), "InvalidDigit") == 0 && values == std::vector<int>{3, 9, 77});
     std::array<unsigned char, 2> bytes{};
     auto hexadecimal = jadvolni::standard;
     hexadecimal.mantissa_radix = 16;
-    CHECK(jadvolni::column("fF 100", ' ', bytes, hexadecimal).status() == status::overflow && bytes[0] == 255);
+    CHECK(jadvolni::parse_column("fF 100", ' ', bytes, hexadecimal).status() == status::overflow && bytes[0] == 255);
     hexadecimal.mantissa_radix = 37;
-    CHECK(jadvolni::column("1", ' ', bytes, hexadecimal).status() == status::invalid_mantissa_radix);
+    CHECK(jadvolni::parse_column("1", ' ', bytes, hexadecimal).status() == status::invalid_mantissa_radix);
     long long wide[2] = {7, 7};
-    CHECK(jadvolni::column("-9223372036854775808\xff", '\xff', wide).place() == 21 && wide[0] == LLONG_MIN);
-    CHECK(jadvolni::column(std::string_view(), '\n', static_cast<short *>(nullptr), 0));
+    CHECK(jadvolni::parse_column("-9223372036854775808\xff", '\xff', wide).place() == 21 && wide[0] == LLONG_MIN);
+    CHECK(jadvolni::parse_column(std::string_view(), '\n', static_cast<short *>(nullptr), 0));
 }
 
 // The numbers of a column as a T, beside those of a loop of std::from_chars.
@@ -211,7 +211,7 @@ static void column_beside_std(std::mt19937_64 &random)
         at = std::from_chars(at, last, number).ptr;
         theirs.push_back(number);
     }
-    auto read = jadvolni::column(text, '\n', ours);
+    auto read = jadvolni::parse_column(text, '\n', ours);
     CHECK(read && read.count() == 1000 && read.place() == text.size() && ours == theirs);
 }
 

@@ -7,12 +7,12 @@
     static jadvolni_result whole_##name(const char *text, size_t len,                            \
                                         const jadvolni_format *format, void *value)              \
     {                                                                                            \
-        return jadvolni_##name##_with_format(text, len, format, (type *)value);                  \
+        return jadvolni_parse_##name##_with_format(text, len, format, (type *)value);            \
     }                                                                                            \
     static jadvolni_result front_##name(const char *text, size_t len,                            \
                                         const jadvolni_format *format, void *value)              \
     {                                                                                            \
-        return jadvolni_##name##_partial_with_format(text, len, format, (type *)value);          \
+        return jadvolni_parse_##name##_partial_with_format(text, len, format, (type *)value);    \
     }
 
 /* The call for columns of a type is that of the type of C, whose width and sign it has. */
@@ -21,8 +21,8 @@
                                          const jadvolni_format *format, void *values,            \
                                          size_t capacity, size_t *count)                         \
     {                                                                                            \
-        return jadvolni_##call##_column(text, len, separator, format, (type *)values, capacity,  \
-                                        count);                                                  \
+        return jadvolni_parse_##call##_column(text, len, separator, format, (type *)values,      \
+                                              capacity, count);                                  \
     }
 
 #define UNSIGNED_TYPE(name, call, type, column_type)                                             \

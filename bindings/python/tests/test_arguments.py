@@ -139,7 +139,7 @@ class Arguments(unittest.TestCase):
 
     def test_formats(self):
         wanted = "^format has to be a jadvolni.Format or None, and not "
-        others = (16, object(), Format, Alike("fields"), Alike(b"short"), Alike(bytes(25)))
+        others = (16, object(), Format, Alike("fields"), Alike(b"short"), Alike(bytes(24)), Alike(bytes(33)))
         for call in CALLS:
             for format in (*others, Alike(AttributeError())):
                 with self.subTest(format=format):
@@ -148,8 +148,8 @@ class Arguments(unittest.TestCase):
                 self.assertRaises(error, call, "1", format=Alike(error()))
 
     def test_bytes_of_formats(self):
-        self.assertEqual(parse("1", "u8", Alike(b"\x0a" + bytes(23))), 1)
-        reserved = Alike(b"\x0a" + bytes(22) + b"\x01")
+        self.assertEqual(parse("1", "u8", Alike(b"\x0a" + bytes(31))), 1)
+        reserved = Alike(b"\x0a" + bytes(30) + b"\x01")
         self.assertRaises(FormatError, parse, "1", "u8", reserved)
 
 

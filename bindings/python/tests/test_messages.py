@@ -11,7 +11,7 @@ LIST = pathlib.Path(__file__).resolve().parents[2] / "errors.txt"
 class Reserved:
     """A format with a field of a later version."""
 
-    _fields = b"\x0a" + bytes(22) + b"\x01"
+    _fields = b"\x0a" + bytes(30) + b"\x01"
 
 
 # How each kind of fault comes about: of a text its place, the text, and the format that it has.

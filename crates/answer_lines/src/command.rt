@@ -111,7 +111,7 @@ fn type_and_text(text: &[u8]) -> Option<(TypeName, &[u8])>
     }
 }
 
-// The same where the name has three bytes, as half of them have: the space is at a known place.
+// The type and the text behind it where the name has three bytes, as half of them have: the space is at a known place.
 #[inline(always)]
 fn short_type_and_text(text: &[u8]) -> Option<(TypeName, &[u8])>
     ensures { IfSome result (λ found.
@@ -128,7 +128,8 @@ fn short_type_and_text(text: &[u8]) -> Option<(TypeName, &[u8])>
     }
 }
 
-// The same for a name of any length. It stays out of line, so that the names above are tested in place.
+// The type and the text behind it for a name of any length. It stays out of line, so that the names above are tested in
+// place.
 #[inline(never)]
 fn any_type_and_text(text: &[u8]) -> Option<(TypeName, &[u8])>
     ensures { option_map (λ found. (found.0, found.1.now)) result ≡ type_and_text text.now }

@@ -29,10 +29,8 @@ fields_of radix reserved = record {
   integer_prefix_digit_separator = 0;
   literal_prefixes = 0;
   literal_octal_zero = 0;
-  digit_separator_is_nul = 0;
-  base_prefix_is_nul = 0;
-  base_suffix_is_nul = 0;
-  reserved = 0 ∷ 0 ∷ reserved ∷ [];
+  nul_is_punctuation = 0;
+  reserved = 0 ∷ 0 ∷ 0 ∷ 0 ∷ 0 ∷ 0 ∷ 0 ∷ 0 ∷ 0 ∷ 0 ∷ 0 ∷ 0 ∷ reserved ∷ [];
 }
 
 -- an array of three, with 77 at each place

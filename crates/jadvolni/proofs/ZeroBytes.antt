@@ -1,8 +1,13 @@
--- When a word of eight bytes is 0.
-use Rattle.std.proofs.Common.{◌≡◌, ◌∙◌, ℕ, zero, suc, ◌+◌, ◌*◌, ◌&&◌, nat_eq, [], ◌∷◌, ap, arith}
+-- When words of eight bytes are 0.
+use Rattle.std.proofs.Common.{◌≡◌, ◌∙◌, ℕ, Bool, zero, suc, ◌+◌, ◌*◌, ◌&&◌, nat_eq, nat_lt, true, false, List, [], ◌∷◌, ◌++◌, length, get_or, map, refl, ap, ap₂, sym, arith}
 use Rattle.std.proofs.lemmas.Bool.Decides.{nat_tests}
+use Rattle.std.proofs.lemmas.List.{ext_get_or}
+use Rattle.std.proofs.lemmas.List.FromFn.{get_or-map-range_with_len, length-map-range_with_len}
+use Rattle.std.proofs.lemmas.Nat.{and_le_l, and_le_r}
+use Rattle.std.specs.Int.Bits.{bit_or, or_add_and}
 use Rattle.std.specs.Int.{from_le_bytes, w64}
-use Rattle.jadvolni.specs.FormatFields.{are_zeros}
+use Rattle.std.specs.List.{range_with_len}
+use Rattle.jadvolni.specs.FormatFields.{are_zeros, has_bit}
 
 -- a byte and what is above it
 above : (byte rest : ℕ) → nat_eq (byte + 256 * rest) 0 ≡ (nat_eq byte 0 && nat_eq rest 0)
@@ -43,3 +48,66 @@ radix_and_flag a b c d e f g h =
     ∙ ap (λ x. nat_eq d 0 && x) (above e (f + 256 * (g + 256 * 0))
     ∙ ap (λ x. nat_eq e 0 && x) (above f (g + 256 * 0)
     ∙ ap (λ x. nat_eq f 0 && x) (above g 0)))))
+
+-- two numbers have no bit where both are 0
+or_is_zero : (a b : ℕ) → nat_eq (bit_or a b) 0 ≡ (nat_eq a 0 && nat_eq b 0)
+or_is_zero a b =
+    let sum = or_add_and a b in
+    let below = and_le_l a b in
+    let under = and_le_r a b in
+    grind (arith, nat_tests)
+
+-- bytes in two parts are 0 where both parts are
+in_two_parts : (xs ys : List ℕ) → (are_zeros xs && are_zeros ys) ≡ are_zeros (xs ++ ys)
+in_two_parts [] ys = refl
+in_two_parts (x ∷ xs) ys =
+    let rest = in_two_parts xs ys in
+    and_assoc (nat_eq x 0) (are_zeros xs) (are_zeros ys) ∙ ap (λ b. nat_eq x 0 && b) rest
+  where
+    and_assoc : (a b c : Bool) → ((a && b) && c) ≡ (a && (b && c))
+    and_assoc true b c = refl
+    and_assoc false b c = refl
+
+-- a list is what stands at its places
+by_places : (xs : List ℕ) (n : ℕ) → length xs ≡ n → map (λ k. get_or xs k 0) (range_with_len 0 n) ≡ xs
+by_places xs n size =
+    let at : ℕ → ℕ = λ k. get_or xs k 0 in
+    let many = length-map-range_with_len at 0 n in
+    ext_get_or 0 (map at (range_with_len 0 n)) xs (many ∙ sym size)
+    (λ i below. get_or-map-range_with_len at 0 n i i 0 (omega arith) (omega arith))
+
+-- three bytes and thirteen are 0 where the two words of these are
+pub words_of_zeros : (a b c : ℕ) (rest : List ℕ) → length rest ≡ 13 → let at = (λ (k : ℕ). get_or rest k 0) in
+    nat_eq (bit_or (from_le_bytes w64 (a ∷ b ∷ c ∷ at 0 ∷ at 1 ∷ at 2 ∷ at 3 ∷ at 4 ∷ []))
+    (from_le_bytes w64 (at 5 ∷ at 6 ∷ at 7 ∷ at 8 ∷ at 9 ∷ at 10 ∷ at 11 ∷ at 12 ∷ []))) 0 ≡ are_zeros (a ∷ b ∷ c ∷ rest)
+words_of_zeros a b c rest size =
+    let at : ℕ → ℕ = λ k. get_or rest k 0 in
+    or_is_zero (from_le_bytes w64 (a ∷ b ∷ c ∷ at 0 ∷ at 1 ∷ at 2 ∷ at 3 ∷ at 4 ∷ [])) (from_le_bytes w64 (at 5 ∷ at 6 ∷ at 7 ∷ at 8 ∷ at 9 ∷ at 10 ∷ at 11 ∷ at 12 ∷ []))
+    ∙ ap₂ (λ x y. x && y) (word_of_zeros a b c (at 0) (at 1) (at 2) (at 3) (at 4))
+    (word_of_zeros (at 5) (at 6) (at 7) (at 8) (at 9) (at 10) (at 11) (at 12))
+    ∙ in_two_parts (a ∷ b ∷ c ∷ at 0 ∷ at 1 ∷ at 2 ∷ at 3 ∷ at 4 ∷ []) (at 5 ∷ at 6 ∷ at 7 ∷ at 8 ∷ at 9 ∷ at 10 ∷ at 11 ∷ at 12 ∷ [])
+    ∙ ap (λ xs. are_zeros (a ∷ b ∷ c ∷ xs)) (by_places rest 13 size)
+
+-- thirteen bytes are 0 where the two words of these are
+pub bytes_of_zeros : (rest : List ℕ) → length rest ≡ 13 → let at = (λ (k : ℕ). get_or rest k 0) in
+    nat_eq (bit_or (from_le_bytes w64 (at 0 ∷ at 1 ∷ at 2 ∷ at 3 ∷ at 4 ∷ 0 ∷ 0 ∷ 0 ∷ []))
+    (from_le_bytes w64 (at 5 ∷ at 6 ∷ at 7 ∷ at 8 ∷ at 9 ∷ at 10 ∷ at 11 ∷ at 12 ∷ []))) 0 ≡ are_zeros rest
+bytes_of_zeros rest size =
+    let at : ℕ → ℕ = λ k. get_or rest k 0 in
+    or_is_zero (from_le_bytes w64 (at 0 ∷ at 1 ∷ at 2 ∷ at 3 ∷ at 4 ∷ 0 ∷ 0 ∷ 0 ∷ [])) (from_le_bytes w64 (at 5 ∷ at 6 ∷ at 7 ∷ at 8 ∷ at 9 ∷ at 10 ∷ at 11 ∷ at 12 ∷ []))
+    ∙ ap₂ (λ x y. x && y) (word_of_zeros (at 0) (at 1) (at 2) (at 3) (at 4) 0 0 0)
+    (word_of_zeros (at 5) (at 6) (at 7) (at 8) (at 9) (at 10) (at 11) (at 12))
+    ∙ in_two_parts (at 0 ∷ at 1 ∷ at 2 ∷ at 3 ∷ at 4 ∷ []) (at 5 ∷ at 6 ∷ at 7 ∷ at 8 ∷ at 9 ∷ at 10 ∷ at 11 ∷ at 12 ∷ [])
+    ∙ ap are_zeros (by_places rest 13 size)
+
+-- a byte below 8 that has none of three bits is 0
+pub no_bits : (n : ℕ) → nat_lt n 8 ≡ true → has_bit 1 n ≡ false → has_bit 2 n ≡ false → has_bit 4 n ≡ false → n ≡ 0
+no_bits zero low one two four = refl
+no_bits (suc zero) low one two four = cc
+no_bits (suc (suc zero)) low one two four = cc
+no_bits (suc (suc (suc zero))) low one two four = cc
+no_bits (suc (suc (suc (suc zero)))) low one two four = cc
+no_bits (suc (suc (suc (suc (suc zero))))) low one two four = cc
+no_bits (suc (suc (suc (suc (suc (suc zero)))))) low one two four = cc
+no_bits (suc (suc (suc (suc (suc (suc (suc zero))))))) low one two four = cc
+no_bits (suc (suc (suc (suc (suc (suc (suc (suc n)))))))) low one two four = grind (arith, nat_tests)

@@ -1,5 +1,6 @@
 -- A format as C writes it, byte by byte.
-use Rattle.std.specs.Prelude.{◌==◌, ℕ, Bool, true, ◌&&◌, not, List, [], ◌∷◌, Option, Some, None, if◌then◌else◌}
+use Rattle.std.specs.Prelude.{◌==◌, ℕ, Bool, true, ◌&&◌, not, nat_lt, List, [], ◌∷◌, Option, Some, None, if◌then◌else◌}
+use Rattle.std.specs.Int.Bits.{bit_and}
 use Rattle.lexical_util.specs.Format.{Format}
 use Rattle.jadvolni.specs.declared.format.FormatFields.{FormatFields}
 
@@ -7,26 +8,30 @@ use Rattle.jadvolni.specs.declared.format.FormatFields.{FormatFields}
 abbrev pub flag : ℕ → Bool
 flag byte = not (byte == 0)
 
--- a byte of punctuation: 0 is none, or the byte 0 itself where the flag beside it is set
-abbrev pub punctuation : ℕ → ℕ → Option ℕ
-punctuation byte is_nul = if byte == 0 then (if flag is_nul then Some 0 else None) else Some byte
+-- whether a bit, by what it is worth, is set in a byte
+abbrev pub has_bit : ℕ → ℕ → Bool
+has_bit bit byte = not (bit_and byte bit == 0)
+
+-- a byte of punctuation: 0 is none, or the byte 0 itself where that is what it is
+abbrev pub punctuation : ℕ → Bool → Option ℕ
+punctuation byte is_nul = if byte == 0 then (if is_nul then Some 0 else None) else Some byte
 
 -- every one of the bytes is 0
 abbrev pub are_zeros : List ℕ → Bool
 are_zeros [] = true
 are_zeros (byte ∷ bytes) = (byte == 0) && are_zeros bytes
 
--- the bytes that are kept for later versions are 0
+-- the bits and bytes that are kept for later versions are 0
 abbrev pub are_known : FormatFields → Bool
-are_known fields = are_zeros fields.reserved
+are_known fields = nat_lt fields.nul_is_punctuation 8 && are_zeros fields.reserved
 
 -- the format that the fields stand for
 abbrev pub format_of : FormatFields → Format
 format_of fields = record {
   mantissa_radix = fields.mantissa_radix;
-  digit_separator = punctuation fields.digit_separator fields.digit_separator_is_nul;
-  base_prefix = punctuation fields.base_prefix fields.base_prefix_is_nul;
-  base_suffix = punctuation fields.base_suffix fields.base_suffix_is_nul;
+  digit_separator = punctuation fields.digit_separator (has_bit 1 fields.nul_is_punctuation);
+  base_prefix = punctuation fields.base_prefix (has_bit 2 fields.nul_is_punctuation);
+  base_suffix = punctuation fields.base_suffix (has_bit 4 fields.nul_is_punctuation);
   case_sensitive_base_prefix = flag fields.case_sensitive_base_prefix;
   case_sensitive_base_suffix = flag fields.case_sensitive_base_suffix;
   required_integer_digits = flag fields.required_integer_digits;

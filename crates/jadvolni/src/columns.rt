@@ -1,13 +1,14 @@
 //! Columns, as C reads them: the numbers of a text's fields, put into an array.
 
 ghost use Rattle.std.specs.Prelude.{◌≡◌, map, pos};
+ghost use Rattle.lexical_fields.specs.Parts.{whole_fields};
 ghost use Rattle.jadvolni.specs.Columns.{column_call, column_effect};
 ghost use Rattle.jadvolni.specs.Effect.{signed, unsigned};
 
 use crate::calls::UNKNOWN;
 use crate::format::FormatFields;
 use crate::outcome::Outcome;
-use lexical_fields::{ColumnError, read_column};
+use lexical_fields::{ColumnError, read_column, whole_fields};
 use lexical_parse_integer::options;
 use lexical_parse_integer::parse::ParseInteger;
 
@@ -53,9 +54,20 @@ pub fn column_under<T: ParseInteger>(
     }
 }
 
+/// Where the field starts that a text ends in: behind its last separator, or at 0. What stands before is whole fields.
+///
+/// It tells where the field of a fault starts, if the text ends at the fault's place; and how much of a block may be read
+/// as a column, if more follows.
+#[unsafe(no_mangle)]
+pub extern "C" fn jadvolni_field_start(text: &[u8], separator: u8) -> usize
+    ensures { result ≡ whole_fields separator text.now }
+{
+    whole_fields(text, separator)
+}
+
 /// The numbers of a text's fields as `u8`, under a format.
 #[unsafe(no_mangle)]
-pub extern "C" fn jadvolni_u8_column(
+pub extern "C" fn jadvolni_parse_u8_column(
     text: &[u8],
     separator: u8,
     format: &FormatFields,
@@ -70,7 +82,7 @@ pub extern "C" fn jadvolni_u8_column(
 
 /// The numbers of a text's fields as `u16`, under a format.
 #[unsafe(no_mangle)]
-pub extern "C" fn jadvolni_u16_column(
+pub extern "C" fn jadvolni_parse_u16_column(
     text: &[u8],
     separator: u8,
     format: &FormatFields,
@@ -85,7 +97,7 @@ pub extern "C" fn jadvolni_u16_column(
 
 /// The numbers of a text's fields as `u32`, under a format.
 #[unsafe(no_mangle)]
-pub extern "C" fn jadvolni_u32_column(
+pub extern "C" fn jadvolni_parse_u32_column(
     text: &[u8],
     separator: u8,
     format: &FormatFields,
@@ -100,7 +112,7 @@ pub extern "C" fn jadvolni_u32_column(
 
 /// The numbers of a text's fields as `u64`, under a format.
 #[unsafe(no_mangle)]
-pub extern "C" fn jadvolni_u64_column(
+pub extern "C" fn jadvolni_parse_u64_column(
     text: &[u8],
     separator: u8,
     format: &FormatFields,
@@ -115,7 +127,7 @@ pub extern "C" fn jadvolni_u64_column(
 
 /// The numbers of a text's fields as `i8`, under a format.
 #[unsafe(no_mangle)]
-pub extern "C" fn jadvolni_i8_column(
+pub extern "C" fn jadvolni_parse_i8_column(
     text: &[u8],
     separator: u8,
     format: &FormatFields,
@@ -130,7 +142,7 @@ pub extern "C" fn jadvolni_i8_column(
 
 /// The numbers of a text's fields as `i16`, under a format.
 #[unsafe(no_mangle)]
-pub extern "C" fn jadvolni_i16_column(
+pub extern "C" fn jadvolni_parse_i16_column(
     text: &[u8],
     separator: u8,
     format: &FormatFields,
@@ -145,7 +157,7 @@ pub extern "C" fn jadvolni_i16_column(
 
 /// The numbers of a text's fields as `i32`, under a format.
 #[unsafe(no_mangle)]
-pub extern "C" fn jadvolni_i32_column(
+pub extern "C" fn jadvolni_parse_i32_column(
     text: &[u8],
     separator: u8,
     format: &FormatFields,
@@ -160,7 +172,7 @@ pub extern "C" fn jadvolni_i32_column(
 
 /// The numbers of a text's fields as `i64`, under a format.
 #[unsafe(no_mangle)]
-pub extern "C" fn jadvolni_i64_column(
+pub extern "C" fn jadvolni_parse_i64_column(
     text: &[u8],
     separator: u8,
     format: &FormatFields,

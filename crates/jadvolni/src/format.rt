@@ -3,7 +3,7 @@
 ghost use Rattle.std.specs.Prelude.{◌≡◌, ◌↔◌, ◌&&◌, ◌∷◌, [], IsTrue};
 ghost use Rattle.lexical_util.specs.Format.{standard};
 ghost use Rattle.jadvolni.specs.Effect.{format_status};
-ghost use Rattle.jadvolni.specs.FormatFields.{are_known, are_zeros, flag, format_of, punctuation};
+ghost use Rattle.jadvolni.specs.FormatFields.{are_known, are_zeros, flag, format_of, has_bit, punctuation};
 
 use crate::outcome::{UNKNOWN_FIELD, status_of};
 use lexical_parse_integer::{NumberFormat, NumberFormatBuilder};
@@ -11,8 +11,8 @@ use lexical_parse_integer::{NumberFormat, NumberFormatBuilder};
 /// A format, byte by byte: `jadvolni_format` in C, where each field is described.
 ///
 /// The names are those of `NumberFormatBuilder`. A flag is set by every byte but 0. A separator,
-/// prefix or suffix of 0 is none, or the byte 0 itself where the flag `.._is_nul` beside it is set.
-/// Any bytes may be here: the calls refuse what breaks a rule.
+/// prefix or suffix of 0 is none, or the byte 0 itself where its bit of `nul_is_punctuation` is set:
+/// 1, 2 and 4 in that order. Any bytes may be here: the calls refuse what breaks a rule.
 #[repr(C)]
 #[derive(Copy, Clone)]
 pub struct FormatFields {
@@ -34,10 +34,8 @@ pub struct FormatFields {
     pub integer_prefix_digit_separator: u8,
     pub literal_prefixes: u8,
     pub literal_octal_zero: u8,
-    pub digit_separator_is_nul: u8,
-    pub base_prefix_is_nul: u8,
-    pub base_suffix_is_nul: u8,
-    pub reserved: [u8; 3],
+    pub nul_is_punctuation: u8,
+    pub reserved: [u8; 13],
 }
 
 // A flag, which every byte but 0 sets.
@@ -48,12 +46,20 @@ fn flag(byte: u8) -> bool
     byte != 0
 }
 
+// Whether a bit, by what it is worth, is set.
+#[inline(always)]
+fn has_bit(byte: u8, bit: u8) -> bool
+    ensures { result ≡ has_bit bit byte }
+{
+    byte & bit != 0
+}
+
 // A byte of punctuation, or none.
 #[inline(always)]
-fn punctuation(byte: u8, is_nul: u8) -> Option<u8>
+fn punctuation(byte: u8, is_nul: bool) -> Option<u8>
     ensures { result ≡ punctuation byte is_nul }
 {
-    if byte == 0 && !flag(is_nul) {
+    if byte == 0 && !is_nul {
         None
     } else {
         Some(byte)
@@ -109,43 +115,47 @@ fn asks_for_no_signs(fields: &FormatFields) -> bool
     word == 0
 }
 
-// Whether no literal prefix and no byte 0 is asked for, and nothing that is unknown: the last eight bytes.
+// Whether no literal prefix and no byte 0 is asked for, and nothing that is unknown: the last sixteen bytes.
 #[inline(always)]
-#[tactic(auto, using(crate::proofs::ZeroBytes::word_of_zeros))]
+#[tactic(auto, using(crate::proofs::ZeroBytes::words_of_zeros))]
 fn asks_for_no_literals(fields: &FormatFields) -> bool
     ensures { result ≡ (are_zeros (
         fields.now.literal_prefixes ∷ fields.now.literal_octal_zero
-        ∷ fields.now.digit_separator_is_nul ∷ fields.now.base_prefix_is_nul
-        ∷ fields.now.base_suffix_is_nul ∷ fields.now.reserved)) }
+        ∷ fields.now.nul_is_punctuation ∷ fields.now.reserved)) }
 {
-    let [first, second, third] = fields.reserved;
-    let word = u64::from_le_bytes([
+    let [a, b, c, d, e, f, g, h, i, j, k, l, m] = fields.reserved;
+    let third = u64::from_le_bytes([
         fields.literal_prefixes,
         fields.literal_octal_zero,
-        fields.digit_separator_is_nul,
-        fields.base_prefix_is_nul,
-        fields.base_suffix_is_nul,
-        first,
-        second,
-        third,
+        fields.nul_is_punctuation,
+        a,
+        b,
+        c,
+        d,
+        e,
     ]);
-    word == 0
+    let fourth = u64::from_le_bytes([f, g, h, i, j, k, l, m]);
+    third | fourth == 0
 }
 
 impl FormatFields {
-    /// Whether the bytes that are kept for later versions are 0.
+    /// Whether the bits and bytes that are kept for later versions are 0.
     #[inline(always)]
+    #[tactic(auto, using(crate::proofs::ZeroBytes::bytes_of_zeros))]
     pub fn are_known(&self) -> bool
         ensures { result ≡ are_known self.now }
     {
-        let [first, second, third] = self.reserved;
-        first == 0 && second == 0 && third == 0
+        let [a, b, c, d, e, f, g, h, i, j, k, l, m] = self.reserved;
+        let first = u64::from_le_bytes([a, b, c, d, e, 0, 0, 0]);
+        let second = u64::from_le_bytes([f, g, h, i, j, k, l, m]);
+        self.nul_is_punctuation < 8 && first | second == 0
     }
 
     /// Whether all fields but the radix are those of the standard format.
     ///
-    /// The fields are asked in their order, as three words of eight bytes.
+    /// The fields are asked in their order, as four words of eight bytes.
     #[inline(always)]
+    #[tactic(auto, using(crate::proofs::ZeroBytes::no_bits))]
     pub fn differ_in_radix_alone(&self) -> bool
         ensures { IsTrue result ↔ (IsTrue (are_known self.now)
             × (format_of self.now ≡ record standard { mantissa_radix = self.now.mantissa_radix })) }
@@ -158,6 +168,7 @@ impl FormatFields {
     pub fn format(&self) -> NumberFormat
         ensures { result ≡ format_of self.now }
     {
+        let nul = self.nul_is_punctuation;
         // Marks come last: in front of the flags they made the call 3 ns slower.
         NumberFormatBuilder::new()
             .mantissa_radix(self.mantissa_radix)
@@ -175,16 +186,16 @@ impl FormatFields {
             .integer_prefix_digit_separator(flag(self.integer_prefix_digit_separator))
             .literal_prefixes(flag(self.literal_prefixes))
             .literal_octal_zero(flag(self.literal_octal_zero))
-            .digit_separator(punctuation(self.digit_separator, self.digit_separator_is_nul))
-            .base_prefix(punctuation(self.base_prefix, self.base_prefix_is_nul))
-            .base_suffix(punctuation(self.base_suffix, self.base_suffix_is_nul))
+            .digit_separator(punctuation(self.digit_separator, has_bit(nul, 1)))
+            .base_prefix(punctuation(self.base_prefix, has_bit(nul, 2)))
+            .base_suffix(punctuation(self.base_suffix, has_bit(nul, 4)))
             .build_unchecked()
     }
 }
 
 /// 0 where the format is valid, and else the status of the first rule that it breaks.
 ///
-/// A reserved byte that isn't 0 is told first, by status 64.
+/// A reserved byte or bit that isn't 0 is told first, by status 64.
 #[unsafe(no_mangle)]
 pub extern "C" fn jadvolni_format_error(format: &FormatFields) -> u32
     ensures { result ≡ format_status format.now }

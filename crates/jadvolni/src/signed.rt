@@ -12,7 +12,7 @@ use crate::outcome::Outcome;
 
 /// The whole text as an `i8`, under the standard format.
 #[unsafe(no_mangle)]
-pub extern "C" fn jadvolni_i8(text: &[u8], value: &mut i8) -> Outcome
+pub extern "C" fn jadvolni_parse_i8(text: &[u8], value: &mut i8) -> Outcome
     ensures { effect result value.new ≡ complete_call (signed 8) text.now value.old }
 {
     complete::<i8, i8>(text, value)
@@ -20,7 +20,7 @@ pub extern "C" fn jadvolni_i8(text: &[u8], value: &mut i8) -> Outcome
 
 /// The text's front as an `i8`, under the standard format.
 #[unsafe(no_mangle)]
-pub extern "C" fn jadvolni_i8_partial(text: &[u8], value: &mut i8) -> Outcome
+pub extern "C" fn jadvolni_parse_i8_partial(text: &[u8], value: &mut i8) -> Outcome
     ensures { effect result value.new ≡ partial_call (signed 8) text.now value.old }
 {
     partial::<i8, i8>(text, value)
@@ -28,7 +28,7 @@ pub extern "C" fn jadvolni_i8_partial(text: &[u8], value: &mut i8) -> Outcome
 
 /// The whole text as an `i8`, under a format.
 #[unsafe(no_mangle)]
-pub extern "C" fn jadvolni_i8_with_format(
+pub extern "C" fn jadvolni_parse_i8_with_format(
     text: &[u8],
     format: &FormatFields,
     value: &mut i8,
@@ -41,7 +41,7 @@ pub extern "C" fn jadvolni_i8_with_format(
 
 /// The text's front as an `i8`, under a format.
 #[unsafe(no_mangle)]
-pub extern "C" fn jadvolni_i8_partial_with_format(
+pub extern "C" fn jadvolni_parse_i8_partial_with_format(
     text: &[u8],
     format: &FormatFields,
     value: &mut i8,
@@ -54,7 +54,7 @@ pub extern "C" fn jadvolni_i8_partial_with_format(
 
 /// The whole text as an `i16`, under the standard format.
 #[unsafe(no_mangle)]
-pub extern "C" fn jadvolni_i16(text: &[u8], value: &mut i16) -> Outcome
+pub extern "C" fn jadvolni_parse_i16(text: &[u8], value: &mut i16) -> Outcome
     ensures { effect result value.new ≡ complete_call (signed 16) text.now value.old }
 {
     complete::<i16, i16>(text, value)
@@ -62,7 +62,7 @@ pub extern "C" fn jadvolni_i16(text: &[u8], value: &mut i16) -> Outcome
 
 /// The text's front as an `i16`, under the standard format.
 #[unsafe(no_mangle)]
-pub extern "C" fn jadvolni_i16_partial(text: &[u8], value: &mut i16) -> Outcome
+pub extern "C" fn jadvolni_parse_i16_partial(text: &[u8], value: &mut i16) -> Outcome
     ensures { effect result value.new ≡ partial_call (signed 16) text.now value.old }
 {
     partial::<i16, i16>(text, value)
@@ -70,7 +70,7 @@ pub extern "C" fn jadvolni_i16_partial(text: &[u8], value: &mut i16) -> Outcome
 
 /// The whole text as an `i16`, under a format.
 #[unsafe(no_mangle)]
-pub extern "C" fn jadvolni_i16_with_format(
+pub extern "C" fn jadvolni_parse_i16_with_format(
     text: &[u8],
     format: &FormatFields,
     value: &mut i16,
@@ -83,7 +83,7 @@ pub extern "C" fn jadvolni_i16_with_format(
 
 /// The text's front as an `i16`, under a format.
 #[unsafe(no_mangle)]
-pub extern "C" fn jadvolni_i16_partial_with_format(
+pub extern "C" fn jadvolni_parse_i16_partial_with_format(
     text: &[u8],
     format: &FormatFields,
     value: &mut i16,
@@ -96,7 +96,7 @@ pub extern "C" fn jadvolni_i16_partial_with_format(
 
 /// The whole text as an `i32`, under the standard format.
 #[unsafe(no_mangle)]
-pub extern "C" fn jadvolni_i32(text: &[u8], value: &mut i32) -> Outcome
+pub extern "C" fn jadvolni_parse_i32(text: &[u8], value: &mut i32) -> Outcome
     ensures { effect result value.new ≡ complete_call (signed 32) text.now value.old }
 {
     complete::<i32, i32>(text, value)
@@ -104,7 +104,7 @@ pub extern "C" fn jadvolni_i32(text: &[u8], value: &mut i32) -> Outcome
 
 /// The text's front as an `i32`, under the standard format.
 #[unsafe(no_mangle)]
-pub extern "C" fn jadvolni_i32_partial(text: &[u8], value: &mut i32) -> Outcome
+pub extern "C" fn jadvolni_parse_i32_partial(text: &[u8], value: &mut i32) -> Outcome
     ensures { effect result value.new ≡ partial_call (signed 32) text.now value.old }
 {
     partial::<i32, i32>(text, value)
@@ -112,7 +112,7 @@ pub extern "C" fn jadvolni_i32_partial(text: &[u8], value: &mut i32) -> Outcome
 
 /// The whole text as an `i32`, under a format.
 #[unsafe(no_mangle)]
-pub extern "C" fn jadvolni_i32_with_format(
+pub extern "C" fn jadvolni_parse_i32_with_format(
     text: &[u8],
     format: &FormatFields,
     value: &mut i32,
@@ -125,7 +125,7 @@ pub extern "C" fn jadvolni_i32_with_format(
 
 /// The text's front as an `i32`, under a format.
 #[unsafe(no_mangle)]
-pub extern "C" fn jadvolni_i32_partial_with_format(
+pub extern "C" fn jadvolni_parse_i32_partial_with_format(
     text: &[u8],
     format: &FormatFields,
     value: &mut i32,
@@ -138,7 +138,7 @@ pub extern "C" fn jadvolni_i32_partial_with_format(
 
 /// The whole text as an `i64`, under the standard format.
 #[unsafe(no_mangle)]
-pub extern "C" fn jadvolni_i64(text: &[u8], value: &mut i64) -> Outcome
+pub extern "C" fn jadvolni_parse_i64(text: &[u8], value: &mut i64) -> Outcome
     ensures { effect result value.new ≡ complete_call (signed 64) text.now value.old }
 {
     complete::<i64, i64>(text, value)
@@ -146,7 +146,7 @@ pub extern "C" fn jadvolni_i64(text: &[u8], value: &mut i64) -> Outcome
 
 /// The text's front as an `i64`, under the standard format.
 #[unsafe(no_mangle)]
-pub extern "C" fn jadvolni_i64_partial(text: &[u8], value: &mut i64) -> Outcome
+pub extern "C" fn jadvolni_parse_i64_partial(text: &[u8], value: &mut i64) -> Outcome
     ensures { effect result value.new ≡ partial_call (signed 64) text.now value.old }
 {
     partial::<i64, i64>(text, value)
@@ -154,7 +154,7 @@ pub extern "C" fn jadvolni_i64_partial(text: &[u8], value: &mut i64) -> Outcome
 
 /// The whole text as an `i64`, under a format.
 #[unsafe(no_mangle)]
-pub extern "C" fn jadvolni_i64_with_format(
+pub extern "C" fn jadvolni_parse_i64_with_format(
     text: &[u8],
     format: &FormatFields,
     value: &mut i64,
@@ -167,7 +167,7 @@ pub extern "C" fn jadvolni_i64_with_format(
 
 /// The text's front as an `i64`, under a format.
 #[unsafe(no_mangle)]
-pub extern "C" fn jadvolni_i64_partial_with_format(
+pub extern "C" fn jadvolni_parse_i64_partial_with_format(
     text: &[u8],
     format: &FormatFields,
     value: &mut i64,
@@ -180,7 +180,7 @@ pub extern "C" fn jadvolni_i64_partial_with_format(
 
 /// The whole text as an `i128`, under the standard format.
 #[unsafe(no_mangle)]
-pub extern "C" fn jadvolni_i128(text: &[u8], value: &mut Signed128) -> Outcome
+pub extern "C" fn jadvolni_parse_i128(text: &[u8], value: &mut Signed128) -> Outcome
     ensures { effect result (signed_number value.new)
         ≡ complete_call (signed 128) text.now (signed_number value.old) }
 {
@@ -189,7 +189,7 @@ pub extern "C" fn jadvolni_i128(text: &[u8], value: &mut Signed128) -> Outcome
 
 /// The text's front as an `i128`, under the standard format.
 #[unsafe(no_mangle)]
-pub extern "C" fn jadvolni_i128_partial(text: &[u8], value: &mut Signed128) -> Outcome
+pub extern "C" fn jadvolni_parse_i128_partial(text: &[u8], value: &mut Signed128) -> Outcome
     ensures { effect result (signed_number value.new)
         ≡ partial_call (signed 128) text.now (signed_number value.old) }
 {
@@ -198,7 +198,7 @@ pub extern "C" fn jadvolni_i128_partial(text: &[u8], value: &mut Signed128) -> O
 
 /// The whole text as an `i128`, under a format.
 #[unsafe(no_mangle)]
-pub extern "C" fn jadvolni_i128_with_format(
+pub extern "C" fn jadvolni_parse_i128_with_format(
     text: &[u8],
     format: &FormatFields,
     value: &mut Signed128,
@@ -211,7 +211,7 @@ pub extern "C" fn jadvolni_i128_with_format(
 
 /// The text's front as an `i128`, under a format.
 #[unsafe(no_mangle)]
-pub extern "C" fn jadvolni_i128_partial_with_format(
+pub extern "C" fn jadvolni_parse_i128_partial_with_format(
     text: &[u8],
     format: &FormatFields,
     value: &mut Signed128,
@@ -224,7 +224,7 @@ pub extern "C" fn jadvolni_i128_partial_with_format(
 
 /// The whole text as an `isize`, under the standard format.
 #[unsafe(no_mangle)]
-pub extern "C" fn jadvolni_isize(text: &[u8], value: &mut isize) -> Outcome
+pub extern "C" fn jadvolni_parse_isize(text: &[u8], value: &mut isize) -> Outcome
     ensures { effect result value.new ≡ complete_call (signed 64) text.now value.old }
 {
     complete::<isize, isize>(text, value)
@@ -232,7 +232,7 @@ pub extern "C" fn jadvolni_isize(text: &[u8], value: &mut isize) -> Outcome
 
 /// The text's front as an `isize`, under the standard format.
 #[unsafe(no_mangle)]
-pub extern "C" fn jadvolni_isize_partial(text: &[u8], value: &mut isize) -> Outcome
+pub extern "C" fn jadvolni_parse_isize_partial(text: &[u8], value: &mut isize) -> Outcome
     ensures { effect result value.new ≡ partial_call (signed 64) text.now value.old }
 {
     partial::<isize, isize>(text, value)
@@ -240,7 +240,7 @@ pub extern "C" fn jadvolni_isize_partial(text: &[u8], value: &mut isize) -> Outc
 
 /// The whole text as an `isize`, under a format.
 #[unsafe(no_mangle)]
-pub extern "C" fn jadvolni_isize_with_format(
+pub extern "C" fn jadvolni_parse_isize_with_format(
     text: &[u8],
     format: &FormatFields,
     value: &mut isize,
@@ -253,7 +253,7 @@ pub extern "C" fn jadvolni_isize_with_format(
 
 /// The text's front as an `isize`, under a format.
 #[unsafe(no_mangle)]
-pub extern "C" fn jadvolni_isize_partial_with_format(
+pub extern "C" fn jadvolni_parse_isize_partial_with_format(
     text: &[u8],
     format: &FormatFields,
     value: &mut isize,

@@ -12,7 +12,7 @@ use crate::outcome::Outcome;
 
 /// The whole text as a `u8`, under the standard format.
 #[unsafe(no_mangle)]
-pub extern "C" fn jadvolni_u8(text: &[u8], value: &mut u8) -> Outcome
+pub extern "C" fn jadvolni_parse_u8(text: &[u8], value: &mut u8) -> Outcome
     ensures { effect result (pos value.new) ≡ complete_call (unsigned 8) text.now (pos value.old) }
 {
     complete::<u8, u8>(text, value)
@@ -20,7 +20,7 @@ pub extern "C" fn jadvolni_u8(text: &[u8], value: &mut u8) -> Outcome
 
 /// The text's front as a `u8`, under the standard format.
 #[unsafe(no_mangle)]
-pub extern "C" fn jadvolni_u8_partial(text: &[u8], value: &mut u8) -> Outcome
+pub extern "C" fn jadvolni_parse_u8_partial(text: &[u8], value: &mut u8) -> Outcome
     ensures { effect result (pos value.new) ≡ partial_call (unsigned 8) text.now (pos value.old) }
 {
     partial::<u8, u8>(text, value)
@@ -28,7 +28,7 @@ pub extern "C" fn jadvolni_u8_partial(text: &[u8], value: &mut u8) -> Outcome
 
 /// The whole text as a `u8`, under a format.
 #[unsafe(no_mangle)]
-pub extern "C" fn jadvolni_u8_with_format(
+pub extern "C" fn jadvolni_parse_u8_with_format(
     text: &[u8],
     format: &FormatFields,
     value: &mut u8,
@@ -41,7 +41,7 @@ pub extern "C" fn jadvolni_u8_with_format(
 
 /// The text's front as a `u8`, under a format.
 #[unsafe(no_mangle)]
-pub extern "C" fn jadvolni_u8_partial_with_format(
+pub extern "C" fn jadvolni_parse_u8_partial_with_format(
     text: &[u8],
     format: &FormatFields,
     value: &mut u8,
@@ -54,7 +54,7 @@ pub extern "C" fn jadvolni_u8_partial_with_format(
 
 /// The whole text as a `u16`, under the standard format.
 #[unsafe(no_mangle)]
-pub extern "C" fn jadvolni_u16(text: &[u8], value: &mut u16) -> Outcome
+pub extern "C" fn jadvolni_parse_u16(text: &[u8], value: &mut u16) -> Outcome
     ensures { effect result (pos value.new) ≡ complete_call (unsigned 16) text.now (pos value.old) }
 {
     complete::<u16, u16>(text, value)
@@ -62,7 +62,7 @@ pub extern "C" fn jadvolni_u16(text: &[u8], value: &mut u16) -> Outcome
 
 /// The text's front as a `u16`, under the standard format.
 #[unsafe(no_mangle)]
-pub extern "C" fn jadvolni_u16_partial(text: &[u8], value: &mut u16) -> Outcome
+pub extern "C" fn jadvolni_parse_u16_partial(text: &[u8], value: &mut u16) -> Outcome
     ensures { effect result (pos value.new) ≡ partial_call (unsigned 16) text.now (pos value.old) }
 {
     partial::<u16, u16>(text, value)
@@ -70,7 +70,7 @@ pub extern "C" fn jadvolni_u16_partial(text: &[u8], value: &mut u16) -> Outcome
 
 /// The whole text as a `u16`, under a format.
 #[unsafe(no_mangle)]
-pub extern "C" fn jadvolni_u16_with_format(
+pub extern "C" fn jadvolni_parse_u16_with_format(
     text: &[u8],
     format: &FormatFields,
     value: &mut u16,
@@ -83,7 +83,7 @@ pub extern "C" fn jadvolni_u16_with_format(
 
 /// The text's front as a `u16`, under a format.
 #[unsafe(no_mangle)]
-pub extern "C" fn jadvolni_u16_partial_with_format(
+pub extern "C" fn jadvolni_parse_u16_partial_with_format(
     text: &[u8],
     format: &FormatFields,
     value: &mut u16,
@@ -96,7 +96,7 @@ pub extern "C" fn jadvolni_u16_partial_with_format(
 
 /// The whole text as a `u32`, under the standard format.
 #[unsafe(no_mangle)]
-pub extern "C" fn jadvolni_u32(text: &[u8], value: &mut u32) -> Outcome
+pub extern "C" fn jadvolni_parse_u32(text: &[u8], value: &mut u32) -> Outcome
     ensures { effect result (pos value.new) ≡ complete_call (unsigned 32) text.now (pos value.old) }
 {
     complete::<u32, u32>(text, value)
@@ -104,7 +104,7 @@ pub extern "C" fn jadvolni_u32(text: &[u8], value: &mut u32) -> Outcome
 
 /// The text's front as a `u32`, under the standard format.
 #[unsafe(no_mangle)]
-pub extern "C" fn jadvolni_u32_partial(text: &[u8], value: &mut u32) -> Outcome
+pub extern "C" fn jadvolni_parse_u32_partial(text: &[u8], value: &mut u32) -> Outcome
     ensures { effect result (pos value.new) ≡ partial_call (unsigned 32) text.now (pos value.old) }
 {
     partial::<u32, u32>(text, value)
@@ -112,7 +112,7 @@ pub extern "C" fn jadvolni_u32_partial(text: &[u8], value: &mut u32) -> Outcome
 
 /// The whole text as a `u32`, under a format.
 #[unsafe(no_mangle)]
-pub extern "C" fn jadvolni_u32_with_format(
+pub extern "C" fn jadvolni_parse_u32_with_format(
     text: &[u8],
     format: &FormatFields,
     value: &mut u32,
@@ -125,7 +125,7 @@ pub extern "C" fn jadvolni_u32_with_format(
 
 /// The text's front as a `u32`, under a format.
 #[unsafe(no_mangle)]
-pub extern "C" fn jadvolni_u32_partial_with_format(
+pub extern "C" fn jadvolni_parse_u32_partial_with_format(
     text: &[u8],
     format: &FormatFields,
     value: &mut u32,
@@ -138,7 +138,7 @@ pub extern "C" fn jadvolni_u32_partial_with_format(
 
 /// The whole text as a `u64`, under the standard format.
 #[unsafe(no_mangle)]
-pub extern "C" fn jadvolni_u64(text: &[u8], value: &mut u64) -> Outcome
+pub extern "C" fn jadvolni_parse_u64(text: &[u8], value: &mut u64) -> Outcome
     ensures { effect result (pos value.new) ≡ complete_call (unsigned 64) text.now (pos value.old) }
 {
     complete::<u64, u64>(text, value)
@@ -146,7 +146,7 @@ pub extern "C" fn jadvolni_u64(text: &[u8], value: &mut u64) -> Outcome
 
 /// The text's front as a `u64`, under the standard format.
 #[unsafe(no_mangle)]
-pub extern "C" fn jadvolni_u64_partial(text: &[u8], value: &mut u64) -> Outcome
+pub extern "C" fn jadvolni_parse_u64_partial(text: &[u8], value: &mut u64) -> Outcome
     ensures { effect result (pos value.new) ≡ partial_call (unsigned 64) text.now (pos value.old) }
 {
     partial::<u64, u64>(text, value)
@@ -154,7 +154,7 @@ pub extern "C" fn jadvolni_u64_partial(text: &[u8], value: &mut u64) -> Outcome
 
 /// The whole text as a `u64`, under a format.
 #[unsafe(no_mangle)]
-pub extern "C" fn jadvolni_u64_with_format(
+pub extern "C" fn jadvolni_parse_u64_with_format(
     text: &[u8],
     format: &FormatFields,
     value: &mut u64,
@@ -167,7 +167,7 @@ pub extern "C" fn jadvolni_u64_with_format(
 
 /// The text's front as a `u64`, under a format.
 #[unsafe(no_mangle)]
-pub extern "C" fn jadvolni_u64_partial_with_format(
+pub extern "C" fn jadvolni_parse_u64_partial_with_format(
     text: &[u8],
     format: &FormatFields,
     value: &mut u64,
@@ -180,7 +180,7 @@ pub extern "C" fn jadvolni_u64_partial_with_format(
 
 /// The whole text as a `u128`, under the standard format.
 #[unsafe(no_mangle)]
-pub extern "C" fn jadvolni_u128(text: &[u8], value: &mut Unsigned128) -> Outcome
+pub extern "C" fn jadvolni_parse_u128(text: &[u8], value: &mut Unsigned128) -> Outcome
     ensures { effect result (unsigned_number value.new)
         ≡ complete_call (unsigned 128) text.now (unsigned_number value.old) }
 {
@@ -189,7 +189,7 @@ pub extern "C" fn jadvolni_u128(text: &[u8], value: &mut Unsigned128) -> Outcome
 
 /// The text's front as a `u128`, under the standard format.
 #[unsafe(no_mangle)]
-pub extern "C" fn jadvolni_u128_partial(text: &[u8], value: &mut Unsigned128) -> Outcome
+pub extern "C" fn jadvolni_parse_u128_partial(text: &[u8], value: &mut Unsigned128) -> Outcome
     ensures { effect result (unsigned_number value.new)
         ≡ partial_call (unsigned 128) text.now (unsigned_number value.old) }
 {
@@ -198,7 +198,7 @@ pub extern "C" fn jadvolni_u128_partial(text: &[u8], value: &mut Unsigned128) ->
 
 /// The whole text as a `u128`, under a format.
 #[unsafe(no_mangle)]
-pub extern "C" fn jadvolni_u128_with_format(
+pub extern "C" fn jadvolni_parse_u128_with_format(
     text: &[u8],
     format: &FormatFields,
     value: &mut Unsigned128,
@@ -211,7 +211,7 @@ pub extern "C" fn jadvolni_u128_with_format(
 
 /// The text's front as a `u128`, under a format.
 #[unsafe(no_mangle)]
-pub extern "C" fn jadvolni_u128_partial_with_format(
+pub extern "C" fn jadvolni_parse_u128_partial_with_format(
     text: &[u8],
     format: &FormatFields,
     value: &mut Unsigned128,
@@ -224,7 +224,7 @@ pub extern "C" fn jadvolni_u128_partial_with_format(
 
 /// The whole text as a `usize`, under the standard format.
 #[unsafe(no_mangle)]
-pub extern "C" fn jadvolni_usize(text: &[u8], value: &mut usize) -> Outcome
+pub extern "C" fn jadvolni_parse_usize(text: &[u8], value: &mut usize) -> Outcome
     ensures { effect result (pos value.new) ≡ complete_call (unsigned 64) text.now (pos value.old) }
 {
     complete::<usize, usize>(text, value)
@@ -232,7 +232,7 @@ pub extern "C" fn jadvolni_usize(text: &[u8], value: &mut usize) -> Outcome
 
 /// The text's front as a `usize`, under the standard format.
 #[unsafe(no_mangle)]
-pub extern "C" fn jadvolni_usize_partial(text: &[u8], value: &mut usize) -> Outcome
+pub extern "C" fn jadvolni_parse_usize_partial(text: &[u8], value: &mut usize) -> Outcome
     ensures { effect result (pos value.new) ≡ partial_call (unsigned 64) text.now (pos value.old) }
 {
     partial::<usize, usize>(text, value)
@@ -240,7 +240,7 @@ pub extern "C" fn jadvolni_usize_partial(text: &[u8], value: &mut usize) -> Outc
 
 /// The whole text as a `usize`, under a format.
 #[unsafe(no_mangle)]
-pub extern "C" fn jadvolni_usize_with_format(
+pub extern "C" fn jadvolni_parse_usize_with_format(
     text: &[u8],
     format: &FormatFields,
     value: &mut usize,
@@ -253,7 +253,7 @@ pub extern "C" fn jadvolni_usize_with_format(
 
 /// The text's front as a `usize`, under a format.
 #[unsafe(no_mangle)]
-pub extern "C" fn jadvolni_usize_partial_with_format(
+pub extern "C" fn jadvolni_parse_usize_partial_with_format(
     text: &[u8],
     format: &FormatFields,
     value: &mut usize,

@@ -1,11 +1,12 @@
 -- Columns with their answers.
-use Rattle.std.specs.Prelude.{◌≡◌, codes, [], ◌∷◌, pos, false, Ok, Err}
+use Rattle.std.specs.Prelude.{◌≡◌, codes, [], ◌∷◌, pos, false, true, Ok, Err}
 use Rattle.std.proofs.Common.{refl}
 use Rattle.lexical_util.specs.declared.error.Error.TheVariants.{Overflow, InvalidDigit, Empty, InvalidMantissaRadix}
 use Rattle.lexical_util.specs.Format.{standard}
 use Rattle.lexical_util.specs.Number.{IntegerType, integer_type}
 use Rattle.lexical_parse_integer.specs.Computed.{grammar}
 use Rattle.lexical_fields.specs.Columns.{answer_of, numbers_of}
+use Rattle.lexical_fields.specs.Parts.{answers_of_parts, readable}
 use Rattle.lexical_fields.specs.declared.columns.ColumnError.TheVariants.{InvalidField, InvalidFormat}
 
 abbrev u8 : IntegerType
@@ -61,3 +62,26 @@ invalid_format : answer_of (record standard { mantissa_radix = 1 }) u8 4 44 (cod
     ≡ Err (InvalidFormat InvalidMantissaRadix)
 unfolding grammar answer_of numbers_of
 invalid_format = refl
+
+-- ---- parts
+
+-- of a part that more follows, the field that it cuts is left
+cut_field : answer_of standard u8 4 44 (readable false 44 (codes "12,7")) ≡ Ok (record { count = 1; stop = 3 })
+unfolding grammar answer_of numbers_of
+cut_field = refl
+
+-- the last part is read to its end
+last_field : answer_of standard u8 4 44 (readable true 44 (codes "12,7")) ≡ Ok (record { count = 2; stop = 4 })
+unfolding grammar answer_of numbers_of
+last_field = refl
+
+-- a part without a separator has no whole field, whatever stands there
+no_whole_field : answer_of standard u8 4 44 (readable false 44 (codes "7x")) ≡ Ok (record { count = 0; stop = 0 })
+unfolding grammar answer_of numbers_of
+no_whole_field = refl
+
+-- a number that is cut in two is one number, and a fault's place counts over all parts
+two_parts : answers_of_parts standard u8 44 0 [] (codes "1,2" ∷ codes "3,x" ∷ [])
+    ≡ Ok (pos 1) ∷ Ok (pos 23) ∷ Err (InvalidDigit 5) ∷ []
+unfolding grammar
+two_parts = refl

@@ -7,4 +7,7 @@ pub mod FieldEnds
 pub mod FieldPieces
 pub mod FieldRows
 pub mod FieldSteps
+pub mod FieldsInParts
 pub mod Marks
+pub mod MovedFields
+pub mod WholeFields

@@ -11,10 +11,12 @@
 mod columns;
 mod first;
 mod iterator;
+mod parts;
 mod places;
 mod search;
 mod split;
 
 pub use columns::{Column, ColumnError, read_column};
 pub use iterator::{Field, Fields};
+pub use parts::{read_column_part, reads_in_parts, whole_fields};
 pub use split::field_length;

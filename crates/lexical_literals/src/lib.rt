@@ -99,8 +99,9 @@ fn number(text: &[u8], format: &NumberFormat, decimal: bool) -> (Kind, usize)
     wide_number(text, format)
 }
 
-// The same for any number of 64 bits, as most are, and 0 bytes where that isn't sure: out of line, so that what calls
-// `next` has it in place, and in two registers. Where there is a separator the compiler leaves out what reads digits alone.
+// The number of 64 bits that a text begins with, as most are, and 0 bytes where that isn't sure: out of line, so that
+// what calls `next` has it in place, and in two registers. Where there is a separator the compiler leaves out what reads
+// digits alone.
 #[inline(never)]
 fn marked_number(text: &[u8], format: &NumberFormat) -> (u64, usize)
     requires valid { IsNone (fault format.now) }
@@ -113,7 +114,7 @@ fn marked_number(text: &[u8], format: &NumberFormat) -> (u64, usize)
     }
 }
 
-// The same where there is no separator, out of line again.
+// Such a number under a format without a separator, out of line again.
 #[inline(never)]
 fn number_without_separator(text: &[u8], format: &NumberFormat) -> (u64, usize)
     requires valid { IsNone (fault format.now) }
@@ -123,7 +124,7 @@ fn number_without_separator(text: &[u8], format: &NumberFormat) -> (u64, usize)
     short_number(text, format)
 }
 
-// The same in place.
+// Such a number under any format, in place.
 #[inline(always)]
 fn short_number(text: &[u8], format: &NumberFormat) -> (u64, usize)
     requires valid { IsNone (fault format.now) }
@@ -136,7 +137,7 @@ fn short_number(text: &[u8], format: &NumberFormat) -> (u64, usize)
     }
 }
 
-// The same for a number of more bits, and for a fault.
+// A number of up to 128 bits that a text begins with, or its fault, and how many bytes that has.
 #[inline(never)]
 fn wide_number(text: &[u8], format: &NumberFormat) -> (Kind, usize)
     requires valid { IsNone (fault format.now) }

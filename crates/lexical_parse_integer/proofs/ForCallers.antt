@@ -1,13 +1,16 @@
 -- What proofs of other crates may cite: these names stay. `partial_within` serves on a function, by `using(..)`.
 pub use Rattle.lexical_parse_integer.proofs.grammar.DigitsInARow.{EndsRow, end_of_row, has_digit, numeral_in_a_row, row_numeral}
-pub use Rattle.lexical_parse_integer.proofs.grammar.NumeralEnd.{IsStop-end_of}
-pub use Rattle.lexical_parse_integer.proofs.grammar.Stretches.{IsStop-unique}
+pub use Rattle.lexical_parse_integer.proofs.grammar.FrontValues.{fitting_fault}
+pub use Rattle.lexical_parse_integer.proofs.grammar.NumeralEnd.{IsStop-end_of, belongs_digit, belongs_other, belongs_separator, digit_at_past, separator_at_past, separator_at_within}
+pub use Rattle.lexical_parse_integer.proofs.grammar.RangeOfFronts.{shorter_fronts_fit, zero_is_number}
+pub use Rattle.lexical_parse_integer.proofs.grammar.Stretches.{HoldsBetween, IsStop, IsStop-stop_of, IsStop-unique, begin_of_is, stop_of_is, true_or_false}
 pub use Rattle.lexical_parse_integer.proofs.marked.MarkedAnswers.{head_signed}
 pub use Rattle.lexical_parse_integer.proofs.plain.DigitsAlone.{sign_of_digit_under}
-pub use Rattle.lexical_parse_integer.proofs.reading.FormatBytes.{fits}
+pub use Rattle.lexical_parse_integer.proofs.reading.FormatBytes.{IsFit, fits, fits_marked, fits_octal}
 pub use Rattle.lexical_parse_integer.proofs.reading.OctalZeros.{not_asked}
 pub use Rattle.lexical_parse_integer.proofs.reading.ParserAnswers.{is_fresh}
-pub use Rattle.lexical_parse_integer.proofs.theorems.DigitTexts.{head_is}
+pub use Rattle.lexical_parse_integer.proofs.theorems.DigitTexts.{complete_by, fits_told, head_is}
+pub use Rattle.lexical_parse_integer.proofs.theorems.EndsAndRuns.{IsBegin, IsBegin-begin_of}
 pub use Rattle.lexical_parse_integer.proofs.theorems.EqualViews.{view_same}
 pub use Rattle.lexical_parse_integer.proofs.theorems.Examples.{eight_digits, plus_forbidden}
 pub use Rattle.lexical_parse_integer.proofs.theorems.ReadBack.{digits_text_is}
@@ -21,8 +24,7 @@ use Rattle.lexical_parse_integer.specs.Affixes.{prefix_radix}
 use Rattle.lexical_parse_integer.specs.Grammar.{after_head, common_faults, first_fault_or, partial, partial_faults}
 use Rattle.lexical_parse_integer.specs.Head.{Head, head_after, head_behind, head_of, sign}
 use Rattle.lexical_parse_integer.specs.Numeral.{Numeral, numeral_in, numeral_value}
-use Rattle.lexical_parse_integer.proofs.theorems.CompleteByPartial.{head_within, numeral_within, sign_within}
-use Rattle.lexical_parse_integer.proofs.theorems.CompleteByPartial.{ok_told}
+use Rattle.lexical_parse_integer.proofs.theorems.CompleteByPartial.{head_within, numeral_within, sign_within, ok_told}
 
 -- the front is within the text
 pub partial_within : (f : Format) (t : IntegerType) (text : List ℕ) (v : ℤ) (k : ℕ) → partial f t text ≡ Ok (v, k) → k ≤ length text

@@ -3,7 +3,6 @@ pub mod bound
 pub mod Folds
 pub mod ForCallers
 pub mod grammar
-pub mod lanes
 pub mod marked
 pub mod plain
 pub mod reading

@@ -3,10 +3,4 @@ pub mod DigitsAlone
 pub mod DigitsByTable
 pub mod DigitsInFront
 pub mod FieldsInFront
-pub mod FrontsByTable
 pub mod LeavingNumbers
-pub mod LongNumbers
-pub mod Nibbles
-pub mod ShiftedWords
-pub mod WordsInFront
-pub mod WordsOfDigits

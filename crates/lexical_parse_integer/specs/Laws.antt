@@ -14,7 +14,7 @@ use Rattle.lexical_parse_integer.specs.Numeral.{digit_count, numeral_in}
 use Rattle.lexical_parse_integer.specs.Runs.{digit_at, separator_at, is_in_numeral, end_of, run_begin, run_stop}
 use Rattle.lexical_parse_integer.specs.Seeking.{HasNoDigit}
 use Rattle.lexical_parse_integer.specs.Stops.{stops_after_digit}
-use Rattle.lexical_parse_integer.specs.Value.{positional_value}
+use Rattle.lexical_digits.specs.Value.{positional_value}
 
 -- ---- ends and runs
 

@@ -4,7 +4,7 @@ use Rattle.std.specs.Option.{unwrap_or}
 use Rattle.lexical_util.specs.Format.{Format}
 use Rattle.lexical_parse_integer.specs.Affixes.{numeral_stop}
 use Rattle.lexical_parse_integer.specs.Runs.{digit_at, end_of, places}
-use Rattle.lexical_parse_integer.specs.Value.{positional_value, with_sign}
+use Rattle.lexical_digits.specs.Value.{positional_value, with_sign}
 
 -- A numeral in the region of a text.
 pub record Numeral : Type 0 where

@@ -14,29 +14,30 @@ ghost use Rattle.lexical_parse_integer.specs.Turns.{AsksWords, HasFewTurns};
 mod digits;
 pub(crate) mod front;
 mod head;
-mod lanes;
 pub(crate) mod marked;
 mod multi;
 mod numeral;
 pub(crate) mod plain;
-mod words;
 mod zeros;
 
 use crate::algorithm::front::{complete_from_front, partial_from_front};
 use crate::algorithm::head::{is_prefix_alone, read_head};
 use crate::algorithm::numeral::read_numeral;
 pub use crate::algorithm::plain::fields::{field_in_front, is_separated};
+use crate::algorithm::plain::overflow::fault_of_overflow;
 pub use crate::algorithm::plain::value_if_short;
-use crate::algorithm::plain::{front_if_plain, signed_front, value_if_plain};
+use crate::algorithm::plain::{
+    front_if_plain, place_after_digits, signed_front, value_behind_plus, value_if_plain,
+};
 use crate::cursor::Cursor;
 use crate::options::Options;
 pub use head::parse_sign;
+pub use lexical_digits::words::{is_4digits, is_8digits, parse_4digits, parse_8digits};
 use lexical_util::error::Error;
 use lexical_util::format::{self, NumberFormat};
 use lexical_util::num::Integer;
 use lexical_util::result::Result;
 pub use multi::{try_parse_4digits, try_parse_8digits};
-pub use words::{is_4digits, is_8digits, parse_4digits, parse_8digits};
 
 // Reads sign, prefix, numeral and suffix: all that the two parsers have in common.
 #[inline(always)]
@@ -206,12 +207,30 @@ fn partial_out_of_line<T: Integer>(bytes: &[u8], format: &NumberFormat) -> Resul
 
 // ---- under the standard format, whose fields the compiler then folds into the code
 
-// A fault of a whole text, mostly.
+// The complete answer for a text that no quick way reads: mostly a fault.
 #[inline(never)]
+fn standard_whole<T: Integer>(bytes: &[u8]) -> Result<T>
+    ensures { view_of T.number result ≡ complete standard T.TYPE bytes.now }
+{
+    match fault_of_overflow::<T>(bytes) {
+        Some(fault) => Err(fault),
+        None => complete_from_front::<T>(bytes, &format::STANDARD),
+    }
+}
+
+// The complete answer for a text that isn't digits alone behind a minus or none. The place for an answer through memory is
+// made ready here, and so not for a value.
+#[inline(always)]
 pub(crate) fn standard_complete<T: Integer>(bytes: &[u8]) -> Result<T>
     ensures { view_of T.number result ≡ complete standard T.TYPE bytes.now }
 {
-    complete_from_front::<T>(bytes, &format::STANDARD)
+    if let Some(value) = value_behind_plus::<T>(bytes) {
+        return Ok(value);
+    }
+    match place_after_digits::<T>(bytes) {
+        Some(place) => Err(Error::InvalidDigit(place)),
+        None => standard_whole::<T>(bytes),
+    }
 }
 
 // The front of a text: its digits by words, behind a plus too, and what these leave one after another.

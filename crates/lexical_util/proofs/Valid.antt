@@ -10,13 +10,13 @@ use Rattle.lexical_util.specs.Format.{Format}
 use Rattle.lexical_util.specs.Validity.{are_alike, fault, has_alike, has_unfit_literals, is_unfit, is_unfit_beside_literals, is_unfit_byte, lower_case}
 
 -- the tests that the six rules make all fail
-record PassesRules (format : Format) : Type 0 where
-  radix : not (is_between 2 36 format.mantissa_radix) ≡ false
-  separator : is_unfit format.mantissa_radix format.digit_separator ≡ false
-  prefix : is_unfit format.mantissa_radix format.base_prefix ≡ false
-  suffix : is_unfit format.mantissa_radix format.base_suffix ≡ false
-  apart : has_alike format ≡ false
-  literals : has_unfit_literals format ≡ false
+pub record PassesRules (format : Format) : Type 0 where
+  pub radix : not (is_between 2 36 format.mantissa_radix) ≡ false
+  pub separator : is_unfit format.mantissa_radix format.digit_separator ≡ false
+  pub prefix : is_unfit format.mantissa_radix format.base_prefix ≡ false
+  pub suffix : is_unfit format.mantissa_radix format.base_suffix ≡ false
+  pub apart : has_alike format ≡ false
+  pub literals : has_unfit_literals format ≡ false
 
 -- a test that a fault hangs on fails where there is no fault
 test_fails : (test : Bool) (error : Error) (rest : Option Error)
@@ -24,7 +24,7 @@ test_fails : (test : Bool) (error : Error) (rest : Option Error)
 test_fails false error rest valid = (refl, valid)
 test_fails true error rest valid = cc
 
-passes_rules : (format : Format) → fault format ≡ None → PassesRules format
+pub passes_rules : (format : Format) → fault format ≡ None → PassesRules format
 passes_rules format valid =
     let past_radix = test_fails _ _ _ valid in
     let past_separator = test_fails _ _ _ past_radix.1 in
@@ -44,7 +44,7 @@ passes_rules format valid =
 digit_value-lower : (byte : ℕ) → digit_value (lower_case byte) ≡ digit_value byte
 digit_value-lower byte = grind (arith, nat_tests)
 
-digit-alike : (radix byte mark : ℕ) → lower_case byte ≡ lower_case mark → digit byte radix ≡ digit mark radix
+pub digit-alike : (radix byte mark : ℕ) → lower_case byte ≡ lower_case mark → digit byte radix ≡ digit mark radix
 digit-alike radix byte mark alike =
     ap (value_if_below radix) (sym (digit_value-lower byte) ∙ ap digit_value alike ∙ digit_value-lower mark)
 
@@ -58,13 +58,13 @@ fit_byte_no_digit radix mark fit =
     let not_plus = (or_parts (mark == 43) _ not_high).1 in
     none_from_is_some _ (or_parts (mark == 45) _ not_plus).1
 
-fit_no_digit : (radix : ℕ) (set : Option ℕ) (mark byte : ℕ) → is_unfit radix set ≡ false
+pub fit_no_digit : (radix : ℕ) (set : Option ℕ) (mark byte : ℕ) → is_unfit radix set ≡ false
     → set ≡ Some mark → lower_case byte ≡ lower_case mark → digit byte radix ≡ None
 fit_no_digit radix set mark byte fit is_set alike =
     let fit' = rw is_set at fit in
     digit-alike radix byte mark alike ∙ fit_byte_no_digit radix mark fit'
 
-not_alike : (set other : Option ℕ) (mark byte : ℕ) → are_alike set other ≡ false → other ≡ Some mark
+pub not_alike : (set other : Option ℕ) (mark byte : ℕ) → are_alike set other ≡ false → other ≡ Some mark
     → lower_case byte ≡ lower_case mark → set ≢ Some byte
 not_alike set other mark byte apart is_mark alike is_byte =
     let apart' = rw (is_byte, is_mark, alike) at apart in
@@ -124,7 +124,7 @@ fit_beside_literals set mark byte fit is_set alike =
     digit-alike 16 byte mark alike ∙ none_from_is_some _ (or_parts (is_some (digit mark 16)) _ fit').0
 
 -- the separator and the suffix beside literal prefixes
-literals_fit : (format : Format) → fault format ≡ None → format.literal_prefixes ≡ true
+pub literals_fit : (format : Format) → fault format ≡ None → format.literal_prefixes ≡ true
     → (is_unfit_beside_literals format.digit_separator ≡ false) × (is_unfit_beside_literals format.base_suffix ≡ false)
 literals_fit format valid asked =
     let all : has_unfit_literals format ≡ false = (passes_rules format valid).literals in

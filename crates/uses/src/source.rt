@@ -25,7 +25,7 @@ pub fn python_format() -> NumberFormat
     lexical_formats::python()
 }
 
-// The same with any zeros in front: `0o777`, `0x_1FF` and `0b101`, with `_` between digits.
+// Literals of Python with any zeros in front: `0o777`, `0x_1FF` and `0b101`, with `_` between digits.
 fn padded_format() -> NumberFormat
     ensures { result ≡ padded_format }
 {

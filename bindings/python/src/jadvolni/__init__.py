@@ -27,6 +27,7 @@ from ._core import (
     parse_partial,
 )
 from ._format import Format
+from ._blocks import iter_column
 from ._numpy import numpy_column
 
 __all__ = [
@@ -34,6 +35,7 @@ __all__ = [
     "FormatError",
     "ParseError",
     "__version__",
+    "iter_column",
     "numpy_column",
     "parse",
     "parse_column",

@@ -125,8 +125,8 @@ class Format:
             self.prefix_separator,
             self.literal_prefixes,
             self.octal_zero,
-            *(mark == 0 for mark in marks),
-            *bytes(3),
+            sum(1 << bit for bit, mark in enumerate(marks) if mark == 0),
+            *bytes(13),
         ]
         return bytes(fields)
 

@@ -1,7 +1,7 @@
 //! What can be wrong with a text, or with the format that it is read under.
 
 use core::fmt;
-use jadvolni_sys::Outcome;
+use jadvolni_sys::jadvolni_result;
 
 /// What is wrong with a text, with its place, or with the format that it is read under.
 ///
@@ -44,7 +44,7 @@ pub enum Error {
 impl Error {
     /// What a call has answered: `None` where it read a number.
     #[inline]
-    pub(crate) fn of(outcome: Outcome) -> Option<Error> {
+    pub(crate) fn of(outcome: jadvolni_result) -> Option<Error> {
         Some(match outcome.status {
             0 => return None,
             1 => Error::Overflow(outcome.place),

@@ -2,14 +2,19 @@
 
 use crate::{Error, Format};
 use core::convert::identity;
+use core::ffi::c_char;
 use jadvolni_sys as sys;
 
 /// One of the twelve integer types: `u8` to `u128`, `usize`, `i8` to `i128`, `isize`.
 pub trait Integer: Copy + Calls {}
 
-type Call<Kept> = unsafe extern "C" fn(*const u8, usize, *mut Kept) -> sys::Outcome;
-type CallUnder<Kept> =
-    unsafe extern "C" fn(*const u8, usize, *const sys::Format, *mut Kept) -> sys::Outcome;
+type Call<Kept> = unsafe extern "C" fn(*const c_char, usize, *mut Kept) -> sys::jadvolni_result;
+type CallUnder<Kept> = unsafe extern "C" fn(
+    *const c_char,
+    usize,
+    *const sys::jadvolni_format,
+    *mut Kept,
+) -> sys::jadvolni_result;
 
 /// What the library keeps a number in, and its four calls. Each reads the text and the format that
 /// it is handed, writes a `Kept` at most, and keeps nothing.
@@ -28,7 +33,7 @@ pub trait Calls: Sized {
 fn call<T: Calls>(text: &[u8], call: Call<T::Kept>) -> Result<(T, usize), Error> {
     let mut kept = T::Kept::default();
     // SAFETY: the pointers are those of a slice with its length, and of a value of the call's type.
-    let outcome = unsafe { call(text.as_ptr(), text.len(), &mut kept) };
+    let outcome = unsafe { call(text.as_ptr().cast(), text.len(), &mut kept) };
     match Error::of(outcome) {
         None => Ok((T::number(kept), outcome.place)),
         Some(error) => Err(error),
@@ -42,8 +47,8 @@ fn call_under<T: Calls>(
     call: CallUnder<T::Kept>,
 ) -> Result<(T, usize), Error> {
     let mut kept = T::Kept::default();
-    // SAFETY: as above, and the format is a value of its own.
-    let outcome = unsafe { call(text.as_ptr(), text.len(), &format.bytes(), &mut kept) };
+    // SAFETY: as above, and the format is lent.
+    let outcome = unsafe { call(text.as_ptr().cast(), text.len(), &format.0, &mut kept) };
     match Error::of(outcome) {
         None => Ok((T::number(kept), outcome.place)),
         Some(error) => Err(error),
@@ -90,23 +95,23 @@ macro_rules! integer {
     };
 }
 
-fn unsigned(halves: sys::Unsigned128) -> u128 {
+fn unsigned(halves: sys::jadvolni_uint128) -> u128 {
     (halves.high as u128) << 64 | halves.low as u128
 }
 
-fn signed(halves: sys::Signed128) -> i128 {
+fn signed(halves: sys::jadvolni_int128) -> i128 {
     (halves.high as i128) << 64 | halves.low as i128
 }
 
-integer!(u8, u8, identity, jadvolni_u8 jadvolni_u8_partial jadvolni_u8_with_format jadvolni_u8_partial_with_format);
-integer!(u16, u16, identity, jadvolni_u16 jadvolni_u16_partial jadvolni_u16_with_format jadvolni_u16_partial_with_format);
-integer!(u32, u32, identity, jadvolni_u32 jadvolni_u32_partial jadvolni_u32_with_format jadvolni_u32_partial_with_format);
-integer!(u64, u64, identity, jadvolni_u64 jadvolni_u64_partial jadvolni_u64_with_format jadvolni_u64_partial_with_format);
-integer!(u128, sys::Unsigned128, unsigned, jadvolni_u128 jadvolni_u128_partial jadvolni_u128_with_format jadvolni_u128_partial_with_format);
-integer!(usize, usize, identity, jadvolni_usize jadvolni_usize_partial jadvolni_usize_with_format jadvolni_usize_partial_with_format);
-integer!(i8, i8, identity, jadvolni_i8 jadvolni_i8_partial jadvolni_i8_with_format jadvolni_i8_partial_with_format);
-integer!(i16, i16, identity, jadvolni_i16 jadvolni_i16_partial jadvolni_i16_with_format jadvolni_i16_partial_with_format);
-integer!(i32, i32, identity, jadvolni_i32 jadvolni_i32_partial jadvolni_i32_with_format jadvolni_i32_partial_with_format);
-integer!(i64, i64, identity, jadvolni_i64 jadvolni_i64_partial jadvolni_i64_with_format jadvolni_i64_partial_with_format);
-integer!(i128, sys::Signed128, signed, jadvolni_i128 jadvolni_i128_partial jadvolni_i128_with_format jadvolni_i128_partial_with_format);
-integer!(isize, isize, identity, jadvolni_isize jadvolni_isize_partial jadvolni_isize_with_format jadvolni_isize_partial_with_format);
+integer!(u8, u8, identity, jadvolni_parse_u8 jadvolni_parse_u8_partial jadvolni_parse_u8_with_format jadvolni_parse_u8_partial_with_format);
+integer!(u16, u16, identity, jadvolni_parse_u16 jadvolni_parse_u16_partial jadvolni_parse_u16_with_format jadvolni_parse_u16_partial_with_format);
+integer!(u32, u32, identity, jadvolni_parse_u32 jadvolni_parse_u32_partial jadvolni_parse_u32_with_format jadvolni_parse_u32_partial_with_format);
+integer!(u64, u64, identity, jadvolni_parse_u64 jadvolni_parse_u64_partial jadvolni_parse_u64_with_format jadvolni_parse_u64_partial_with_format);
+integer!(u128, sys::jadvolni_uint128, unsigned, jadvolni_parse_u128 jadvolni_parse_u128_partial jadvolni_parse_u128_with_format jadvolni_parse_u128_partial_with_format);
+integer!(usize, usize, identity, jadvolni_parse_usize jadvolni_parse_usize_partial jadvolni_parse_usize_with_format jadvolni_parse_usize_partial_with_format);
+integer!(i8, i8, identity, jadvolni_parse_i8 jadvolni_parse_i8_partial jadvolni_parse_i8_with_format jadvolni_parse_i8_partial_with_format);
+integer!(i16, i16, identity, jadvolni_parse_i16 jadvolni_parse_i16_partial jadvolni_parse_i16_with_format jadvolni_parse_i16_partial_with_format);
+integer!(i32, i32, identity, jadvolni_parse_i32 jadvolni_parse_i32_partial jadvolni_parse_i32_with_format jadvolni_parse_i32_partial_with_format);
+integer!(i64, i64, identity, jadvolni_parse_i64 jadvolni_parse_i64_partial jadvolni_parse_i64_with_format jadvolni_parse_i64_partial_with_format);
+integer!(i128, sys::jadvolni_int128, signed, jadvolni_parse_i128 jadvolni_parse_i128_partial jadvolni_parse_i128_with_format jadvolni_parse_i128_partial_with_format);
+integer!(isize, isize, identity, jadvolni_parse_isize jadvolni_parse_isize_partial jadvolni_parse_isize_with_format jadvolni_parse_isize_partial_with_format);

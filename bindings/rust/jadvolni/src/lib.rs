@@ -1,12 +1,12 @@
 //! Integers from bytes, by a library that is proved to answer what its grammar says.
 //!
 //! ```
-//! use jadvolni::{parse, parse_partial, parse_with, Error, Format};
+//! use jadvolni::{parse, parse_partial, parse_with_format, Error, Format};
 //!
 //! assert_eq!(parse::<u64>("18446744073709551616"), Err(Error::Overflow(19)));
 //! assert_eq!(parse_partial::<u64>(b"1234 }"), Ok((1234, 4)));
-//! let hexadecimal = Format { mantissa_radix: 16, base_prefix: Some(b'x'), ..Format::STANDARD };
-//! assert_eq!(parse_with::<u8>("0x1F", &hexadecimal), Ok(31));
+//! let hexadecimal = Format::STANDARD.mantissa_radix(16).base_prefix(Some(b'x'));
+//! assert_eq!(parse_with_format::<u8>("0x1F", &hexadecimal), Ok(31));
 //! ```
 //!
 //! No call allocates or panics. The proofs are of the library below these calls: that this crate hands
@@ -55,21 +55,21 @@ pub fn parse_partial<T: Integer>(text: impl AsRef<[u8]>) -> Result<(T, usize), E
 ///
 /// ```
 /// use jadvolni::{Error, Format};
-/// assert_eq!(jadvolni::parse_with::<u32>("0xFF_FF", &Format::LITERAL), Ok(65535));
-/// assert_eq!(jadvolni::parse_with::<u32>("01", &Format::JSON), Err(Error::InvalidLeadingZeros(0)));
+/// assert_eq!(jadvolni::parse_with_format::<u32>("0xFF_FF", &Format::LITERAL), Ok(65535));
+/// assert_eq!(jadvolni::parse_with_format::<u32>("01", &Format::JSON), Err(Error::InvalidLeadingZeros(0)));
 /// ```
 #[inline]
-pub fn parse_with<T: Integer>(text: impl AsRef<[u8]>, format: &Format) -> Result<T, Error> {
+pub fn parse_with_format<T: Integer>(text: impl AsRef<[u8]>, format: &Format) -> Result<T, Error> {
     integer::complete_with(text.as_ref(), format)
 }
 
 /// The front of the text as a `T`, under a format, and where reading stopped.
 ///
 /// ```
-/// assert_eq!(jadvolni::parse_partial_with::<u64>("0b102", &jadvolni::Format::LITERAL), Ok((2, 4)));
+/// assert_eq!(jadvolni::parse_partial_with_format::<u64>("0b102", &jadvolni::Format::LITERAL), Ok((2, 4)));
 /// ```
 #[inline]
-pub fn parse_partial_with<T: Integer>(
+pub fn parse_partial_with_format<T: Integer>(
     text: impl AsRef<[u8]>,
     format: &Format,
 ) -> Result<(T, usize), Error> {

@@ -1,28 +1,28 @@
 //! Each fault of each call, and the calls beside those of std.
-use jadvolni::{parse, parse_partial, parse_partial_with, parse_with, Error, Format, Integer};
+use jadvolni::{parse, parse_partial, parse_partial_with_format, parse_with_format, Error, Format, Integer};
 
 #[test]
 fn faults_of_texts() {
-    let with_sign = Format { required_mantissa_sign: true, ..Format::STANDARD };
+    let with_sign = Format::STANDARD.required_mantissa_sign(true);
     assert_eq!(parse::<u64>("18446744073709551616"), Err(Error::Overflow(19)));
     assert_eq!(parse::<i8>("-129"), Err(Error::Underflow(3)));
     assert_eq!(parse::<u8>("1a"), Err(Error::InvalidDigit(1)));
     assert_eq!(parse::<u8>(""), Err(Error::Empty(0)));
-    assert_eq!(parse_with::<i64>("12", &with_sign), Err(Error::MissingSign(0)));
-    assert_eq!(parse_with::<i64>("+1", &Format::JSON), Err(Error::InvalidPositiveSign(0)));
-    assert_eq!(parse_with::<i64>("-01", &Format::JSON), Err(Error::InvalidLeadingZeros(1)));
+    assert_eq!(parse_with_format::<i64>("12", &with_sign), Err(Error::MissingSign(0)));
+    assert_eq!(parse_with_format::<i64>("+1", &Format::JSON), Err(Error::InvalidPositiveSign(0)));
+    assert_eq!(parse_with_format::<i64>("-01", &Format::JSON), Err(Error::InvalidLeadingZeros(1)));
     assert_eq!(parse_partial::<u64>("1234 }, {\"Key\""), Ok((1234, 4)));
-    assert_eq!(parse_partial_with::<u64>("0b102", &Format::LITERAL), Ok((2, 4)));
+    assert_eq!(parse_partial_with_format::<u64>("0b102", &Format::LITERAL), Ok((2, 4)));
 }
 
 #[test]
 fn faults_of_formats() {
-    let clash = Format { base_prefix: Some(b'x'), literal_prefixes: true, ..Format::STANDARD };
-    let shared = Format { base_suffix: Some(b'X'), ..clash };
-    let suffix = Format { base_suffix: Some(b'-'), ..clash };
-    let prefix = Format { base_prefix: Some(b'0'), ..suffix };
-    let separator = Format { digit_separator: Some(200), ..prefix };
-    let radix = Format { mantissa_radix: 0, ..separator };
+    let clash = Format::STANDARD.base_prefix(Some(b'x')).literal_prefixes(true);
+    let shared = clash.base_suffix(Some(b'X'));
+    let suffix = clash.base_suffix(Some(b'-'));
+    let prefix = suffix.base_prefix(Some(b'0'));
+    let separator = prefix.digit_separator(Some(200));
+    let radix = separator.mantissa_radix(0);
     let broken = [
         (clash, Error::InvalidLiteralPrefixes),
         (shared, Error::InvalidPunctuation),
@@ -33,8 +33,8 @@ fn faults_of_formats() {
     ];
     for (format, fault) in broken {
         assert_eq!(format.error(), Some(fault));
-        assert_eq!(parse_with::<u8>("1", &format), Err(fault));
-        assert_eq!(parse_partial_with::<u8>("1", &format), Err(fault));
+        assert_eq!(parse_with_format::<u8>("1", &format), Err(fault));
+        assert_eq!(parse_partial_with_format::<u8>("1", &format), Err(fault));
         assert_eq!(fault.place(), None);
     }
     assert_eq!(Format::default().error(), None);
@@ -42,30 +42,39 @@ fn faults_of_formats() {
 
 #[test]
 fn nul_is_a_byte_like_others() {
-    let with_nuls = Format {
-        digit_separator: Some(0),
-        integer_internal_digit_separator: true,
-        integer_trailing_digit_separator: true,
-        ..Format::STANDARD
-    };
-    assert_eq!(parse_with::<u16>(b"1\x002\x003\x00", &with_nuls), Ok(123));
+    let with_nuls = Format::STANDARD
+        .digit_separator(Some(0))
+        .integer_internal_digit_separator(true)
+        .integer_trailing_digit_separator(true);
+    let prefixed = with_nuls.digit_separator(None).base_prefix(Some(0));
+    assert_eq!(parse_with_format::<u16>(b"1\x002\x003\x00", &with_nuls), Ok(123));
     // That isn't UTF-16, in which these two bytes are the letter U+3131.
-    assert_eq!(parse_with::<u16>(b"11", &with_nuls), Ok(11));
+    assert_eq!(parse_with_format::<u16>(b"11", &with_nuls), Ok(11));
     assert_eq!(parse::<u16>(b"1\x002\x003\x00"), Err(Error::InvalidDigit(1)));
+    assert_eq!(parse_with_format::<u16>(b"0\x0012", &prefixed), Ok(12));
+    assert_eq!(
+        parse_with_format::<u16>(b"12\x00", &prefixed.base_prefix(None).base_suffix(Some(0))),
+        Ok(12)
+    );
+    assert_eq!(prefixed.base_suffix(Some(0)).error(), Some(Error::InvalidPunctuation));
+    assert_eq!(
+        prefixed.base_prefix(None),
+        with_nuls.digit_separator(Some(b'_')).digit_separator(None)
+    );
 }
 
 #[test]
 fn literal_format_is_no_language() {
-    assert_eq!(parse_with::<u32>("0777", &Format::LITERAL), Ok(777));
-    assert_eq!(parse_with::<u32>("+1", &Format::LITERAL), Ok(1));
+    assert_eq!(parse_with_format::<u32>("0777", &Format::LITERAL), Ok(777));
+    assert_eq!(parse_with_format::<u32>("+1", &Format::LITERAL), Ok(1));
 }
 
 #[test]
 fn empty_text_without_required_digit_is_zero() {
-    let none = Format { required_mantissa_digits: false, ..Format::STANDARD };
-    let integer = Format { required_integer_digits: true, ..none };
-    assert_eq!(parse_with::<u32>("", &none), Ok(0));
-    assert_eq!(parse_with::<u32>("", &integer), Err(Error::Empty(0)));
+    let none = Format::STANDARD.required_mantissa_digits(false);
+    let integer = none.required_integer_digits(true);
+    assert_eq!(parse_with_format::<u32>("", &none), Ok(0));
+    assert_eq!(parse_with_format::<u32>("", &integer), Err(Error::Empty(0)));
 }
 
 #[test]
@@ -117,8 +126,8 @@ fn ends<T: Integer + ToString + PartialEq + std::fmt::Debug>(ends: [T; 2]) {
         let text = end.to_string();
         assert_eq!(parse::<T>(&text), Ok(end));
         assert_eq!(parse_partial::<T>(&text), Ok((end, text.len())));
-        assert_eq!(parse_with::<T>(&text, &Format::STANDARD), Ok(end));
-        assert_eq!(parse_partial_with::<T>(&text, &Format::STANDARD), Ok((end, text.len())));
+        assert_eq!(parse_with_format::<T>(&text, &Format::STANDARD), Ok(end));
+        assert_eq!(parse_partial_with_format::<T>(&text, &Format::STANDARD), Ok((end, text.len())));
     }
 }
 

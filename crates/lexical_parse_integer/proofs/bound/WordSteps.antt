@@ -2,28 +2,28 @@
 use Rattle.std.proofs.Common.{◌≡◌, ℕ, zero, suc, ◌+◌, ◌-◌, ◌*◌, ◌^◌, ◌≤◌, ◌<◌, Bool, true, false, ◌||◌, ◌&&◌, List, [], ◌∷◌, ◌++◌, length, get_or, take, map, is_some, Option, Some, None, refl, sym, ap, ◌∙◌, subst, arith, inl, inr}
 use Rattle.std.specs.Prelude.{ℤ, pos, slice_range}
 use Rattle.std.specs.Option.{unwrap_or}
-use Rattle.std.proofs.Math.Nat.{pow-zero, pow-suc, mul-le-mul_right, pow-le-pow_right}
-use Rattle.std.proofs.lemmas.Bool.{lt-ltb, ltb-true, cases_lt, false≢true}
+use Rattle.std.proofs.Math.Nat.{pow-zero, pow-suc, mul-le-mul_right}
+use Rattle.std.proofs.lemmas.Bool.{cases_lt, false≢true}
 use Rattle.std.proofs.lemmas.List.{take_more, get_or-map, length-map}
 use Rattle.lexical_parse_integer.specs.CursorView.{AreDigitsAhead, CursorView, IsSound, numeral_end, numeral_of}
 use Rattle.lexical_parse_integer.specs.Numeral.{Numeral, digit_count, front_value, numeral_in}
 use Rattle.lexical_parse_integer.specs.Reading.{FrontsFit, GoesOn, Reads}
 use Rattle.lexical_parse_integer.specs.Runs.{is_in_numeral, digit_at, digits_between, places, separator_at}
-use Rattle.lexical_parse_integer.specs.Value.{positional_value, with_sign}
-use Rattle.lexical_parse_integer.specs.Words.{word_value}
-use Rattle.lexical_parse_integer.proofs.words.AsciiDigits.{AreAsciiDigits, ascii_value, ascii_value_is}
+use Rattle.lexical_digits.specs.Value.{positional_value, with_sign}
+use Rattle.lexical_digits.specs.Words.{word_value}
+use Rattle.lexical_digits.proofs.AsciiDigits.{AreAsciiDigits, ascii_value, ascii_value_is}
 use Rattle.lexical_util.specs.Format.{Format}
-use Rattle.lexical_util.specs.Number.{HasRoom, IntegerType, IsNumber, integer_type, is_number, mul_add, number_limit}
+use Rattle.lexical_util.specs.Number.{HasRoom, IsNumber, integer_type, is_number, mul_add}
 use Rattle.lexical_parse_integer.specs.Folded.{Folded}
 use Rattle.lexical_parse_integer.proofs.Folds.{fact_of}
 use Rattle.lexical_parse_integer.proofs.grammar.NumeralEnd.{IsStop-end_of, reaches}
 use Rattle.lexical_parse_integer.proofs.grammar.DigitCounts.{length-digits_between_all}
-use Rattle.lexical_parse_integer.proofs.grammar.FrontValues.{positional_value-push, with_sign-step}
-use Rattle.lexical_util.proofs.Room.{negative_below_limit}
+use Rattle.lexical_digits.proofs.DigitValues.{positional_value-push, with_sign-step}
 use Rattle.lexical_parse_integer.proofs.reading.NumeralSteps.{place_found, same_numeral, digit_at_below}
 use Rattle.lexical_parse_integer.proofs.reading.DigitLoop.{numeral_radix}
 use Rattle.lexical_parse_integer.proofs.reading.FirstDigit.{no_separator}
 use Rattle.lexical_parse_integer.proofs.words.WordsInTexts.{StandsAt, stands_ahead, are_digits, word_digit, length-ahead, past_end}
+use Rattle.lexical_digits.proofs.RadixFronts.{few_fit}
 
 -- ---- without a separator, digits alone
 
@@ -109,16 +109,6 @@ front_below r ds (suc m) digits h =
     let up : suc (positional_value r (take m ds)) * r ≤ r ^ m * r = mul-le-mul_right r before in
     let spread : suc (positional_value r (take m ds)) * r ≡ positional_value r (take m ds) * r + r = grind arith in
     omega (arith, e, p, up, spread)
-
-pub few_fit : (type : IntegerType) (negative : Bool) (r o n m : ℕ) → HasRoom type r o → (negative ≡ true → type.is_signed ≡ true) → 1 ≤ r → m ≤ o → n < r ^ m → IsNumber type (with_sign negative n)
-few_fit type true r o n m room may one le small =
-    let up = pow-le-pow_right {n = r} one le in
-    let top = ltb-true (r ^ o - 1) (number_limit type) room.greatest in
-    negative_below_limit type n (omega arith) (may refl)
-few_fit type false r o n m room may one le small =
-    let up = pow-le-pow_right {n = r} one le in
-    let top = ltb-true (r ^ o - 1) (number_limit type) room.greatest in
-    lt-ltb n (number_limit type) (omega arith)
 
 value_below : (r : ℕ) (o : Option ℕ) → 1 ≤ r → ((v : ℕ) → o ≡ Some v → v < r) → unwrap_or o 0 < r
 value_below r None one h = omega arith

@@ -1,33 +1,14 @@
 -- The value of a numeral's first digits, one digit more at a time, and its range fault: for loops over digits.
-use Rattle.std.proofs.Common.{◌≡◌, ℕ, zero, suc, ◌+◌, ◌*◌, ◌^◌, ◌<◌, Bool, true, false, not, List, [], ◌∷◌, ◌++◌, length, get_or, take, refl, sym, ap, ◌∙◌, arith, Some, None, length-append}
-use Rattle.std.proofs.Math.Nat.{pow-zero, pow-suc}
-use Rattle.std.proofs.Math.IntN.{pos, neg_ℤ, ◌*ℤ◌, ◌-ℤ◌, neg_ℤ-+ℤ}
+use Rattle.std.proofs.Common.{◌≡◌, ℕ, ◌+◌, ◌<◌, Bool, false, not, [], ◌∷◌, ◌++◌, get_or, take, refl, sym, ap, ◌∙◌, arith, Some, None}
+use Rattle.std.proofs.Math.IntN.{pos}
 use Rattle.std.proofs.lemmas.List.{take_more}
 use Rattle.lexical_parse_integer.specs.Grammar.{first_outside, range_error, range_fault}
 use Rattle.lexical_parse_integer.specs.Numeral.{Numeral, digit_count, front_value}
 use Rattle.lexical_parse_integer.specs.Reading.{FrontsFit}
-use Rattle.lexical_parse_integer.specs.Value.{positional_value, with_sign}
+use Rattle.lexical_digits.specs.Value.{positional_value, with_sign}
 use Rattle.lexical_util.specs.Number.{IntegerType, is_number, mul_add}
 use Rattle.lexical_parse_integer.proofs.grammar.PlaceSearch.{find_place, find_no_place}
-
--- one digit more
-pub positional_value-push : (r : ℕ) (ds : List ℕ) (d : ℕ) → positional_value r (ds ++ d ∷ []) ≡ positional_value r ds * r + d
-positional_value-push r [] d = rw pow-zero (omega arith)
-positional_value-push r (x ∷ ds) d =
-    let more : r ^ length (ds ++ d ∷ []) ≡ r ^ length ds * r = rw length-append (rw add_one_is_suc (pow-suc r (length ds))) in
-    omega (arith, positional_value-push r ds d, ap (λ w. x * w) more)
-  where
-    add_one_is_suc : (n : ℕ) → n + 1 ≡ suc n
-    add_one_is_suc n = omega arith
-
-neg-mul : (v r : ℕ) → neg_ℤ (pos v) *ℤ pos r ≡ neg_ℤ (pos (v * r))
-neg-mul zero r = let e : 0 * r ≡ 0 = omega arith in rw e refl
-neg-mul (suc v) r = refl
-
--- the same with the sign
-pub with_sign-step : (m : Bool) (v r d : ℕ) → mul_add m (with_sign m v) (pos r) (pos d) ≡ with_sign m (v * r + d)
-with_sign-step false v r d = refl
-with_sign-step true v r d = ap (λ z. z -ℤ pos d) (neg-mul v r) ∙ sym (neg_ℤ-+ℤ (pos (v * r)) (pos d))
+use Rattle.lexical_digits.proofs.DigitValues.{positional_value-push, with_sign-step}
 
 -- the next front
 pub front_value-next : (b : Bool) (x : Numeral) (m d : ℕ) → m < digit_count x → get_or x.digits m 0 ≡ d → mul_add b (front_value b x m) (pos x.radix) (pos d) ≡ front_value b x (m + 1)

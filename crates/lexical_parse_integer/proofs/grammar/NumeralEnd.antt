@@ -13,7 +13,7 @@ pub digit_at_past : (r : ℕ) (b : List ℕ) (k : ℕ) → length b ≤ k → di
 unfolding digit_at
 digit_at_past r b k h = ap (option_and_then (λ c. digit c r)) (slice_get_past b k h)
 
-separator_at_past : (f : Format) (b : List ℕ) (k : ℕ) → length b ≤ k → separator_at f b k ≡ false
+pub separator_at_past : (f : Format) (b : List ℕ) (k : ℕ) → length b ≤ k → separator_at f b k ≡ false
 unfolding separator_at are_same
 separator_at_past f b k h = rw (slice_get_past b k h) (elim f.digit_separator as (λ s. are_same s None ≡ false) [ None ↦ refl | Some s ↦ refl ])
 

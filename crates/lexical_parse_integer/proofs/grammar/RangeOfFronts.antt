@@ -1,6 +1,5 @@
 -- Where the value of some digits is a number of the type, so is that of the first of them: for words and laws.
-use Rattle.std.proofs.Common.{◌≡◌, ℕ, zero, suc, ◌+◌, ◌-◌, ◌*◌, ◌^◌, ◌≤◌, Bool, true, false, ◌&&◌, List, [], ◌∷◌, ◌++◌, length, take, drop, refl, ap, subst, ◌∙◌, arith, length-append}
-use Rattle.std.proofs.lemmas.Nat.{pow-add}
+use Rattle.std.proofs.Common.{◌≡◌, ℕ, zero, suc, ◌+◌, ◌-◌, ◌^◌, ◌≤◌, Bool, true, false, ◌&&◌, List, length, take, drop, refl, ap, subst, ◌∙◌, arith}
 use Rattle.std.proofs.lemmas.Bool.{lt-ltb, ltb-true, and_parts}
 use Rattle.std.proofs.Math.Seq.{take-add}
 use Rattle.std.proofs.Math.Nat.{one-le-pow, mul-le-mul_left}
@@ -8,14 +7,8 @@ use Rattle.std.specs.Prelude.{if◌then◌else◌, nat_lt}
 use Rattle.lexical_util.specs.Number.{IntegerType, is_number, number_limit}
 use Rattle.lexical_parse_integer.specs.Numeral.{Numeral, front_value}
 use Rattle.lexical_parse_integer.specs.Reading.{FrontsFit}
-use Rattle.lexical_parse_integer.specs.Value.{positional_value, with_sign}
-
--- digits after digits
-pub positional_value-append : (r : ℕ) (xs ys : List ℕ) → positional_value r (xs ++ ys) ≡ positional_value r xs * r ^ length ys + positional_value r ys
-positional_value-append r [] ys = omega arith
-positional_value-append r (x ∷ xs) ys =
-    let more : r ^ length (xs ++ ys) ≡ r ^ length xs * r ^ length ys = rw length-append (pow-add r (length xs) (length ys)) in
-    omega (arith, positional_value-append r xs ys, ap (λ w. x * w) more)
+use Rattle.lexical_digits.specs.Value.{positional_value, with_sign}
+use Rattle.lexical_digits.proofs.DigitValues.{positional_value-append}
 
 -- 0 is a number of each type, with either sign
 pub zero_is_number : (t : IntegerType) (b : Bool) → is_number t (with_sign b 0) ≡ true

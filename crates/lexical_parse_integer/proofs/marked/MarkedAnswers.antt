@@ -19,7 +19,7 @@ use Rattle.lexical_parse_integer.specs.Marked.{AreDigitsOnly, AreGrouped, AreWor
 use Rattle.lexical_parse_integer.specs.Numeral.{Numeral, digit_count, numeral_in, numeral_value}
 use Rattle.lexical_parse_integer.specs.Plain.{keeps_zero_rule}
 use Rattle.lexical_parse_integer.specs.Runs.{digits_between, end_of, is_in_numeral, places}
-use Rattle.lexical_parse_integer.specs.Value.{positional_value, with_sign}
+use Rattle.lexical_digits.specs.Value.{positional_value, with_sign}
 use Rattle.lexical_parse_integer.proofs.grammar.FrontValues.{fitting_fault}
 use Rattle.lexical_parse_integer.proofs.grammar.NumeralEnd.{belongs_other}
 use Rattle.lexical_parse_integer.proofs.grammar.RangeOfFronts.{shorter_fronts_fit}

@@ -1,52 +1,19 @@
 -- Texts of digits of any radix, read one byte after another.
-use Rattle.std.proofs.Common.{◌≡◌, ℕ, suc, ◌+◌, ◌*◌, ◌^◌, ◌<◌, ◌≤◌, Bool, true, false, ◌&&◌, not, List, [], ◌∷◌, ◌++◌, length, get_or, map, take, refl, sym, ap, ◌∙◌, subst, arith, Option, Some, Ok}
-use Rattle.std.specs.Prelude.{◌==◌, nat_le, slice_index, ℤ, pos, neg_ℤ, if◌then◌else◌}
+use Rattle.std.proofs.Common.{◌≡◌, ℕ, ◌<◌, Bool, true, false, ◌&&◌, not, List, [], ◌∷◌, length, map, refl, sym, ap, ◌∙◌, subst, arith, Some, Ok}
+use Rattle.std.specs.Prelude.{◌==◌, nat_le, slice_index, ℤ, neg_ℤ, if◌then◌else◌}
 use Rattle.std.proofs.Math.Bool.{and-false}
-use Rattle.std.proofs.Math.Nat.{mul-le-mul_right, pow-suc, pow-zero}
 use Rattle.std.proofs.Math.Seq.{take-length}
 use Rattle.std.proofs.lemmas.Bool.{eqb-true}
 use Rattle.std.proofs.lemmas.Bool.Decides.{nat_tests}
-use Rattle.std.proofs.lemmas.List.{map-append, take_more}
-use Rattle.lexical_util.specs.Digit.{IsRadix, digit, digit_value}
+use Rattle.lexical_util.specs.Digit.{IsRadix, digit}
 use Rattle.lexical_util.specs.Format.{Format}
-use Rattle.lexical_util.specs.Number.{HasRoom, IntegerType, IsNumber, is_number, mul_add}
+use Rattle.lexical_util.specs.Number.{IntegerType, is_number}
 use Rattle.lexical_parse_integer.specs.Grammar.{complete}
-use Rattle.lexical_parse_integer.specs.Plain.{IsBehind, IsPlain, StandsFor, WritesFront, keeps_zero_rule}
-use Rattle.lexical_parse_integer.specs.Value.{positional_value, with_sign}
-use Rattle.lexical_parse_integer.proofs.grammar.FrontValues.{positional_value-push}
-use Rattle.lexical_parse_integer.proofs.theorems.ReadBack.{HaveDigits, digit_below, digits_size}
+use Rattle.lexical_parse_integer.specs.Plain.{IsBehind, IsPlain, keeps_zero_rule}
+use Rattle.lexical_digits.specs.WrittenNumbers.{StandsFor}
+use Rattle.lexical_digits.specs.Value.{positional_value, with_sign}
+use Rattle.lexical_digits.proofs.DigitValues.{HaveDigits, digits_size}
 use Rattle.lexical_parse_integer.proofs.plain.DigitsAlone.{digits_alone_read}
-use Rattle.lexical_parse_integer.proofs.bound.WordSteps.{few_fit}
-
--- before the first byte
-pub nothing_read : (r : ℕ) (text : List ℕ) (value : ℤ) → value ≡ pos 0 → WritesFront r text 0 value
-nothing_read r text value none = record { values = []; digits = refl; worth = none; below = let one = pow-zero r in omega arith }
-
--- one digit more
-pub next_read : (r k d : ℕ) (text : List ℕ) (value next : ℤ) → WritesFront r text k value → k < length text → digit (get_or text k 0) r ≡ Some d → next ≡ mul_add false value (pos r) (pos d) → WritesFront r text (k + 1) next
-next_read r k d text value next w more is step =
-    let one : take (k + 1) text ≡ take k text ++ get_or text k 0 ∷ [] = take_more text k 0 more in
-    let low : d < r = digit_below r (digit_value (get_or text k 0)) d is in
-    let v : ℕ = positional_value r w.values in
-    let push : positional_value r (w.values ++ d ∷ []) ≡ v * r + d = positional_value-push r w.values d in
-    let p : r ^ (k + 1) ≡ r ^ k * r = let one_more : k + 1 ≡ suc k = omega arith in ap (λ n. r ^ n) one_more ∙ pow-suc r k in
-    let before : v < r ^ k = w.below in
-    let up : suc v * r ≤ r ^ k * r = mul-le-mul_right r before in
-    let spread : suc v * r ≡ v * r + r = grind arith in
-    record {
-      values = w.values ++ d ∷ [];
-      digits = ap (map (λ byte. digit byte r)) one ∙ map-append (λ byte. digit byte r) (take k text) (get_or text k 0 ∷ [])
-          ∙ ap (λ (os : List (Option ℕ)). os ++ digit (get_or text k 0) r ∷ []) w.digits ∙ ap (λ (o : Option ℕ). map Some w.values ++ o ∷ []) is ∙ sym (map-append Some w.values (d ∷ []));
-      worth = step ∙ ap (λ (z : ℤ). mul_add false z (pos r) (pos d)) w.worth ∙ ap pos (sym push);
-      below = omega (arith, push, p, up, spread, low);
-    }
-
-never : (b : Bool) → false ≡ true → b ≡ true
-never b e = cc
-
--- so few digits that none of their numbers leaves the type
-pub front_fits : (t : IntegerType) (r o k : ℕ) (text : List ℕ) (value : ℤ) → HasRoom t r o → 1 ≤ r → k ≤ o → WritesFront r text k value → IsNumber t value
-front_fits t r o k text value room positive few w = ap (is_number t) w.worth ∙ few_fit t false r o (positional_value r w.values) k room (never t.is_signed) positive few w.below
 
 -- ---- the whole text
 
@@ -88,10 +55,6 @@ table_read f t r negative text digits value plain same radix behind some rule s 
     digits_alone_read f t negative text digits w.values plain (omega arith) behind here some (rule_in f r digits w.values all rule) (ap (is_number t) signed_is ∙ s.fits) ∙ ap Ok signed_is
 
 -- ---- what the parts of the code say
-
--- the next number is one of the type, where a digit more is among so many
-pub next_fits : (t : IntegerType) (r o k d : ℕ) (text : List ℕ) (value next : ℤ) → HasRoom t r o → 1 ≤ r → WritesFront r text k value → k < length text → length text ≤ o → digit (get_or text k 0) r ≡ Some d → next ≡ mul_add false value (pos r) (pos d) → IsNumber t next
-next_fits t r o k d text value next room positive w more few is step = front_fits t r o (k + 1) text next room positive (omega arith) (next_read r k d text value next w more is step)
 
 pub some_bytes : (text : List ℕ) (empty : Bool) → empty ≡ (length text == 0) → empty ≡ false → 0 < length text
 some_bytes [] empty is none = cc

@@ -1,35 +1,42 @@
 -- Digits alone at the front of a text, behind an optional minus, under formats without marks.
-use Rattle.std.proofs.Common.{slice_get, ◌≡◌, ℕ, zero, suc, ◌+◌, ◌-◌, ◌%◌, ◌<◌, ◌≤◌, Bool, true, false, ◌&&◌, not, List, [], ◌∷◌, length, get_or, map, take, refl, sym, ap, ◌∙◌, subst, arith, Option, Some, None, Ok, Result}
-use Rattle.std.specs.Prelude.{◌==◌, nat_le, is_some, slice_index, ℤ, IsNone}
+use Rattle.std.proofs.Common.{slice_get, ◌≡◌, ℕ, zero, suc, ◌+◌, ◌-◌, ◌%◌, ◌<◌, ◌≤◌, Bool, true, false, ◌&&◌, not, List, [], ◌∷◌, length, get_or, map, take, drop, refl, sym, ap, ◌∙◌, subst, arith, Option, Some, None, Ok, Err, Result, ◌*◌, ◌^◌}
+use Rattle.std.specs.Prelude.{◌==◌, nat_le, is_some, slice_index, ℤ, pos, neg_ℤ, if◌then◌else◌, IsNone, slice_range}
 use Rattle.std.specs.Option.{option_and_then, unwrap_or}
 use Rattle.std.proofs.Math.Bool.{and-false, and-true}
-use Rattle.std.proofs.lemmas.Bool.{ne_eqb}
-use Rattle.std.proofs.lemmas.List.{length-take-le}
+use Rattle.std.proofs.lemmas.Bool.{le-leb, le-ltb, lt-ltb, ne_eqb}
+use Rattle.std.proofs.Math.Seq.{take-length}
+use Rattle.std.proofs.lemmas.List.{length-take-le, get_or-drop, length-drop}
 use Rattle.std.proofs.lemmas.List.FromFn.{length-map-range_with_len}
 use mir.Val.{bool_byte}
 use Rattle.lexical_util.specs.declared.error.Error.{Error}
-use Rattle.lexical_util.specs.declared.error.Error.TheVariants.{InvalidLeadingZeros}
+use Rattle.lexical_util.specs.declared.error.Error.TheVariants.{InvalidDigit, InvalidLeadingZeros}
 use Rattle.lexical_util.specs.Digit.{digit}
-use Rattle.lexical_util.specs.Format.{Format}
+use Rattle.lexical_util.specs.Format.{Format, standard}
 use Rattle.lexical_util.specs.Number.{IntegerType, IsNumber, is_number}
 use Rattle.lexical_util.specs.Validity.{fault}
-use Rattle.lexical_parse_integer.specs.Grammar.{fault_if, if_valid, partial, partial_if_valid, range_fault, zero_fault}
+use Rattle.lexical_parse_integer.specs.Grammar.{complete, fault_if, if_valid, partial, partial_if_valid, range_fault, zero_fault}
 use Rattle.lexical_parse_integer.specs.Head.{Head, sign}
 use Rattle.lexical_parse_integer.specs.Numeral.{Numeral, digit_count, numeral_value}
-use Rattle.lexical_parse_integer.specs.Plain.{BeginsWith, IsBehind, IsPlain, WritesDecimal, WritesValue, keeps_zero_rule}
+use Rattle.lexical_parse_integer.specs.Plain.{BeginsWith, IsBehind, IsPlain, keeps_zero_rule}
+use Rattle.lexical_digits.specs.WrittenNumbers.{StandsFor, WritesDecimal, WritesFirst}
 use Rattle.lexical_parse_integer.specs.Runs.{digit_at}
-use Rattle.lexical_parse_integer.specs.Value.{positional_value, with_sign}
-use Rattle.lexical_parse_integer.specs.Words.{AreDigits, word_value}
-use Rattle.lexical_parse_integer.proofs.words.AsciiDigits.{ascii_from_digits, digit_to}
+use Rattle.lexical_digits.specs.Value.{positional_value, with_sign}
+use Rattle.lexical_digits.specs.Words.{AreDigits, word_value}
+use Rattle.lexical_digits.proofs.AsciiDigits.{ascii_from_digits}
 use Rattle.lexical_parse_integer.proofs.theorems.DigitTexts.{head_is, stop_plain, take_row}
 use Rattle.lexical_parse_integer.proofs.grammar.FrontValues.{fitting_fault}
 use Rattle.lexical_parse_integer.proofs.grammar.DigitsInARow.{EndsRow, has_digit, row, row_numeral}
-use Rattle.lexical_parse_integer.proofs.theorems.ReadBack.{HaveDigits, digit_there, digits_size, first_digit, row_is}
+use Rattle.lexical_digits.proofs.DigitValues.{HaveDigits, digits_size}
+use Rattle.lexical_parse_integer.proofs.theorems.ReadBack.{digit_there, first_digit, row_is}
 use Rattle.lexical_parse_integer.proofs.grammar.Stretches.{HoldsBetween}
-use Rattle.lexical_parse_integer.proofs.plain.DigitsAlone.{have_digits, rule_told, sign_of_digit_under, sign_of_minus_under}
-use Rattle.lexical_parse_integer.proofs.plain.WordsOfDigits.{raised_none}
+use Rattle.lexical_parse_integer.proofs.plain.DigitsAlone.{sign_of_digit_under, sign_of_minus_under}
+use Rattle.lexical_parse_integer.proofs.plain.DigitsByTable.{rule_in}
+use Rattle.lexical_digits.proofs.LongNumbers.{stands}
+use Rattle.lexical_parse_integer.proofs.theorems.CompleteByPartial.{complete_is_completion, sign_within}
+use Rattle.lexical_parse_integer.specs.Laws.{completion_of}
 use Rattle.lexical_parse_integer.proofs.theorems.SettledAnswers.{partial_by, partial_row}
 use Rattle.lexical_parse_integer.proofs.grammar.RangeOfFronts.{shorter_fronts_fit}
+use Rattle.lexical_digits.proofs.WordsInFront.{joined, reaches, rest_is}
 
 -- so many digits behind the sign, and then none
 pub front_read_under : (f : Format) (t : IntegerType) (text : List ℕ) (s : Bool × ℕ) (n : ℕ) → IsPlain f → 1 ≤ f.mantissa_radix → sign f t text ≡ Ok s → 0 < n → s.1 + n ≤ length text →
@@ -120,49 +127,85 @@ front_digits_read f t true text (c ∷ cs) ds (suc n) plain positive behind all 
 
 -- ---- what the parts of the code say
 
--- a byte that is no decimal digit
-pub stop_none : (byte : ℕ) → byte < 256 → 10 ≤ (byte + 208) % 256 → is_some (digit byte 10) ≡ false
-stop_none byte below stops = by_test (is_some (digit byte 10)) refl
-  where
-    by_test : (b : Bool) → is_some (digit byte 10) ≡ b → b ≡ false
-    by_test false e = refl
-    by_test true e =
-        let d = digit_to 10 byte e (omega arith) in
-        let low = d.0 in
-        let high = d.1 in
-        absurd (omega arith)
-
--- decimal digits at the front of what stands behind the minus
-pub begins_read : (f : Format) (t : IntegerType) (negative : Bool) (text digits : List ℕ) (value : ℤ) (count : ℕ) → IsPlain f → f.mantissa_radix ≡ 10 → IsBehind negative t text digits → BeginsWith f t negative digits value count →
-    partial f t text ≡ Ok (value, bool_byte negative + count)
-begins_read f t negative text digits value count plain ten behind b =
+-- decimal digits at the front of what stands behind the minus, whose place counts it
+pub begins_read : (f : Format) (t : IntegerType) (negative : Bool) (text digits : List ℕ) (value : ℤ) (count start : ℕ) → IsPlain f → f.mantissa_radix ≡ 10 → IsBehind negative t text digits → start ≡ bool_byte negative → BeginsWith f t negative digits value count →
+    partial f t text ≡ Ok (value, start + count)
+begins_read f t negative text digits value count start plain ten behind at b =
+    let w = b.stands.writes in
     let bytes : List ℕ = take count digits in
-    let w = b.stands in
-    let same = raised_none bytes in
-    let digits_are : AreDigits 10 bytes = rw same at w.writes.digits in
-    let worth : w.number ≡ word_value 10 bytes = rw same at w.writes.worth in
-    let ascii = ascii_from_digits 10 bytes (omega arith) digits_are in
-    let ds : List ℕ = map (λ byte. byte - 48) bytes in
-    let all : HaveDigits f.mantissa_radix bytes ds = subst (λ (r : ℕ). HaveDigits r bytes ds) (sym ten) (have_digits 10 bytes (omega arith) ascii) in
-    let value_is : with_sign negative (positional_value f.mantissa_radix ds) ≡ value = ap (λ (r : ℕ). with_sign negative (positional_value r ds)) ten ∙ ap (with_sign negative) (sym worth) ∙ sym w.worth in
-    let stops : (count < length digits → is_some (digit (get_or digits count 0) f.mantissa_radix) ≡ false) = λ l. ap (λ (r : ℕ). is_some (digit (get_or digits count 0) r)) ten ∙ b.stops l in
-    let fits : is_number t (with_sign negative (positional_value f.mantissa_radix ds)) ≡ true = ap (is_number t) (value_is ∙ w.worth) ∙ w.fits in
-    front_digits_read f t negative text digits ds count plain (omega arith) behind all b.some b.within stops (rule_told f 10 bytes ascii b.rule) fits
-    ∙ ap (λ (z : ℤ). Ok (z, bool_byte negative + count)) value_is
+    let all : HaveDigits 10 bytes w.values = ap (map (λ byte. digit byte 10)) (sym (take-length bytes)) ∙ w.digits in
+    let here : HaveDigits f.mantissa_radix bytes w.values = subst (λ (n : ℕ). HaveDigits n bytes w.values) (sym ten) all in
+    let value_is : with_sign negative (positional_value f.mantissa_radix w.values) ≡ value = ap (λ (n : ℕ). with_sign negative (positional_value n w.values)) ten ∙ ap (λ (z : ℤ). if negative then neg_ℤ z else z) (sym w.worth) ∙ sym b.stands.worth in
+    let stops : (count < length digits → is_some (digit (get_or digits count 0) f.mantissa_radix) ≡ false) = λ l. ap (λ (n : ℕ). is_some (digit (get_or digits count 0) n)) ten ∙ b.stops l in
+    front_digits_read f t negative text digits w.values count plain (omega arith) behind here b.some b.within stops (rule_in f 10 bytes w.values all b.rule) (ap (is_number t) value_is ∙ b.stands.fits)
+    ∙ ap (λ (z : ℤ). Ok (z, bool_byte negative + count)) value_is ∙ ap (λ (k : ℕ). Ok (value, k + count)) (sym at)
 
--- the value of digits, by what is known of their number
-pub stands : (t : IntegerType) (negative : Bool) (text : List ℕ) (number : ℕ) (value : ℤ) → WritesDecimal 0 text number → value ≡ with_sign negative number → IsNumber t value → WritesValue t 0 negative text value
-stands t negative text number value writes worth fits = record { number = number; writes = writes; worth = worth; fits = subst (λ (z : ℤ). IsNumber t z) worth fits }
+-- what stands from a place on
+pub from_place : (start : ℕ) (text : List ℕ) → StandsFrom start text (drop start text)
+from_place zero text k = let e : 0 + k ≡ k = omega arith in ap (slice_get text) e
+from_place (suc n) [] k = refl
+from_place (suc n) (b ∷ bs) k = let e : suc n + k ≡ suc (n + k) = omega arith in ap (slice_get (b ∷ bs)) e ∙ from_place n bs k
 
-pub begins : (f : Format) (t : IntegerType) (negative : Bool) (digits : List ℕ) (value : ℤ) (count : ℕ) → 1 ≤ count → count ≤ length digits → ((j : ℕ) → get_or digits j 0 < 256) → (count < length digits → 10 ≤ (get_or digits count 0 + 208) % 256) →
-    keeps_zero_rule f (take count digits) ≡ true → WritesValue t 0 negative (take count digits) value → BeginsWith f t negative digits value count
-begins f t negative digits value count some within below stops rule stand = record {
-  some = some;
-  within = within;
-  stops = λ l. stop_none (get_or digits count 0) (below count) (stops l);
-  rule = rule;
-  stands = stand;
-}
+-- the same behind any sign
+pub signed_read : (f : Format) (t : IntegerType) (text : List ℕ) (s : Bool × ℕ) (value : ℤ) (count : ℕ) → IsPlain f → f.mantissa_radix ≡ 10 → sign f t text ≡ Ok s → BeginsWith f t s.0 (slice_range text s.1 (length text)) value count → partial f t text ≡ Ok (value, s.1 + count)
+signed_read f t text s value count plain ten sign_is begins =
+    let within = sign_within f t text s sign_is in
+    let size = length-drop s.1 text in
+    let digits : List ℕ = drop s.1 text in
+    let b : BeginsWith f t s.0 digits value count = subst (λ (ds : List ℕ). BeginsWith f t s.0 ds value count) (rest_is text s.1) begins in
+    let w = b.stands.writes in
+    let bytes : List ℕ = take count digits in
+    let all : HaveDigits 10 bytes w.values = ap (map (λ byte. digit byte 10)) (sym (take-length bytes)) ∙ w.digits in
+    let here : HaveDigits f.mantissa_radix bytes w.values = subst (λ (n : ℕ). HaveDigits n bytes w.values) (sym ten) all in
+    let value_is : with_sign s.0 (positional_value f.mantissa_radix w.values) ≡ value = ap (λ (n : ℕ). with_sign s.0 (positional_value n w.values)) ten ∙ ap (λ (z : ℤ). if s.0 then neg_ℤ z else z) (sym w.worth) ∙ sym b.stands.worth in
+    let stops : (count < length digits → is_some (digit (get_or digits count 0) f.mantissa_radix) ≡ false) = λ l. ap (λ (n : ℕ). is_some (digit (get_or digits count 0) n)) ten ∙ b.stops l in
+    values_in_front f t text digits w.values s count plain (omega arith) sign_is (from_place s.1 text) (omega arith) here b.some b.within stops (rule_in f 10 bytes w.values all b.rule) (ap (is_number t) value_is ∙ b.stands.fits)
+    ∙ ap (λ (z : ℤ). Ok (z, s.1 + count)) value_is
+
+-- a byte after the front's digits is an invalid digit
+pub byte_after : (f : Format) (t : IntegerType) (text : List ℕ) (value : ℤ) (place : ℕ) → partial f t text ≡ Ok (value, place) → place < length text → complete f t text ≡ Err (InvalidDigit place)
+byte_after f t text value place is more =
+    let test = lt-ltb place (length text) more in
+    complete_is_completion f t text ∙ ap (completion_of (length text)) is ∙ (rw test refl)
+
+-- a front without a byte after it is the text
+none_after : (f : Format) (t : IntegerType) (text : List ℕ) (value : ℤ) (place : ℕ) → partial f t text ≡ Ok (value, place) → length text ≤ place → complete f t text ≡ Ok value
+none_after f t text value place is all =
+    let test = le-ltb place (length text) all in
+    complete_is_completion f t text ∙ ap (completion_of (length text)) is ∙ (rw test refl)
+
+sign_of_plus : (t : IntegerType) (cs : List ℕ) → sign standard t (43 ∷ cs) ≡ Ok (false, 1)
+unfolding sign
+sign_of_plus t cs = refl
+
+-- digits behind a plus that stand for a number are read as that
+pub plus_read : (t : IntegerType) (text : List ℕ) (value : ℤ) → 1 < length text → get_or text 0 0 ≡ 43 → StandsFor t 10 false (slice_range text 1 (length text)) value → complete standard t text ≡ Ok value
+plus_read t [] value some is_plus s = absurd (omega arith)
+plus_read t (b ∷ cs) value some is_plus s =
+    let digits : List ℕ = slice_range (b ∷ cs) 1 (length (b ∷ cs)) in
+    let size : length digits ≡ length cs = ap length (rest_is (b ∷ cs) 1) in
+    let begins : BeginsWith standard t false digits value (length cs) = record {
+      some = omega arith;
+      within = omega arith;
+      stops = λ l. absurd (omega (arith, l, size));
+      rule = refl;
+      stands = subst (λ (bytes : List ℕ). StandsFor t 10 false bytes value) (sym (ap (λ (n : ℕ). take n digits) (sym size) ∙ take-length digits)) s;
+    } in
+    let sign_is : sign standard t (b ∷ cs) ≡ Ok (false, 1) = ap (λ (c : ℕ). sign standard t (c ∷ cs)) is_plus ∙ sign_of_plus t cs in
+    let plain : IsPlain standard = record { no_separator = refl; no_prefix = refl; no_suffix = refl; no_literals = refl; no_octal_zeros = refl; no_sign = refl } in
+    none_after standard t (b ∷ cs) value (1 + length cs) (signed_read standard t (b ∷ cs) (false, 1) value (length cs) plain refl sign_is begins) (omega arith)
+
+-- more digits keep the zero rule where the first ones do
+pub longer_rule : (f : Format) (k m : ℕ) (digits : List ℕ) → 2 ≤ k → k ≤ m → m ≤ length digits → keeps_zero_rule f (take k digits) ≡ true → keeps_zero_rule f (take m digits) ≡ true
+longer_rule f k m [] two more within rule = absurd (omega arith)
+longer_rule f zero m (b ∷ bs) two more within rule = absurd (omega arith)
+longer_rule f (suc k) zero (b ∷ bs) two more within rule = absurd (omega arith)
+longer_rule f (suc k) (suc m) (b ∷ bs) two more within rule =
+    let few = length-take-le k bs (omega arith) in
+    let many = length-take-le m bs (omega arith) in
+    let before : nat_le 2 (length (b ∷ take k bs)) ≡ true = le-leb 2 (length (b ∷ take k bs)) (omega arith) in
+    let behind : nat_le 2 (length (b ∷ take m bs)) ≡ true = le-leb 2 (length (b ∷ take m bs)) (omega arith) in
+    rw behind (rw before at rule)
 
 -- the answer where the format is valid
 pub front_answered_if_valid : (f : Format) (t : IntegerType) (text : List ℕ) (found : ℤ × ℕ) → IsNone (fault f) → partial f t text ≡ Ok found → Ok found ≡ partial_if_valid f t text
@@ -172,7 +215,29 @@ front_answered_if_valid f t text found valid is = sym (by_fault (fault f) (parti
     by_fault None answer none = refl
     by_fault (Some e) answer none = cc
 
--- the place behind the digits counts the minus
-pub begins_placed : (f : Format) (t : IntegerType) (negative : Bool) (text digits : List ℕ) (value : ℤ) (count start : ℕ) → IsPlain f → f.mantissa_radix ≡ 10 → IsBehind negative t text digits → start ≡ bool_byte negative → BeginsWith f t negative digits value count →
-    partial f t text ≡ Ok (value, start + count)
-begins_placed f t negative text digits value count start plain ten behind at b = begins_read f t negative text digits value count plain ten behind b ∙ ap (λ (k : ℕ). Ok (value, k + count)) (sym at)
+-- a front of such digits
+pub joined_begin : (f : Format) (t : IntegerType) (negative : Bool) (digits : List ℕ) (value : ℤ) (j count a b : ℕ) → 8 ≤ j → j ≤ length digits → WritesDecimal 0 (take j digits) a → WritesFirst (slice_range digits j (length digits)) b count → count < 8 →
+    keeps_zero_rule f (take 8 digits) ≡ true → value ≡ with_sign negative (a * 10 ^ count + b) → IsNumber t value → BeginsWith f t negative digits value (j + count)
+joined_begin f t negative digits value j count a b some within w v few rule worth fits =
+    let size : length (slice_range digits j (length digits)) ≡ length digits - j = ap length (rest_is digits j) ∙ length-drop j digits in
+    let all = reaches digits j b count v within in
+    record {
+      some = omega arith;
+      within = all;
+      stops = λ less.
+          let byte : get_or (slice_range digits j (length digits)) count 0 ≡ get_or digits (j + count) 0 = ap (λ (bs : List ℕ). get_or bs count 0) (rest_is digits j) ∙ get_or-drop j digits count 0 in
+          subst (λ n. IsNone (digit n 10)) byte (v.stops few (omega arith));
+      rule = longer_rule f 8 (j + count) digits (omega arith) (omega arith) all rule;
+      stands = stands t negative (take (j + count) digits) (a * 10 ^ count + b) value (joined j count a b digits w v) worth fits;
+    }
+
+-- a front of the first word alone
+pub first_begin : (f : Format) (t : IntegerType) (negative : Bool) (digits : List ℕ) (value : ℤ) (count a : ℕ) → 1 ≤ count → WritesFirst digits a count → count < 8 → keeps_zero_rule f (take count digits) ≡ true → value ≡ with_sign negative a → IsNumber t value →
+    BeginsWith f t negative digits value count
+first_begin f t negative digits value count a some w few rule worth fits = record {
+  some = some;
+  within = w.within;
+  stops = w.stops few;
+  rule = rule;
+  stands = stands t negative (take count digits) a value w.writes worth fits;
+}

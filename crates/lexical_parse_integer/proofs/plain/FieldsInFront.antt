@@ -1,6 +1,7 @@
 -- The first field of a column, where it is digits alone behind an optional minus.
-use Rattle.std.proofs.Common.{◌≡◌, ◌≢◌, ℕ, zero, suc, ◌+◌, ◌<◌, Bool, true, false, not, cond, eqb, List, [], ◌∷◌, length, get_or, take, refl, sym, ap, ◌∙◌, subst, arith, Option, Some, None, Ok, inl, inr}
-use Rattle.std.specs.Prelude.{ℤ, IsNone, IsSome}
+use Rattle.std.proofs.Common.{◌≡◌, ◌≢◌, ℕ, zero, suc, ◌+◌, ◌<◌, Bool, true, false, not, cond, eqb, List, [], ◌∷◌, length, get_or, map, take, refl, sym, ap, ◌∙◌, subst, arith, Option, Some, None, Ok, inl, inr}
+use Rattle.std.specs.Prelude.{is_some, ℤ, IsNone, IsSome}
+use Rattle.std.proofs.Math.Seq.{take-length}
 use Rattle.std.proofs.lemmas.Bool.{ne_eqb}
 use Rattle.std.proofs.lemmas.Bool.Decides.{eqb_tells}
 use Rattle.std.proofs.lemmas.List.{length-take-le}
@@ -11,9 +12,9 @@ use Rattle.lexical_util.specs.Number.{IntegerType}
 use Rattle.lexical_parse_integer.specs.Grammar.{complete}
 use Rattle.lexical_parse_integer.specs.Plain.{BeginsWith, IsBehind, IsPlain}
 use Rattle.lexical_parse_integer.specs.Separated.{IsSeparated, bytes_before}
-use Rattle.lexical_parse_integer.specs.Words.{AreDigits}
-use Rattle.lexical_parse_integer.proofs.plain.DigitsAlone.{behind_read}
-use Rattle.lexical_parse_integer.proofs.plain.WordsOfDigits.{raised_none}
+use Rattle.lexical_digits.specs.Words.{AreDigits}
+use Rattle.lexical_parse_integer.proofs.plain.DigitsByTable.{table_read}
+use Rattle.lexical_digits.proofs.LongNumbers.{have_are}
 
 -- the front of a text is behind the same minus
 front_behind : (t : IntegerType) (negative : Bool) (text digits : List ℕ) (count : ℕ) → IsBehind negative t text digits → IsBehind negative t (take (bool_byte negative + count) text) (take count digits)
@@ -30,7 +31,7 @@ field_read f t negative text digits value count start plain ten behind at b =
     let taken : length (take count digits) ≡ count = length-take-le count digits b.within in
     let some : 0 < length (take count digits) = omega (arith, b.some) in
     ap (λ k. complete f t (take (k + count) text)) at
-    ∙ behind_read f t negative (take (bool_byte negative + count) text) (take count digits) value plain ten (front_behind t negative text digits count behind) some b.rule b.stands
+    ∙ table_read f t 10 negative (take (bool_byte negative + count) text) (take count digits) value plain ten (record { low = omega arith; high = omega arith }) (front_behind t negative text digits count behind) some b.rule b.stands
 
 -- a byte that the separator is not
 apart : (s b : ℕ) → b ≢ s → not (eqb b s) ≡ true
@@ -62,7 +63,7 @@ pub field_ends : (f : Format) (t : IntegerType) (s : ℕ) (negative : Bool) (tex
 field_ends f t s negative text digits value count start apart_from behind at b low stop = by_sign negative text start behind at b low stop
   where
     all_digits : (negative : Bool) → BeginsWith f t negative digits value count → AreDigits 10 (take count digits)
-    all_digits negative b = subst (AreDigits 10) (raised_none (take count digits)) b.stands.writes.digits
+    all_digits negative b = have_are (take count digits) b.stands.writes.values (ap (map (λ byte. digit byte 10)) (sym (take-length (take count digits))) ∙ b.stands.writes.digits)
 
     by_sign : (negative : Bool) (text : List ℕ) (start : ℕ) → IsBehind negative t text digits → start ≡ bool_byte negative → BeginsWith f t negative digits value count → start + count < length text → get_or text (start + count) 0 ≡ s → start + count ≡ bytes_before s text
     by_sign false text start behind at b low stop =

@@ -1,41 +1,37 @@
 -- Decimal numbers at the front of a text that leave their type: for the answers of `algorithm::plain::overflow`.
-use Rattle.std.proofs.Common.{slice_get, ◌≡◌, ℕ, zero, suc, ◌+◌, ◌-◌, ◌*◌, ◌<◌, ◌≤◌, Bool, true, false, ◌&&◌, not, List, [], ◌∷◌, ◌++◌, length, get_or, map, take, refl, sym, ap, ◌∙◌, subst, arith, rules, Some, Ok, Err, pos}
-use Rattle.std.specs.Prelude.{◌==◌, ◌||◌, is_some, slice_range, ℤ}
-use Rattle.std.specs.Int.Signed.{≤ℤ_refl}
+use Rattle.std.proofs.Common.{slice_get, ◌≡◌, ℕ, zero, suc, ◌+◌, ◌-◌, ◌*◌, ◌<◌, ◌≤◌, Bool, true, false, ◌&&◌, not, List, [], ◌∷◌, ◌++◌, length, get_or, map, take, drop, refl, sym, ap, ◌∙◌, subst, arith, rules, Some, Ok, Err, pos}
+use Rattle.std.specs.Prelude.{◌==◌, ◌||◌, is_some, slice_range, ℤ, neg_ℤ, if◌then◌else◌}
 use Rattle.std.proofs.lemmas.Bool.{and_parts, eqb-true}
 use Rattle.std.proofs.lemmas.Bool.Decides.{nat_tests}
-use Rattle.std.proofs.lemmas.List.{length-take-le, take_more}
-use mir.Val.{bool_byte}
+use Rattle.std.proofs.lemmas.List.{length-drop, length-take-le, take_more}
 use Rattle.lexical_util.specs.Digit.{digit}
 use Rattle.lexical_util.specs.Format.{Format, standard}
 use Rattle.lexical_util.specs.Number.{HasSign, IntegerType, is_number, mul_add}
 use Rattle.lexical_parse_integer.specs.Grammar.{complete, range_error, range_fault}
 use Rattle.lexical_parse_integer.specs.Head.{Head, sign}
 use Rattle.lexical_parse_integer.specs.Numeral.{Numeral, digit_count, front_value}
-use Rattle.lexical_parse_integer.specs.Plain.{LeavesAfter, WritesValue}
-use Rattle.lexical_parse_integer.specs.Value.{positional_value, with_sign}
-use Rattle.lexical_parse_integer.specs.Words.{AreDigits, word_value}
+use Rattle.lexical_parse_integer.specs.Plain.{LeavesAfter}
+use Rattle.lexical_digits.specs.WrittenNumbers.{StandsFor}
+use Rattle.lexical_digits.specs.Value.{positional_value, with_sign}
+use Rattle.lexical_digits.specs.Words.{AreDigits, word_value}
 use Rattle.lexical_parse_integer.proofs.grammar.DigitsInARow.{EndsRow, has_digit, row, row_count, row_ends, row_numeral}
-use Rattle.lexical_parse_integer.proofs.grammar.FrontValues.{leaving_fault, with_sign-step}
+use Rattle.lexical_parse_integer.proofs.grammar.FrontValues.{leaving_fault}
+use Rattle.lexical_digits.proofs.DigitValues.{with_sign-step, HaveDigits, digits_size}
 use Rattle.lexical_parse_integer.proofs.grammar.RangeOfFronts.{shorter_fronts_fit}
 use Rattle.lexical_parse_integer.proofs.grammar.Stretches.{HoldsBetween, below_stop}
-use Rattle.lexical_parse_integer.proofs.plain.DigitsAlone.{behind_first, from_front, have_digits, sign_of_digit_under, sign_of_minus_under}
-use Rattle.lexical_parse_integer.proofs.plain.DigitsInFront.{StandsFrom, at_front, front_between}
-use Rattle.lexical_parse_integer.proofs.plain.FrontsByTable.{from_second, sign_of_plus_under}
-use Rattle.lexical_parse_integer.proofs.plain.WordsOfDigits.{digits_joined, raised_none, value_joined}
+use Rattle.lexical_digits.proofs.LongNumbers.{digit_worth, have_are, have_digits, have_values, stands}
+use Rattle.lexical_digits.proofs.ShiftedWords.{writes_text}
+use Rattle.std.proofs.Math.Seq.{take-length}
+use Rattle.lexical_parse_integer.proofs.plain.DigitsInFront.{StandsFrom, at_front, from_place, front_between}
+use Rattle.lexical_digits.proofs.WordsInFront.{rest_is}
+use Rattle.lexical_parse_integer.proofs.theorems.CompleteByPartial.{sign_within}
+use Rattle.lexical_digits.proofs.WordsOfDigits.{digits_joined, value_joined}
 use Rattle.lexical_parse_integer.proofs.theorems.DigitTexts.{complete_by, complete_row, head_is}
-use Rattle.lexical_parse_integer.proofs.theorems.ReadBack.{HaveDigits, digits_size, row_is}
+use Rattle.lexical_parse_integer.proofs.theorems.ReadBack.{row_is}
 use Rattle.lexical_parse_integer.proofs.theorems.SettledAnswers.{digits_of_row, front_of_row, place_of_row}
-use Rattle.lexical_parse_integer.proofs.words.AsciiDigits.{ascii_from_digits, digit_from, digit_to}
+use Rattle.lexical_digits.proofs.AsciiDigits.{ascii_from_digits, digit_from, digit_to}
 
 -- ---- one digit more
-
--- a decimal digit's value
-digit_worth : (byte d : ℕ) → digit byte 10 ≡ Some d → d ≡ byte - 48
-digit_worth byte d is =
-    let ascii = digit_to 10 byte (ap is_some is) (omega arith) in
-    let told : digit byte 10 ≡ Some (byte - 48) = digit_from 10 byte ascii (omega arith) in
-    cc
 
 -- the digits with that one
 digits_more : (k d : ℕ) (text : List ℕ) → k < length text → digit (get_or text k 0) 10 ≡ Some d → AreDigits 10 (take k text) → AreDigits 10 (take (k + 1) text)
@@ -50,46 +46,33 @@ value_more k d text more is =
     ap (word_value 10) one ∙ value_joined 10 (take k text) (get_or text k 0 ∷ []) ∙ omega arith
 
 -- what is known of a value that is behind the sign of its digits
-pub worth_of : (t : IntegerType) (b : Bool) (text : List ℕ) (value : ℤ) → WritesValue t 0 b text value → value ≡ with_sign b (word_value 10 text)
-worth_of t b text value w = w.worth ∙ ap (with_sign b) (w.writes.worth ∙ ap (word_value 10) (raised_none text))
+have : (t : IntegerType) (b : Bool) (text : List ℕ) (value : ℤ) (s : StandsFor t 10 b text value) → HaveDigits 10 text s.writes.values
+have t b text value s = ap (map (λ byte. digit byte 10)) (sym (take-length text)) ∙ s.writes.digits
 
-digits_of : (t : IntegerType) (b : Bool) (text : List ℕ) (value : ℤ) → WritesValue t 0 b text value → AreDigits 10 text
-digits_of t b text value w = subst (λ (bs : List ℕ). AreDigits 10 bs) (raised_none text) w.writes.digits
+worth_of : (t : IntegerType) (b : Bool) (text : List ℕ) (value : ℤ) → StandsFor t 10 b text value → value ≡ with_sign b (word_value 10 text)
+worth_of t b text value s = s.worth ∙ ap (λ (z : ℤ). if b then neg_ℤ z else z) (s.writes.worth ∙ ap (λ (ds : List ℕ). pos (positional_value 10 ds)) (have_values text s.writes.values (have t b text value s)))
 
-pub sign_of_value : (t : IntegerType) (b : Bool) (text : List ℕ) (value : ℤ) → WritesValue t 0 b text value → HasSign b value
-sign_of_value t b text value w = subst (HasSign b) (sym w.worth) (by_sign b w.number)
-  where
-    by_sign : (b : Bool) (n : ℕ) → HasSign b (with_sign b n)
-    by_sign true zero = ≤ℤ_refl (pos 0)
-    by_sign true (suc n) = search rules
-    by_sign false n = grind (arith, nat_tests)
+digits_of : (t : IntegerType) (b : Bool) (text : List ℕ) (value : ℤ) → StandsFor t 10 b text value → AreDigits 10 text
+digits_of t b text value s = have_are text s.writes.values (have t b text value s)
 
 -- the value with one digit more
-step_worth : (t : IntegerType) (b : Bool) (k d : ℕ) (text : List ℕ) (value : ℤ) → WritesValue t 0 b (take k text) value → k < length text → digit (get_or text k 0) 10 ≡ Some d → mul_add b value (pos 10) (pos d) ≡ with_sign b (word_value 10 (take (k + 1) text))
+step_worth : (t : IntegerType) (b : Bool) (k d : ℕ) (text : List ℕ) (value : ℤ) → StandsFor t 10 b (take k text) value → k < length text → digit (get_or text k 0) 10 ≡ Some d → mul_add b value (pos 10) (pos d) ≡ with_sign b (word_value 10 (take (k + 1) text))
 step_worth t b k d text value w more is =
     ap (λ (z : ℤ). mul_add b z (pos 10) (pos d)) (worth_of t b (take k text) value w) ∙ with_sign-step b (word_value 10 (take k text)) 10 d ∙ ap (with_sign b) (sym (value_more k d text more is))
 
-pub next_value : (t : IntegerType) (b : Bool) (k d : ℕ) (text : List ℕ) (value next : ℤ) → WritesValue t 0 b (take k text) value → k < length text → digit (get_or text k 0) 10 ≡ Some d → next ≡ mul_add b value (pos 10) (pos d) → is_number t next ≡ true → WritesValue t 0 b (take (k + 1) text) next
+pub next_value : (t : IntegerType) (b : Bool) (k d : ℕ) (text : List ℕ) (value next : ℤ) → StandsFor t 10 b (take k text) value → k < length text → digit (get_or text k 0) 10 ≡ Some d → next ≡ mul_add b value (pos 10) (pos d) → is_number t next ≡ true → StandsFor t 10 b (take (k + 1) text) next
 next_value t b k d text value next w more is step fits =
     let worth : next ≡ with_sign b (word_value 10 (take (k + 1) text)) = step ∙ step_worth t b k d text value w more is in
-    let same = raised_none (take (k + 1) text) in
-    record {
-      number = word_value 10 (take (k + 1) text);
-      writes = record {
-        digits = subst (λ (bs : List ℕ). AreDigits 10 bs) (sym same) (digits_more k d text more is (digits_of t b (take k text) value w));
-        worth = ap (word_value 10) (sym same);
-      };
-      worth = worth;
-      fits = ap (is_number t) (sym worth) ∙ fits;
-    }
+    let digits = digits_more k d text more is (digits_of t b (take k text) value w) in
+    stands t b (take (k + 1) text) (word_value 10 (take (k + 1) text)) next (writes_text (take (k + 1) text) (word_value 10 (take (k + 1) text)) digits refl) worth fits
 
-pub leaves_after : (t : IntegerType) (b : Bool) (k d : ℕ) (text : List ℕ) (value : ℤ) → WritesValue t 0 b (take k text) value → k < length text → digit (get_or text k 0) 10 ≡ Some d → is_number t (mul_add b value (pos 10) (pos d)) ≡ false → LeavesAfter t b text k
+pub leaves_after : (t : IntegerType) (b : Bool) (k d : ℕ) (text : List ℕ) (value : ℤ) → StandsFor t 10 b (take k text) value → k < length text → digit (get_or text k 0) 10 ≡ Some d → is_number t (mul_add b value (pos 10) (pos d)) ≡ false → LeavesAfter t b text k
 leaves_after t b k d text value w more is leaves =
     let worth = worth_of t b (take k text) value w in
     record {
       within = more;
       digits = digits_more k d text more is (digits_of t b (take k text) value w);
-      fits = ap (is_number t) (sym worth ∙ w.worth) ∙ w.fits;
+      fits = ap (is_number t) (sym worth) ∙ w.fits;
       leaves = ap (is_number t) (sym (step_worth t b k d text value w more is)) ∙ leaves;
     }
 
@@ -139,31 +122,9 @@ leaving_read t text digits s count sign_is on size l =
     let answer : complete_by f t text h x ≡ Err (range_error s.0 (get_or x.places count 0)) = rw fault refl in
     complete_row f t text h n refl (head_is f t text s refl refl refl sign_is) low ends ∙ answer ∙ ap (λ (k : ℕ). Err (range_error s.0 k)) place
 
--- a text that begins with a digit has no sign
-sign_of_leaving : (t : IntegerType) (b count : ℕ) (rest : List ℕ) → LeavesAfter t false (b ∷ rest) count → sign standard t (b ∷ rest) ≡ Ok (false, 0)
-sign_of_leaving t b count rest l =
-    let one : take (count + 1) (b ∷ rest) ≡ b ∷ take count rest = let e : count + 1 ≡ suc count = omega arith in ap (λ (k : ℕ). take k (b ∷ rest)) e in
-    let all : AreDigits 10 (b ∷ take count rest) = subst (λ (bs : List ℕ). AreDigits 10 bs) one l.digits in
-    let ascii = digit_to 10 b all.0 (omega arith) in
-    sign_of_digit_under standard t 10 b (b - 48) rest refl (digit_from 10 b ascii (omega arith))
-
--- behind a minus, a plus or nothing
-pub signed_leaving_read : (t : IntegerType) (text : List ℕ) (negative plus : Bool) (start count : ℕ) → 0 < length text →
-    negative ≡ (t.is_signed && (get_or text 0 0 == 45)) → plus ≡ (not standard.no_positive_mantissa_sign && (get_or text 0 0 == 43)) → start ≡ bool_byte (negative || plus) →
-    LeavesAfter t negative (slice_range text start (length text)) count → complete standard t text ≡ Err (range_error negative (start + count))
-signed_leaving_read t [] negative plus start count some is_minus is_plus at l = absurd (omega arith)
-signed_leaving_read t (b ∷ rest) true plus start count some is_minus is_plus at l =
-    let both = and_parts t.is_signed (b == 45) (sym is_minus) in
-    let minus : b ≡ 45 = eqb-true b 45 both.1 in
-    let sign_is : sign standard t (b ∷ rest) ≡ Ok (true, 1) = ap (λ (c : ℕ). sign standard t (c ∷ rest)) minus ∙ sign_of_minus_under standard t rest both.0 in
-    let told : LeavesAfter t true rest count = subst (λ (ds : List ℕ). LeavesAfter t true ds count) (behind_first b rest start at) l in
-    leaving_read t (b ∷ rest) rest (true, 1) count sign_is (from_second b rest) (omega arith) told ∙ ap (λ (k : ℕ). Err (range_error true (k + count))) (sym at)
-signed_leaving_read t (b ∷ rest) false true start count some is_minus is_plus at l =
-    let plus : b ≡ 43 = eqb-true b 43 (sym is_plus) in
-    let sign_is : sign standard t (b ∷ rest) ≡ Ok (false, 1) = ap (λ (c : ℕ). sign standard t (c ∷ rest)) plus ∙ sign_of_plus_under standard t rest refl in
-    let told : LeavesAfter t false rest count = subst (λ (ds : List ℕ). LeavesAfter t false ds count) (behind_first b rest start at) l in
-    leaving_read t (b ∷ rest) rest (false, 1) count sign_is (from_second b rest) (omega arith) told ∙ ap (λ (k : ℕ). Err (range_error false (k + count))) (sym at)
-signed_leaving_read t (b ∷ rest) false false start count some is_minus is_plus at l =
-    let told : LeavesAfter t false (b ∷ rest) count = subst (λ (ds : List ℕ). LeavesAfter t false ds count) (from_front (b ∷ rest) start at) l in
-    leaving_read t (b ∷ rest) (b ∷ rest) (false, 0) count (sign_of_leaving t b count rest told) (λ k. ap (slice_get (b ∷ rest)) (omega arith)) (omega arith) told
-    ∙ ap (λ (k : ℕ). Err (range_error false (k + count))) (sym at)
+-- behind the sign
+pub signed_leaving_read : (t : IntegerType) (text : List ℕ) (s : Bool × ℕ) (negative : Bool) (count : ℕ) → sign standard t text ≡ Ok s → s.0 ≡ negative → LeavesAfter t s.0 (slice_range text s.1 (length text)) count → complete standard t text ≡ Err (range_error negative (s.1 + count))
+signed_leaving_read t text s negative count sign_is is l =
+    let within = sign_within standard t text s sign_is in
+    let told : LeavesAfter t s.0 (drop s.1 text) count = subst (λ (ds : List ℕ). LeavesAfter t s.0 ds count) (rest_is text s.1) l in
+    leaving_read t text (drop s.1 text) s count sign_is (from_place s.1 text) (let size = length-drop s.1 text in omega arith) told ∙ ap (λ (b : Bool). Err (range_error b (s.1 + count))) is

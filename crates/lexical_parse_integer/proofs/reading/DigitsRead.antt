@@ -5,7 +5,7 @@ use Rattle.std.proofs.lemmas.Int.{ints}
 use Rattle.lexical_parse_integer.specs.Grammar.{range_error, range_fault}
 use Rattle.lexical_parse_integer.specs.Numeral.{Numeral, digit_count, front_value, numeral_value}
 use Rattle.lexical_parse_integer.specs.Reading.{FrontsFit, Reads}
-use Rattle.lexical_parse_integer.specs.Value.{with_sign}
+use Rattle.lexical_digits.specs.Value.{with_sign}
 use Rattle.lexical_util.specs.Number.{HasSign, IntegerType, is_number, mul_add}
 use Rattle.lexical_parse_integer.proofs.grammar.FrontValues.{front_value-next, fitting_fault, leaving_fault}
 

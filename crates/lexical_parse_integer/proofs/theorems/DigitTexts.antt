@@ -20,7 +20,7 @@ use Rattle.lexical_parse_integer.specs.Laws.{with_radix}
 use Rattle.lexical_parse_integer.specs.Numeral.{Numeral, digit_count, front_value, numeral_value}
 use Rattle.lexical_parse_integer.specs.Plain.{IsPlain}
 use Rattle.lexical_parse_integer.specs.Runs.{are_same, digit_at}
-use Rattle.lexical_parse_integer.specs.Value.{positional_value, with_sign}
+use Rattle.lexical_digits.specs.Value.{positional_value, with_sign}
 use Rattle.lexical_parse_integer.proofs.theorems.CompleteByPartial.{sign_within}
 use Rattle.lexical_parse_integer.proofs.grammar.FrontValues.{fitting_fault}
 use Rattle.lexical_parse_integer.proofs.grammar.DigitsInARow.{EndsRow, has_digit, numeral_in_a_row, row, row_count, row_ends, row_numeral}
@@ -127,7 +127,7 @@ find_none_told test a (suc n) m i e l h = by_test (test a) refl h m e l (λ k at
     by_test false here g (suc m) e l more = more m (omega arith) (omega arith) g
 
 -- where the range has no fault, the value is a number of the type
-fits_told : (t : IntegerType) (b : Bool) (x : Numeral) → 0 < digit_count x → range_fault t b x ≡ None → is_number t (numeral_value b x) ≡ true
+pub fits_told : (t : IntegerType) (b : Bool) (x : Numeral) → 0 < digit_count x → range_fault t b x ≡ None → is_number t (numeral_value b x) ≡ true
 unfolding range_fault
 fits_told t b x some none =
     let all : first_outside t b x ≡ None = no_map (first_outside t b x) none in

@@ -33,7 +33,7 @@ begin_later p j k from here s = record {
   fails = s.fails;
 }
 
-IsBegin-begin_of : (p : ℕ → Bool) (j k : ℕ) → j ≤ k → IsBegin p j k (begin_of p j k)
+pub IsBegin-begin_of : (p : ℕ → Bool) (j k : ℕ) → j ≤ k → IsBegin p j k (begin_of p j k)
 unfolding begin_of
 IsBegin-begin_of p j zero h =
     let none : begin_of p j 0 ≡ 0 = omega arith in

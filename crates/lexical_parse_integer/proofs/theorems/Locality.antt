@@ -15,7 +15,7 @@ use Rattle.lexical_parse_integer.specs.Grammar.{first_outside, partial, range_er
 use Rattle.lexical_parse_integer.specs.Head.{Head, head_behind, head_of, sign}
 use Rattle.lexical_parse_integer.specs.Laws.{IsLocal, IsSettledAt, SameFront}
 use Rattle.lexical_parse_integer.specs.Numeral.{Numeral, digit_count, front_value}
-use Rattle.lexical_parse_integer.specs.Value.{positional_value, with_sign}
+use Rattle.lexical_digits.specs.Value.{positional_value, with_sign}
 use Rattle.lexical_parse_integer.proofs.theorems.SameFronts.{Agree, agree, agree_digit, agree_inside, agree_octal, agree_prefix, agree_row, agree_sign, agree_suffix}
 use Rattle.lexical_parse_integer.proofs.theorems.CompleteByPartial.{head_within, sign_within}
 use Rattle.lexical_parse_integer.proofs.reading.Soundness.{none_from_IsNone}

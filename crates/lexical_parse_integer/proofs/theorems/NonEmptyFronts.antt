@@ -11,8 +11,7 @@ use Rattle.lexical_parse_integer.specs.Grammar.{after_head, common_faults, first
 use Rattle.lexical_parse_integer.specs.Head.{Head, head_after, head_behind, head_of, sign}
 use Rattle.lexical_parse_integer.specs.Numeral.{Numeral, numeral_in, numeral_value}
 use Rattle.lexical_parse_integer.specs.Runs.{digit_at, end_of, places}
-use Rattle.lexical_parse_integer.proofs.theorems.CompleteByPartial.{head_within, sign_within}
-use Rattle.lexical_parse_integer.proofs.theorems.CompleteByPartial.{ok_told}
+use Rattle.lexical_parse_integer.proofs.theorems.CompleteByPartial.{head_within, sign_within, ok_told}
 use Rattle.lexical_parse_integer.proofs.reading.FirstDigit.{zero_ahead}
 use Rattle.lexical_parse_integer.proofs.reading.OctalZeros.{bare_octal, bare_own, octal_byte}
 use Rattle.lexical_parse_integer.proofs.grammar.NumeralEnd.{IsStop-end_of, belongs_digit, digit_at_within}

@@ -8,8 +8,7 @@ use Rattle.std.proofs.lemmas.Fmt.{decimal_is_IsNumeral_wide, length-decimal-le_w
 use Rattle.std.proofs.lemmas.List.{length-map}
 use Rattle.std.proofs.lemmas.Int.Digits.{number_digits_of, all_below_base_digits_of, length-digits_of-le, number_lt, digits_value_is}
 use Rattle.std.specs.Prelude.{◌==◌, nat_lt, option_and_then, slice_get}
-use Rattle.std.specs.Char.{digit_char}
-use Rattle.std.specs.Char.{digit_value as char_value}
+use Rattle.std.specs.Char.{digit_char, digit_value as char_value}
 use Rattle.std.specs.Fmt.{decimal, signed_decimal}
 use Rattle.std.specs.Str.Parse.{AllDigits}
 use Rattle.std.specs.Int.Digits.{digits_of, number_from_digits, number_from_digits_after, AllBelowBase}
@@ -21,10 +20,11 @@ use Rattle.lexical_parse_integer.specs.Grammar.{complete}
 use Rattle.lexical_parse_integer.specs.Head.{sign}
 use Rattle.lexical_parse_integer.specs.Laws.{IsNumeralOf, ReadsNumerals, Writes, WritesShortest, with_radix}
 use Rattle.lexical_parse_integer.specs.Runs.{digit_at}
-use Rattle.lexical_parse_integer.specs.Value.{positional_value, with_sign}
+use Rattle.lexical_digits.specs.Value.{positional_value, with_sign}
 use Rattle.lexical_parse_integer.proofs.theorems.DigitTexts.{digits_read, rest_value}
 use Rattle.lexical_parse_integer.proofs.grammar.DigitsInARow.{has_digit, row}
 use Rattle.lexical_parse_integer.proofs.grammar.Stretches.{HoldsBetween}
+use Rattle.lexical_digits.proofs.DigitValues.{HaveDigits, digits_size, digit_below}
 
 -- ---- digits that stand in a text
 
@@ -32,13 +32,6 @@ use Rattle.lexical_parse_integer.proofs.grammar.Stretches.{HoldsBetween}
 pub record GoesOnWith (text : List ℕ) (start : ℕ) (bytes : List ℕ) : Type 0 where
   pub at : (k : ℕ) → slice_get text (start + k) ≡ slice_get bytes k
   pub size : length text ≡ start + length bytes
-
--- each byte is a digit, with these values
-abbrev pub HaveDigits : ℕ → List ℕ → List ℕ → Type 0
-HaveDigits r bytes ds = map (λ byte. digit byte r) bytes ≡ map Some ds
-
-pub digits_size : (r : ℕ) (bytes ds : List ℕ) → HaveDigits r bytes ds → length bytes ≡ length ds
-digits_size r bytes ds all = sym (length-map bytes (λ byte. digit byte r)) ∙ ap length all ∙ length-map ds Some
 
 pub digit_there : (r : ℕ) (bytes ds : List ℕ) (k : ℕ) → HaveDigits r bytes ds → k < length ds → option_and_then (λ byte. digit byte r) (slice_get bytes k) ≡ Some (get_or ds k 0)
 digit_there r [] [] k all l = absurd (omega arith)
@@ -167,15 +160,6 @@ digits_some r n low = by_list (digits_of r (suc n)) (number_digits_of r (suc n) 
     by_list : (ds : List ℕ) → number_from_digits r ds ≡ suc n → 0 < length ds
     by_list [] h = absurd (omega arith)
     by_list (d ∷ ds) h = omega arith
-
--- a digit is below the radix
-pub digit_below : (r : ℕ) (o : Option ℕ) (d : ℕ) → value_if_below r o ≡ Some d → d < r
-digit_below r None d e = cc
-digit_below r (Some v) d e = by_test (nat_lt v r) refl e
-  where
-    by_test : (b : Bool) → nat_lt v r ≡ b → cond b (Some v) None ≡ Some d → d < r
-    by_test true t h = let l = ltb-true v r t in let same : v ≡ d = cc in omega arith
-    by_test false t h = cc
 
 all_below : (r : ℕ) (bytes ds : List ℕ) → HaveDigits r bytes ds → AllBelowBase r ds
 all_below r [] [] all = tt

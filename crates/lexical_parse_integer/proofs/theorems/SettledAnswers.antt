@@ -19,7 +19,7 @@ use Rattle.lexical_parse_integer.specs.Head.{Head, head_behind, head_of, sign}
 use Rattle.lexical_parse_integer.specs.Laws.{IsSettledAt}
 use Rattle.lexical_parse_integer.specs.Numeral.{Numeral, digit_count, front_value, numeral_value}
 use Rattle.lexical_parse_integer.specs.Runs.{digit_at}
-use Rattle.lexical_parse_integer.specs.Value.{positional_value, with_sign}
+use Rattle.lexical_digits.specs.Value.{positional_value, with_sign}
 use Rattle.lexical_parse_integer.proofs.grammar.DigitsInARow.{EndsRow, numeral_in_a_row, row, row_numeral, row_stop}
 use Rattle.lexical_parse_integer.proofs.theorems.ReadBack.{digit_zero}
 use Rattle.lexical_parse_integer.proofs.grammar.RangeOfFronts.{zero_is_number}

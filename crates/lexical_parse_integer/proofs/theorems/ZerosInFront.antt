@@ -15,10 +15,11 @@ use Rattle.lexical_parse_integer.specs.Head.{sign}
 use Rattle.lexical_parse_integer.specs.Laws.{PadsZeros, ReadsPadded}
 use Rattle.lexical_parse_integer.specs.Runs.{digit_at}
 use Rattle.lexical_parse_integer.specs.Seeking.{HasNoDigit}
-use Rattle.lexical_parse_integer.specs.Value.{positional_value, with_sign}
+use Rattle.lexical_digits.specs.Value.{positional_value, with_sign}
 use Rattle.lexical_parse_integer.proofs.theorems.DigitTexts.{digits_read, rest_value, whole_told}
 use Rattle.lexical_parse_integer.proofs.grammar.DigitsInARow.{has_digit}
-use Rattle.lexical_parse_integer.proofs.theorems.ReadBack.{HaveDigits, GoesOnWith, all_there, rest_is, sign_of_digit}
+use Rattle.lexical_digits.proofs.DigitValues.{HaveDigits}
+use Rattle.lexical_parse_integer.proofs.theorems.ReadBack.{GoesOnWith, all_there, rest_is, sign_of_digit}
 use Rattle.lexical_parse_integer.proofs.grammar.Stretches.{HoldsBetween}
 use Rattle.lexical_parse_integer.proofs.theorems.EqualViews.{IsInjective, view_ok_same}
 

@@ -1,14 +1,14 @@
 -- Words in a text: their bytes are the text's, and their digits the numeral's. For `algorithm::multi`.
-use Rattle.std.proofs.Common.{◌≡◌, ℕ, zero, suc, ◌+◌, ◌-◌, ◌*◌, ◌^◌, ◌≤◌, ◌<◌, Bool, true, false, List, [], ◌∷◌, length, get_or, take, drop, is_some, Some, None, sym, ap, ◌∙◌, subst, arith}
+use Rattle.std.proofs.Common.{◌≡◌, ℕ, zero, suc, ◌+◌, ◌-◌, ◌^◌, ◌≤◌, ◌<◌, Bool, true, false, List, [], ◌∷◌, length, get_or, take, drop, is_some, Some, None, sym, ap, ◌∙◌, subst, arith}
 use Rattle.std.specs.Prelude.{pos, slice_get, slice_range, option_and_then, IsSome}
-use Rattle.std.proofs.Math.Nat.{pow-zero, pow-suc, mul-le-mul_right, pow-le-pow_left}
+use Rattle.std.proofs.Math.Nat.{pow-le-pow_left}
 use Rattle.std.proofs.Math.Seq.{take-length}
 use Rattle.std.proofs.lemmas.Bool.{lt-ltb, false≢true}
 use Rattle.std.proofs.lemmas.List.{get_or-take, get_or-drop, length-drop, length-take-le}
 use Rattle.std.proofs.lemmas.Option.{slice_get-get_or}
 use Rattle.lexical_parse_integer.specs.Runs.{digit_at}
-use Rattle.lexical_parse_integer.specs.Words.{AreDigits, word_value}
-use Rattle.lexical_parse_integer.proofs.words.AsciiDigits.{AreAsciiDigits, IsAsciiDigit, ascii_from_digits, ascii_value, ascii_value_is, digit_from, digit_to, digits_from_ascii}
+use Rattle.lexical_digits.specs.Words.{AreDigits, word_value}
+use Rattle.lexical_digits.proofs.AsciiDigits.{AreAsciiDigits, IsAsciiDigit, ascii_from_digits, ascii_value_is, digit_from, digit_to, digits_from_ascii, word_below}
 use Rattle.lexical_util.specs.Digit.{digit}
 use Rattle.lexical_util.specs.Number.{IsNumber, IsWidth, integer_type}
 use Rattle.lexical_util.specs.Number.IsWidth.{w8, w16, w32, w64, w128}
@@ -69,19 +69,6 @@ pub all_ahead : (r : ℕ) (b bs : List ℕ) (p : ℕ) → r ≤ 10 → StandsAt 
 all_ahead r b bs p ten s d k low high = ap is_some (word_digit r b bs p ten s d (k - p) k (omega arith) (omega arith))
 
 -- ---- the value of a word
-
-pub word_below : (r : ℕ) (bs : List ℕ) → AreAsciiDigits r bs → ascii_value r bs < r ^ length bs
-word_below r [] d = let one = pow-zero r in omega arith
-word_below r (c ∷ cs) d =
-    let rest = word_below r cs d.1 in
-    let low = d.0.0 in
-    let high = d.0.1 in
-    let power = pow-suc r (length cs) in
-    let less : suc (c - 48) ≤ r = omega arith in
-    let up : suc (c - 48) * r ^ length cs ≤ r * r ^ length cs = mul-le-mul_right (r ^ length cs) less in
-    let spread : suc (c - 48) * r ^ length cs ≡ (c - 48) * r ^ length cs + r ^ length cs = grind arith in
-    let turned : r * r ^ length cs ≡ r ^ length cs * r = grind arith in
-    omega (arith, power, up, spread, turned)
 
 pub word_small : (r n w : ℕ) (bs : List ℕ) → r ≤ 10 → length bs ≡ w → AreDigits r bs → n ≡ word_value r bs → n < 10 ^ w
 word_small r n w bs ten size d e =

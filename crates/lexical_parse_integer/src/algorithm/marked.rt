@@ -8,7 +8,7 @@ ghost use Rattle.lexical_parse_integer.specs.Affixes.{prefix_radix};
 ghost use Rattle.lexical_parse_integer.specs.Grammar.{complete};
 ghost use Rattle.lexical_parse_integer.specs.Head.{sign};
 ghost use Rattle.lexical_parse_integer.specs.Marked.{AreDigitsOnly, AreWorth};
-ghost use Rattle.lexical_parse_integer.specs.Plain.{StandsFor};
+ghost use Rattle.lexical_digits.specs.WrittenNumbers.{StandsFor};
 
 pub(crate) mod lone_mark;
 pub(crate) mod prefixed;
@@ -19,9 +19,9 @@ use crate::algorithm::front::sign_of;
 use crate::algorithm::marked::lone_mark::is_valid_with_separator;
 use crate::algorithm::marked::prefixed::is_bare;
 use crate::algorithm::marked::threes::value_of_threes;
-use crate::algorithm::plain::fronts::value_of_digits;
 use crate::algorithm::plain::keeps_zero_rule;
-use crate::algorithm::plain::nibbles::value_of_nibbles;
+use lexical_digits::fronts::value_of_digits;
+use lexical_digits::nibbles::value_of_nibbles;
 use lexical_util::format::NumberFormat;
 use lexical_util::num::Integer;
 

@@ -5,10 +5,10 @@ ghost use Rattle.lexical_parse_integer.specs.CursorView.{AreDigitsAhead, IsSound
 ghost use Rattle.lexical_parse_integer.specs.Folded.{Folded};
 ghost use Rattle.lexical_parse_integer.specs.Reading.{IsReading, ReadsWords};
 ghost use Rattle.lexical_parse_integer.specs.Turns.{digits_per_word};
-ghost use Rattle.lexical_parse_integer.specs.Words.{word_value};
+ghost use Rattle.lexical_digits.specs.Words.{word_value};
 
-use crate::algorithm::lanes::{value_of_4lanes, value_of_8lanes};
 use crate::cursor::Cursor;
+use lexical_digits::lanes::{value_of_4lanes, value_of_8lanes};
 use lexical_util::num::Integer;
 
 /// The value of the next four bytes and a step over them, where all of them are digits; else `None`, and the

@@ -5,8 +5,7 @@ ghost use Rattle.lexical_util.specs.Number.{HasRoom};
 ghost use Rattle.lexical_parse_integer.specs.CursorView.{numeral_of};
 ghost use Rattle.lexical_parse_integer.specs.Folded.{Folded};
 ghost use Rattle.lexical_parse_integer.specs.Grammar.{range_fault, zero_fault};
-ghost use Rattle.lexical_parse_integer.specs.Reading.{GoesOn, IsAtNumeral, IsReading, KeepsTurns, LeavesFewTurns};
-ghost use Rattle.lexical_parse_integer.specs.Reading.{LeavesTurns, ReadsAll, ReadsNumeral, ReadsOn};
+ghost use Rattle.lexical_parse_integer.specs.Reading.{GoesOn, IsAtNumeral, IsReading, KeepsTurns, LeavesFewTurns, LeavesTurns, ReadsAll, ReadsNumeral, ReadsOn};
 ghost use Rattle.lexical_parse_integer.specs.Turns.{AsksWords};
 
 use crate::algorithm::digits::{read_rest, read_untested};

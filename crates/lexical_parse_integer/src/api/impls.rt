@@ -1,6 +1,5 @@
 // Every integer type, read from bytes.
 ghost use Rattle.std.specs.Prelude.{◌≡◌, IfSome, IsNone, Ok};
-ghost use Rattle.lexical_util.specs.Format.{standard};
 ghost use Rattle.lexical_util.specs.Validity.{fault};
 ghost use Rattle.lexical_parse_integer.specs.Answer.{with_place, view_of};
 ghost use Rattle.lexical_parse_integer.specs.Grammar.{complete, complete_if_valid, partial_if_valid};
@@ -9,11 +8,8 @@ use crate::algorithm::front::{complete_from_front, partial_from_front};
 use crate::algorithm::marked::lone_mark::fault_of;
 use crate::algorithm::marked::prefixed::{value_if_behind_prefix, value_if_literal};
 use crate::algorithm::marked::value_if_between_separators;
-use crate::algorithm::plain::otherwise::{place_after_digits, value_behind_plus};
-use crate::algorithm::plain::overflow::fault_of_overflow;
 use crate::algorithm::plain::{
-    front_if_plain, hexadecimal_out_of_line, is_plain, value_if_plain, value_if_short,
-    value_out_of_line,
+    front_if_plain, is_plain, value_if_plain, value_if_short, value_of_plain,
 };
 use crate::algorithm::{standard_complete, standard_partial};
 use crate::api::{FromLexical, FromLexicalWithOptions};
@@ -74,13 +70,10 @@ fn value_by_kind<T: Integer>(bytes: &[u8], format: &NumberFormat) -> Option<T>
     if !is_plain(format) {
         return value_beside_marks::<T>(bytes, format);
     }
-    if format.mantissa_radix() == 16 {
-        return hexadecimal_out_of_line::<T>(bytes, format);
-    }
     if format.mantissa_radix() == 10 && bytes.len() <= 16 {
         return None;
     }
-    value_out_of_line::<T>(bytes, format)
+    value_of_plain::<T>(bytes, format)
 }
 
 // The same under a format with marks. It stays out of line, so that the test of all marks needn't keep which they are.
@@ -131,29 +124,12 @@ fn partial_if_valid<T: Integer>(bytes: &[u8], format: &NumberFormat) -> Result<(
     }
 }
 
-// The complete answer under the standard format for a text that the quick way leaves: behind a plus, or at fault.
-#[inline(always)]
-fn standard_otherwise<T: Integer>(bytes: &[u8]) -> Result<T>
-    ensures { view_of T.number result ≡ complete standard T.TYPE bytes.now }
-{
-    if let Some(value) = value_behind_plus::<T>(bytes) {
-        return Ok(value);
-    }
-    if let Some(fault) = fault_of_overflow::<T>(bytes) {
-        return Err(fault);
-    }
-    match place_after_digits::<T>(bytes) {
-        Some(place) => Err(Error::InvalidDigit(place)),
-        None => standard_complete::<T>(bytes),
-    }
-}
-
 impl<T: Integer> FromLexical for T {
     #[inline(always)]
     fn from_lexical(bytes: &[u8]) -> Result<T> {
         match value_if_plain::<T>(bytes, &format::STANDARD) {
             Some(value) => Ok(value),
-            None => standard_otherwise::<T>(bytes),
+            None => standard_complete::<T>(bytes),
         }
     }
 

@@ -5,6 +5,7 @@ mod columns;
 mod fields;
 mod hostile;
 mod long;
+mod parts;
 
 use crate::tests::answers_to;
 use lexical_fields::{Column, ColumnError, read_column};

@@ -5,9 +5,9 @@ ghost use Rattle.lexical_util.specs.Digit.{digit};
 ghost use Rattle.lexical_util.specs.Number.{HasSign, IsNumber, mul_add};
 ghost use Rattle.lexical_parse_integer.specs.Marked.{AreGrouped, AreWorth};
 
-use crate::algorithm::plain::digits::number_of_4digits;
-use crate::algorithm::plain::fronts::value_of_digits;
-use crate::algorithm::words::is_4digits;
+use lexical_digits::digits::number_of_4digits;
+use lexical_digits::fronts::value_of_digits;
+use lexical_digits::words::is_4digits;
 use lexical_util::format::NumberFormat;
 use lexical_util::num::Integer;
 

@@ -3,7 +3,7 @@ ghost use Rattle.std.specs.Prelude.{◌≡◌, ◌<◌, ◌↔◌, IfSome, IsTru
 ghost use Rattle.lexical_parse_integer.specs.Grammar.{complete};
 ghost use Rattle.lexical_parse_integer.specs.Separated.{IsSeparated, bytes_before};
 
-use crate::algorithm::plain::{has_minus, is_plain, short_front};
+use crate::algorithm::plain::{behind_minus, front_of_digits, is_plain};
 use lexical_util::digit::char_to_digit;
 use lexical_util::format::NumberFormat;
 use lexical_util::num::Integer;
@@ -19,8 +19,8 @@ pub fn is_separated(format: &NumberFormat, separator: u8) -> bool
     char_to_digit(separator, 10).is_none()
 }
 
-/// The number of a text's first field and the field's length, where the field is up to seven decimal digits after an
-/// optional minus, and a separator comes after it.
+/// The number of a text's first field and the field's length, where the field is up to twenty-three decimal digits after
+/// an optional minus, and a separator comes after it.
 ///
 /// `None` says nothing of the field. Between commas the first field of `12,345678,x` is 12, of length 2.
 #[inline(always)]
@@ -35,14 +35,10 @@ pub fn field_in_front<T: Integer>(
     ensures answer { IfSome result (λ found.
         complete format.now T.TYPE (take found.1 text.now) ≡ Ok (T.number found.0)) }
 {
-    if text.is_empty() {
-        return None;
-    }
-    let negative = has_minus::<T>(text);
-    let start = usize::from(negative);
-    match short_front::<T>(&text[start..], format, negative) {
+    let (negative, digits) = behind_minus::<T>(text);
+    match front_of_digits::<T>(digits, format, negative) {
         Some(found) => {
-            let stop = start + found.1;
+            let stop = usize::from(negative) + found.1;
             if stop < text.len() && text[stop] == separator {
                 Some((found.0, stop))
             } else {

@@ -1,13 +1,12 @@
-// Numbers that leave the type: the place of the digit with which a decimal number does, found by words.
-ghost use Rattle.std.specs.Prelude.{◌≡◌, ◌&&◌, ◌==◌, ◌≤◌, Err, IfSome, IsTrue, get_or};
-ghost use Rattle.lexical_util.specs.Ascii.{minus};
+// Decimal numbers that leave their type: the digits that fit in any case are read by words.
+ghost use Rattle.std.specs.Prelude.{◌≡◌, ◌≤◌, Err, IfSome, IsTrue};
 ghost use Rattle.lexical_util.specs.Format.{standard};
-ghost use Rattle.lexical_parse_integer.specs.Grammar.{complete, range_error};
+ghost use Rattle.lexical_parse_integer.specs.Grammar.{complete};
 ghost use Rattle.lexical_parse_integer.specs.Plain.{LeavesAfter};
 
 use crate::algorithm::digits::join_checked;
-use crate::algorithm::plain::fronts::value_of_digits;
-use crate::algorithm::plain::{has_minus, has_plus};
+use crate::algorithm::front::sign_of;
+use lexical_digits::fronts::value_of_digits;
 use lexical_util::digit::char_to_digit;
 use lexical_util::error::Error;
 use lexical_util::format;
@@ -22,7 +21,7 @@ fn digits_that_fit<T: Integer>() -> usize
 }
 
 // How many digits stand before the one with which the number leaves the type.
-#[inline(always)]
+#[inline(never)]
 fn digits_before_overflow<T: Integer>(digits: &[u8], negative: bool) -> Option<usize>
     requires minus { IsTrue negative → IsTrue T.TYPE.is_signed }
     ensures { IfSome result (λ count. LeavesAfter T.TYPE negative digits.now count) }
@@ -43,36 +42,20 @@ fn digits_before_overflow<T: Integer>(digits: &[u8], negative: bool) -> Option<u
     None
 }
 
-// The place of the digit with which the text's number leaves the type, where that is sure. It stays out of line, and
-// answers in registers.
-#[inline(never)]
-pub(crate) fn place_of_overflow<T: Integer>(bytes: &[u8]) -> Option<usize>
-    ensures { IfSome result (λ place. complete standard T.TYPE bytes.now
-        ≡ Err (range_error (T.TYPE.is_signed && (get_or bytes.now 0 0 == minus)) place)) }
-{
-    if bytes.is_empty() {
-        return None;
-    }
-    let negative = has_minus::<T>(bytes);
-    let plus = has_plus(bytes, &format::STANDARD);
-    let start = usize::from(negative | plus);
-    match digits_before_overflow::<T>(&bytes[start..], negative) {
-        Some(count) => Some(start + count),
-        None => None,
-    }
-}
-
-// The fault of a text whose number leaves the type, where that is sure. No call is made for a text that is too short.
+// The fault of a text whose number leaves the type, where that is sure.
 #[inline(always)]
-pub(crate) fn fault_of_overflow<T: Integer>(bytes: &[u8]) -> Option<Error>
+pub(in crate::algorithm) fn fault_of_overflow<T: Integer>(bytes: &[u8]) -> Option<Error>
     ensures { IfSome result (λ error. complete standard T.TYPE bytes.now ≡ Err error) }
 {
     if bytes.len() <= digits_that_fit::<T>() {
         return None;
     }
-    match place_of_overflow::<T>(bytes) {
-        Some(place) if has_minus::<T>(bytes) => Some(Error::Underflow(place)),
-        Some(place) => Some(Error::Overflow(place)),
-        None => None,
+    let Ok((negative, start)) = sign_of::<T>(bytes, &format::STANDARD) else {
+        return None;
+    };
+    let place = start + digits_before_overflow::<T>(&bytes[start..], negative)?;
+    if negative {
+        return Some(Error::Underflow(place));
     }
+    Some(Error::Overflow(place))
 }

@@ -66,7 +66,7 @@ fn text_of<A: Allocator>(alloc: A, fault: &Error) -> Result<String<A>, AllocErro
     fault.to_string(alloc)
 }
 
-// The same through the bound that callers of many crates' errors have.
+// A caller of many crates' errors has it by a bound.
 fn message_of<A: Allocator, E: error::Error>(alloc: A, e: &E) -> Result<String<A>, AllocError> {
     format!(in alloc; "{e}")
 }

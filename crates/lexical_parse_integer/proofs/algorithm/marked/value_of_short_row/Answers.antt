@@ -1,4 +1,4 @@
-use Rattle.lexical_parse_integer.proofs.plain.DigitsAlone.{if_found}
+use Rattle.lexical_digits.proofs.LongNumbers.{if_found}
 use Rattle.lexical_parse_integer.proofs.marked.DigitsAmong.{table_only, table_worth, words_only, words_worth}
 use Rattle.lexical_parse_integer.proofs.algorithm.marked.value_of_short_row.Goals as goal
 

@@ -1,7 +1,7 @@
 use Rattle.std.proofs.Common.{◌<◌, ◌^◌, ◌∙◌, ap, arith, pos, refl, sym}
 use Rattle.std.proofs.lemmas.Bool.{false≢true}
 use Rattle.lexical_parse_integer.proofs.Folds.{fact_of}
-use Rattle.lexical_parse_integer.proofs.lanes.LentBytes.{are_lent, lanes_small, lent_size, none_told, some_told}
+use Rattle.lexical_parse_integer.proofs.words.LentBytes.{are_lent, lanes_small, lent_size, none_told, some_told}
 use Rattle.lexical_parse_integer.proofs.words.WordsInTexts.{past_end, word_number}
 use Rattle.lexical_parse_integer.proofs.algorithm.multi.try_parse_8digits.Goals as goal
 

@@ -6,11 +6,8 @@ returns-then-not-is_plain-clause-valid g c = c.value_beside_marks.ensures.valid
 pub returns-then-not-is_plain-clause-answer : goal.returns-then-not-is_plain-clause-answer
 returns-then-not-is_plain-clause-answer g c = c.value_beside_marks.ensures.answer
 
-pub returns-then-mantissa_radix-eq16-clause-answer : goal.returns-then-mantissa_radix-eq16-clause-answer
-returns-then-mantissa_radix-eq16-clause-answer g c = c.hexadecimal_out_of_line.ensures
-
 pub returns-clause-valid : goal.returns-clause-valid
-returns-clause-valid g c = c.value_out_of_line.ensures.valid
+returns-clause-valid g c = c.value_of_plain.ensures.valid
 
 pub returns-clause-answer : goal.returns-clause-answer
-returns-clause-answer g c = c.value_out_of_line.ensures.answer
+returns-clause-answer g c = c.value_of_plain.ensures.answer

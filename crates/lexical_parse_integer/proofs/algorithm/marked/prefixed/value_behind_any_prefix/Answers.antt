@@ -1,7 +1,7 @@
 use Rattle.std.proofs.Common.{refl, subst, sym}
 use Rattle.std.specs.Prelude.{IsNone}
 use Rattle.lexical_util.specs.Validity.{fault}
-use Rattle.lexical_parse_integer.proofs.plain.DigitsAlone.{if_found}
+use Rattle.lexical_digits.proofs.LongNumbers.{if_found}
 use Rattle.lexical_parse_integer.proofs.algorithm.marked.prefixed.value_behind_any_prefix.Goals as goal
 
 pub value_with_sign-requires-clause-valid : goal.value_with_sign-requires-clause-valid

@@ -2,7 +2,7 @@ use Rattle.std.proofs.Common.{ℕ, ◌≡◌, ◌+◌, ◌-◌, get_or, ap, arit
 use Rattle.std.specs.Prelude.{IfSome}
 use Rattle.lexical_util.specs.Digit.{digit}
 use Rattle.lexical_parse_integer.proofs.marked.Threes.{in_four}
-use Rattle.lexical_parse_integer.proofs.plain.DigitsAlone.{if_found}
+use Rattle.lexical_digits.proofs.LongNumbers.{if_found}
 use Rattle.lexical_parse_integer.proofs.algorithm.marked.threes.three_at.Goals as goal
 
 pub returns-clause-parted : goal.returns-clause-parted

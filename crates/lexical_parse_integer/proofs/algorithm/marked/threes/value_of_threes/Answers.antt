@@ -6,7 +6,7 @@ use Rattle.lexical_parse_integer.proofs.marked.DigitsAmong.{words_only, words_wo
 use Rattle.lexical_parse_integer.proofs.marked.MarkedAnswers.{row_grouped}
 use Rattle.lexical_parse_integer.proofs.marked.PartedFronts.{all_worth, worth_sign}
 use Rattle.lexical_parse_integer.proofs.marked.Threes.{row_ends, row_parted, three_ends, three_parted, three_worth, threes_grouped}
-use Rattle.lexical_parse_integer.proofs.plain.DigitsAlone.{if_found}
+use Rattle.lexical_digits.proofs.LongNumbers.{if_found}
 use Rattle.lexical_parse_integer.proofs.algorithm.marked.threes.value_of_threes.Goals as goal
 
 pub returns-then-bytes-le4-clause-grouped : goal.returns-then-bytes-le4-clause-grouped

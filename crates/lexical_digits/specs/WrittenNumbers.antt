@@ -1,0 +1,43 @@
+-- Numbers that a text writes, and how many bytes of it are their digits.
+use Rattle.std.specs.Prelude.{◌≡◌, ◌+◌, ◌*◌, ◌<◌, ◌≤◌, ◌^◌, ℕ, Bool, if◌then◌else◌, List, [], ◌∷◌, length, get_or, map, take, Some, IsNone, ℤ, pos, neg_ℤ}
+use Rattle.lexical_util.specs.Digit.{digit}
+use Rattle.lexical_util.specs.Number.{IntegerType, IsNumber}
+use Rattle.lexical_digits.specs.Value.{positional_value}
+use Rattle.lexical_digits.specs.Words.{AreDigits, word_value}
+
+-- the number that bytes make, the first worth the least
+abbrev pub bytes_number : List ℕ → ℕ
+bytes_number [] = 0
+bytes_number (byte ∷ bytes) = byte + 256 * bytes_number bytes
+
+-- the bytes with something added to the first
+abbrev pub with_more : ℕ → List ℕ → List ℕ
+with_more more [] = []
+with_more more (byte ∷ bytes) = (byte + more) ∷ bytes
+
+-- The digits of a text, where so much is added to its first byte, write a number.
+pub record WritesDecimal (more : ℕ) (text : List ℕ) (number : ℕ) : Type 0 where
+  pub digits : AreDigits 10 (with_more more text)
+  pub worth : number ≡ word_value 10 (with_more more text)
+
+-- So many of the first eight bytes of a text are digits, which write a number, and no digit stands behind them there.
+pub record WritesFirst (text : List ℕ) (number count : ℕ) : Type 0 where
+  pub few : count ≤ 8
+  pub within : count ≤ length text
+  pub writes : WritesDecimal 0 (take count text) number
+  pub stops : count < 8 → count < length text → IsNone (digit (get_or text count 0) 10)
+
+-- So many bytes at the front of a text are digits of the radix, and write a number.
+pub record WritesFront (radix : ℕ) (text : List ℕ) (count : ℕ) (number : ℤ) : Type 0 where
+  pub values : List ℕ
+  pub digits : map (λ byte. digit byte radix) (take count text) ≡ map Some values
+  pub worth : number ≡ pos (positional_value radix values)
+  pub below : positional_value radix values < radix ^ count
+
+-- The digits of a text in a radix stand for a number of a type, behind a minus where that is negative.
+pub record StandsFor (type : IntegerType) (radix : ℕ) (negative : Bool) (text : List ℕ)
+    (value : ℤ) : Type 0 where
+  pub size : ℤ
+  pub writes : WritesFront radix text (length text) size
+  pub worth : value ≡ (if negative then neg_ℤ size else size)
+  pub fits : IsNumber type value

@@ -1,0 +1,47 @@
+//! The values of digits of any radix, one after another. The digit of a byte is found in a table, and so few are read
+//! that none of their numbers leaves the type: no step is tested.
+ghost use Rattle.std.specs.Prelude.{◌≤◌, IfSome, IsTrue, length};
+ghost use Rattle.lexical_util.specs.Digit.{IsRadix};
+ghost use Rattle.lexical_util.specs.Number.{HasRoom, IsNumber};
+ghost use Rattle.lexical_digits.specs.WrittenNumbers.{StandsFor, WritesFront};
+
+use crate::values::signed_value;
+use lexical_util::digit::char_to_digit;
+use lexical_util::num::Integer;
+
+// The number of digits that the type has room for.
+#[inline(always)]
+fn number_by_table<T: Integer>(digits: &[u8], radix: u32, most: usize) -> Option<T>
+    requires radix { IsRadix radix }
+    requires few { length digits.now ≤ most }
+    requires room { HasRoom T.TYPE radix most }
+    ensures writes { IfSome result
+        (λ value. WritesFront radix digits.now (length digits.now) (T.number value)) }
+{
+    let scale = T::from_u32(radix);
+    let mut value = T::ZERO;
+    for byte in digits {
+        match char_to_digit(*byte, radix) {
+            Some(digit) => value = value.mul_add(scale, T::from_u32(digit), false),
+            None => return None,
+        }
+    }
+    Some(value)
+}
+
+/// The value of digits of the radix, behind a minus where that is negative.
+#[inline(never)]
+pub fn value_by_table<T: Integer>(digits: &[u8], radix: u32, negative: bool) -> Option<T>
+    requires radix { IsRadix radix }
+    requires minus { IsTrue negative → IsTrue T.TYPE.is_signed }
+    ensures { IfSome result (λ value. StandsFor T.TYPE radix negative digits.now (T.number value)) }
+{
+    let most = T::overflow_digits(radix);
+    if digits.len() > most {
+        return None;
+    }
+    match number_by_table::<T>(digits, radix, most) {
+        Some(value) => Some(signed_value::<T>(value, negative)),
+        None => None,
+    }
+}

@@ -1,0 +1,131 @@
+//! The values of decimal digits, where the type has them.
+ghost use Rattle.std.specs.Prelude.{◌≤ℤ◌, ◌∷◌, [], neg_ℤ, if◌then◌else◌, false, ◌≡◌, ◌+◌, ◌*◌, ◌<◌, ◌≤◌, IfSome, IsTrue, get_or, length, pos};
+ghost use Rattle.lexical_util.specs.Ascii.{minus};
+ghost use Rattle.lexical_util.specs.Number.{IsNumber, number_limit};
+ghost use Rattle.lexical_digits.specs.WrittenNumbers.{StandsFor};
+ghost use Rattle.lexical_digits.specs.Value.{with_sign};
+
+use crate::digits::{number_to_4, number_to_8, numbers_to_16};
+use lexical_util::num::Integer;
+
+// How many numbers from 0 up a type has.
+#[inline(always)]
+pub(crate) fn limit<T: Integer>() -> u64
+    requires { T.TYPE.bits ≤ 32 }
+    ensures { result ≡ number_limit T.TYPE }
+{
+    1 << (T::BITS - u32::from(T::IS_SIGNED))
+}
+
+// The value with the sign.
+#[inline(always)]
+pub(crate) fn signed_value<T: Integer>(value: T, negative: bool) -> T
+    requires minus { IsTrue negative → IsTrue T.TYPE.is_signed }
+    requires positive { pos 0 ≤ℤ T.number value }
+    requires fits { IsNumber T.TYPE (T.number value) }
+    ensures value { T.number result
+        ≡ (if negative then neg_ℤ (T.number value) else T.number value) }
+    ensures fits { IsNumber T.TYPE (T.number result) }
+{
+    if T::IS_SIGNED && negative {
+        T::ZERO.mul_add(T::from_u32(1), value, true)
+    } else {
+        value
+    }
+}
+
+/// The value of a number of up to eight digits, where the type has it.
+#[inline(always)]
+pub fn value_to_8<T: Integer>(number: u32, negative: bool) -> Option<T>
+    requires minus { IsTrue negative → IsTrue T.TYPE.is_signed }
+    requires small { number < 100000000 }
+    ensures value { IfSome result (λ value. T.number value ≡ with_sign negative number) }
+    ensures fits { IfSome result (λ value. IsNumber T.TYPE (T.number value)) }
+{
+    if T::BITS < 32 {
+        if number as u64 >= limit::<T>() {
+            return None;
+        }
+    }
+    Some(signed_value::<T>(T::from_u32(number), negative))
+}
+
+/// Two parts of a number joined.
+#[inline(always)]
+pub fn joined<T: Integer>(high: u32, scale: u32, low: u32) -> T
+    requires bits { 32 < T.TYPE.bits }
+    requires high { high ≤ 100000000 }
+    requires some { 1 ≤ scale }
+    requires scale { scale ≤ 100000000 }
+    requires low { low ≤ 100000000 }
+    ensures value { T.number result ≡ pos (high * scale + low) }
+    ensures positive { pos 0 ≤ℤ T.number result }
+    ensures fits { IsNumber T.TYPE (T.number result) }
+{
+    T::from_u32(high).mul_add(T::from_u32(scale), T::from_u32(low), false)
+}
+
+/// The value of two parts of a number, where the type has it.
+#[inline(always)]
+pub fn value_of_two<T: Integer>(first: u32, second: u32, scale: u32, negative: bool) -> Option<T>
+    requires minus { IsTrue negative → IsTrue T.TYPE.is_signed }
+    requires first { first < 100000000 }
+    requires second { second < 100000000 }
+    requires some { 1 ≤ scale }
+    requires scale { scale ≤ 100000000 }
+    ensures value { IfSome result
+        (λ value. T.number value ≡ with_sign negative (first * scale + second)) }
+    ensures fits { IfSome result (λ value. IsNumber T.TYPE (T.number value)) }
+{
+    if T::BITS <= 32 {
+        let number = first as u64 * scale as u64 + second as u64;
+        if number >= limit::<T>() {
+            return None;
+        }
+        return Some(signed_value::<T>(T::from_u32(number as u32), negative));
+    }
+    Some(signed_value::<T>(joined::<T>(first, scale, second), negative))
+}
+
+/// The value of one to sixteen digits, behind a minus where that is negative.
+#[inline(always)]
+pub fn value_of<T: Integer>(digits: &[u8], negative: bool) -> Option<T>
+    requires some { 1 ≤ length digits.now }
+    requires few { length digits.now ≤ 16 }
+    requires minus { IsTrue negative → IsTrue T.TYPE.is_signed }
+    ensures { IfSome result (λ value. StandsFor T.TYPE 10 negative digits.now (T.number value)) }
+{
+    let n = digits.len();
+    if n <= 4 {
+        return value_to_8::<T>(number_to_4(digits)?, negative);
+    }
+    if n <= 8 {
+        return value_to_8::<T>(number_to_8(digits)?, negative);
+    }
+    if T::BITS < 32 {
+        return None;
+    }
+    let (high, low) = numbers_to_16(digits)?;
+    value_of_two::<T>(high, low, 100_000_000, negative)
+}
+
+/// The value of any number of digits, behind a minus where that is negative: sixteen by sixteen, and those that are left
+/// over before. It stays out of line, so that the parser of shorter texts is small enough to be held in place.
+#[inline(never)]
+pub fn value_of_long<T: Integer>(digits: &[u8], negative: bool) -> Option<T>
+    requires bits { 32 < T.TYPE.bits }
+    requires some { 1 ≤ length digits.now }
+    requires minus { IsTrue negative → IsTrue T.TYPE.is_signed }
+    ensures { IfSome result (λ value. StandsFor T.TYPE 10 negative digits.now (T.number value)) }
+{
+    let scale = joined::<T>(100_000_000, 100_000_000, 0);
+    let mut place = (digits.len() - 1) % 16 + 1;
+    let mut value = value_of::<T>(&digits[..place], negative)?;
+    while place < digits.len() {
+        let (high, low) = numbers_to_16(&digits[place..place + 16])?;
+        let rest = joined::<T>(high, 100_000_000, low);
+        value = value.checked_mul_add(scale, rest, negative)?;
+        place += 16;
+    }
+    Some(value)
+}

@@ -1,5 +1,0 @@
-use Rattle.lexical_parse_integer.proofs.plain.WordsOfDigits.{word_small}
-use Rattle.lexical_parse_integer.proofs.algorithm.plain.digits.number_of_digits.Goals as goal
-
-pub returns-clause-small : goal.returns-clause-small
-returns-clause-small c = word_small c.args.word c.parse_8digits.result c.requires c.parse_8digits.ensures

@@ -1,9 +1,0 @@
-use Rattle.std.proofs.Common.{◌≡◌, pos}
-use Rattle.lexical_parse_integer.specs.Plain.{WritesFront}
-use Rattle.lexical_parse_integer.proofs.algorithm.plain.table.number_by_table.Given as goal
-
-abbrev pub invariant-loop-byte : goal.invariant-loop-byte
-invariant-loop-byte g l = record {
-  writes : WritesFront l.radix l.digits l.byte-index (g.T.Integer.number l.value);
-  scale : g.T.Integer.number l.scale ≡ pos l.radix;
-}
