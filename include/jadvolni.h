@@ -10,21 +10,22 @@
  *         fprintf(stderr, "%s at byte %zu\n", jadvolni_status_message(r.status), r.place);
  *
  * THE CALLS. Each of the twelve types u8, u16, u32, u64, u128, usize, i8, i16, i32, i64, i128 and
- * isize has four, shown here for u64:
+ * isize has six, shown here for u64:
  *
- *     jadvolni_parse_u64(text, len, &value)                       the whole text
- *     jadvolni_parse_u64_partial(text, len, &value)               its front
- *     jadvolni_parse_u64_with_format(text, len, &format, &value)  the whole text, under a format
- *     jadvolni_parse_u64_partial_with_format(text, len, &format, &value)
+ *     jadvolni_parse_u64(text, len, &value)          the whole text
+ *     jadvolni_parse_u64_front(text, len, &value)    the number in front of a text
+ *     jadvolni_parse_u64_partial(text, len, &value)  the same, where no digit has to be there
  *
- * From C11 on jadvolni_parse(text, len, &value) is the first of these for the type of `value`.
+ * and each of these with `_with_format` behind its name and `&format` before `&value`. From C11 on
+ * jadvolni_parse(text, len, &value) is the first of them for the type of `value`.
  *
- * The first two read what JADVOLNI_FORMAT_STANDARD says: decimal digits, after a "+" or nothing,
- * or after a "-" where the type is signed. The calls on the front stop at the first byte that
- * doesn't belong to the number: "12, 13" gives 12, and the place 2. A front of no digits, before
- * other bytes, is mostly 0 and no fault: under the standard format "x" is 0 at place 0, and "+a" is
- * 0 at place 1. Where a number has to be there, ask for both `r.place > 0` and a digit at
- * `text[r.place - 1]`.
+ * Without a format they read what JADVOLNI_FORMAT_STANDARD says: decimal digits, after a "+" or
+ * nothing, or after a "-" where the type is signed. `_front` stops at the first byte that doesn't
+ * belong to the number: "12, 13" gives 12, and the place 2. Where it has read no digit, it answers
+ * JADVOLNI_EMPTY at the place where it stopped: 0 in "x", and 1 in "+a".
+ *
+ * DON'T TAKE `_partial` WHERE A NUMBER HAS TO BE THERE: a front of no digits before other bytes is
+ * mostly 0 to it, and no fault. Under the standard format "x" is 0 at place 0, and "+a" 0 at place 1.
  *
  * Eight of the types, u8 to u64 and i8 to i64, have a call that reads many numbers at once, described
  * at its declaration below:
@@ -276,15 +277,18 @@ typedef struct jadvolni_int128 {
 
 /* ---- the calls ---- */
 
-/* The four calls of the type `name`, whose numbers C keeps in a `type`. */
-#define JADVOLNI_CALLS_(name, type)                                                             \
+/* A call, and that of its name with a format. */
+#define JADVOLNI_CALL_(name, type)                                                              \
     jadvolni_result jadvolni_parse_##name(const char *text, size_t len, type *value);           \
-    jadvolni_result jadvolni_parse_##name##_partial(const char *text, size_t len, type *value); \
     jadvolni_result jadvolni_parse_##name##_with_format(const char *text, size_t len,           \
-                                                  const jadvolni_format *format, type *value);  \
-    jadvolni_result jadvolni_parse_##name##_partial_with_format(const char *text, size_t len,   \
-                                                          const jadvolni_format *format,        \
-                                                          type *value)
+                                                        const jadvolni_format *format,          \
+                                                        type *value)
+
+/* The six calls of the type `name`, whose numbers C keeps in a `type`. */
+#define JADVOLNI_CALLS_(name, type)       \
+    JADVOLNI_CALL_(name, type);           \
+    JADVOLNI_CALL_(name##_front, type);   \
+    JADVOLNI_CALL_(name##_partial, type)
 
 JADVOLNI_CALLS_(u8, uint8_t);
 JADVOLNI_CALLS_(u16, uint16_t);
@@ -300,6 +304,7 @@ JADVOLNI_CALLS_(i128, jadvolni_int128);
 JADVOLNI_CALLS_(isize, ptrdiff_t);
 
 #undef JADVOLNI_CALLS_
+#undef JADVOLNI_CALL_
 
 #if !defined __cplusplus && defined __STDC_VERSION__ && __STDC_VERSION__ >= 201112L
 /* The whole text as a number of the type that `value` points to. A size_t and a ptrdiff_t are read as
