@@ -7,7 +7,7 @@
  *     uint16_t port;
  *     jadvolni_result r = jadvolni_parse_u16(text, len, &port);
  *     if (r.status != JADVOLNI_OK)
- *         fprintf(stderr, "%s at byte %zu\n", jadvolni_status_message(r.status), r.place);
+ *         fprintf(stderr, "%s at byte %zu\n", jadvolni_status_text(r.status), r.place);
  *
  * THE CALLS. Each of the twelve types u8, u16, u32, u64, u128, usize, i8, i16, i32, i64, i128 and
  * isize has six, shown here for u64:
@@ -48,6 +48,9 @@
  *     `value` and `format` are not NULL.
  *     `*value` lies neither in the text nor in the format.
  *     No other thread writes to the text or the format while the call reads them.
+ *
+ * gcc and clang warn of a NULL, of a `len` past the array that the text is, and of a result that isn't
+ * used, where they can see it.
  *
  * WHAT NO CALL DOES. None allocates memory, keeps state from one call to the next, sets errno,
  * reads a locale, skips spaces, or calls any other function. So calls may be made from any number
@@ -277,12 +280,43 @@ typedef struct jadvolni_int128 {
 
 /* ---- the calls ---- */
 
+/* What gcc and clang say of a call, before it runs: that its result isn't used, that a pointer is NULL
+ * which may not be, and that less is there than the call is told. The text and its length come first. */
+#ifdef __has_attribute
+#if __has_attribute(nonnull) && __has_attribute(warn_unused_result)
+#define JADVOLNI_CHECKED_(...) __attribute__((warn_unused_result, nonnull(__VA_ARGS__)))
+#endif
+#if __has_attribute(access)
+#define JADVOLNI_TEXT_ __attribute__((access(read_only, 1, 2)))
+#define JADVOLNI_WRITES_(...) __attribute__((access(write_only, __VA_ARGS__)))
+#elif __has_attribute(diagnose_if)
+#define JADVOLNI_TEXT_                                                             \
+    __attribute__((diagnose_if(__builtin_object_size(text, 0) < len,               \
+                               "the text has fewer bytes than `len`", "warning")))
+#endif
+#endif
+#ifndef JADVOLNI_CHECKED_
+#define JADVOLNI_CHECKED_(...)
+#endif
+#ifndef JADVOLNI_TEXT_
+#define JADVOLNI_TEXT_
+#endif
+#ifndef JADVOLNI_WRITES_
+#define JADVOLNI_WRITES_(...)
+#endif
+
+#ifdef __clang__
+#pragma clang diagnostic push
+#pragma clang diagnostic ignored "-Wgcc-compat" /* gcc has no diagnose_if */
+#endif
+
 /* A call, and that of its name with a format. */
-#define JADVOLNI_CALL_(name, type)                                                              \
-    jadvolni_result jadvolni_parse_##name(const char *text, size_t len, type *value);           \
-    jadvolni_result jadvolni_parse_##name##_with_format(const char *text, size_t len,           \
-                                                        const jadvolni_format *format,          \
-                                                        type *value)
+#define JADVOLNI_CALL_(name, type)                                                    \
+    jadvolni_result jadvolni_parse_##name(const char *text, size_t len, type *value)  \
+        JADVOLNI_CHECKED_(3) JADVOLNI_TEXT_ JADVOLNI_WRITES_(3);                      \
+    jadvolni_result jadvolni_parse_##name##_with_format(                              \
+        const char *text, size_t len, const jadvolni_format *format, type *value)     \
+        JADVOLNI_CHECKED_(3, 4) JADVOLNI_TEXT_ JADVOLNI_WRITES_(4)
 
 /* The six calls of the type `name`, whose numbers C keeps in a `type`. */
 #define JADVOLNI_CALLS_(name, type)       \
@@ -375,10 +409,11 @@ JADVOLNI_CALLS_(isize, ptrdiff_t);
  * and may be NULL where `capacity` is 0; `count` is not NULL. Neither lies in the text, in the format
  * or in the other.
  */
-#define JADVOLNI_COLUMN_(name, type)                                                                \
-    jadvolni_result jadvolni_parse_##name##_column(const char *text, size_t len, uint8_t separator, \
-                                             const jadvolni_format *format, type *values,           \
-                                             size_t capacity, size_t *count)
+#define JADVOLNI_COLUMN_(name, type)                                                      \
+    jadvolni_result jadvolni_parse_##name##_column(                                       \
+        const char *text, size_t len, uint8_t separator, const jadvolni_format *format,   \
+        type *values, size_t capacity, size_t *count)                                     \
+        JADVOLNI_CHECKED_(4, 7) JADVOLNI_TEXT_ JADVOLNI_WRITES_(5, 6) JADVOLNI_WRITES_(7)
 
 JADVOLNI_COLUMN_(u8, uint8_t);
 JADVOLNI_COLUMN_(u16, uint16_t);
@@ -390,6 +425,13 @@ JADVOLNI_COLUMN_(i32, int32_t);
 JADVOLNI_COLUMN_(i64, int64_t);
 
 #undef JADVOLNI_COLUMN_
+#ifdef __clang__
+#pragma clang diagnostic pop
+#endif
+
+#undef JADVOLNI_CHECKED_
+#undef JADVOLNI_TEXT_
+#undef JADVOLNI_WRITES_
 
 /* ---- helpers, written in C: they are tested, and nothing of them is proved ---- */
 
@@ -417,7 +459,7 @@ static inline const char *jadvolni_status_name(uint32_t status)
 }
 
 /* What a status says, as "missing digit", or "the radix has to be 2 to 36" for a fault of a format. */
-static inline const char *jadvolni_status_message(uint32_t status)
+static inline const char *jadvolni_status_text(uint32_t status)
 {
     switch (status) {
     case JADVOLNI_OK: return "no fault";

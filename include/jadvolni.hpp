@@ -57,7 +57,7 @@ inline const char *name(status of) noexcept
 // What is wrong, as a sentence that says what the text or the format's field has to be.
 inline const char *message(status of) noexcept
 {
-    return jadvolni_status_message(static_cast<std::uint32_t>(of));
+    return jadvolni_status_text(static_cast<std::uint32_t>(of));
 }
 
 // What a text may look like. Begin with jadvolni_format_of_radix, or copy one of the three, and change
@@ -68,7 +68,7 @@ inline constexpr format json = JADVOLNI_FORMAT_JSON;
 inline constexpr format literal = JADVOLNI_FORMAT_LITERAL;
 
 // The first rule that the format breaks, and status::ok where it breaks none.
-inline status format_error(const format &of) noexcept
+[[nodiscard]] inline status format_error(const format &of) noexcept
 {
     return static_cast<status>(jadvolni_format_error(&of));
 }

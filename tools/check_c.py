@@ -26,6 +26,7 @@ from typing import Callable, Dict, Iterable, Iterator, List
 sys.dont_write_bytecode = True
 
 import check_examples  # noqa: E402
+import check_misuse  # noqa: E402
 from c_calls import DECLARED  # noqa: E402
 from callers import (C_COMPILERS, CXX17, CXX_COMPILERS, OPTIMISED, SANITIZED, TOP,  # noqa: E402
                      Failed, Place, Skipped, Step, build, needs, needs_shared, run, source, text_of)
@@ -328,6 +329,7 @@ def steps(place: Place) -> Iterator[Step]:
     yield "messages of the header", partial(messages, place)
     yield from calls(place)
     yield "fronts under formats, beside the slow reading", partial(short_fronts, place)
+    yield from check_misuse.steps(place)
     yield from check_examples.steps(place)
     yield "make install-lib", partial(install, place)
     yield "ten lines of C by pkg-config", partial(
