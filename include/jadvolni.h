@@ -147,6 +147,33 @@ typedef struct jadvolni_result {
     size_t place;
 } jadvolni_result;
 
+/* ---- what compilers check ---- */
+
+/* What gcc and clang say of a call, before it runs: that its result isn't used, that a pointer is NULL
+ * which may not be, and that less is there than the call is told. The text and its length come first. */
+#ifdef __has_attribute
+#if __has_attribute(nonnull) && __has_attribute(warn_unused_result)
+#define JADVOLNI_CHECKED_(...) __attribute__((warn_unused_result, nonnull(__VA_ARGS__)))
+#endif
+#if __has_attribute(access)
+#define JADVOLNI_TEXT_ __attribute__((access(read_only, 1, 2)))
+#define JADVOLNI_WRITES_(...) __attribute__((access(write_only, __VA_ARGS__)))
+#elif __has_attribute(diagnose_if)
+#define JADVOLNI_TEXT_                                                             \
+    __attribute__((diagnose_if(__builtin_object_size(text, 0) < len,               \
+                               "the text has fewer bytes than `len`", "warning")))
+#endif
+#endif
+#ifndef JADVOLNI_CHECKED_
+#define JADVOLNI_CHECKED_(...)
+#endif
+#ifndef JADVOLNI_TEXT_
+#define JADVOLNI_TEXT_
+#endif
+#ifndef JADVOLNI_WRITES_
+#define JADVOLNI_WRITES_(...)
+#endif
+
 /* ---- formats ---- */
 
 /*
@@ -167,15 +194,15 @@ typedef struct jadvolni_format {
     /* The radix, from 2 to 36. Digits above 9 are letters, in either case. */
     uint8_t mantissa_radix;
 
-    /* A byte that counts for nothing among the digits: '_' in "1_000". Where it may be, the four
-     * flags below say; with none of them it is no part of a number. */
+    /* A byte that counts for nothing among the digits: "_" in "1_000". Where it may be, the flags
+     * on separators say; with none of the first three it is no part of a number. */
     uint8_t digit_separator;
 
-    /* A byte that may follow a 0 before the digits: with 'x', "0x1F" is read as "1F" is. The
-     * radix stays. */
+    /* A byte that may follow a 0 before the digits: with "x", "0x1F" is read as "1F" is. The radix
+     * stays. */
     uint8_t base_prefix;
 
-    /* A byte that may follow the digits: with 'h', "1Fh" is read as "1F" is. */
+    /* A byte that may follow the digits: with "h", "1Fh" is read as "1F" is. */
     uint8_t base_suffix;
 
     /* Flag: the prefix is matched exactly. Else a letter is matched in either case. */
@@ -184,9 +211,10 @@ typedef struct jadvolni_format {
     /* Flag: the suffix is matched exactly. Else a letter is matched in either case. */
     uint8_t case_sensitive_base_suffix;
 
-    /* Flags: a digit is required where either is set. Else a text without digits is 0: so it is
-     * under a format that began with {0}. */
+    /* Flag: a digit is required, as by required_mantissa_digits: one of the two is enough. */
     uint8_t required_integer_digits;
+
+    /* Flag: a digit is required. With neither field a text without digits is 0. */
     uint8_t required_mantissa_digits;
 
     /* Flag: a "+" is refused. */
@@ -215,13 +243,13 @@ typedef struct jadvolni_format {
     uint8_t integer_prefix_digit_separator;
 
     /* Flag: "0x", "0o" and "0b" choose the radix 16, 8 or 2 for the digits after them; so do "0X",
-     * "0O" and "0B", unless the prefix is matched exactly. `mantissa_radix` has to be 10, and is the
-     * radix of a text without one of them. */
+     * "0O" and "0B", unless the prefix is matched exactly. The radix of the format has to be 10,
+     * and is that of a text without one of them. */
     uint8_t literal_prefixes;
 
     /* Flag: a number is octal if its first byte, behind a sign, is 0: "0777" is 511, and "08" ends
-     * after its zero. "1007" and "_017" are decimal, and a prefix comes first. `mantissa_radix` has
-     * to be 10. */
+     * after its zero. "1007" and "_017" are decimal, and a prefix comes first. The radix of the
+     * format has to be 10. */
     uint8_t literal_octal_zero;
 
     /* Bits: what is the byte 0 itself, where its own field is 0. JADVOLNI_NUL_IS_SEPARATOR,
@@ -262,7 +290,7 @@ static inline jadvolni_format jadvolni_format_of_radix(int radix)
 
 /* JADVOLNI_UNKNOWN_FIELD where a reserved byte or bit isn't 0; else JADVOLNI_OK where the format breaks no
  * rule, and the status of the first that it breaks. */
-uint32_t jadvolni_format_error(const jadvolni_format *format);
+uint32_t jadvolni_format_error(const jadvolni_format *format) JADVOLNI_CHECKED_(1);
 
 /* ---- numbers of 128 bits ---- */
 
@@ -279,31 +307,6 @@ typedef struct jadvolni_int128 {
 } jadvolni_int128;
 
 /* ---- the calls ---- */
-
-/* What gcc and clang say of a call, before it runs: that its result isn't used, that a pointer is NULL
- * which may not be, and that less is there than the call is told. The text and its length come first. */
-#ifdef __has_attribute
-#if __has_attribute(nonnull) && __has_attribute(warn_unused_result)
-#define JADVOLNI_CHECKED_(...) __attribute__((warn_unused_result, nonnull(__VA_ARGS__)))
-#endif
-#if __has_attribute(access)
-#define JADVOLNI_TEXT_ __attribute__((access(read_only, 1, 2)))
-#define JADVOLNI_WRITES_(...) __attribute__((access(write_only, __VA_ARGS__)))
-#elif __has_attribute(diagnose_if)
-#define JADVOLNI_TEXT_                                                             \
-    __attribute__((diagnose_if(__builtin_object_size(text, 0) < len,               \
-                               "the text has fewer bytes than `len`", "warning")))
-#endif
-#endif
-#ifndef JADVOLNI_CHECKED_
-#define JADVOLNI_CHECKED_(...)
-#endif
-#ifndef JADVOLNI_TEXT_
-#define JADVOLNI_TEXT_
-#endif
-#ifndef JADVOLNI_WRITES_
-#define JADVOLNI_WRITES_(...)
-#endif
 
 #ifdef __clang__
 #pragma clang diagnostic push
