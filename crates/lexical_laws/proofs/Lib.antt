@@ -13,3 +13,4 @@ pub mod OtherTypes
 pub mod LooserFormats
 pub mod DeadPlaces
 pub mod WithoutSeparators
+pub mod Canonical
