@@ -1,21 +1,21 @@
 -- A text that is read as JSON's integers are is what std prints of its value, or `-0`.
-use Rattle.std.proofs.Common.{◌≡◌, ℕ, zero, suc, ◌+◌, ◌-◌, ◌*◌, ◌^◌, ◌<◌, ◌≤◌, Bool, true, false, not, ◌&&◌, cond, List, [], ◌∷◌, ◌++◌, length, map, filter, Option, Some, None, IsNone, is_some, Ok, refl, sym, ap, subst, ◌∙◌, arith, ◌⊎◌, inl, inr}
-use Rattle.std.proofs.Math.IntN.{ℤ, pos, negsuc}
+use Rattle.std.proofs.Common.{◌≡◌, ℕ, zero, suc, ◌+◌, ◌-◌, ◌*◌, ◌^◌, ◌<◌, ◌≤◌, Bool, true, false, not, cond, List, [], ◌∷◌, ◌++◌, length, map, filter, Some, None, Ok, refl, sym, ap, subst, ◌∙◌, arith, ◌⊎◌, inl, inr}
+use Rattle.std.proofs.Math.IntN.{ℤ}
 use Rattle.std.proofs.Math.Nat.{mul-le-mul_right, one-le-pow, pow-suc}
 use Rattle.std.proofs.lemmas.Bool.{cases_lt, false≢true, ltb-true}
 use Rattle.std.proofs.lemmas.Bool.Decides.{nat_tests}
 use Rattle.std.proofs.lemmas.List.{append-nil, length-map}
 use Rattle.std.specs.Fmt.{decimal, digits, signed_decimal}
 use Rattle.std.specs.Prelude.{◌≢◌, nat_lt, slice_get}
-use Rattle.lexical_util.specs.Digit.{IsRadix, digit, digit_value, is_between, value_if_below}
-use Rattle.lexical_util.specs.Format.{Format, json}
+use Rattle.lexical_util.specs.Digit.{IsRadix, digit, is_between, value_if_below}
+use Rattle.lexical_util.specs.Format.{json}
 use Rattle.lexical_util.specs.Number.{IntegerType, IsNumber}
-use Rattle.lexical_parse_integer.specs.Affixes.{bare_radix, is_affix, literal_radix, marked_radix, octal_zero_at}
+use Rattle.lexical_parse_integer.specs.Affixes.{is_affix, marked_radix, octal_zero_at}
 use Rattle.lexical_parse_integer.specs.Grammar.{complete}
 use Rattle.lexical_parse_integer.specs.Laws.{IsNumeralOf, Writes, WritesShortest}
 use Rattle.lexical_parse_integer.specs.Runs.{are_same}
 use Rattle.lexical_parse_integer.specs.Value.{positional_value, with_sign}
-use Rattle.lexical_laws.specs.Integer.{IsBody, IsInteger, IsPrefix, IsSign, IsSuffix, is_separator}
+use Rattle.lexical_laws.specs.Integer.{IsInteger, IsPrefix, IsSign, IsSuffix, is_separator}
 use Rattle.lexical_laws.specs.Integer.IsPrefix.{no_prefix, a_prefix}
 use Rattle.lexical_laws.specs.Integer.IsSign.{no_sign as none, a_plus, a_minus}
 use Rattle.lexical_laws.specs.Integer.IsSuffix.{no_suffix, a_suffix}

@@ -14,3 +14,4 @@ pub mod LooserFormats
 pub mod DeadPlaces
 pub mod WithoutSeparators
 pub mod Canonical
+pub mod LetterCase

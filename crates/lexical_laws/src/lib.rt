@@ -6,7 +6,7 @@
 ghost use Rattle.std.specs.Prelude.{◌≡◌, ◌↔◌, ◌<◌, ◌≤◌, ◌⊎◌, codes, Err, false, IsNone, length, List, Ok, Some, true, ℕ, ℤ};
 ghost use Rattle.std.specs.Fmt.{signed_decimal};
 ghost use Rattle.lexical_laws.specs.Integer.{IsInteger};
-ghost use Rattle.lexical_laws.specs.Keeping.{AdmitsMore, Implies, IsDead, IsRangeFault, without_separators};
+ghost use Rattle.lexical_laws.specs.Keeping.{AdmitsMore, AreAlike, IgnoresCase, Implies, IsDead, IsRangeFault, without_separators};
 ghost use Rattle.lexical_util.specs.Faults.{place_of};
 ghost use Rattle.lexical_util.specs.declared.error.Error.{Error};
 ghost use Rattle.lexical_parse_integer.specs.Grammar.{complete, digits_required};
@@ -89,3 +89,14 @@ pub fn json_texts()
 {
     numerals();
 }
+
+/// Letter case counts for nothing: two texts that are the same but for it have the same value, under a valid format
+/// whose prefix and suffix look at no letter case, and whose separator is no letter.
+///
+/// In radix 16 with the prefix `x`, `0xFf` and `0XfF` are both 255. With the separator `x`, `1x0` may be 10, but `1X0`
+/// is no integer.
+pub fn letter_case()
+    ensures { (format : Format) (type : IntegerType) (text other : List ℕ) (value : ℤ)
+        → IsNone (fault format) → IgnoresCase format → AreAlike other text
+        → complete format type text ≡ Ok value → complete format type other ≡ Ok value }
+{}
