@@ -1,8 +1,8 @@
 #!/usr/bin/env python3
 """Writes the documents that are made from the source, or says where they aren't as written.
 
-    tools/documents.py           writes docs/CONTRACTS.md, docs/FORMATS.md, and the marked code
-                                 blocks of other documents
+    tools/documents.py           writes docs/CONTRACTS.md, docs/FORMATS.md, the marked code blocks
+                                 of other documents, and the lists of a format's fields
     tools/documents.py --check   writes nothing, and ends with status 1 where one of them isn't as
                                  it would write it, or where check_pages.py finds something wrong
     tools/documents.py --words   prints how many words of each page were written by hand
@@ -28,6 +28,7 @@ import sys
 
 import check_pages
 import contracts_page
+import field_lists
 import formats_page
 import source
 
@@ -158,7 +159,7 @@ def documents(top: str, faults: list[str]) -> dict[str, str]:
 
 
 def old_ones(top: str, found: dict[str, str]) -> list[str]:
-    """The documents that aren't as the source has them."""
+    """The files that aren't as the source has them."""
     def is_old(path: str, text: str) -> bool:
         place = os.path.join(top, path)
         return not os.path.isfile(place) or source.read(place) != text
@@ -168,7 +169,7 @@ def old_ones(top: str, found: dict[str, str]) -> list[str]:
 
 def checked(found: dict[str, str], faults: list[str]) -> str:
     """Adds what is wrong with the documents, and says in a line what was looked at."""
-    old = old_ones(TOP, found)
+    old = old_ones(TOP, {**found, **field_lists.files(TOP)})
     faults += [f"{path}: it isn't as the source has it: make docs writes it anew" for path in old]
     files = files_of(TOP)
     sources = [source.read(os.path.join(TOP, it)) for it in files if it.endswith(".rt")]
@@ -180,11 +181,12 @@ def checked(found: dict[str, str], faults: list[str]) -> str:
 
 def written(found: dict[str, str]) -> str:
     """Writes what is old, and says how many documents that were."""
-    old = old_ones(TOP, found)
+    wanted = {**found, **field_lists.files(TOP)}
+    old = old_ones(TOP, wanted)
     for path in old:
         with open(os.path.join(TOP, path), "w", encoding="utf-8") as file:
-            file.write(found[path])
-    return f"{len(found)} documents looked at, {len(old)} written"
+            file.write(wanted[path])
+    return f"{len(wanted)} files looked at, {len(old)} written"
 
 
 def main(arguments: list[str]) -> int:

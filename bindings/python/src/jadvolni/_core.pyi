@@ -24,6 +24,9 @@ class FormatError(ValueError):
     place: None
 
 def parse(text: Text, type: NumberType = "i64", format: Optional[Format] = None) -> int: ...
+def parse_front(
+    text: Text, type: NumberType = "i64", format: Optional[Format] = None
+) -> tuple[int, int]: ...
 def parse_partial(
     text: Text, type: NumberType = "i64", format: Optional[Format] = None
 ) -> tuple[int, int]: ...
@@ -32,5 +35,13 @@ def parse_column(
     type: ColumnType = "i64",
     separator: Text = b"\n",
     format: Optional[Format] = None,
+) -> array[int]: ...
+def _parse_part(
+    text: bytes,
+    type: ColumnType,
+    separator: bytes,
+    format: Optional[Format],
+    field: int,
+    start: int,
 ) -> array[int]: ...
 def _check_format(format: Format) -> None: ...
