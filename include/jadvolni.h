@@ -436,6 +436,11 @@ JADVOLNI_COLUMN_(i64, int64_t);
 #undef JADVOLNI_TEXT_
 #undef JADVOLNI_WRITES_
 
+/* Where the field starts that the first `len` bytes of a text end in: behind their last separator, or
+ * at 0. So with a fault's place as `len` it is where the wrong field starts, and of a block that more
+ * follows it is how many bytes are whole fields. */
+size_t jadvolni_field_start(const char *text, size_t len, uint8_t separator);
+
 /* ---- helpers, written in C: they are tested, and nothing of them is proved ---- */
 
 /* The name of a status, as "Overflow" for JADVOLNI_OVERFLOW; "Unknown" for a number that is none. */
@@ -490,14 +495,6 @@ static inline const char *jadvolni_status_text(uint32_t status)
     case JADVOLNI_UNKNOWN_FIELD: return "the reserved bytes and bits of the format have to be 0";
     default: return "a status that only a later library has";
     }
-}
-
-/* Where the field of a column starts that has its fault at `place`, or that is cut there. */
-static inline size_t jadvolni_field_start(const char *text, size_t place, uint8_t separator)
-{
-    while (place > 0 && (uint8_t)text[place - 1] != separator)
-        place--;
-    return place;
 }
 
 #ifdef __SIZEOF_INT128__

@@ -97,18 +97,21 @@ static size_t field_count(const char *text, size_t len, uint8_t separator)
     return separators + (len > 0 && (uint8_t)text[len - 1] != separator);
 }
 
-/* Raises the fault of a column: of its format, or of the field with this index. */
+/* Raises the fault of a column: of its format, or of the field with this index. The text stands behind
+ * fields that were read before: its first one has their count as index, and starts where they end. */
 static void raise_column(const core_state *state, jadvolni_result answer, size_t index,
-                         const lent_text *text, uint8_t separator)
+                         const lent_text *text, uint8_t separator, const field_place *first)
 {
     if (is_of_format(answer.status)) {
         raise_format(state, answer.status);
         return;
     }
-    field_place field = {index, jadvolni_field_start(text->bytes, answer.place, separator)};
-    const char *start = text->bytes + field.start;
-    const char *end = memchr(start, separator, text->len - field.start);
-    size_t len = end ? (size_t)(end - start) : text->len - field.start;
+    size_t at = jadvolni_field_start(text->bytes, answer.place, separator);
+    const char *start = text->bytes + at;
+    const char *end = memchr(start, separator, text->len - at);
+    size_t len = end ? (size_t)(end - start) : text->len - at;
+    field_place field = {first->index + index, first->start + at};
+    answer.place += first->start;
     raise_fault(state, answer, start, len, &field);
 }
 
@@ -129,7 +132,8 @@ static PyObject *zeros(const char *code, size_t size, size_t count)
 
 /* Reads a text into a new array. */
 static PyObject *column_of(const core_state *state, const number_type *type, const lent_text *text,
-                           uint8_t separator, const jadvolni_format *format)
+                           uint8_t separator, const jadvolni_format *format,
+                           const field_place *first)
 {
     Py_buffer room;
     size_t capacity, count;
@@ -152,19 +156,15 @@ static PyObject *column_of(const core_state *state, const number_type *type, con
     if (answer.status == JADVOLNI_OK)
         PyErr_SetString(PyExc_RuntimeError, "the text was changed while it was read");
     else
-        raise_column(state, answer, count, text, separator);
+        raise_column(state, answer, count, text, separator, first);
     return NULL;
 }
 
-static PyObject *parse_column(PyObject *module, PyObject *const *args, Py_ssize_t count,
-                              PyObject *keywords)
+/* The column of the first four arguments, whose fields count on from a first one. */
+static PyObject *column_behind(PyObject *module, PyObject *const *found, const field_place *first)
 {
-    static const char *const names[] = {"text", "type", "separator", "format"};
-    PyObject *found[4];
     jadvolni_format format;
     lent_text text;
-    if (arguments("parse_column", args, count, keywords, names, 4, found) < 0)
-        return NULL;
     const number_type *type = type_of(found[1]);
     if (!type)
         return NULL;
@@ -178,9 +178,33 @@ static PyObject *parse_column(PyObject *module, PyObject *const *args, Py_ssize_
         || lend("text", found[0], &text) < 0)
         return NULL;
     PyObject *values = column_of(PyModule_GetState(module), type, &text, (uint8_t)separator,
-                                 &format);
+                                 &format, first);
     give_back(&text);
     return values;
+}
+
+static PyObject *parse_column(PyObject *module, PyObject *const *args, Py_ssize_t count,
+                              PyObject *keywords)
+{
+    static const char *const names[] = {"text", "type", "separator", "format"};
+    static const field_place first = {0, 0};
+    PyObject *found[4];
+    if (arguments("parse_column", args, count, keywords, names, 4, found) < 0)
+        return NULL;
+    return column_behind(module, found, &first);
+}
+
+/* The whole fields of a part of a text, for `iter_column`: `field` were read before, up to `start`. */
+static PyObject *parse_part(PyObject *module, PyObject *const *args, Py_ssize_t count)
+{
+    if (count != 6) {
+        PyErr_SetString(PyExc_TypeError, "_parse_part takes six arguments");
+        return NULL;
+    }
+    field_place first = {PyLong_AsSize_t(args[4]), PyLong_AsSize_t(args[5])};
+    if (PyErr_Occurred())
+        return NULL;
+    return column_behind(module, args, &first);
 }
 
 /* ---- formats ---- */
@@ -224,6 +248,8 @@ static PyMethodDef METHODS[] = {
          "no further field. ParseError has the first field that is no number, by `field` and\n"
          "`start`, and its `place` counts from the text's start. Python's lock is let go: no\n"
          "other thread may change the text meanwhile."),
+    {"_parse_part", (PyCFunction)(void (*)(void))parse_part, METH_FASTCALL,
+     "A column whose fields count on from those of the parts before it."},
     {"_check_format", check_format, METH_O, "Raises FormatError where a format is invalid."},
     {NULL, NULL, 0, NULL},
 };

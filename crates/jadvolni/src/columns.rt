@@ -1,13 +1,14 @@
 //! Columns, as C reads them: the numbers of a text's fields, put into an array.
 
 ghost use Rattle.std.specs.Prelude.{◌≡◌, map, pos};
+ghost use Rattle.lexical_fields.specs.Parts.{whole_fields};
 ghost use Rattle.jadvolni.specs.Columns.{column_call, column_effect};
 ghost use Rattle.jadvolni.specs.Effect.{signed, unsigned};
 
 use crate::calls::UNKNOWN;
 use crate::format::FormatFields;
 use crate::outcome::Outcome;
-use lexical_fields::{ColumnError, read_column};
+use lexical_fields::{ColumnError, read_column, whole_fields};
 use lexical_parse_integer::options;
 use lexical_parse_integer::parse::ParseInteger;
 
@@ -51,6 +52,17 @@ pub fn column_under<T: ParseInteger>(
             Outcome::of_fault(error)
         }
     }
+}
+
+/// Where the field starts that a text ends in: behind its last separator, or at 0. What stands before is whole fields.
+///
+/// It tells where the field of a fault starts, if the text ends at the fault's place; and how much of a block may be read
+/// as a column, if more follows.
+#[unsafe(no_mangle)]
+pub extern "C" fn jadvolni_field_start(text: &[u8], separator: u8) -> usize
+    ensures { result ≡ whole_fields separator text.now }
+{
+    whole_fields(text, separator)
 }
 
 /// The numbers of a text's fields as `u8`, under a format.

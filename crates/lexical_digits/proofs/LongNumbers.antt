@@ -1,18 +1,23 @@
 -- Numbers in parts: for the answers of `values`, and of what joins the words of a front.
-use Rattle.std.proofs.Common.{◌≡◌, ℕ, ◌+◌, ◌*◌, ◌^◌, ◌<◌, ◌≤◌, Bool, true, false, refl, ap, ◌∙◌, arith, pos, Option, Some, None, List, sym, subst, rules, zero, suc, ◌-◌, take, drop, length}
+use Rattle.std.proofs.Common.{◌≡◌, ℕ, ◌+◌, ◌*◌, ◌^◌, ◌<◌, ◌≤◌, Bool, true, false, refl, ap, ◌∙◌, arith, pos, Option, Some, None, List, sym, subst, rules, zero, suc, ◌-◌, take, drop, length, map, is_some, [], ◌∷◌, ◌++◌}
 use Rattle.std.specs.Prelude.{ℤ, ◌+ℤ◌, ◌*ℤ◌, ◌≤ℤ◌, neg_ℤ, if◌then◌else◌, slice_range, IfSome}
 use Rattle.std.specs.Int.Signed.{≤ℤ_refl}
-use Rattle.std.proofs.Math.Seq.{take-length}
-use Rattle.std.proofs.lemmas.List.{length-drop}
+use Rattle.std.proofs.Math.Seq.{take-add, take-length}
+use Rattle.std.proofs.lemmas.List.{length-drop, length-take-le}
 use Rattle.std.proofs.lemmas.Bool.{lt-ltb}
 use Rattle.std.proofs.lemmas.Bool.Decides.{nat_tests}
 use Rattle.std.proofs.lemmas.Nat.{mul-le}
 use Rattle.lexical_util.specs.Number.{HasSign, mul_add, IntegerType, IsNumber, IsWidth, integer_type, number_if_fits, is_number}
 use Rattle.lexical_util.specs.Number.IsWidth.{w8, w16, w32, w64, w128}
-use Rattle.lexical_digits.specs.WrittenNumbers.{WritesDecimal, WritesValue}
-use Rattle.lexical_digits.specs.Value.{with_sign}
-use Rattle.lexical_digits.proofs.DigitValues.{with_sign-step}
-use Rattle.lexical_digits.proofs.WordsInFront.{joined_texts}
+use Rattle.lexical_digits.specs.WrittenNumbers.{StandsFor, WritesDecimal, WritesFront}
+use Rattle.lexical_digits.specs.Value.{positional_value, with_sign}
+use Rattle.lexical_digits.specs.Words.{AreDigits, word_value}
+use Rattle.lexical_util.specs.Compare.{pos-injective}
+use Rattle.lexical_util.specs.Digit.{digit}
+use Rattle.lexical_digits.proofs.AsciiDigits.{AreAsciiDigits, ascii_from_digits, digit_from, digit_to}
+use Rattle.lexical_digits.proofs.NibbleBlocks.{all_have, all_written, joined_have}
+use Rattle.lexical_digits.proofs.WordsOfDigits.{raised_none}
+use Rattle.lexical_digits.proofs.DigitValues.{HaveDigits, digits_size, positional_value-append, with_sign-step}
 
 -- ---- numbers of a type
 
@@ -66,13 +71,54 @@ sum_fits t value sum found = ap (is_number t) (sum_found t value sum found) ∙ 
     by_test true same = refl
     by_test false same = cc
 
--- ---- what digits write
+-- ---- decimal digits
+
+pub have_digits : (r : ℕ) (bytes : List ℕ) → r ≤ 10 → AreAsciiDigits r bytes → HaveDigits r bytes (map (λ byte. byte - 48) bytes)
+have_digits r [] ten d = refl
+have_digits r (c ∷ cs) ten d =
+    let here = digit_from r c d.0 ten in
+    let rest = have_digits r cs ten d.1 in
+    rw (here, rest) refl
+
+pub have_are : (bytes ds : List ℕ) → HaveDigits 10 bytes ds → AreDigits 10 bytes
+have_are [] ds all = tt
+have_are (b ∷ bs) [] all = cc
+have_are (b ∷ bs) (d ∷ ds) all =
+    let here : digit b 10 ≡ Some d = cc in
+    let more : HaveDigits 10 bs ds = cc in
+    (ap is_some here, have_are bs ds more)
+
+pub digit_worth : (byte d : ℕ) → digit byte 10 ≡ Some d → d ≡ byte - 48
+digit_worth byte d is =
+    let ascii = digit_to 10 byte (ap is_some is) (omega arith) in
+    let told : digit byte 10 ≡ Some (byte - 48) = digit_from 10 byte ascii (omega arith) in
+    cc
+
+pub have_values : (bytes ds : List ℕ) → HaveDigits 10 bytes ds → ds ≡ map (λ byte. byte - 48) bytes
+have_values [] [] all = refl
+have_values [] (d ∷ ds) all = cc
+have_values (b ∷ bs) [] all = cc
+have_values (b ∷ bs) (d ∷ ds) all =
+    let here : digit b 10 ≡ Some d = cc in
+    let more : HaveDigits 10 bs ds = cc in
+    ap (λ (e : ℕ). e ∷ ds) (digit_worth b d here) ∙ ap (λ (es : List ℕ). (b - 48) ∷ es) (have_values bs ds more)
+
+pub decimal_front : (text : List ℕ) (number : ℕ) → WritesDecimal 0 text number → WritesFront 10 text (length text) (pos number)
+decimal_front text number w =
+    let same = raised_none text in
+    let digits : AreDigits 10 text = subst (λ (bs : List ℕ). AreDigits 10 bs) same w.digits in
+    all_written 10 number text (map (λ byte. byte - 48) text) (have_digits 10 text (omega arith) (ascii_from_digits 10 text (omega arith) digits)) (w.worth ∙ ap (word_value 10) same)
+
+-- ---- what digits stand for
+
+pub stands : (t : IntegerType) (negative : Bool) (text : List ℕ) (number : ℕ) (value : ℤ) → WritesDecimal 0 text number → value ≡ with_sign negative number → IsNumber t value → StandsFor t 10 negative text value
+stands t negative text number value writes worth fits = record { size = pos number; writes = decimal_front text number writes; worth = worth; fits = fits }
 
 -- a value that was found for the number of a text
-pub value_written : {V : Type 0} (number_of : V → ℤ) (t : IntegerType) (more : ℕ) (negative : Bool) (text : List ℕ) (number : ℕ) (found : Option V) → WritesDecimal more text number →
-    IfSome found (λ v. number_of v ≡ with_sign negative number) → IfSome found (λ v. IsNumber t (number_of v)) → IfSome found (λ v. WritesValue t more negative text (number_of v))
-value_written number_of t more negative text number None writes worth fits = tt
-value_written number_of t more negative text number (Some v) writes worth fits = record { number = number; writes = writes; worth = worth; fits = ap (is_number t) (sym worth) ∙ fits }
+pub value_written : {V : Type 0} (number_of : V → ℤ) (t : IntegerType) (negative : Bool) (text : List ℕ) (number : ℕ) (found : Option V) → WritesDecimal 0 text number →
+    IfSome found (λ v. number_of v ≡ with_sign negative number) → IfSome found (λ v. IsNumber t (number_of v)) → IfSome found (λ v. StandsFor t 10 negative text (number_of v))
+value_written number_of t negative text number None writes worth fits = tt
+value_written number_of t negative text number (Some v) writes worth fits = stands t negative text number (number_of v) writes worth fits
 
 -- what follows from a value that was found
 pub if_found : {X : Type 0} {P Q : X → Type 0} (found : Option X) → ((x : X) → P x → Q x) → IfSome found P → IfSome found Q
@@ -88,32 +134,40 @@ sign_held b value n is = subst (HasSign b) (sym is) (by_sign b n)
     by_sign true (suc n) = search rules
     by_sign false n = grind (arith, nat_tests)
 
-pub sign_of_value : (t : IntegerType) (b : Bool) (text : List ℕ) (value : ℤ) → WritesValue t 0 b text value → HasSign b value
-sign_of_value t b text value w = sign_held b value w.number w.worth
+pub sign_of_value : (t : IntegerType) (r : ℕ) (b : Bool) (text : List ℕ) (value : ℤ) → StandsFor t r b text value → HasSign b value
+sign_of_value t r b text value s = sign_held b value (positional_value r s.writes.values) (s.worth ∙ ap (λ (z : ℤ). if b then neg_ℤ z else z) s.writes.worth)
 
 -- the value with more digits
-pub more_digits : (t : IntegerType) (b : Bool) (k count m : ℕ) (text : List ℕ) (value next : ℤ) → count ≤ length (drop k text) → WritesValue t 0 b (take k text) value → WritesDecimal 0 (take count (drop k text)) m →
-    next ≡ mul_add b value (pos (10 ^ count)) (pos m) → IsNumber t next → WritesValue t 0 b (take (k + count) text) next
-more_digits t b k count m text value next few w v step fits =
-    let worth : next ≡ with_sign b (w.number * 10 ^ count + m) = step ∙ ap (λ (z : ℤ). mul_add b z (pos (10 ^ count)) (pos m)) w.worth ∙ with_sign-step b w.number (10 ^ count) m in
+pub more_digits : (t : IntegerType) (r : ℕ) (b : Bool) (k count m : ℕ) (text : List ℕ) (value next : ℤ) → count ≤ length (drop k text) → StandsFor t r b (take k text) value →
+    WritesFront r (take count (drop k text)) (length (take count (drop k text))) (pos m) → next ≡ mul_add b value (pos (r ^ count)) (pos m) → IsNumber t next → StandsFor t r b (take (k + count) text) next
+more_digits t r b k count m text value next few s v step fits =
+    let w = s.writes in
+    let front : List ℕ = take k text in
+    let behind : List ℕ = take count (drop k text) in
+    let n : ℕ = positional_value r w.values in
+    let all : HaveDigits r front w.values = ap (map (λ byte. digit byte r)) (sym (take-length front)) ∙ w.digits in
+    let more : HaveDigits r behind v.values = all_have r m behind v in
+    let both : HaveDigits r (take (k + count) text) (w.values ++ v.values) = subst (λ (bs : List ℕ). HaveDigits r bs (w.values ++ v.values)) (sym (take-add k count text)) (joined_have r front behind w.values v.values all more) in
+    let size : length v.values ≡ count = sym (digits_size r behind v.values more) ∙ length-take-le count (drop k text) few in
+    let last : m ≡ positional_value r v.values = pos-injective m (positional_value r v.values) v.worth in
+    let whole : positional_value r (w.values ++ v.values) ≡ n * r ^ count + m =
+    positional_value-append r w.values v.values ∙ ap (λ (j : ℕ). n * r ^ j + positional_value r v.values) size ∙ ap (λ (j : ℕ). n * r ^ count + j) (sym last) in
+    let value_is : value ≡ with_sign b n = s.worth ∙ ap (λ (z : ℤ). if b then neg_ℤ z else z) w.worth in
     record {
-      number = w.number * 10 ^ count + m;
-      writes = joined_texts k count w.number m text few w.writes v;
-      worth = worth;
-      fits = ap (is_number t) (sym worth) ∙ fits;
+      size = pos (n * r ^ count + m);
+      writes = all_written r (n * r ^ count + m) (take (k + count) text) (w.values ++ v.values) both (sym whole);
+      worth = step ∙ ap (λ (z : ℤ). mul_add b z (pos (r ^ count)) (pos m)) value_is ∙ with_sign-step b n (r ^ count) m;
+      fits = fits;
     }
 
--- all digits
-pub all_digits : (t : IntegerType) (b : Bool) (k : ℕ) (text : List ℕ) (value : ℤ) → k ≡ length text → WritesValue t 0 b (take k text) value → WritesValue t 0 b text value
-all_digits t b k text value all w = subst (λ (bs : List ℕ). WritesValue t 0 b bs value) (ap (λ (n : ℕ). take n text) all ∙ take-length text) w
-
 -- sixteen digits more
-pub sixteen_more : (t : IntegerType) (b : Bool) (k m : ℕ) (text : List ℕ) (value next scale rest : ℤ) → k + 16 ≤ length text → WritesValue t 0 b (take k text) value → WritesDecimal 0 (slice_range text k (k + 16)) m →
-    scale ≡ pos 10000000000000000 → rest ≡ pos m → next ≡ mul_add b value scale rest → IsNumber t next → WritesValue t 0 b (take (k + 16) text) next
-sixteen_more t b k m text value next scale rest within w v is_scale is_rest step fits =
+pub sixteen_more : (t : IntegerType) (b : Bool) (k m : ℕ) (text : List ℕ) (value next scale rest : ℤ) → k + 16 ≤ length text → StandsFor t 10 b (take k text) value → WritesDecimal 0 (slice_range text k (k + 16)) m →
+    scale ≡ pos 10000000000000000 → rest ≡ pos m → next ≡ mul_add b value scale rest → IsNumber t next → StandsFor t 10 b (take (k + 16) text) next
+sixteen_more t b k m text value next scale rest within s v is_scale is_rest step fits =
     let size : k + 16 - k ≡ 16 = omega arith in
     let left = length-drop k text in
-    more_digits t b k 16 m text value next (omega arith) w (subst (λ (n : ℕ). WritesDecimal 0 (take n (drop k text)) m) size v)
+    let part : WritesDecimal 0 (take 16 (drop k text)) m = subst (λ (n : ℕ). WritesDecimal 0 (take n (drop k text)) m) size v in
+    more_digits t 10 b k 16 m text value next (omega arith) s (decimal_front (take 16 (drop k text)) m part)
     (step ∙ ap (λ (z : ℤ). mul_add b value z rest) is_scale ∙ ap (λ (z : ℤ). mul_add b value (pos 10000000000000000) z) is_rest) fits
 
 -- a front behind its sign, and a last part

@@ -111,7 +111,7 @@ first_worth r n k text w few =
     ap (λ (m : ℕ). m / r ^ (length text - k)) (worth ∙ parts) ∙ div-mul-add (positional_value r (take k w.values)) (r ^ (length text - k)) (positional_value r (drop k w.values)) low
 
 -- the digits of a front and of the rest
-joined_have : (r : ℕ) (front rest ds es : List ℕ) → HaveDigits r front ds → HaveDigits r rest es → HaveDigits r (front ++ rest) (ds ++ es)
+pub joined_have : (r : ℕ) (front rest ds es : List ℕ) → HaveDigits r front ds → HaveDigits r rest es → HaveDigits r (front ++ rest) (ds ++ es)
 joined_have r front rest ds es all more =
     map-append (λ byte. digit byte r) front rest ∙ ap (λ (os : List (Option ℕ)). os ++ map (λ byte. digit byte r) rest) all
     ∙ ap (λ (os : List (Option ℕ)). map Some ds ++ os) more ∙ sym (map-append Some ds es)

@@ -2,7 +2,7 @@
 use Rattle.std.specs.Prelude.{◌≡◌, ◌+◌, ◌*◌, ◌<◌, ◌≤◌, ◌^◌, ℕ, Bool, if◌then◌else◌, List, [], ◌∷◌, length, get_or, map, take, Some, IsNone, ℤ, pos, neg_ℤ}
 use Rattle.lexical_util.specs.Digit.{digit}
 use Rattle.lexical_util.specs.Number.{IntegerType, IsNumber}
-use Rattle.lexical_digits.specs.Value.{positional_value, with_sign}
+use Rattle.lexical_digits.specs.Value.{positional_value}
 use Rattle.lexical_digits.specs.Words.{AreDigits, word_value}
 
 -- the number that bytes make, the first worth the least
@@ -19,14 +19,6 @@ with_more more (byte ∷ bytes) = (byte + more) ∷ bytes
 pub record WritesDecimal (more : ℕ) (text : List ℕ) (number : ℕ) : Type 0 where
   pub digits : AreDigits 10 (with_more more text)
   pub worth : number ≡ word_value 10 (with_more more text)
-
--- The digits of a text, where so much is added to its first byte, stand for a number of a type.
-pub record WritesValue (type : IntegerType) (more : ℕ) (negative : Bool) (text : List ℕ)
-    (value : ℤ) : Type 0 where
-  pub number : ℕ
-  pub writes : WritesDecimal more text number
-  pub worth : value ≡ with_sign negative number
-  pub fits : IsNumber type (with_sign negative number)
 
 -- So many of the first eight bytes of a text are digits, which write a number, and no digit stands behind them there.
 pub record WritesFirst (text : List ℕ) (number count : ℕ) : Type 0 where

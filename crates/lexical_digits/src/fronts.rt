@@ -3,7 +3,7 @@
 //! They are found by words of eight bytes, with no branch for a digit: the lowest bit that a test of the word sets says
 //! where they end, and the bytes behind them are shifted out.
 ghost use Rattle.std.specs.Prelude.{◌≡◌, ◌+◌, ◌%◌, ◌<◌, ◌≤◌, IfSome, IsTrue, get_or, length, slice_range, take};
-ghost use Rattle.lexical_digits.specs.WrittenNumbers.{WritesFirst, WritesValue, bytes_number};
+ghost use Rattle.lexical_digits.specs.WrittenNumbers.{StandsFor, WritesFirst, bytes_number};
 ghost use Rattle.lexical_digits.specs.Words.{AreDigits, word_bytes, word_value};
 
 use crate::digits::{ZEROS, first_word, number_of_front, word_at};
@@ -100,7 +100,7 @@ pub fn number_behind(text: &[u8], at: usize) -> (u32, usize)
 pub fn value_of_digits<T: Integer>(digits: &[u8], negative: bool) -> Option<T>
     requires some { 1 ≤ length digits.now }
     requires minus { IsTrue negative → IsTrue T.TYPE.is_signed }
-    ensures { IfSome result (λ value. WritesValue T.TYPE 0 negative digits.now (T.number value)) }
+    ensures { IfSome result (λ value. StandsFor T.TYPE 10 negative digits.now (T.number value)) }
 {
     if digits.len() <= 16 {
         return value_of::<T>(digits, negative);

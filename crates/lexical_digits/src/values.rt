@@ -2,7 +2,7 @@
 ghost use Rattle.std.specs.Prelude.{◌≤ℤ◌, ◌∷◌, [], neg_ℤ, if◌then◌else◌, false, ◌≡◌, ◌+◌, ◌*◌, ◌<◌, ◌≤◌, IfSome, IsTrue, get_or, length, pos};
 ghost use Rattle.lexical_util.specs.Ascii.{minus};
 ghost use Rattle.lexical_util.specs.Number.{IsNumber, number_limit};
-ghost use Rattle.lexical_digits.specs.WrittenNumbers.{WritesValue};
+ghost use Rattle.lexical_digits.specs.WrittenNumbers.{StandsFor};
 ghost use Rattle.lexical_digits.specs.Value.{with_sign};
 
 use crate::digits::{number_to_4, number_to_8, numbers_to_16};
@@ -93,7 +93,7 @@ pub fn value_of<T: Integer>(digits: &[u8], negative: bool) -> Option<T>
     requires some { 1 ≤ length digits.now }
     requires few { length digits.now ≤ 16 }
     requires minus { IsTrue negative → IsTrue T.TYPE.is_signed }
-    ensures { IfSome result (λ value. WritesValue T.TYPE 0 negative digits.now (T.number value)) }
+    ensures { IfSome result (λ value. StandsFor T.TYPE 10 negative digits.now (T.number value)) }
 {
     let n = digits.len();
     if n <= 4 {
@@ -116,7 +116,7 @@ pub fn value_of_long<T: Integer>(digits: &[u8], negative: bool) -> Option<T>
     requires bits { 32 < T.TYPE.bits }
     requires some { 1 ≤ length digits.now }
     requires minus { IsTrue negative → IsTrue T.TYPE.is_signed }
-    ensures { IfSome result (λ value. WritesValue T.TYPE 0 negative digits.now (T.number value)) }
+    ensures { IfSome result (λ value. StandsFor T.TYPE 10 negative digits.now (T.number value)) }
 {
     let scale = joined::<T>(100_000_000, 100_000_000, 0);
     let mut place = (digits.len() - 1) % 16 + 1;

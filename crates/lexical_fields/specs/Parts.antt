@@ -26,7 +26,8 @@ answers_in format type separator text = map (field_answer format type) (fields s
 
 -- What is read of parts, each behind what is left of those before it: the answers in its whole fields, with the place at
 -- which it starts added to theirs. What is left of the last one is read at the end.
-abbrev pub answers_of_parts : Format → IntegerType → ℕ → ℕ → List ℕ → List (List ℕ) → List (Result ℤ Error)
+abbrev pub answers_of_parts : Format → IntegerType → ℕ → ℕ → List ℕ → List (List ℕ)
+    → List (Result ℤ Error)
 answers_of_parts format type separator place left [] =
     map (in_text place) (answers_in format type separator left)
 answers_of_parts format type separator place left (part ∷ more) =

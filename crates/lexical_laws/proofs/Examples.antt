@@ -1,7 +1,8 @@
 -- The laws at examples: their premises can be met, and without them they fail.
-use Rattle.std.proofs.Common.{◌≡◌, true, false, [], ◌∷◌, refl, Some, Ok}
+use Rattle.std.proofs.Common.{◌≡◌, true, false, [], ◌∷◌, refl, Some, Ok, Err, inl}
 use Rattle.std.proofs.Math.IntN.{pos, negsuc}
-use Rattle.lexical_util.specs.Format.{Format, standard}
+use Rattle.lexical_util.specs.declared.error.Error.TheVariants.{Empty, InvalidDigit, InvalidLeadingZeros, Overflow}
+use Rattle.lexical_util.specs.Format.{Format, json, standard}
 use Rattle.lexical_util.specs.Number.{IntegerType, integer_type}
 use Rattle.lexical_parse_integer.specs.Computed.{grammar}
 use Rattle.lexical_parse_integer.specs.Grammar.{complete}
@@ -9,10 +10,14 @@ use Rattle.lexical_laws.specs.Integer.{IsInteger}
 use Rattle.lexical_laws.specs.Integer.IsPrefix.{no_prefix}
 use Rattle.lexical_laws.specs.Integer.IsSign.{no_sign as none}
 use Rattle.lexical_laws.specs.Integer.IsSuffix.{a_suffix}
+use Rattle.lexical_laws.specs.Keeping.{AdmitsMore, without_separators}
 use Rattle.lexical_laws.proofs.ReadIsMade.{read_is_integer}
 
 abbrev u8 : IntegerType
 u8 = integer_type 8 false
+
+abbrev u16 : IntegerType
+u16 = integer_type 16 false
 
 abbrev i16 : IntegerType
 i16 = integer_type 16 true
@@ -57,3 +62,89 @@ eleven = (
   },
   refl,
 )
+
+-- ---- types: `300` is a value of `u16`, and leaves `u8` with its last digit
+
+three_hundred : (complete standard u16 (51 ∷ 48 ∷ 48 ∷ []) ≡ Ok (pos 300)) × (complete standard u8 (51 ∷ 48 ∷ 48 ∷ []) ≡ Err (Overflow 2))
+unfolding grammar
+three_hundred = (refl, refl)
+
+-- an unsigned type has 0, and reads no `-0`
+minus_zero : (complete standard i16 (45 ∷ 48 ∷ []) ≡ Ok (pos 0)) × (complete standard u8 (45 ∷ 48 ∷ []) ≡ Err (InvalidDigit 0))
+unfolding grammar
+minus_zero = (refl, refl)
+
+-- ---- relaxing: a separator between digits and a prefix may come in
+
+abbrev grouped : Format
+grouped = record standard { digit_separator = Some 95; integer_internal_digit_separator = true; base_prefix = Some 120 }
+
+grouped_admits_more : AdmitsMore standard grouped
+grouped_admits_more = record {
+  radix = refl;
+  literals = refl;
+  octal = refl;
+  separator = inl refl;
+  prefix = inl refl;
+  suffix = inl refl;
+  leading = λ e. e;
+  internal = λ e. refl;
+  trailing = λ e. e;
+  consecutive = λ e. e;
+  behind_prefix = λ e. e;
+  prefix_case = λ e. e;
+  suffix_case = λ e. e;
+  integer_digits = λ e. e;
+  mantissa_digits = λ e. e;
+  no_plus = λ e. e;
+  sign = λ e. e;
+  no_zeros = λ e. e;
+}
+
+ten_stays : (complete standard u8 (49 ∷ 48 ∷ []) ≡ Ok (pos 10)) × (complete grouped u8 (49 ∷ 48 ∷ []) ≡ Ok (pos 10))
+unfolding grammar
+ten_stays = (refl, refl)
+
+-- octal zeros give digits another worth
+abbrev octal : Format
+octal = record standard { literal_octal_zero = true }
+
+ten_changes : (complete standard u8 (48 ∷ 49 ∷ 48 ∷ []) ≡ Ok (pos 10)) × (complete octal u8 (48 ∷ 49 ∷ 48 ∷ []) ≡ Ok (pos 8))
+unfolding grammar
+ten_changes = (refl, refl)
+
+-- ---- dead places: whatever follows `1x`, it is no integer
+
+one_x : (complete standard u8 (49 ∷ 120 ∷ []) ≡ Err (InvalidDigit 1)) × (complete standard u8 (49 ∷ 120 ∷ 50 ∷ []) ≡ Err (InvalidDigit 1))
+unfolding grammar
+one_x = (refl, refl)
+
+-- with a separator `0_` can go on as `0_0`, and under the zero rule a lone zero passes
+mended : (complete grouped u8 (48 ∷ 95 ∷ []) ≡ Err (InvalidDigit 1)) × (complete grouped u8 (48 ∷ 95 ∷ 48 ∷ []) ≡ Ok (pos 0))
+unfolding grammar
+mended = (refl, refl)
+
+lone_zero : (complete json u8 (48 ∷ 49 ∷ []) ≡ Err (InvalidLeadingZeros 0)) × (complete json u8 (48 ∷ []) ≡ Ok (pos 0))
+unfolding grammar
+lone_zero = (refl, refl)
+
+-- ---- separators: `1_0` and `10`
+
+one_zero : (complete grouped u8 (49 ∷ 95 ∷ 48 ∷ []) ≡ Ok (pos 10)) × (complete grouped u8 (without_separators grouped (49 ∷ 95 ∷ 48 ∷ [])) ≡ Ok (pos 10))
+unfolding grammar
+one_zero = (refl, refl)
+
+-- under octal zeros a separator keeps `09` in radix 10, and where no digit is asked for it makes `0x_` a value
+abbrev leading_octal : Format
+leading_octal = record octal { digit_separator = Some 95; integer_leading_digit_separator = true }
+
+nine : (complete leading_octal u8 (95 ∷ 48 ∷ 57 ∷ []) ≡ Ok (pos 9)) × (complete leading_octal u8 (48 ∷ 57 ∷ []) ≡ Err (InvalidDigit 1))
+unfolding grammar
+nine = (refl, refl)
+
+abbrev optional : Format
+optional = record standard { digit_separator = Some 95; integer_leading_digit_separator = true; base_prefix = Some 120; required_mantissa_digits = false }
+
+lone_prefix : (complete optional u8 (48 ∷ 120 ∷ 95 ∷ []) ≡ Ok (pos 0)) × (complete optional u8 (48 ∷ 120 ∷ []) ≡ Err (Empty 2))
+unfolding grammar
+lone_prefix = (refl, refl)

@@ -9,3 +9,7 @@ pub mod WhatIsRead
 pub mod MadeIsRead
 pub mod ReadIsMade
 pub mod Examples
+pub mod OtherTypes
+pub mod LooserFormats
+pub mod DeadPlaces
+pub mod WithoutSeparators

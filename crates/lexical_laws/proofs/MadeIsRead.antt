@@ -1,5 +1,5 @@
 -- A text that the grammar makes is read.
-use Rattle.std.proofs.Common.{◌≡◌, ℕ, zero, suc, ◌+◌, ◌-◌, ◌≤◌, Bool, true, false, ◌&&◌, cond, List, [], ◌∷◌, ◌++◌, length, get_or, map, filter, Option, Some, None, IsNone, is_some, Ok, refl, sym, ap, ◌∙◌, arith, ◌⊎◌, inl, inr, length-append}
+use Rattle.std.proofs.Common.{◌≡◌, ℕ, zero, suc, ◌+◌, ◌-◌, ◌≤◌, Bool, true, false, ◌&&◌, cond, List, [], ◌∷◌, ◌++◌, length, get_or, map, filter, Option, Some, None, IsNone, is_some, Ok, refl, sym, ap, subst, ◌∙◌, arith, ◌⊎◌, inl, inr, length-append}
 use Rattle.std.proofs.Math.IntN.{ℤ}
 use Rattle.std.proofs.Math.Bool.{and-false}
 use Rattle.std.proofs.lemmas.Bool.{and_parts, cases_lt, false≢true, lt-ltb, ne_eqb}
@@ -25,13 +25,14 @@ use Rattle.lexical_laws.specs.Integer.{IsBody, IsInteger, IsPrefix, IsSign, IsSu
 use Rattle.lexical_laws.specs.Integer.IsPrefix.{no_prefix, a_prefix}
 use Rattle.lexical_laws.specs.Integer.IsSign.{no_sign as none, a_plus, a_minus}
 use Rattle.lexical_laws.specs.Integer.IsSuffix.{no_suffix, a_suffix}
+use Rattle.lexical_laws.specs.Keeping.{IsRangeFault}
 use Rattle.lexical_laws.proofs.Bodies.{BytesAre, StandsAt, bytes_fit, bytes_values, digit_at-some, values_at}
 use Rattle.lexical_laws.proofs.Heads.{BeginsUnsigned, head_bare, head_marked, no_prefix_radix}
 use Rattle.lexical_laws.proofs.Marks.{MayFollow, no_sign_byte, not_marked}
 use Rattle.lexical_laws.proofs.Parts.{get_behind, get_within}
 use Rattle.lexical_laws.proofs.RunParts.{runs_pass, some_in}
 use Rattle.lexical_laws.proofs.Runs.{IsRegion, region_end}
-use Rattle.lexical_laws.proofs.WhatIsRead.{answer_by, digit_at-none, no_digit, none_of, prefix_fit, separator_at-none, separator_at-some, separator_no_digit, suffix_stops}
+use Rattle.lexical_laws.proofs.WhatIsRead.{answer_by, leaves_by, digit_at-none, no_digit, none_of, prefix_fit, separator_at-none, separator_at-some, separator_no_digit, suffix_stops}
 
 -- ---- bytes of a body and of its suffix
 
@@ -243,21 +244,37 @@ module _ (f : Format) (t : IntegerType) (front prefix body suffix ds : List ℕ)
           let there : nat_lt 0 (length (places f r text start)) ≡ true = lt-ltb 0 (length (places f r text start)) (let n = some_length ds some in omega arith) in
           rw (here, there) (omega (arith, ends))
 
-  pub made_is_read : (v : ℤ) → (digits_required f ≡ true → ds ≢ []) →
-      (f.no_integer_leading_zeros ≡ true → prefix ≡ [] → octal_zero_at f body 0 ≡ false → (d : ℕ) (rest : List ℕ) → ds ≢ 0 ∷ d ∷ rest) →
-      v ≡ with_sign m (positional_value r ds) → is_number t v ≡ true → complete f t text ≡ Ok v
+  head : HeadMade f t text prefix body m start r
+  head = head_made f t body suffix ds valid close front prefix m r may made.bytes marks
+
+  prefixed : (head.marked && (start == length text)) ≡ false
+  prefixed = elim (true_or_false head.marked) [
+    | inl on ↦ (let some = some_length body (head.some on) in let apart : (start == length text) ≡ false = ne_eqb start (length text) (λ e. omega (arith, size)) in rw apart (and-false head.marked))
+    | inr off ↦ rw off refl
+  ]
+
+  -- no zero stands in front, where none may
+  abbrev KeepsZeros : Type 0
+  KeepsZeros = f.no_integer_leading_zeros ≡ true → prefix ≡ [] → octal_zero_at f body 0 ≡ false → (d : ℕ) (rest : List ℕ) → ds ≢ 0 ∷ d ∷ rest
+
+  zeros_kept : KeepsZeros → f.no_integer_leading_zeros ≡ true → head.marked ≡ false → (d : ℕ) (rest : List ℕ) → ds ≢ 0 ∷ d ∷ rest
+  zeros_kept zeros on off = let bare = head.unmarked off in zeros on bare.0 bare.1
+
+  pub made_is_read : (v : ℤ) → (digits_required f ≡ true → ds ≢ []) → KeepsZeros → v ≡ with_sign m (positional_value r ds) → is_number t v ≡ true → complete f t text ≡ Ok v
   made_is_read v enough zeros worth fits =
-      let w = head_made f t body suffix ds valid close front prefix m r may made.bytes marks in
-      let h : Head = record { is_minus = m; is_marked = w.marked; start = start; radix = r } in
+      let h : Head = record { is_minus = m; is_marked = head.marked; start = start; radix = r } in
       let least = fit.is_radix.low in
-      let prefixed : (w.marked && (start == length text)) ≡ false = elim (true_or_false w.marked) [
-        | inl t ↦ (let some = some_length body (w.some t) in let apart : (start == length text) ≡ false = ne_eqb start (length text) (λ e. omega (arith, size)) in rw apart (and-false w.marked))
-        | inr t ↦ rw t refl
-      ] in
-      complete_is f t text h w.head
-      ∙ answer_by f t text h (numeral_in f text start r) ds digits_are stop_is (radix_kept f text start r (omega arith)) prefixed
-      (λ on off. (let bare = w.unmarked off in zeros on bare.0 bare.1)) enough (ap (λ k. is_number t (with_sign m (positional_value k ds))) (radix_is f text start r) ∙ ap (is_number t) (sym worth) ∙ fits)
+      complete_is f t text h head.head
+      ∙ answer_by f t text h (numeral_in f text start r) ds digits_are stop_is (radix_kept f text start r (omega arith)) prefixed (zeros_kept zeros) enough
+      (ap (λ k. is_number t (with_sign m (positional_value k ds))) (radix_is f text start r) ∙ ap (is_number t) (sym worth) ∙ fits)
       ∙ ap (λ k. Ok (with_sign m (positional_value k ds))) (radix_is f text start r) ∙ ap (λ z. Ok z) (sym worth)
+
+  pub made_leaves : (v : ℤ) → KeepsZeros → v ≡ with_sign m (positional_value r ds) → is_number t v ≡ false → IsRangeFault (complete f t text)
+  made_leaves v zeros worth leaves =
+      let h : Head = record { is_minus = m; is_marked = head.marked; start = start; radix = r } in
+      subst IsRangeFault (sym (complete_is f t text h head.head))
+      (leaves_by f t text h (numeral_in f text start r) ds digits_are prefixed (zeros_kept zeros)
+      (ap (λ k. is_number t (with_sign m (positional_value k ds))) (radix_is f text start r) ∙ ap (is_number t) (sym worth) ∙ leaves))
 
 -- a text that the grammar makes is read
 pub integer_is_read : (f : Format) (t : IntegerType) (text : List ℕ) (v : ℤ) → IsNone (fault f) → IsInteger f t text v → complete f t text ≡ Ok v

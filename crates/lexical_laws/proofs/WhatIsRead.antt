@@ -1,28 +1,28 @@
 -- What the complete parser reads is what the grammar makes.
-use Rattle.std.proofs.Common.{◌≡◌, ℕ, ◌≤◌, Bool, true, false, not, ◌&&◌, cond, List, [], ◌∷◌, length, Option, Some, None, IsNone, Ok, refl, sym, ap, ◌∙◌, arith}
+use Rattle.std.proofs.Common.{◌≡◌, ℕ, ◌≤◌, Bool, true, false, not, ◌&&◌, cond, List, [], ◌∷◌, length, Option, Some, None, IsNone, Ok, Err, refl, sym, ap, subst, ◌∙◌, arith, inl, inr}
 use Rattle.std.proofs.Math.Bool.{and-false}
-use Rattle.std.proofs.lemmas.Bool.{false≢true, le-ltb, ne_eqb}
+use Rattle.std.proofs.lemmas.Bool.{cases_lt, false≢true, le-ltb, ne_eqb}
 use Rattle.std.proofs.lemmas.Bool.Decides.{nat_tests}
 use Rattle.std.proofs.lemmas.List.{take_all}
 use Rattle.std.specs.Prelude.{◌==◌, ◌≢◌, nat_le, nat_lt, slice_get, slice_index}
-use Rattle.lexical_util.specs.declared.error.Error.{Error}
 use Rattle.lexical_util.specs.Format.{Format}
 use Rattle.lexical_util.specs.Number.{IntegerType, is_number}
 use Rattle.lexical_util.specs.Validity.{fault}
 use Rattle.lexical_parse_integer.specs.Affixes.{bare_radix, is_affix, octal_zero_at}
-use Rattle.lexical_parse_integer.specs.Grammar.{digits_required, lacks_digits, range_fault}
+use Rattle.lexical_parse_integer.specs.Grammar.{digits_required, first_outside, lacks_digits, range_error, range_fault}
 use Rattle.lexical_parse_integer.specs.Head.{Head}
 use Rattle.lexical_parse_integer.specs.Numeral.{Numeral, digit_count, numeral_value}
 use Rattle.lexical_parse_integer.specs.Runs.{are_same, digit_at, separator_at}
 use Rattle.lexical_parse_integer.specs.Value.{positional_value, with_sign}
-use Rattle.lexical_parse_integer.proofs.ForCallers.{IsFit, complete_by, fits, fits_marked, fits_octal, fitting_fault, shorter_fronts_fit}
+use Rattle.lexical_parse_integer.proofs.ForCallers.{IsFit, complete_by, fits, fits_marked, fits_octal, fits_told, fitting_fault, shorter_fronts_fit, zero_is_number}
 use Rattle.lexical_laws.specs.Integer.{IsPrefix, is_separator}
 use Rattle.lexical_laws.specs.Integer.IsPrefix.{no_prefix, a_prefix}
+use Rattle.lexical_laws.specs.Keeping.{IsRangeFault}
 use Rattle.lexical_laws.proofs.Bodies.{NoDigit, digit_at-some}
 use Rattle.lexical_laws.proofs.Marks.{affix_matches, separator_is}
 use Rattle.lexical_laws.proofs.Runs.{separator_told}
 
-pub none_of : (o : Option Error) → IsNone o → o ≡ None
+pub none_of : {A : Type 0} (o : Option A) → IsNone o → o ≡ None
 none_of None h = refl
 none_of (Some x) h = absurd (false≢true (sym h))
 
@@ -111,3 +111,33 @@ answer_by f t text h x ds digits stop positive prefix zeros enough fit =
     let some : lacks_digits f x ≡ false = ap (λ y. digits_required f && (length y == 0)) digits ∙ lacks_none f ds enough in
     let answer : complete_by f t text h x ≡ Ok (numeral_value m x) = rw (prefix, no_zeros, no_range, ended, some) refl in
     answer ∙ ap (λ z. Ok z) value
+
+-- where the value leaves the type, the answer is a range fault
+pub leaves_by : (f : Format) (t : IntegerType) (text : List ℕ) (h : Head) (x : Numeral) (ds : List ℕ) → x.digits ≡ ds →
+    (h.is_marked && (h.start == length text)) ≡ false → (f.no_integer_leading_zeros ≡ true → h.is_marked ≡ false → (d : ℕ) (rest : List ℕ) → ds ≢ 0 ∷ d ∷ rest) →
+    is_number t (with_sign h.is_minus (positional_value x.radix ds)) ≡ false → IsRangeFault (complete_by f t text h x)
+unfolding range_fault
+leaves_by f t text h x ds digits prefix zeros leaves = by_place (first_outside t h.is_minus x) refl
+  where
+    value : numeral_value h.is_minus x ≡ with_sign h.is_minus (positional_value x.radix ds)
+    value = ap (λ y. with_sign h.is_minus (positional_value x.radix y)) (take_all (length x.digits) x.digits (omega arith) ∙ digits)
+
+    no_zeros : (((f.no_integer_leading_zeros && not h.is_marked) && nat_le 2 (digit_count x)) && (slice_index x.digits 0 == 0)) ≡ false
+    no_zeros = ap (λ y. ((f.no_integer_leading_zeros && not h.is_marked) && nat_le 2 (length y)) && (slice_index y 0 == 0)) digits ∙ zeros_pass f.no_integer_leading_zeros h.is_marked ds zeros
+
+    none_is_zero : (ds : List ℕ) → length ds ≡ 0 → is_number t (with_sign h.is_minus (positional_value x.radix ds)) ≡ true
+    none_is_zero [] e = zero_is_number t h.is_minus
+    none_is_zero (d ∷ ds) e = absurd (omega arith)
+
+    by_sign : (m : Bool) (place : ℕ) → IsRangeFault (Err (range_error m place))
+    by_sign true place = tt
+    by_sign false place = tt
+
+    by_place : (o : Option ℕ) → first_outside t h.is_minus x ≡ o → IsRangeFault (complete_by f t text h x)
+    by_place None none = absurd (elim (cases_lt 0 (digit_count x)) [
+      | inl lt ↦ false≢true (sym leaves ∙ ap (is_number t) (sym value) ∙ fits_told t h.is_minus x lt (rw none refl))
+      | inr ge ↦ false≢true (sym leaves ∙ none_is_zero ds (let n = ap length digits in omega arith))
+    ])
+    by_place (Some k) some =
+        let answer : complete_by f t text h x ≡ Err (range_error h.is_minus (slice_index x.places k)) = rw (prefix, no_zeros, some) refl in
+        subst IsRangeFault (sym answer) (by_sign h.is_minus (slice_index x.places k))

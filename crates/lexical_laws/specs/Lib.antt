@@ -1,2 +1,3 @@
 -- The definitions that the laws name.
 pub mod Integer
+pub mod Keeping

@@ -3,12 +3,17 @@
 //! A law is a call whose contract says what always holds. A proof that needs one calls it and has its clauses.
 #![tactic(auto)]
 
-ghost use Rattle.std.specs.Prelude.{◌≡◌, ◌↔◌, IsNone, List, Ok, ℕ, ℤ};
+ghost use Rattle.std.specs.Prelude.{◌≡◌, ◌↔◌, ◌<◌, Err, false, IsNone, length, List, Ok, Some, true, ℕ, ℤ};
 ghost use Rattle.lexical_laws.specs.Integer.{IsInteger};
-ghost use Rattle.lexical_parse_integer.specs.Grammar.{complete};
+ghost use Rattle.lexical_laws.specs.Keeping.{AdmitsMore, Implies, IsDead, IsRangeFault, without_separators};
+ghost use Rattle.lexical_util.specs.Faults.{place_of};
+ghost use Rattle.lexical_util.specs.declared.error.Error.{Error};
+ghost use Rattle.lexical_parse_integer.specs.Grammar.{complete, digits_required};
 ghost use Rattle.lexical_util.specs.Format.{Format};
-ghost use Rattle.lexical_util.specs.Number.{IntegerType};
+ghost use Rattle.lexical_util.specs.Number.{IntegerType, is_number};
 ghost use Rattle.lexical_util.specs.Validity.{fault};
+
+use lexical_parse_integer::laws::grammar::{complete_by_partial, locality};
 
 /// What an integer is: the complete parser reads a text as a value exactly where the text is made of a sign, a prefix,
 /// a body and a suffix that may stand there, and the body's digits are worth the value.
@@ -16,4 +21,58 @@ pub fn integers()
     ensures { (format : Format) (type : IntegerType) (text : List ℕ) (value : ℤ)
         → IsNone (fault format)
         → (complete format type text ≡ Ok value) ↔ IsInteger format type text value }
+{}
+
+/// Types agree on a text: a value that is read as one type is read as each type that has it, and answered by a range
+/// fault in one that hasn't. Only a signed type reads a minus, so where the first is signed, the other has to be.
+///
+/// `-128` is -128 as `i8` and as `i64`. `300` is 300 as `u16` and `Overflow(2)` as `u8`, and `-0` is 0 as `i8` alone.
+pub fn types()
+    ensures agree { (format : Format) (type other : IntegerType) (text : List ℕ) (value : ℤ)
+        → IsNone (fault format) → Implies type.is_signed other.is_signed
+        → complete format type text ≡ Ok value → is_number other value ≡ true
+        → complete format other text ≡ Ok value }
+    ensures leave { (format : Format) (type other : IntegerType) (text : List ℕ) (value : ℤ)
+        → IsNone (fault format) → Implies type.is_signed other.is_signed
+        → complete format type text ≡ Ok value → is_number other value ≡ false
+        → IsRangeFault (complete format other text) }
+{}
+
+/// A text keeps its value under a format that admits more: a mark where there was none, separators in more places, or
+/// less that is asked for.
+///
+/// So a program may relax its format, and what it has read before stays as it was. Octal zeros and literal prefixes
+/// stay out of it: they give digits another worth.
+pub fn relaxing()
+    ensures { (strict loose : Format) (type : IntegerType) (text : List ℕ) (value : ℤ)
+        → IsNone (fault strict) → IsNone (fault loose) → AdmitsMore strict loose
+        → complete strict type text ≡ Ok value → complete loose type text ≡ Ok value }
+{}
+
+/// The place of a fault is dead: no text with the same bytes up to and with it has a value, under a valid format
+/// without a separator byte and without the rule on leading zeros.
+///
+/// So whoever reads byte after byte may stop there. A fault at the text's end is about no byte: `+` is `Empty(1)`, and
+/// `+1` is 1. With a separator more bytes may mend a text: `0_` may be `InvalidDigit(1)`, and `0_0` a value. So they may
+/// under the zero rule, which blames the zero in `01`.
+pub fn dead_places()
+    ensures { (format : Format) (type : IntegerType) (text : List ℕ) (error : Error) (place : ℕ)
+        → IsNone (fault format) → IsNone format.digit_separator
+        → format.no_integer_leading_zeros ≡ false → complete format type text ≡ Err error
+        → place_of error ≡ Some place → place < length text → IsDead format type text place }
+{
+    locality();
+    complete_by_partial();
+}
+
+/// Separators count for nothing: a text has the same value without them, under a valid format that asks for a digit and
+/// has no octal zeros.
+///
+/// Else a separator may part what would be read together: `-_09` is -9 and `-09` a fault under octal zeros. And where no
+/// digit is asked for, `0x_` may be 0, but `0x` is `Empty(2)`.
+pub fn separators()
+    ensures { (format : Format) (type : IntegerType) (text : List ℕ) (value : ℤ)
+        → IsNone (fault format) → format.literal_octal_zero ≡ false
+        → digits_required format ≡ true → complete format type text ≡ Ok value
+        → complete format type (without_separators format text) ≡ Ok value }
 {}

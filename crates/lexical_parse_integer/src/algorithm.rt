@@ -20,13 +20,15 @@ mod numeral;
 pub(crate) mod plain;
 mod zeros;
 
-use crate::algorithm::front::{complete_from_front, completion, partial_from_front};
+use crate::algorithm::front::{complete_from_front, partial_from_front};
 use crate::algorithm::head::{is_prefix_alone, read_head};
 use crate::algorithm::numeral::read_numeral;
 pub use crate::algorithm::plain::fields::{field_in_front, is_separated};
 use crate::algorithm::plain::overflow::fault_of_overflow;
 pub use crate::algorithm::plain::value_if_short;
-use crate::algorithm::plain::{front_if_plain, signed_front, value_if_plain};
+use crate::algorithm::plain::{
+    front_if_plain, place_after_digits, signed_front, value_behind_plus, value_if_plain,
+};
 use crate::cursor::Cursor;
 use crate::options::Options;
 pub use head::parse_sign;
@@ -205,56 +207,47 @@ fn partial_out_of_line<T: Integer>(bytes: &[u8], format: &NumberFormat) -> Resul
 
 // ---- under the standard format, whose fields the compiler then folds into the code
 
-// The front of a text, one digit after another.
-#[inline(never)]
-fn standard_from_front<T: Integer>(bytes: &[u8]) -> Result<(T, usize)>
-    ensures { view_of (with_place T.number) result ≡ partial standard T.TYPE bytes.now }
-{
-    partial_from_front::<T>(bytes, &format::STANDARD)
-}
-
-// The front of a text: its digits by words, behind a plus too, and what these leave in one call.
-#[inline(always)]
-fn standard_front<T: Integer>(bytes: &[u8]) -> Result<(T, usize)>
-    ensures { view_of (with_place T.number) result ≡ partial standard T.TYPE bytes.now }
-{
-    match signed_front::<T>(bytes) {
-        Some(found) => Ok(found),
-        None => standard_from_front::<T>(bytes),
-    }
-}
-
-// The complete answer for a text behind a plus, or at fault.
+// The complete answer for a text that no quick way reads: mostly a fault.
 #[inline(never)]
 fn standard_whole<T: Integer>(bytes: &[u8]) -> Result<T>
     ensures { view_of T.number result ≡ complete standard T.TYPE bytes.now }
 {
     match fault_of_overflow::<T>(bytes) {
         Some(fault) => Err(fault),
-        None => completion::<T>(bytes, standard_front::<T>(bytes)),
+        None => complete_from_front::<T>(bytes, &format::STANDARD),
     }
 }
 
-// The complete answer for a text that the quick way leaves. The place for it is made ready here, and so not for a value.
+// The complete answer for a text that isn't digits alone behind a minus or none. The place for an answer through memory is
+// made ready here, and so not for a value.
 #[inline(always)]
 pub(crate) fn standard_complete<T: Integer>(bytes: &[u8]) -> Result<T>
     ensures { view_of T.number result ≡ complete standard T.TYPE bytes.now }
 {
-    standard_whole::<T>(bytes)
+    if let Some(value) = value_behind_plus::<T>(bytes) {
+        return Ok(value);
+    }
+    match place_after_digits::<T>(bytes) {
+        Some(place) => Err(Error::InvalidDigit(place)),
+        None => standard_whole::<T>(bytes),
+    }
 }
 
-// The partial answer for such a text.
+// The front of a text: its digits by words, behind a plus too, and what these leave one after another.
 #[inline(never)]
-fn standard_rest<T: Integer>(bytes: &[u8]) -> Result<(T, usize)>
+fn standard_front<T: Integer>(bytes: &[u8]) -> Result<(T, usize)>
     ensures { view_of (with_place T.number) result ≡ partial standard T.TYPE bytes.now }
 {
-    standard_front::<T>(bytes)
+    match signed_front::<T>(bytes) {
+        Some(found) => Ok(found),
+        None => partial_from_front::<T>(bytes, &format::STANDARD),
+    }
 }
 
-// The place for its answer is made ready here, and so not for a front that the quick way reads.
+// The place for its answer is made ready here, and so not for a front that a quick way reads.
 #[inline(always)]
 pub(crate) fn standard_partial<T: Integer>(bytes: &[u8]) -> Result<(T, usize)>
     ensures { view_of (with_place T.number) result ≡ partial standard T.TYPE bytes.now }
 {
-    standard_rest::<T>(bytes)
+    standard_front::<T>(bytes)
 }

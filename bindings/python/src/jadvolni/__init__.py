@@ -28,6 +28,7 @@ from ._core import (
     parse_partial,
 )
 from ._format import Format
+from ._blocks import iter_column
 from ._numpy import numpy_column
 
 __all__ = [
@@ -35,6 +36,7 @@ __all__ = [
     "FormatError",
     "ParseError",
     "__version__",
+    "iter_column",
     "numpy_column",
     "parse",
     "parse_column",

@@ -36,4 +36,12 @@ def parse_column(
     separator: Text = b"\n",
     format: Optional[Format] = None,
 ) -> array[int]: ...
+def _parse_part(
+    text: bytes,
+    type: ColumnType,
+    separator: bytes,
+    format: Optional[Format],
+    field: int,
+    start: int,
+) -> array[int]: ...
 def _check_format(format: Format) -> None: ...

@@ -7,15 +7,11 @@ use Rattle.std.proofs.Math.Seq.{take-length}
 use Rattle.lexical_util.specs.Digit.{digit}
 use Rattle.lexical_util.specs.Number.{IntegerType, IsNumber}
 use Rattle.lexical_parse_integer.specs.Marked.{AreDigitsOnly, AreWorth, digits_among}
-use Rattle.lexical_digits.specs.WrittenNumbers.{StandsFor, WritesValue}
+use Rattle.lexical_digits.specs.WrittenNumbers.{StandsFor}
 use Rattle.lexical_parse_integer.specs.Runs.{digit_at, separator_at, are_same}
 use Rattle.lexical_digits.specs.Value.{positional_value, with_sign}
-use Rattle.lexical_digits.specs.Words.{AreDigits, word_value}
 use Rattle.lexical_util.specs.Format.{Format}
-use Rattle.lexical_digits.proofs.AsciiDigits.{ascii_from_digits}
 use Rattle.lexical_parse_integer.proofs.words.WordsInTexts.{StandsAt}
-use Rattle.lexical_parse_integer.proofs.plain.DigitsAlone.{have_digits}
-use Rattle.lexical_digits.proofs.WordsOfDigits.{raised_none}
 use Rattle.lexical_digits.proofs.DigitValues.{HaveDigits}
 
 -- ---- places of a text
@@ -68,24 +64,6 @@ digits_only r (c ∷ cs) [] all place l = cc
 digits_only r (c ∷ cs) (d ∷ ds) all zero l = let here : digit c r ≡ Some d = cc in ap is_some here
 digits_only r (c ∷ cs) (d ∷ ds) all (suc place) l = let more : HaveDigits r cs ds = cc in digits_only r cs ds more place (omega arith)
 
--- digits by words
-words_have : (t : IntegerType) (negative : Bool) (bytes : List ℕ) (value : ℤ) → WritesValue t 0 negative bytes value → HaveDigits 10 bytes (map (λ byte. byte - 48) bytes)
-words_have t negative bytes value w =
-    let same = raised_none bytes in
-    let digits_are : AreDigits 10 bytes = rw same at w.writes.digits in
-    have_digits 10 bytes (omega arith) (ascii_from_digits 10 bytes (omega arith) digits_are)
-
-pub words_only : (t : IntegerType) (r : ℕ) (negative : Bool) (bytes : List ℕ) (value : ℤ) → r ≡ 10 → WritesValue t 0 negative bytes value → AreDigitsOnly r bytes
-words_only t r negative bytes value ten w = subst (λ (n : ℕ). AreDigitsOnly n bytes) (sym ten) (digits_only 10 bytes _ (words_have t negative bytes value w))
-
-pub words_worth : (t : IntegerType) (r : ℕ) (negative : Bool) (bytes : List ℕ) (value : ℤ) → r ≡ 10 → WritesValue t 0 negative bytes value → AreWorth t r negative bytes value
-words_worth t r negative bytes value ten w =
-    let same = raised_none bytes in
-    let number_is : w.number ≡ word_value 10 bytes = rw same at w.writes.worth in
-    let among : digits_among 10 bytes ≡ map (λ byte. byte - 48) bytes = among_all 10 bytes _ (words_have t negative bytes value w) in
-    let worth : value ≡ with_sign negative (positional_value 10 (digits_among 10 bytes)) = w.worth ∙ ap (with_sign negative) (number_is ∙ ap (positional_value 10) (sym among)) in
-    subst (λ (n : ℕ). AreWorth t n negative bytes value) (sym ten) (record { worth = worth; fits = subst (λ (z : ℤ). IsNumber t z) (sym w.worth) w.fits })
-
 -- digits by the table
 table_have : (t : IntegerType) (r : ℕ) (negative : Bool) (bytes : List ℕ) (value : ℤ) (s : StandsFor t r negative bytes value) → HaveDigits r bytes s.writes.values
 table_have t r negative bytes value s = ap (map (λ byte. digit byte r)) (sym (take-length bytes)) ∙ s.writes.digits
@@ -98,3 +76,10 @@ table_worth t r n negative bytes value same s =
     let among : digits_among n bytes ≡ s.writes.values = among_all n bytes s.writes.values (table_have t n negative bytes value s) in
     let worth : value ≡ with_sign negative (positional_value n (digits_among n bytes)) = s.worth ∙ ap (λ (z : ℤ). if negative then neg_ℤ z else z) (s.writes.worth ∙ ap (λ (ds : List ℕ). pos (positional_value n ds)) (sym among)) in
     subst (λ (m : ℕ). AreWorth t m negative bytes value) (sym same) (record { worth = worth; fits = s.fits })
+
+-- decimal digits
+pub words_only : (t : IntegerType) (r : ℕ) (negative : Bool) (bytes : List ℕ) (value : ℤ) → r ≡ 10 → StandsFor t 10 negative bytes value → AreDigitsOnly r bytes
+words_only t r negative bytes value ten s = table_only t r 10 negative bytes value ten s
+
+pub words_worth : (t : IntegerType) (r : ℕ) (negative : Bool) (bytes : List ℕ) (value : ℤ) → r ≡ 10 → StandsFor t 10 negative bytes value → AreWorth t r negative bytes value
+words_worth t r negative bytes value ten s = table_worth t r 10 negative bytes value ten s

@@ -1,24 +1,24 @@
 -- Digits alone at the front of a text, behind an optional minus, under formats without marks.
-use Rattle.std.proofs.Common.{slice_get, ◌≡◌, ℕ, zero, suc, ◌+◌, ◌-◌, ◌%◌, ◌<◌, ◌≤◌, Bool, true, false, ◌&&◌, not, List, [], ◌∷◌, length, get_or, map, take, drop, refl, sym, ap, ◌∙◌, subst, arith, Option, Some, None, Ok, Result, ◌*◌, ◌^◌}
+use Rattle.std.proofs.Common.{slice_get, ◌≡◌, ℕ, zero, suc, ◌+◌, ◌-◌, ◌%◌, ◌<◌, ◌≤◌, Bool, true, false, ◌&&◌, not, List, [], ◌∷◌, length, get_or, map, take, drop, refl, sym, ap, ◌∙◌, subst, arith, Option, Some, None, Ok, Err, Result, ◌*◌, ◌^◌}
 use Rattle.std.specs.Prelude.{◌==◌, nat_le, is_some, slice_index, ℤ, pos, neg_ℤ, if◌then◌else◌, IsNone, slice_range}
 use Rattle.std.specs.Option.{option_and_then, unwrap_or}
 use Rattle.std.proofs.Math.Bool.{and-false, and-true}
-use Rattle.std.proofs.lemmas.Bool.{le-leb, ne_eqb}
+use Rattle.std.proofs.lemmas.Bool.{le-leb, le-ltb, lt-ltb, ne_eqb}
 use Rattle.std.proofs.Math.Seq.{take-length}
 use Rattle.std.proofs.lemmas.List.{length-take-le, get_or-drop, length-drop}
 use Rattle.std.proofs.lemmas.List.FromFn.{length-map-range_with_len}
 use mir.Val.{bool_byte}
 use Rattle.lexical_util.specs.declared.error.Error.{Error}
-use Rattle.lexical_util.specs.declared.error.Error.TheVariants.{InvalidLeadingZeros}
+use Rattle.lexical_util.specs.declared.error.Error.TheVariants.{InvalidDigit, InvalidLeadingZeros}
 use Rattle.lexical_util.specs.Digit.{digit}
-use Rattle.lexical_util.specs.Format.{Format}
+use Rattle.lexical_util.specs.Format.{Format, standard}
 use Rattle.lexical_util.specs.Number.{IntegerType, IsNumber, is_number}
 use Rattle.lexical_util.specs.Validity.{fault}
-use Rattle.lexical_parse_integer.specs.Grammar.{fault_if, if_valid, partial, partial_if_valid, range_fault, zero_fault}
+use Rattle.lexical_parse_integer.specs.Grammar.{complete, fault_if, if_valid, partial, partial_if_valid, range_fault, zero_fault}
 use Rattle.lexical_parse_integer.specs.Head.{Head, sign}
 use Rattle.lexical_parse_integer.specs.Numeral.{Numeral, digit_count, numeral_value}
 use Rattle.lexical_parse_integer.specs.Plain.{BeginsWith, IsBehind, IsPlain, keeps_zero_rule}
-use Rattle.lexical_digits.specs.WrittenNumbers.{StandsFor, WritesDecimal, WritesFirst, WritesValue}
+use Rattle.lexical_digits.specs.WrittenNumbers.{StandsFor, WritesDecimal, WritesFirst}
 use Rattle.lexical_parse_integer.specs.Runs.{digit_at}
 use Rattle.lexical_digits.specs.Value.{positional_value, with_sign}
 use Rattle.lexical_digits.specs.Words.{AreDigits, word_value}
@@ -29,10 +29,11 @@ use Rattle.lexical_parse_integer.proofs.grammar.DigitsInARow.{EndsRow, has_digit
 use Rattle.lexical_digits.proofs.DigitValues.{HaveDigits, digits_size}
 use Rattle.lexical_parse_integer.proofs.theorems.ReadBack.{digit_there, first_digit, row_is}
 use Rattle.lexical_parse_integer.proofs.grammar.Stretches.{HoldsBetween}
-use Rattle.lexical_parse_integer.proofs.plain.DigitsAlone.{have_digits, sign_of_digit_under, sign_of_minus_under}
+use Rattle.lexical_parse_integer.proofs.plain.DigitsAlone.{sign_of_digit_under, sign_of_minus_under}
 use Rattle.lexical_parse_integer.proofs.plain.DigitsByTable.{rule_in}
-use Rattle.lexical_digits.proofs.WordsOfDigits.{digits_below, raised_none}
-use Rattle.lexical_parse_integer.proofs.theorems.CompleteByPartial.{sign_within}
+use Rattle.lexical_digits.proofs.LongNumbers.{stands}
+use Rattle.lexical_parse_integer.proofs.theorems.CompleteByPartial.{complete_is_completion, sign_within}
+use Rattle.lexical_parse_integer.specs.Laws.{completion_of}
 use Rattle.lexical_parse_integer.proofs.theorems.SettledAnswers.{partial_by, partial_row}
 use Rattle.lexical_parse_integer.proofs.grammar.RangeOfFronts.{shorter_fronts_fit}
 use Rattle.lexical_digits.proofs.WordsInFront.{joined, reaches, rest_is}
@@ -161,26 +162,38 @@ signed_read f t text s value count plain ten sign_is begins =
     values_in_front f t text digits w.values s count plain (omega arith) sign_is (from_place s.1 text) (omega arith) here b.some b.within stops (rule_in f 10 bytes w.values all b.rule) (ap (is_number t) value_is ∙ b.stands.fits)
     ∙ ap (λ (z : ℤ). Ok (z, s.1 + count)) value_is
 
--- decimal digits stand for a number, by what is known of it
-pub stands : (t : IntegerType) (negative : Bool) (text : List ℕ) (number : ℕ) (value : ℤ) → WritesDecimal 0 text number → value ≡ with_sign negative number → IsNumber t value → StandsFor t 10 negative text value
-stands t negative text number value writes worth fits =
-    let same = raised_none text in
-    let digits_are : AreDigits 10 text = subst (λ (bs : List ℕ). AreDigits 10 bs) same writes.digits in
-    let number_is : number ≡ word_value 10 text = writes.worth ∙ ap (word_value 10) same in
-    record {
-      size = pos number;
-      writes = record {
-        values = map (λ byte. byte - 48) text;
-        digits = ap (map (λ byte. digit byte 10)) (take-length text) ∙ have_digits 10 text (omega arith) (ascii_from_digits 10 text (omega arith) digits_are);
-        worth = ap pos number_is;
-        below = digits_below text (word_value 10 text) digits_are refl;
-      };
-      worth = worth;
-      fits = fits;
-    }
+-- a byte after the front's digits is an invalid digit
+pub byte_after : (f : Format) (t : IntegerType) (text : List ℕ) (value : ℤ) (place : ℕ) → partial f t text ≡ Ok (value, place) → place < length text → complete f t text ≡ Err (InvalidDigit place)
+byte_after f t text value place is more =
+    let test = lt-ltb place (length text) more in
+    complete_is_completion f t text ∙ ap (completion_of (length text)) is ∙ (rw test refl)
 
-pub value_stands : (t : IntegerType) (negative : Bool) (text : List ℕ) (value : ℤ) → WritesValue t 0 negative text value → StandsFor t 10 negative text value
-value_stands t negative text value w = stands t negative text w.number value w.writes w.worth (subst (λ (z : ℤ). is_number t z ≡ true) (sym w.worth) w.fits)
+-- a front without a byte after it is the text
+none_after : (f : Format) (t : IntegerType) (text : List ℕ) (value : ℤ) (place : ℕ) → partial f t text ≡ Ok (value, place) → length text ≤ place → complete f t text ≡ Ok value
+none_after f t text value place is all =
+    let test = le-ltb place (length text) all in
+    complete_is_completion f t text ∙ ap (completion_of (length text)) is ∙ (rw test refl)
+
+sign_of_plus : (t : IntegerType) (cs : List ℕ) → sign standard t (43 ∷ cs) ≡ Ok (false, 1)
+unfolding sign
+sign_of_plus t cs = refl
+
+-- digits behind a plus that stand for a number are read as that
+pub plus_read : (t : IntegerType) (text : List ℕ) (value : ℤ) → 1 < length text → get_or text 0 0 ≡ 43 → StandsFor t 10 false (slice_range text 1 (length text)) value → complete standard t text ≡ Ok value
+plus_read t [] value some is_plus s = absurd (omega arith)
+plus_read t (b ∷ cs) value some is_plus s =
+    let digits : List ℕ = slice_range (b ∷ cs) 1 (length (b ∷ cs)) in
+    let size : length digits ≡ length cs = ap length (rest_is (b ∷ cs) 1) in
+    let begins : BeginsWith standard t false digits value (length cs) = record {
+      some = omega arith;
+      within = omega arith;
+      stops = λ l. absurd (omega (arith, l, size));
+      rule = refl;
+      stands = subst (λ (bytes : List ℕ). StandsFor t 10 false bytes value) (sym (ap (λ (n : ℕ). take n digits) (sym size) ∙ take-length digits)) s;
+    } in
+    let sign_is : sign standard t (b ∷ cs) ≡ Ok (false, 1) = ap (λ (c : ℕ). sign standard t (c ∷ cs)) is_plus ∙ sign_of_plus t cs in
+    let plain : IsPlain standard = record { no_separator = refl; no_prefix = refl; no_suffix = refl; no_literals = refl; no_octal_zeros = refl; no_sign = refl } in
+    none_after standard t (b ∷ cs) value (1 + length cs) (signed_read standard t (b ∷ cs) (false, 1) value (length cs) plain refl sign_is begins) (omega arith)
 
 -- more digits keep the zero rule where the first ones do
 pub longer_rule : (f : Format) (k m : ℕ) (digits : List ℕ) → 2 ≤ k → k ≤ m → m ≤ length digits → keeps_zero_rule f (take k digits) ≡ true → keeps_zero_rule f (take m digits) ≡ true

@@ -14,7 +14,7 @@ use Rattle.lexical_parse_integer.specs.Plain.{BeginsWith, IsBehind, IsPlain}
 use Rattle.lexical_parse_integer.specs.Separated.{IsSeparated, bytes_before}
 use Rattle.lexical_digits.specs.Words.{AreDigits}
 use Rattle.lexical_parse_integer.proofs.plain.DigitsByTable.{table_read}
-use Rattle.lexical_digits.proofs.DigitValues.{HaveDigits}
+use Rattle.lexical_digits.proofs.LongNumbers.{have_are}
 
 -- the front of a text is behind the same minus
 front_behind : (t : IntegerType) (negative : Bool) (text digits : List ℕ) (count : ℕ) → IsBehind negative t text digits → IsBehind negative t (take (bool_byte negative + count) text) (take count digits)
@@ -45,14 +45,6 @@ digit_apart s b none some same = by_digit (digit s 10) none (subst (λ c. IsSome
     by_digit None none some = cc
     by_digit (Some d) none some = cc
 
-are_digits : (bytes ds : List ℕ) → HaveDigits 10 bytes ds → AreDigits 10 bytes
-are_digits [] ds all = tt
-are_digits (b ∷ bs) [] all = cc
-are_digits (b ∷ bs) (d ∷ ds) all =
-    let here : digit b 10 ≡ Some d = cc in
-    let more : HaveDigits 10 bs ds = cc in
-    (ap is_some here, are_digits bs ds more)
-
 -- the field of digits ends at the separator behind them
 digits_end : (s : ℕ) (digits : List ℕ) (count : ℕ) → IsNone (digit s 10) → AreDigits 10 (take count digits) → count < length digits → get_or digits count 0 ≡ s → bytes_before s digits ≡ count
 digits_end s [] count none all low stop = absurd (omega arith)
@@ -71,7 +63,7 @@ pub field_ends : (f : Format) (t : IntegerType) (s : ℕ) (negative : Bool) (tex
 field_ends f t s negative text digits value count start apart_from behind at b low stop = by_sign negative text start behind at b low stop
   where
     all_digits : (negative : Bool) → BeginsWith f t negative digits value count → AreDigits 10 (take count digits)
-    all_digits negative b = are_digits (take count digits) b.stands.writes.values (ap (map (λ byte. digit byte 10)) (sym (take-length (take count digits))) ∙ b.stands.writes.digits)
+    all_digits negative b = have_are (take count digits) b.stands.writes.values (ap (map (λ byte. digit byte 10)) (sym (take-length (take count digits))) ∙ b.stands.writes.digits)
 
     by_sign : (negative : Bool) (text : List ℕ) (start : ℕ) → IsBehind negative t text digits → start ≡ bool_byte negative → BeginsWith f t negative digits value count → start + count < length text → get_or text (start + count) 0 ≡ s → start + count ≡ bytes_before s text
     by_sign false text start behind at b low stop =

@@ -1,6 +1,6 @@
 -- Decimal numbers at the front of a text that leave their type: for the answers of `algorithm::plain::overflow`.
 use Rattle.std.proofs.Common.{slice_get, ◌≡◌, ℕ, zero, suc, ◌+◌, ◌-◌, ◌*◌, ◌<◌, ◌≤◌, Bool, true, false, ◌&&◌, not, List, [], ◌∷◌, ◌++◌, length, get_or, map, take, drop, refl, sym, ap, ◌∙◌, subst, arith, rules, Some, Ok, Err, pos}
-use Rattle.std.specs.Prelude.{◌==◌, ◌||◌, is_some, slice_range, ℤ}
+use Rattle.std.specs.Prelude.{◌==◌, ◌||◌, is_some, slice_range, ℤ, neg_ℤ, if◌then◌else◌}
 use Rattle.std.proofs.lemmas.Bool.{and_parts, eqb-true}
 use Rattle.std.proofs.lemmas.Bool.Decides.{nat_tests}
 use Rattle.std.proofs.lemmas.List.{length-drop, length-take-le, take_more}
@@ -11,7 +11,7 @@ use Rattle.lexical_parse_integer.specs.Grammar.{complete, range_error, range_fau
 use Rattle.lexical_parse_integer.specs.Head.{Head, sign}
 use Rattle.lexical_parse_integer.specs.Numeral.{Numeral, digit_count, front_value}
 use Rattle.lexical_parse_integer.specs.Plain.{LeavesAfter}
-use Rattle.lexical_digits.specs.WrittenNumbers.{WritesValue}
+use Rattle.lexical_digits.specs.WrittenNumbers.{StandsFor}
 use Rattle.lexical_digits.specs.Value.{positional_value, with_sign}
 use Rattle.lexical_digits.specs.Words.{AreDigits, word_value}
 use Rattle.lexical_parse_integer.proofs.grammar.DigitsInARow.{EndsRow, has_digit, row, row_count, row_ends, row_numeral}
@@ -19,24 +19,19 @@ use Rattle.lexical_parse_integer.proofs.grammar.FrontValues.{leaving_fault}
 use Rattle.lexical_digits.proofs.DigitValues.{with_sign-step, HaveDigits, digits_size}
 use Rattle.lexical_parse_integer.proofs.grammar.RangeOfFronts.{shorter_fronts_fit}
 use Rattle.lexical_parse_integer.proofs.grammar.Stretches.{HoldsBetween, below_stop}
-use Rattle.lexical_parse_integer.proofs.plain.DigitsAlone.{have_digits}
+use Rattle.lexical_digits.proofs.LongNumbers.{digit_worth, have_are, have_digits, have_values, stands}
+use Rattle.lexical_digits.proofs.ShiftedWords.{writes_text}
+use Rattle.std.proofs.Math.Seq.{take-length}
 use Rattle.lexical_parse_integer.proofs.plain.DigitsInFront.{StandsFrom, at_front, from_place, front_between}
 use Rattle.lexical_digits.proofs.WordsInFront.{rest_is}
 use Rattle.lexical_parse_integer.proofs.theorems.CompleteByPartial.{sign_within}
-use Rattle.lexical_digits.proofs.WordsOfDigits.{digits_joined, raised_none, value_joined}
+use Rattle.lexical_digits.proofs.WordsOfDigits.{digits_joined, value_joined}
 use Rattle.lexical_parse_integer.proofs.theorems.DigitTexts.{complete_by, complete_row, head_is}
 use Rattle.lexical_parse_integer.proofs.theorems.ReadBack.{row_is}
 use Rattle.lexical_parse_integer.proofs.theorems.SettledAnswers.{digits_of_row, front_of_row, place_of_row}
 use Rattle.lexical_digits.proofs.AsciiDigits.{ascii_from_digits, digit_from, digit_to}
 
 -- ---- one digit more
-
--- a decimal digit's value
-digit_worth : (byte d : ℕ) → digit byte 10 ≡ Some d → d ≡ byte - 48
-digit_worth byte d is =
-    let ascii = digit_to 10 byte (ap is_some is) (omega arith) in
-    let told : digit byte 10 ≡ Some (byte - 48) = digit_from 10 byte ascii (omega arith) in
-    cc
 
 -- the digits with that one
 digits_more : (k d : ℕ) (text : List ℕ) → k < length text → digit (get_or text k 0) 10 ≡ Some d → AreDigits 10 (take k text) → AreDigits 10 (take (k + 1) text)
@@ -51,38 +46,33 @@ value_more k d text more is =
     ap (word_value 10) one ∙ value_joined 10 (take k text) (get_or text k 0 ∷ []) ∙ omega arith
 
 -- what is known of a value that is behind the sign of its digits
-pub worth_of : (t : IntegerType) (b : Bool) (text : List ℕ) (value : ℤ) → WritesValue t 0 b text value → value ≡ with_sign b (word_value 10 text)
-worth_of t b text value w = w.worth ∙ ap (with_sign b) (w.writes.worth ∙ ap (word_value 10) (raised_none text))
+have : (t : IntegerType) (b : Bool) (text : List ℕ) (value : ℤ) (s : StandsFor t 10 b text value) → HaveDigits 10 text s.writes.values
+have t b text value s = ap (map (λ byte. digit byte 10)) (sym (take-length text)) ∙ s.writes.digits
 
-digits_of : (t : IntegerType) (b : Bool) (text : List ℕ) (value : ℤ) → WritesValue t 0 b text value → AreDigits 10 text
-digits_of t b text value w = subst (λ (bs : List ℕ). AreDigits 10 bs) (raised_none text) w.writes.digits
+worth_of : (t : IntegerType) (b : Bool) (text : List ℕ) (value : ℤ) → StandsFor t 10 b text value → value ≡ with_sign b (word_value 10 text)
+worth_of t b text value s = s.worth ∙ ap (λ (z : ℤ). if b then neg_ℤ z else z) (s.writes.worth ∙ ap (λ (ds : List ℕ). pos (positional_value 10 ds)) (have_values text s.writes.values (have t b text value s)))
+
+digits_of : (t : IntegerType) (b : Bool) (text : List ℕ) (value : ℤ) → StandsFor t 10 b text value → AreDigits 10 text
+digits_of t b text value s = have_are text s.writes.values (have t b text value s)
 
 -- the value with one digit more
-step_worth : (t : IntegerType) (b : Bool) (k d : ℕ) (text : List ℕ) (value : ℤ) → WritesValue t 0 b (take k text) value → k < length text → digit (get_or text k 0) 10 ≡ Some d → mul_add b value (pos 10) (pos d) ≡ with_sign b (word_value 10 (take (k + 1) text))
+step_worth : (t : IntegerType) (b : Bool) (k d : ℕ) (text : List ℕ) (value : ℤ) → StandsFor t 10 b (take k text) value → k < length text → digit (get_or text k 0) 10 ≡ Some d → mul_add b value (pos 10) (pos d) ≡ with_sign b (word_value 10 (take (k + 1) text))
 step_worth t b k d text value w more is =
     ap (λ (z : ℤ). mul_add b z (pos 10) (pos d)) (worth_of t b (take k text) value w) ∙ with_sign-step b (word_value 10 (take k text)) 10 d ∙ ap (with_sign b) (sym (value_more k d text more is))
 
-pub next_value : (t : IntegerType) (b : Bool) (k d : ℕ) (text : List ℕ) (value next : ℤ) → WritesValue t 0 b (take k text) value → k < length text → digit (get_or text k 0) 10 ≡ Some d → next ≡ mul_add b value (pos 10) (pos d) → is_number t next ≡ true → WritesValue t 0 b (take (k + 1) text) next
+pub next_value : (t : IntegerType) (b : Bool) (k d : ℕ) (text : List ℕ) (value next : ℤ) → StandsFor t 10 b (take k text) value → k < length text → digit (get_or text k 0) 10 ≡ Some d → next ≡ mul_add b value (pos 10) (pos d) → is_number t next ≡ true → StandsFor t 10 b (take (k + 1) text) next
 next_value t b k d text value next w more is step fits =
     let worth : next ≡ with_sign b (word_value 10 (take (k + 1) text)) = step ∙ step_worth t b k d text value w more is in
-    let same = raised_none (take (k + 1) text) in
-    record {
-      number = word_value 10 (take (k + 1) text);
-      writes = record {
-        digits = subst (λ (bs : List ℕ). AreDigits 10 bs) (sym same) (digits_more k d text more is (digits_of t b (take k text) value w));
-        worth = ap (word_value 10) (sym same);
-      };
-      worth = worth;
-      fits = ap (is_number t) (sym worth) ∙ fits;
-    }
+    let digits = digits_more k d text more is (digits_of t b (take k text) value w) in
+    stands t b (take (k + 1) text) (word_value 10 (take (k + 1) text)) next (writes_text (take (k + 1) text) (word_value 10 (take (k + 1) text)) digits refl) worth fits
 
-pub leaves_after : (t : IntegerType) (b : Bool) (k d : ℕ) (text : List ℕ) (value : ℤ) → WritesValue t 0 b (take k text) value → k < length text → digit (get_or text k 0) 10 ≡ Some d → is_number t (mul_add b value (pos 10) (pos d)) ≡ false → LeavesAfter t b text k
+pub leaves_after : (t : IntegerType) (b : Bool) (k d : ℕ) (text : List ℕ) (value : ℤ) → StandsFor t 10 b (take k text) value → k < length text → digit (get_or text k 0) 10 ≡ Some d → is_number t (mul_add b value (pos 10) (pos d)) ≡ false → LeavesAfter t b text k
 leaves_after t b k d text value w more is leaves =
     let worth = worth_of t b (take k text) value w in
     record {
       within = more;
       digits = digits_more k d text more is (digits_of t b (take k text) value w);
-      fits = ap (is_number t) (sym worth ∙ w.worth) ∙ w.fits;
+      fits = ap (is_number t) (sym worth) ∙ w.fits;
       leaves = ap (is_number t) (sym (step_worth t b k d text value w more is)) ∙ leaves;
     }
 

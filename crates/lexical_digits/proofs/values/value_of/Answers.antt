@@ -2,4 +2,10 @@ use Rattle.lexical_digits.proofs.LongNumbers.{value_written}
 use Rattle.lexical_digits.proofs.values.value_of.Goals as goal
 
 pub returns : goal.returns
-returns g c = value_written g.T.Integer.number g.T.Integer.TYPE 0 c.args.negative c.args.digits.now _ c.value_of_two.result c.in_ok-high.ensures.writes c.value_of_two.ensures.value c.value_of_two.ensures.fits
+returns g c = value_written g.T.Integer.number g.T.Integer.TYPE c.args.negative c.args.digits.now _ c.value_of_two.result c.in_ok-high.ensures.writes c.value_of_two.ensures.value c.value_of_two.ensures.fits
+
+pub returns-then-n-le4 : goal.returns-then-n-le4
+returns-then-n-le4 g c = value_written g.T.Integer.number g.T.Integer.TYPE c.args.negative c.args.digits.now _ c.value_to_8.result c.in_ok-number_to_4.ensures.writes c.value_to_8.ensures.value c.value_to_8.ensures.fits
+
+pub returns-then-n-le8 : goal.returns-then-n-le8
+returns-then-n-le8 g c = value_written g.T.Integer.number g.T.Integer.TYPE c.args.negative c.args.digits.now _ c.value_to_8-then-n-le8.result c.in_ok-number_to_8.ensures.writes c.value_to_8-then-n-le8.ensures.value c.value_to_8-then-n-le8.ensures.fits

@@ -7,7 +7,7 @@ pub loop-count-init : goal.loop-count-init
 loop-count-init g c = record { writes = c.in_ok-value.ensures }
 
 pub join_checked-requires-clause-sign : goal.join_checked-requires-clause-sign
-join_checked-requires-clause-sign g c = sign_of_value _ c.args.negative _ _ c.loop-count.invariant.writes
+join_checked-requires-clause-sign g c = sign_of_value _ 10 c.args.negative _ _ c.loop-count.invariant.writes
 
 pub returns-in-Err : goal.returns-in-Err
 returns-in-Err g c =

@@ -1,10 +1,10 @@
 use Rattle.std.proofs.Common.{length, take, ◌-◌}
-use Rattle.lexical_digits.specs.WrittenNumbers.{WritesValue}
+use Rattle.lexical_digits.specs.WrittenNumbers.{StandsFor}
 use Rattle.lexical_parse_integer.proofs.algorithm.plain.overflow.digits_before_overflow.Given as goal
 
 abbrev pub invariant-loop-count : goal.invariant-loop-count
 invariant-loop-count g l = record {
-  writes : WritesValue g.T.Integer.TYPE 0 l.negative (take l.count l.digits) (g.T.Integer.number l.value);
+  writes : StandsFor g.T.Integer.TYPE 10 l.negative (take l.count l.digits) (g.T.Integer.number l.value);
 }
 
 abbrev pub decreases-loop-count : goal.decreases-loop-count

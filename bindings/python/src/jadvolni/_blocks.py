@@ -1,0 +1,54 @@
+"""Columns of files of any size, read in blocks."""
+
+from __future__ import annotations
+
+from typing import IO, TYPE_CHECKING, Iterator, Optional, Union
+
+from ._core import _parse_part
+from ._format import Format
+
+if TYPE_CHECKING:
+    from array import array
+
+    from ._core import ColumnType
+
+
+def _block(file: IO[bytes], size: int) -> bytes:
+    """The next bytes of a file, none at its end."""
+    block = file.read(size)
+    if isinstance(block, bytes):
+        return block
+    if block is None:
+        raise BlockingIOError("file has no bytes now: it has to be one whose read waits")
+    raise TypeError(f"file has to give bytes, and not {type(block).__name__}: open it with \"rb\"")
+
+
+def iter_column(
+    file: IO[bytes],
+    type: ColumnType = "i64",
+    separator: Union[bytes, str] = b"\n",
+    format: Optional[Format] = None,
+    size: int = 1 << 20,
+) -> Iterator[array[int]]:
+    """The numbers of a file's fields, an array for each block of about `size` bytes.
+
+    A field that a block cuts is read with the next one. ParseError counts `field`, `start` and
+    `place` over the whole file, and the arrays before it stand. A field of more than `size` bytes
+    is a ValueError, so that no more than two blocks are held.
+    """
+    if size < 1:
+        raise ValueError(f"size has to be 1 or more, and not {size}")
+    parted = separator.encode() if isinstance(separator, str) else separator
+    left, field, start = b"", 0, 0
+    while True:
+        block = _block(file, size)
+        text = left + block
+        whole = text.rfind(parted) + 1 if block else len(text)
+        if block and not whole and len(text) > size:
+            raise ValueError(f"the field at byte {start} has more than {size} bytes")
+        numbers = _parse_part(text[:whole], type, parted, format, field, start)
+        if numbers:
+            yield numbers
+        if not block:
+            return
+        left, field, start = text[whole:], field + len(numbers), start + whole

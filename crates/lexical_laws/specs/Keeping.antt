@@ -1,0 +1,67 @@
+-- What keeps a value, and what rules one out.
+use Rattle.std.specs.Prelude.{◌≡◌, ◌≢◌, ◌⊎◌, ◌+◌, ℕ, Bool, true, not, List, filter, None, ℤ, Result, Ok, Err}
+use Rattle.std.specs.Bool.{⊤}
+use Rattle.lexical_util.specs.declared.error.Error.{Error}
+use Rattle.lexical_util.specs.declared.error.Error.TheVariants.{Overflow, Underflow}
+use Rattle.lexical_util.specs.Format.{Format}
+use Rattle.lexical_util.specs.Number.{IntegerType}
+use Rattle.lexical_parse_integer.specs.Grammar.{complete}
+use Rattle.lexical_parse_integer.specs.Laws.{SameFront}
+use Rattle.lexical_laws.specs.Integer.{is_separator}
+
+-- ---- types
+
+-- an answer says that a value leaves its type
+abbrev pub IsRangeFault : Result ℤ Error → Type 0
+IsRangeFault (Err (Overflow place)) = ⊤
+IsRangeFault (Err (Underflow place)) = ⊤
+IsRangeFault answer = ⊥
+
+-- ---- formats
+
+-- where a flag is set, another one is too
+abbrev pub Implies : Bool → Bool → Type 0
+Implies flag other = flag ≡ true → other ≡ true
+
+-- A format admits what a strict one does: it may have a mark where that has none, let separators stand in more places,
+-- and ask for less. Both choose radixes alike.
+pub record AdmitsMore (strict loose : Format) : Type 0 where
+  pub radix : loose.mantissa_radix ≡ strict.mantissa_radix
+  pub literals : loose.literal_prefixes ≡ strict.literal_prefixes
+  pub octal : loose.literal_octal_zero ≡ strict.literal_octal_zero
+  pub separator : (strict.digit_separator ≡ None) ⊎ (loose.digit_separator ≡ strict.digit_separator)
+  pub prefix : (strict.base_prefix ≡ None) ⊎ (loose.base_prefix ≡ strict.base_prefix)
+  pub suffix : (strict.base_suffix ≡ None) ⊎ (loose.base_suffix ≡ strict.base_suffix)
+  -- what may stand
+  pub leading :
+      Implies strict.integer_leading_digit_separator loose.integer_leading_digit_separator
+  pub internal :
+      Implies strict.integer_internal_digit_separator loose.integer_internal_digit_separator
+  pub trailing :
+      Implies strict.integer_trailing_digit_separator loose.integer_trailing_digit_separator
+  pub consecutive :
+      Implies strict.integer_consecutive_digit_separator loose.integer_consecutive_digit_separator
+  pub behind_prefix :
+      Implies strict.integer_prefix_digit_separator loose.integer_prefix_digit_separator
+  -- what is asked for
+  pub prefix_case : Implies loose.case_sensitive_base_prefix strict.case_sensitive_base_prefix
+  pub suffix_case : Implies loose.case_sensitive_base_suffix strict.case_sensitive_base_suffix
+  pub integer_digits : Implies loose.required_integer_digits strict.required_integer_digits
+  pub mantissa_digits : Implies loose.required_mantissa_digits strict.required_mantissa_digits
+  pub no_plus : Implies loose.no_positive_mantissa_sign strict.no_positive_mantissa_sign
+  pub sign : Implies loose.required_mantissa_sign strict.required_mantissa_sign
+  pub no_zeros : Implies loose.no_integer_leading_zeros strict.no_integer_leading_zeros
+
+-- ---- faults
+
+-- no text with the same bytes up to and with a place is read
+abbrev pub IsDead : Format → IntegerType → List ℕ → ℕ → Type 0
+IsDead format type text place =
+    (other : List ℕ) (value : ℤ) → SameFront (place + 1) text other
+    → complete format type other ≢ Ok value
+
+-- ---- separators
+
+-- a text without the bytes that are the separator
+abbrev pub without_separators : Format → List ℕ → List ℕ
+without_separators format text = filter (λ byte. not (is_separator format byte)) text
