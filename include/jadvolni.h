@@ -7,24 +7,25 @@
  *     uint16_t port;
  *     jadvolni_result r = jadvolni_parse_u16(text, len, &port);
  *     if (r.status != JADVOLNI_OK)
- *         fprintf(stderr, "%s at byte %zu\n", jadvolni_status_message(r.status), r.place);
+ *         fprintf(stderr, "%s at byte %zu\n", jadvolni_status_text(r.status), r.place);
  *
  * THE CALLS. Each of the twelve types u8, u16, u32, u64, u128, usize, i8, i16, i32, i64, i128 and
- * isize has four, shown here for u64:
+ * isize has six, shown here for u64:
  *
- *     jadvolni_parse_u64(text, len, &value)                       the whole text
- *     jadvolni_parse_u64_partial(text, len, &value)               its front
- *     jadvolni_parse_u64_with_format(text, len, &format, &value)  the whole text, under a format
- *     jadvolni_parse_u64_partial_with_format(text, len, &format, &value)
+ *     jadvolni_parse_u64(text, len, &value)          the whole text
+ *     jadvolni_parse_u64_front(text, len, &value)    the number in front of a text
+ *     jadvolni_parse_u64_partial(text, len, &value)  the same, where no digit has to be there
  *
- * From C11 on jadvolni_parse(text, len, &value) is the first of these for the type of `value`.
+ * and each of these with `_with_format` behind its name and `&format` before `&value`. From C11 on
+ * jadvolni_parse(text, len, &value) is the first of them for the type of `value`.
  *
- * The first two read what JADVOLNI_FORMAT_STANDARD says: decimal digits, after a "+" or nothing,
- * or after a "-" where the type is signed. The calls on the front stop at the first byte that
- * doesn't belong to the number: "12, 13" gives 12, and the place 2. A front of no digits, before
- * other bytes, is mostly 0 and no fault: under the standard format "x" is 0 at place 0, and "+a" is
- * 0 at place 1. Where a number has to be there, ask for both `r.place > 0` and a digit at
- * `text[r.place - 1]`.
+ * Without a format they read what JADVOLNI_FORMAT_STANDARD says: decimal digits, after a "+" or
+ * nothing, or after a "-" where the type is signed. `_front` stops at the first byte that doesn't
+ * belong to the number: "12, 13" gives 12, and the place 2. Where it has read no digit, it answers
+ * JADVOLNI_EMPTY at the place where it stopped: 0 in "x", and 1 in "+a".
+ *
+ * DON'T TAKE `_partial` WHERE A NUMBER HAS TO BE THERE: a front of no digits before other bytes is
+ * mostly 0 to it, and no fault. Under the standard format "x" is 0 at place 0, and "+a" 0 at place 1.
  *
  * Eight of the types, u8 to u64 and i8 to i64, have a call that reads many numbers at once, described
  * at its declaration below:
@@ -47,6 +48,9 @@
  *     `value` and `format` are not NULL.
  *     `*value` lies neither in the text nor in the format.
  *     No other thread writes to the text or the format while the call reads them.
+ *
+ * gcc and clang warn of a NULL, of a `len` past the array that the text is, and of a result that isn't
+ * used, where they can see it.
  *
  * WHAT NO CALL DOES. None allocates memory, keeps state from one call to the next, sets errno,
  * reads a locale, skips spaces, or calls any other function. So calls may be made from any number
@@ -143,6 +147,33 @@ typedef struct jadvolni_result {
     size_t place;
 } jadvolni_result;
 
+/* ---- what compilers check ---- */
+
+/* What gcc and clang say of a call, before it runs: that its result isn't used, that a pointer is NULL
+ * which may not be, and that less is there than the call is told. The text and its length come first. */
+#ifdef __has_attribute
+#if __has_attribute(nonnull) && __has_attribute(warn_unused_result)
+#define JADVOLNI_CHECKED_(...) __attribute__((warn_unused_result, nonnull(__VA_ARGS__)))
+#endif
+#if __has_attribute(access)
+#define JADVOLNI_TEXT_ __attribute__((access(read_only, 1, 2)))
+#define JADVOLNI_WRITES_(...) __attribute__((access(write_only, __VA_ARGS__)))
+#elif __has_attribute(diagnose_if)
+#define JADVOLNI_TEXT_                                                             \
+    __attribute__((diagnose_if(__builtin_object_size(text, 0) < len,               \
+                               "the text has fewer bytes than `len`", "warning")))
+#endif
+#endif
+#ifndef JADVOLNI_CHECKED_
+#define JADVOLNI_CHECKED_(...)
+#endif
+#ifndef JADVOLNI_TEXT_
+#define JADVOLNI_TEXT_
+#endif
+#ifndef JADVOLNI_WRITES_
+#define JADVOLNI_WRITES_(...)
+#endif
+
 /* ---- formats ---- */
 
 /*
@@ -163,15 +194,15 @@ typedef struct jadvolni_format {
     /* The radix, from 2 to 36. Digits above 9 are letters, in either case. */
     uint8_t mantissa_radix;
 
-    /* A byte that counts for nothing among the digits: '_' in "1_000". Where it may be, the four
-     * flags below say; with none of them it is no part of a number. */
+    /* A byte that counts for nothing among the digits: "_" in "1_000". Where it may be, the flags
+     * on separators say; with none of the first three it is no part of a number. */
     uint8_t digit_separator;
 
-    /* A byte that may follow a 0 before the digits: with 'x', "0x1F" is read as "1F" is. The
-     * radix stays. */
+    /* A byte that may follow a 0 before the digits: with "x", "0x1F" is read as "1F" is. The radix
+     * stays. */
     uint8_t base_prefix;
 
-    /* A byte that may follow the digits: with 'h', "1Fh" is read as "1F" is. */
+    /* A byte that may follow the digits: with "h", "1Fh" is read as "1F" is. */
     uint8_t base_suffix;
 
     /* Flag: the prefix is matched exactly. Else a letter is matched in either case. */
@@ -180,9 +211,10 @@ typedef struct jadvolni_format {
     /* Flag: the suffix is matched exactly. Else a letter is matched in either case. */
     uint8_t case_sensitive_base_suffix;
 
-    /* Flags: a digit is required where either is set. Else a text without digits is 0: so it is
-     * under a format that began with {0}. */
+    /* Flag: a digit is required, as by required_mantissa_digits: one of the two is enough. */
     uint8_t required_integer_digits;
+
+    /* Flag: a digit is required. With neither field a text without digits is 0. */
     uint8_t required_mantissa_digits;
 
     /* Flag: a "+" is refused. */
@@ -211,13 +243,13 @@ typedef struct jadvolni_format {
     uint8_t integer_prefix_digit_separator;
 
     /* Flag: "0x", "0o" and "0b" choose the radix 16, 8 or 2 for the digits after them; so do "0X",
-     * "0O" and "0B", unless the prefix is matched exactly. `mantissa_radix` has to be 10, and is the
-     * radix of a text without one of them. */
+     * "0O" and "0B", unless the prefix is matched exactly. The radix of the format has to be 10,
+     * and is that of a text without one of them. */
     uint8_t literal_prefixes;
 
     /* Flag: a number is octal if its first byte, behind a sign, is 0: "0777" is 511, and "08" ends
-     * after its zero. "1007" and "_017" are decimal, and a prefix comes first. `mantissa_radix` has
-     * to be 10. */
+     * after its zero. "1007" and "_017" are decimal, and a prefix comes first. The radix of the
+     * format has to be 10. */
     uint8_t literal_octal_zero;
 
     /* Bits: what is the byte 0 itself, where its own field is 0. JADVOLNI_NUL_IS_SEPARATOR,
@@ -258,7 +290,7 @@ static inline jadvolni_format jadvolni_format_of_radix(int radix)
 
 /* JADVOLNI_UNKNOWN_FIELD where a reserved byte or bit isn't 0; else JADVOLNI_OK where the format breaks no
  * rule, and the status of the first that it breaks. */
-uint32_t jadvolni_format_error(const jadvolni_format *format);
+uint32_t jadvolni_format_error(const jadvolni_format *format) JADVOLNI_CHECKED_(1);
 
 /* ---- numbers of 128 bits ---- */
 
@@ -276,15 +308,24 @@ typedef struct jadvolni_int128 {
 
 /* ---- the calls ---- */
 
-/* The four calls of the type `name`, whose numbers C keeps in a `type`. */
-#define JADVOLNI_CALLS_(name, type)                                                             \
-    jadvolni_result jadvolni_parse_##name(const char *text, size_t len, type *value);           \
-    jadvolni_result jadvolni_parse_##name##_partial(const char *text, size_t len, type *value); \
-    jadvolni_result jadvolni_parse_##name##_with_format(const char *text, size_t len,           \
-                                                  const jadvolni_format *format, type *value);  \
-    jadvolni_result jadvolni_parse_##name##_partial_with_format(const char *text, size_t len,   \
-                                                          const jadvolni_format *format,        \
-                                                          type *value)
+#ifdef __clang__
+#pragma clang diagnostic push
+#pragma clang diagnostic ignored "-Wgcc-compat" /* gcc has no diagnose_if */
+#endif
+
+/* A call, and that of its name with a format. */
+#define JADVOLNI_CALL_(name, type)                                                    \
+    jadvolni_result jadvolni_parse_##name(const char *text, size_t len, type *value)  \
+        JADVOLNI_CHECKED_(3) JADVOLNI_TEXT_ JADVOLNI_WRITES_(3);                      \
+    jadvolni_result jadvolni_parse_##name##_with_format(                              \
+        const char *text, size_t len, const jadvolni_format *format, type *value)     \
+        JADVOLNI_CHECKED_(3, 4) JADVOLNI_TEXT_ JADVOLNI_WRITES_(4)
+
+/* The six calls of the type `name`, whose numbers C keeps in a `type`. */
+#define JADVOLNI_CALLS_(name, type)       \
+    JADVOLNI_CALL_(name, type);           \
+    JADVOLNI_CALL_(name##_front, type);   \
+    JADVOLNI_CALL_(name##_partial, type)
 
 JADVOLNI_CALLS_(u8, uint8_t);
 JADVOLNI_CALLS_(u16, uint16_t);
@@ -300,6 +341,7 @@ JADVOLNI_CALLS_(i128, jadvolni_int128);
 JADVOLNI_CALLS_(isize, ptrdiff_t);
 
 #undef JADVOLNI_CALLS_
+#undef JADVOLNI_CALL_
 
 #if !defined __cplusplus && defined __STDC_VERSION__ && __STDC_VERSION__ >= 201112L
 /* The whole text as a number of the type that `value` points to. A size_t and a ptrdiff_t are read as
@@ -370,10 +412,11 @@ JADVOLNI_CALLS_(isize, ptrdiff_t);
  * and may be NULL where `capacity` is 0; `count` is not NULL. Neither lies in the text, in the format
  * or in the other.
  */
-#define JADVOLNI_COLUMN_(name, type)                                                                \
-    jadvolni_result jadvolni_parse_##name##_column(const char *text, size_t len, uint8_t separator, \
-                                             const jadvolni_format *format, type *values,           \
-                                             size_t capacity, size_t *count)
+#define JADVOLNI_COLUMN_(name, type)                                                      \
+    jadvolni_result jadvolni_parse_##name##_column(                                       \
+        const char *text, size_t len, uint8_t separator, const jadvolni_format *format,   \
+        type *values, size_t capacity, size_t *count)                                     \
+        JADVOLNI_CHECKED_(4, 7) JADVOLNI_TEXT_ JADVOLNI_WRITES_(5, 6) JADVOLNI_WRITES_(7)
 
 JADVOLNI_COLUMN_(u8, uint8_t);
 JADVOLNI_COLUMN_(u16, uint16_t);
@@ -385,6 +428,13 @@ JADVOLNI_COLUMN_(i32, int32_t);
 JADVOLNI_COLUMN_(i64, int64_t);
 
 #undef JADVOLNI_COLUMN_
+#ifdef __clang__
+#pragma clang diagnostic pop
+#endif
+
+#undef JADVOLNI_CHECKED_
+#undef JADVOLNI_TEXT_
+#undef JADVOLNI_WRITES_
 
 /* Where the field starts that the first `len` bytes of a text end in: behind their last separator, or
  * at 0. So with a fault's place as `len` it is where the wrong field starts, and of a block that more
@@ -417,7 +467,7 @@ static inline const char *jadvolni_status_name(uint32_t status)
 }
 
 /* What a status says, as "missing digit", or "the radix has to be 2 to 36" for a fault of a format. */
-static inline const char *jadvolni_status_message(uint32_t status)
+static inline const char *jadvolni_status_text(uint32_t status)
 {
     switch (status) {
     case JADVOLNI_OK: return "no fault";

@@ -57,7 +57,7 @@ inline const char *name(status of) noexcept
 // What is wrong, as a sentence that says what the text or the format's field has to be.
 inline const char *message(status of) noexcept
 {
-    return jadvolni_status_message(static_cast<std::uint32_t>(of));
+    return jadvolni_status_text(static_cast<std::uint32_t>(of));
 }
 
 // What a text may look like. Begin with jadvolni_format_of_radix, or copy one of the three, and change
@@ -68,7 +68,7 @@ inline constexpr format json = JADVOLNI_FORMAT_JSON;
 inline constexpr format literal = JADVOLNI_FORMAT_LITERAL;
 
 // The first rule that the format breaks, and status::ok where it breaks none.
-inline status format_error(const format &of) noexcept
+[[nodiscard]] inline status format_error(const format &of) noexcept
 {
     return static_cast<status>(jadvolni_format_error(&of));
 }
@@ -116,7 +116,7 @@ private:
 
 namespace detail {
 
-// The four calls for numbers that are kept in a Kept.
+// The six calls for numbers that are kept in a Kept.
 template <class Kept>
 struct calls;
 
@@ -124,8 +124,10 @@ struct calls;
     template <>                                                                             \
     struct calls<kept> {                                                                    \
         static constexpr auto complete = &jadvolni_parse_##name;                            \
+        static constexpr auto front = &jadvolni_parse_##name##_front;                       \
         static constexpr auto partial = &jadvolni_parse_##name##_partial;                   \
         static constexpr auto complete_under = &jadvolni_parse_##name##_with_format;        \
+        static constexpr auto front_under = &jadvolni_parse_##name##_front_with_format;     \
         static constexpr auto partial_under = &jadvolni_parse_##name##_partial_with_format; \
     }
 JADVOLNI_CALLS_OF_(std::uint8_t, u8);
@@ -192,42 +194,63 @@ struct kept_as<jadvolni_native_int128> {
 
 } // namespace detail
 
+namespace detail {
+
+// A call on a text, and its number as a T.
+template <class T, class Call, class... Under>
+result<T> called(Call *call, std::string_view text, const Under *...under) noexcept
+{
+    typename kept_as<T>::type kept{};
+    auto answer = call(text.data(), text.size(), under..., &kept);
+    return {kept_as<T>::number(kept), answer};
+}
+
+template <class T>
+using calls_as = calls<typename kept_as<T>::type>;
+
+} // namespace detail
+
 // The whole text as a T.
 template <class T>
 [[nodiscard]] result<T> parse(std::string_view text) noexcept
 {
-    typename detail::kept_as<T>::type kept{};
-    auto answer = detail::calls<decltype(kept)>::complete(text.data(), text.size(), &kept);
-    return {detail::kept_as<T>::number(kept), answer};
+    return detail::called<T>(detail::calls_as<T>::complete, text);
 }
 
 // The whole text as a T, under a format.
 template <class T>
 [[nodiscard]] result<T> parse(std::string_view text, const format &under) noexcept
 {
-    typename detail::kept_as<T>::type kept{};
-    auto answer =
-        detail::calls<decltype(kept)>::complete_under(text.data(), text.size(), &under, &kept);
-    return {detail::kept_as<T>::number(kept), answer};
+    return detail::called<T>(detail::calls_as<T>::complete_under, text, &under);
 }
 
-// The front of the text as a T. Its place() is where reading stopped.
+// The number in front of the text as a T. Its place() is where reading stopped; without a digit it
+// is status::empty.
+template <class T>
+[[nodiscard]] result<T> parse_front(std::string_view text) noexcept
+{
+    return detail::called<T>(detail::calls_as<T>::front, text);
+}
+
+// The number in front of the text as a T, under a format.
+template <class T>
+[[nodiscard]] result<T> parse_front(std::string_view text, const format &under) noexcept
+{
+    return detail::called<T>(detail::calls_as<T>::front_under, text, &under);
+}
+
+// The front of the text as a T, where no digit has to be there: such a front is mostly 0.
 template <class T>
 [[nodiscard]] result<T> parse_partial(std::string_view text) noexcept
 {
-    typename detail::kept_as<T>::type kept{};
-    auto answer = detail::calls<decltype(kept)>::partial(text.data(), text.size(), &kept);
-    return {detail::kept_as<T>::number(kept), answer};
+    return detail::called<T>(detail::calls_as<T>::partial, text);
 }
 
-// The front of the text as a T, under a format.
+// The same under a format.
 template <class T>
 [[nodiscard]] result<T> parse_partial(std::string_view text, const format &under) noexcept
 {
-    typename detail::kept_as<T>::type kept{};
-    auto answer =
-        detail::calls<decltype(kept)>::partial_under(text.data(), text.size(), &under, &kept);
-    return {detail::kept_as<T>::number(kept), answer};
+    return detail::called<T>(detail::calls_as<T>::partial_under, text, &under);
 }
 
 // What was read of a column: a count of numbers, and where reading stopped or what is wrong there.
@@ -285,14 +308,6 @@ template <class Values>
 
 namespace detail {
 
-// Whether a front that was read as 0 has a digit: as a whole text that needs one it is a number.
-template <class T>
-bool has_digit(std::string_view front, format under) noexcept
-{
-    under.required_mantissa_digits = 1;
-    return parse<T>(front, under).has_value();
-}
-
 // What a byte is worth as a digit: 0 to 35, and 36 where it is none.
 inline int digit_value(char byte) noexcept
 {
@@ -313,11 +328,10 @@ template <class T>
 std::from_chars_result from_chars(const char *first, const char *last, T &value,
                                   const format &under) noexcept
 {
-    auto read = parse_partial<T>({first, static_cast<std::size_t>(last - first)}, under);
+    auto read = parse_front<T>({first, static_cast<std::size_t>(last - first)}, under);
     if (read.status() == status::overflow || read.status() == status::underflow)
         return {first + read.place(), std::errc::result_out_of_range};
-    if (!read || (*read == 0 && !detail::has_digit<T>({first, read.place()}, under)))
-        return {first, std::errc::invalid_argument};
+    if (!read) return {first, std::errc::invalid_argument};
     value = *read;
     return {first + read.place(), std::errc()};
 }
@@ -332,16 +346,14 @@ std::from_chars_result from_chars(const char *first, const char *last, T &value,
 {
     if (first == last || *first == '+') return {first, std::errc::invalid_argument};
     std::string_view text{first, static_cast<std::size_t>(last - first)};
-    auto read = base == 10 ? parse_partial<T>(text)
-                           : parse_partial<T>(text, jadvolni_format_of_radix(base));
+    auto read = base == 10 ? parse_front<T>(text)
+                           : parse_front<T>(text, jadvolni_format_of_radix(base));
     const char *stop = first + read.place();
     if (read.status() == status::overflow || read.status() == status::underflow) {
         while (stop != last && detail::digit_value(*stop) < base) ++stop;
         return {stop, std::errc::result_out_of_range};
     }
-    // A front without digits is 0 to jadvolni_parse_T_partial, at the start or after the minus.
-    if (!read || stop == first || (stop == first + 1 && *first == '-'))
-        return {first, std::errc::invalid_argument};
+    if (!read) return {first, std::errc::invalid_argument};
     value = *read;
     return {stop, std::errc()};
 }

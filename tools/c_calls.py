@@ -99,7 +99,8 @@ class Library:
         """PATH: where libjadvolni.so is."""
         self.library = ctypes.CDLL(path)
         self.library.jadvolni_format_error.restype = ctypes.c_uint32
-        forms = ("", "_partial", "_with_format", "_partial_with_format")
+        forms = [what + under for what in ("", "_front", "_partial")
+                 for under in ("", "_with_format")]
         self.calls = {name.decode() + form: self.call_of(f"jadvolni_parse_{name.decode()}{form}")
                       for name in TYPES for form in forms}
 
@@ -117,9 +118,13 @@ class Library:
     def parse(self, name: str, text: bytes, is_partial: bool,
               form: Optional[CFormat] = None) -> Answer:
         """A parse as the type of that name, under the standard format where none is handed in."""
+        return self.answer(name, "_partial" if is_partial else "", text, form)
+
+    def answer(self, name: str, what: str, text: bytes, form: Optional[CFormat]) -> Answer:
+        """What the call for `what` of a text answers."""
         kept = ctypes.create_string_buffer(BEFORE.to_bytes(16, "little"), 16)
         under = () if form is None else (ctypes.byref(form),)
-        call = name + ("_partial" if is_partial else "") + ("_with_format" if under else "")
+        call = name + what + ("_with_format" if under else "")
         result = self.calls[call](text, ctypes.c_size_t(len(text)), *under, kept)
         kind = TYPES[name.encode()]
         number = int.from_bytes(kept.raw[:kind.bits // 8], "little", signed=kind.signed)

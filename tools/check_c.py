@@ -26,6 +26,7 @@ from typing import Callable, Dict, Iterable, Iterator, List
 sys.dont_write_bytecode = True
 
 import check_examples  # noqa: E402
+import check_misuse  # noqa: E402
 from c_calls import DECLARED  # noqa: E402
 from callers import (C_COMPILERS, CXX17, CXX_COMPILERS, OPTIMISED, SANITIZED, TOP,  # noqa: E402
                      Failed, Place, Skipped, Step, build, needs, needs_shared, run, source, text_of)
@@ -34,7 +35,7 @@ LIBDIR = "/usr/lib/x86_64-linux-gnu"
 INSTALLED = ["PREFIX=/usr", f"LIBDIR={LIBDIR}"]
 BUILT = ["-o", "build/libjadvolni.a", "-o", "build/libjadvolni.so"]
 TYPES = [f"{sign}{size}" for sign in "ui" for size in ("8", "16", "32", "64", "128", "size")]
-FORMS = ["", "_partial", "_with_format", "_partial_with_format"]
+FORMS = [what + under for what in ("", "_front", "_partial") for under in ("", "_with_format")]
 # The structs of the header, by their names in the crate. jadvolni-sys has the header's names.
 STRUCTS = {"result": "Outcome", "format": "FormatFields", "uint128": "Unsigned128",
            "int128": "Signed128"}
@@ -329,6 +330,7 @@ def steps(place: Place) -> Iterator[Step]:
     yield "messages of the header", partial(messages, place)
     yield from calls(place)
     yield "fronts under formats, beside the slow reading", partial(short_fronts, place)
+    yield from check_misuse.steps(place)
     yield from check_examples.steps(place)
     yield "make install-lib", partial(install, place)
     yield "ten lines of C by pkg-config", partial(

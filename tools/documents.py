@@ -1,8 +1,8 @@
 #!/usr/bin/env python3
 """Writes the documents that are made from the source, or says where they aren't as written.
 
-    tools/documents.py           writes docs/CONTRACTS.md, docs/FORMATS.md, and the marked code
-                                 blocks of other documents
+    tools/documents.py           writes docs/CONTRACTS.md, docs/FORMATS.md, the marked code blocks
+                                 of other documents, and the lists of a format's fields
     tools/documents.py --check   writes nothing, and ends with status 1 where one of them isn't as
                                  it would write it, or where check_pages.py finds something wrong
     tools/documents.py --words   prints how many words of each page were written by hand
@@ -15,8 +15,8 @@ of it:
 Functions are taken whole, with their doc comments. `all` takes the file's text from its first
 `ghost use` or `use` to its first test; `body of NAME` what stands between a function's braces, up
 to its first assertion; `imports and body of NAME` the file's `use` lines too; and `whole` the
-file's text after the comment that it begins with. `what it stands on` lists a file of definitions
-behind those that it imports, in reading order. With `as CRATE` at the end, `crate::` is that
+file's text after the comment that it begins with, `definitions` that after its imports too. `what
+it stands on` lists a file of definitions behind those that it imports, in reading order. With `as CRATE` at the end, `crate::` is that
 crate's name, as a caller elsewhere writes it.
 """
 from __future__ import annotations
@@ -28,6 +28,7 @@ import sys
 
 import check_pages
 import contracts_page
+import field_lists
 import formats_page
 import source
 
@@ -119,6 +120,8 @@ def block_text(top: str, file: str, what: str) -> str:
         return re.sub(r"\A(?:/\*(?s:.*?)\*/\n|(?://[^\n]*\n)+)", "", text).strip("\n")
     if what == "what it stands on":
         return list_of_definitions(top, file)
+    if what == "definitions":
+        return re.sub(r"\A(?:--[^\n]*\n)+(?:(?:pub )?use [^\n]*\n)+", "", text).strip("\n")
     if what == "all":
         code = re.split(r"(?m)^#\[test\]", text)[0]
         code = re.split(r"(?m)^(?=(?:ghost )?use )", code, maxsplit=1)[-1]
@@ -156,7 +159,7 @@ def documents(top: str, faults: list[str]) -> dict[str, str]:
 
 
 def old_ones(top: str, found: dict[str, str]) -> list[str]:
-    """The documents that aren't as the source has them."""
+    """The files that aren't as the source has them."""
     def is_old(path: str, text: str) -> bool:
         place = os.path.join(top, path)
         return not os.path.isfile(place) or source.read(place) != text
@@ -166,7 +169,7 @@ def old_ones(top: str, found: dict[str, str]) -> list[str]:
 
 def checked(found: dict[str, str], faults: list[str]) -> str:
     """Adds what is wrong with the documents, and says in a line what was looked at."""
-    old = old_ones(TOP, found)
+    old = old_ones(TOP, {**found, **field_lists.files(TOP)})
     faults += [f"{path}: it isn't as the source has it: make docs writes it anew" for path in old]
     files = files_of(TOP)
     sources = [source.read(os.path.join(TOP, it)) for it in files if it.endswith(".rt")]
@@ -178,11 +181,12 @@ def checked(found: dict[str, str], faults: list[str]) -> str:
 
 def written(found: dict[str, str]) -> str:
     """Writes what is old, and says how many documents that were."""
-    old = old_ones(TOP, found)
+    wanted = {**found, **field_lists.files(TOP)}
+    old = old_ones(TOP, wanted)
     for path in old:
         with open(os.path.join(TOP, path), "w", encoding="utf-8") as file:
-            file.write(found[path])
-    return f"{len(found)} documents looked at, {len(old)} written"
+            file.write(wanted[path])
+    return f"{len(wanted)} files looked at, {len(old)} written"
 
 
 def main(arguments: list[str]) -> int:

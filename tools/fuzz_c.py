@@ -27,7 +27,7 @@ from c_calls import (BEFORE, NUL_BITS, NUMBERS, RESERVED, Answer, CFormat, Libra
 from fuzz_lines import CAPITALS, DOUBTFUL_BYTES, NAMES, ODD_RADIXES, RADIXES, SMALL, Lines
 from row_data import TOP
 from slow_grammar import (BYTE_FIELDS, FLAG_FIELDS, JSON, STANDARD, TYPES, Format, format_fault,
-                          parse)
+                          number_in_front, parse)
 from slow_reading import LITERAL, Session
 
 MOST_TOLD = 5
@@ -65,6 +65,16 @@ class Comparison:
         self.same(what, wanted, self.library.parse(name.decode(), text, is_partial, made))
         if form == STANDARD:
             self.same(what, wanted, self.library.parse(name.decode(), text, is_partial))
+        if is_partial:
+            self.front(name, text, form, made)
+
+    def front(self, name: bytes, text: bytes, form: Format, made: CFormat) -> None:
+        """The number in front of a text, in the same two ways."""
+        answer = format_fault(form) or number_in_front(form, TYPES[name], text)
+        wanted = expected(answer, text, True)
+        for under in (made, None) if form == STANDARD else (made,):
+            answered = self.library.answer(name.decode(), "_front", text, under)
+            self.same((name.decode(), text, "front", form), wanted, answered)
 
     def format(self, form: Format, made: CFormat) -> None:
         """What is wrong with a format."""

@@ -18,7 +18,7 @@ import c_calls  # noqa: E402
 import fuzz_short  # noqa: E402
 from fuzz_short import BEHIND, LITERAL, OCTAL, OPTIONAL, PREFIX, SEPARATOR, TRAILING  # noqa: E402
 from slow_grammar import (TYPES, Fault, Format, IntegerType, format_fault,  # noqa: E402
-                          parse, reading_of, sign_of)
+                          number_in_front)
 from slow_reading import Session  # noqa: E402
 
 NONE, NO_NUMBER, OUT_OF_RANGE = range(3)
@@ -38,13 +38,10 @@ def form_of(fields: List[bytes]) -> Format:
 
 def front_of(form: Format, kind: IntegerType, text: bytes) -> Tuple[int, int, int]:
     """The fault, the place where reading stopped and the value."""
-    answer = format_fault(form) or parse(form, kind, text, True)
+    answer = format_fault(form) or number_in_front(form, kind, text)
     if isinstance(answer, Fault):
         if answer.name in ("Overflow", "Underflow"):
             return OUT_OF_RANGE, answer.place or 0, BEFORE
-        return NO_NUMBER, 0, BEFORE
-    sign = sign_of(form, kind, text)
-    if isinstance(sign, Fault) or not reading_of(form, text, sign).digits:
         return NO_NUMBER, 0, BEFORE
     return NONE, answer.stop, answer.value
 

@@ -318,3 +318,12 @@ def parse(form: Format, kind: IntegerType, text: bytes, is_partial: bool) -> Ans
     fault = common_fault(form, kind, text, reading)
     fault = fault or end_fault(form, text, reading, stop, is_partial)
     return fault if fault else Value(value_of(reading), stop)
+
+
+def number_in_front(form: Format, kind: IntegerType, text: bytes) -> Union[Value, Fault]:
+    """The number in front of a text: the answer of its front, if that has a digit."""
+    answer = parse(form, kind, text, True)
+    sign = sign_of(form, kind, text)
+    if isinstance(answer, Fault) or isinstance(sign, Fault):
+        return answer
+    return answer if reading_of(form, text, sign).digits else Fault("Empty", answer.stop)

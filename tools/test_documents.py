@@ -15,6 +15,7 @@ sys.dont_write_bytecode = True
 
 import check_pages  # noqa: E402
 import documents  # noqa: E402
+import field_lists  # noqa: E402
 
 SOURCE = """//! Halves of numbers.
 #![tactic(auto)]
@@ -248,6 +249,23 @@ class OverRepository(unittest.TestCase):
             self.assertEqual(wrong(name), [])
         for name in ("third_of", "fourth_of", "third()", "third::half_of", "half_T_of"):
             self.assertEqual(len(wrong(name)), 1)
+
+
+class OfFields(unittest.TestCase):
+    """The lists of fields: each has every field, and a field more is missed."""
+
+    def test_each_list_has_each_field(self) -> None:
+        fields = field_lists.fields_of(documents.TOP)
+        self.assertEqual([field.bit for field in fields if field.kind == "mark"], [1, 2, 4])
+        for file, text in field_lists.files(documents.TOP).items():
+            for field in fields:
+                self.assertIn(field.name, text, file)
+
+    def test_a_field_more_is_missed(self) -> None:
+        more = field_lists.Field("later_flag", "flag", "What is to come.", 0)
+        for region in field_lists.REGIONS[:5]:
+            self.assertIn("later_flag", region.written([more]), region.file)
+        self.assertIn("/* Flag: what is to come. */", field_lists.in_c([more]))
 
 
 class OfPages(unittest.TestCase):

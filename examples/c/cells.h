@@ -87,7 +87,7 @@ static int64_t sum_of(const text *input, find_cell *find, const text *cells)
         if (added < count) tell(input, find, line + added, 0, "the sum leaves the type");
         if (r.status != JADVOLNI_OK)
             tell(input, find, line + count, r.place - jadvolni_field_start(rest, r.place, '\n'),
-                 jadvolni_status_message(r.status));
+                 jadvolni_status_text(r.status));
     }
     return sum;
 }

@@ -13,7 +13,7 @@ int main(void)
         jadvolni_result r = jadvolni_parse_i64(line, (size_t)len - (line[len - 1] == '\n'), &value);
         number++;
         if (r.status != JADVOLNI_OK)
-            errx(1, "line %zu, byte %zu: %s", number, r.place, jadvolni_status_message(r.status));
+            errx(1, "line %zu, byte %zu: %s", number, r.place, jadvolni_status_text(r.status));
         if (value > 0 ? sum > INT64_MAX - value : sum < INT64_MIN - value)
             errx(1, "line %zu: the sum leaves the type", number);
     }

@@ -19,7 +19,7 @@
 #define NO_FORMAT
 #define UNDER(format) &(format),
 
-/* The four calls of a type at the ends of its range, and at a text of no number. */
+/* The six calls of a type at the ends of its range, and at a text of no number. */
 #define EACH_CALL(name, type, greatest, len)                                                             \
     do {                                                                                                 \
         jadvolni_format standard = JADVOLNI_FORMAT_STANDARD;                                             \
@@ -28,6 +28,11 @@
         EXPECT(jadvolni_parse_##name##_partial, type, NO_FORMAT, #greatest ",", JADVOLNI_OK, len,              \
                (type)greatest##u);                                                                       \
         EXPECT(jadvolni_parse_##name##_partial, type, NO_FORMAT, #greatest "0", JADVOLNI_OVERFLOW, len, 77);   \
+        EXPECT(jadvolni_parse_##name##_front, type, NO_FORMAT, #greatest ",", JADVOLNI_OK, len, (type)greatest##u);   \
+        EXPECT(jadvolni_parse_##name##_front, type, NO_FORMAT, #greatest "0", JADVOLNI_OVERFLOW, len, 77);     \
+        EXPECT(jadvolni_parse_##name##_front, type, NO_FORMAT, "x", JADVOLNI_EMPTY, 0, 77);                    \
+        EXPECT(jadvolni_parse_##name##_front_with_format, type, UNDER(standard), "0;", JADVOLNI_OK, 1, 0);     \
+        EXPECT(jadvolni_parse_##name##_front_with_format, type, UNDER(standard), ";", JADVOLNI_EMPTY, 0, 77);  \
         EXPECT(jadvolni_parse_##name##_with_format, type, UNDER(standard), #greatest, JADVOLNI_OK, len,        \
                (type)greatest##u);                                                                       \
         EXPECT(jadvolni_parse_##name##_with_format, type, UNDER(standard), "", JADVOLNI_EMPTY, 0, 77);         \
@@ -37,6 +42,8 @@
         EXPECT(jadvolni_parse_##name##_with_format, type, UNDER(standard), "1",                                \
                JADVOLNI_INVALID_MANTISSA_RADIX, 0, 77);                                                  \
         EXPECT(jadvolni_parse_##name##_partial_with_format, type, UNDER(standard), "1",                        \
+               JADVOLNI_INVALID_MANTISSA_RADIX, 0, 77);                                                  \
+        EXPECT(jadvolni_parse_##name##_front_with_format, type, UNDER(standard), "1",                          \
                JADVOLNI_INVALID_MANTISSA_RADIX, 0, 77);                                                  \
     } while (0)
 
@@ -79,6 +86,38 @@ static void faults_of_texts(void)
     EXPECT(jadvolni_parse_u64_partial, uint64_t, NO_FORMAT, "1234 }, {\"Key\"", JADVOLNI_OK, 4, 1234);
     EXPECT(jadvolni_parse_u32_partial, uint32_t, NO_FORMAT, "-12345", JADVOLNI_OK, 0, 0);
     EXPECT(jadvolni_parse_i8_partial, int8_t, NO_FORMAT, "-128 }", JADVOLNI_OK, 4, INT8_MIN);
+}
+
+/* Where no digit is in front of a text, that is a fault, which `_partial` doesn't tell. */
+static void fronts_without_a_digit(void)
+{
+    jadvolni_format json = JADVOLNI_FORMAT_JSON, literal = JADVOLNI_FORMAT_LITERAL;
+    jadvolni_format prefixed = jadvolni_format_of_radix(16), optional = JADVOLNI_FORMAT_STANDARD;
+    jadvolni_uint128 u = {7, 7};
+    jadvolni_int128 i = {7, 7};
+    prefixed.base_prefix = 'x';
+    optional.required_mantissa_digits = 0;
+    EXPECT(jadvolni_parse_i64_partial, int64_t, NO_FORMAT, "x", JADVOLNI_OK, 0, 0);
+    EXPECT(jadvolni_parse_i64_front, int64_t, NO_FORMAT, "x", JADVOLNI_EMPTY, 0, 77);
+    EXPECT(jadvolni_parse_i64_front, int64_t, NO_FORMAT, "", JADVOLNI_EMPTY, 0, 77);
+    EXPECT(jadvolni_parse_i64_front, int64_t, NO_FORMAT, "+a", JADVOLNI_EMPTY, 1, 77);
+    EXPECT(jadvolni_parse_i64_front, int64_t, NO_FORMAT, "-x", JADVOLNI_EMPTY, 1, 77);
+    EXPECT(jadvolni_parse_u64_front, uint64_t, NO_FORMAT, "-x", JADVOLNI_EMPTY, 0, 77);
+    EXPECT(jadvolni_parse_i64_front, int64_t, NO_FORMAT, "-0]", JADVOLNI_OK, 2, 0);
+    EXPECT(jadvolni_parse_i64_front_with_format, int64_t, UNDER(json), "[- 5]", JADVOLNI_EMPTY, 0, 77);
+    EXPECT(jadvolni_parse_i64_front_with_format, int64_t, UNDER(json), "- 5]", JADVOLNI_EMPTY, 1, 77);
+    EXPECT(jadvolni_parse_i64_front_with_format, int64_t, UNDER(json), "-5]", JADVOLNI_OK, 2, -5);
+    EXPECT(jadvolni_parse_i64_front_with_format, int64_t, UNDER(literal), "0xg", JADVOLNI_EMPTY, 2, 77);
+    EXPECT(jadvolni_parse_i64_front_with_format, int64_t, UNDER(prefixed), "0xg", JADVOLNI_EMPTY, 2, 77);
+    EXPECT(jadvolni_parse_i64_front_with_format, int64_t, UNDER(prefixed), "0x0g", JADVOLNI_OK, 3, 0);
+    EXPECT(jadvolni_parse_i64_front_with_format, int64_t, UNDER(optional), "", JADVOLNI_EMPTY, 0, 77);
+    optional.reserved[0] = 1;
+    EXPECT(jadvolni_parse_i64_front_with_format, int64_t, UNDER(optional), "1", JADVOLNI_UNKNOWN_FIELD, 0, 77);
+    CHECK(jadvolni_parse_u128_front("x", 1, &u).status == JADVOLNI_EMPTY && u.low == 7 && u.high == 7);
+    CHECK(jadvolni_parse_u128_front("5x", 2, &u).place == 1 && u.low == 5 && u.high == 0);
+    CHECK(jadvolni_parse_i128_front_with_format("-x", 2, &json, &i).place == 1 && i.low == 7);
+    CHECK(jadvolni_parse_i128_front_with_format("-1x", 3, &json, &i).place == 2 && i.high == -1);
+    CHECK(jadvolni_parse_u64_front(NULL, 0, &u.low).status == JADVOLNI_EMPTY && u.low == 5);
 }
 
 /* The rules that a format may break, in their order. */
@@ -296,6 +335,7 @@ int main(void)
     version();
     each_type();
     faults_of_texts();
+    fronts_without_a_digit();
     faults_of_formats();
     formats();
     nul_as_punctuation();

@@ -22,7 +22,7 @@ static void check(int line, bool holds, const char *what)
 
 #define CHECK(...) check(__LINE__, bool(__VA_ARGS__), #__VA_ARGS__)
 
-using jadvolni::parse, jadvolni::parse_partial, jadvolni::status;
+using jadvolni::parse, jadvolni::parse_front, jadvolni::parse_partial, jadvolni::status;
 
 template <class T>
 static bool is_fault(const jadvolni::result<T> &read, status wanted, std::size_t place)
@@ -77,8 +77,13 @@ static void numbers()
     CHECK(*parse<long>("-12") == -12 && *parse<long long>("-12") == -12 && *parse<unsigned long>("12") == 12);
     CHECK(*parse<char>("65") == 'A' && *parse<unsigned char>("255") == 255 && *parse<std::size_t>("7") == 7);
     CHECK(parse<int>("7").optional() == 7 && parse<int>("7").value_or(5) == 7 && parse<int>("7").has_value());
-    auto front = parse_partial<int>("-12, 3");
-    CHECK(*front == -12 && front.place() == 3);
+    auto front = parse_front<int>("-12, 3");
+    CHECK(*front == -12 && front.place() == 3 && *parse_partial<int>("-12, 3") == -12);
+    CHECK(is_fault(parse_front<int>("x"), status::empty, 0) && *parse_partial<int>("x") == 0);
+    CHECK(is_fault(parse_front<int>("+a"), status::empty, 1) && is_fault(parse_front<int>("-x"), status::empty, 1));
+    CHECK(is_fault(parse_front<int>("[- 5]", jadvolni::json), status::empty, 0));
+    CHECK(is_fault(parse_front<int>("- 5]", jadvolni::json), status::empty, 1));
+    CHECK(is_fault(parse_front<int>("0xg", jadvolni::literal), status::empty, 2));
     CHECK(*parse<long>("0b1_01", jadvolni::literal) == 5);
     CHECK(parse_partial<long>("0x_1", jadvolni::literal).place() == 2);
 #ifdef __SIZEOF_INT128__

@@ -53,22 +53,37 @@ static PyObject *pair(PyObject *read, PyObject *place)
     return result;
 }
 
+/* What a call on a front answers: the number and the place. */
+static PyObject *answer_of(PyObject *module, question *asked, parse_call *call)
+{
+    number value;
+    PyObject *result = NULL;
+    const char *text = asked->text.bytes;
+    jadvolni_result answer = call(text, asked->text.len, &asked->format, &value);
+    if (answer.status == JADVOLNI_OK)
+        result = pair(asked->type->number(&value), PyLong_FromSize_t(answer.place));
+    else
+        raise_fault(PyModule_GetState(module), answer, text, asked->text.len, NULL);
+    give_back(&asked->text);
+    return result;
+}
+
+static PyObject *parse_front(PyObject *module, PyObject *const *args, Py_ssize_t count,
+                             PyObject *keywords)
+{
+    question asked;
+    if (question_of("parse_front", args, count, keywords, &asked) < 0)
+        return NULL;
+    return answer_of(module, &asked, asked.type->front);
+}
+
 static PyObject *parse_partial(PyObject *module, PyObject *const *args, Py_ssize_t count,
                                PyObject *keywords)
 {
     question asked;
-    number value;
-    PyObject *result = NULL;
     if (question_of("parse_partial", args, count, keywords, &asked) < 0)
         return NULL;
-    const char *text = asked.text.bytes;
-    jadvolni_result answer = asked.type->front(text, asked.text.len, &asked.format, &value);
-    if (answer.status == JADVOLNI_OK)
-        result = pair(asked.type->number(&value), PyLong_FromSize_t(answer.place));
-    else
-        raise_fault(PyModule_GetState(module), answer, text, asked.text.len, NULL);
-    give_back(&asked.text);
-    return result;
+    return answer_of(module, &asked, asked.type->partial);
 }
 
 /* ---- columns ---- */
@@ -218,10 +233,14 @@ static PyMethodDef METHODS[] = {
          "The number that the whole text stands for.\n\n"
          "The text is a str, read as UTF-8, or an object of contiguous bytes. ParseError tells\n"
          "why it is no number of the type, and FormatError why the format is none."),
+    CALL(parse_front,
+         "parse_front(text, type=\"i64\", format=None)\n--\n\n"
+         "The number in front of the text, and how many bytes of the text it has.\n\n"
+         "Where no digit was read, ParseError tells the place where reading stopped."),
     CALL(parse_partial,
          "parse_partial(text, type=\"i64\", format=None)\n--\n\n"
-         "The number at the text's front, and how many bytes of the text it has.\n\n"
-         "A front without digits is 0: look at the place."),
+         "The number at the text's front, where no digit has to be there.\n\n"
+         "Such a front is mostly 0: take parse_front where a number has to be there."),
     CALL(parse_column,
          "parse_column(text, type=\"i64\", separator=b\"\\n\", format=None)\n--\n\n"
          "The numbers of the text's fields, as an array.array.\n\n"

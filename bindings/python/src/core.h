@@ -49,6 +49,7 @@ typedef struct number_type {
     size_t size;
     parse_call *whole;
     parse_call *front;
+    parse_call *partial;
     column_call *column;
     PyObject *(*number)(const number *value);
 } number_type;

@@ -61,7 +61,7 @@ int is_of_format(uint32_t status)
 
 void raise_format(const core_state *state, uint32_t status)
 {
-    PyObject *message = PyUnicode_FromString(jadvolni_status_message(status));
+    PyObject *message = PyUnicode_FromString(jadvolni_status_text(status));
     PyObject *error = error_of(state->format_error, message, status);
     if (error)
         PyErr_SetObject(state->format_error, error);
@@ -72,7 +72,7 @@ void raise_format(const core_state *state, uint32_t status)
 static PyObject *message_of(jadvolni_result answer, const char *text, size_t len,
                             const field_place *field)
 {
-    const char *fault = jadvolni_status_message(answer.status);
+    const char *fault = jadvolni_status_text(answer.status);
     const char *cut = len > SHOWN ? ".." : "";
     PyObject *bytes = PyBytes_FromStringAndSize(text, (Py_ssize_t)(len > SHOWN ? SHOWN : len));
     PyObject *message = NULL;

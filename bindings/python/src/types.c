@@ -12,6 +12,11 @@
     static jadvolni_result front_##name(const char *text, size_t len,                            \
                                         const jadvolni_format *format, void *value)              \
     {                                                                                            \
+        return jadvolni_parse_##name##_front_with_format(text, len, format, (type *)value);      \
+    }                                                                                            \
+    static jadvolni_result partial_##name(const char *text, size_t len,                          \
+                                          const jadvolni_format *format, void *value)            \
+    {                                                                                            \
         return jadvolni_parse_##name##_partial_with_format(text, len, format, (type *)value);    \
     }
 
@@ -79,9 +84,10 @@ static PyObject *number_i128(const number *value)
 }
 
 #define TYPE(name, code, type) \
-    {#name, code, sizeof(type), whole_##name, front_##name, column_##name, number_##name}
+    {#name, code, sizeof(type), whole_##name, front_##name, partial_##name, column_##name, \
+     number_##name}
 #define WIDE_TYPE(name, type) \
-    {#name, NULL, sizeof(type), whole_##name, front_##name, NULL, number_##name}
+    {#name, NULL, sizeof(type), whole_##name, front_##name, partial_##name, NULL, number_##name}
 
 static const number_type TYPES[] = {
     TYPE(i64, "q", int64_t),

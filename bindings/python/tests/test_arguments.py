@@ -8,9 +8,9 @@ import sys
 import tracemalloc
 import unittest
 
-from jadvolni import Format, FormatError, ParseError, parse, parse_column, parse_partial
+from jadvolni import Format, FormatError, ParseError, parse, parse_column, parse_front, parse_partial
 
-CALLS = (parse, parse_partial, parse_column)
+CALLS = (parse, parse_front, parse_partial, parse_column)
 
 
 class Alike:
@@ -168,6 +168,7 @@ class References(unittest.TestCase):
             (Format, ()),
             (parse, (str(2**127), "u128")),
             (parse, (str(-(2**127)), "i128", format)),
+            (parse_front, (text, "i128")),
             (parse_partial, (text, "i128")),
             (parse_column, (text, "u128")),
             (parse_column, (b"12,13", name, b"ab")),
@@ -177,6 +178,7 @@ class References(unittest.TestCase):
             (parse_column, (self.wide, name, separator)),
             (parse, (text, name, format)),
             (parse, (b"12", name, format)),
+            (parse_front, (text, name, format)),
             (parse_partial, (text, name, format)),
             (parse_column, (text, name, separator, format)),
             (parse_column, (b"12,13", name, separator, format)),

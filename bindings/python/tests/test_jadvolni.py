@@ -10,7 +10,7 @@ import threading
 import unittest
 
 import jadvolni
-from jadvolni import Format, FormatError, ParseError, parse, parse_column, parse_partial
+from jadvolni import Format, FormatError, ParseError, parse, parse_column, parse_front, parse_partial
 
 README = pathlib.Path(__file__).resolve().parents[1] / "README.md"
 
@@ -63,6 +63,8 @@ class Numbers(Case):
     def test_fronts(self):
         self.assertEqual(parse_partial(b"12, 13", "u8"), (12, 2))
         self.assertEqual(parse_partial(b"x", "u8"), (0, 0))
+        self.assertEqual(parse_front(b"12, 13", "u8"), (12, 2))
+        self.assertEqual(parse_front("-0x", "i8"), (0, 2))
         least = b"-170141183460469231731687303715884105728;"
         self.assertEqual(parse_partial(least, "i128"), (-(2**127), 40))
 
@@ -233,6 +235,21 @@ class Columns(Case):
     def test_the_format_of_each_field(self):
         hexadecimal = Format(radix=16, prefix="x")
         self.assertEqual(list(parse_column("0xF F", "u8", " ", hexadecimal)), [15, 15])
+
+    def test_fronts_without_a_digit(self):
+        json = Format(no_positive_sign=True, no_leading_zeros=True)
+        for text, place, format in (
+            ("x", 0, None),
+            ("+a", 1, None),
+            ("-x", 1, None),
+            ("[- 5]", 0, json),
+            ("- 5]", 1, json),
+            ("0xg", 2, Format(literal_prefixes=True)),
+            ("0xg", 2, Format(radix=16, prefix="x")),
+            ("", 0, Format(required_digits=False)),
+        ):
+            with self.subTest(text=text):
+                self.fault("Empty", place, parse_front, text, "i64", format)
 
     def test_hostile_columns(self):
         self.assertEqual(list(parse_column(b"7" * 3, "u16", b",")), [777])

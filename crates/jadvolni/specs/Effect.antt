@@ -6,6 +6,7 @@ use Rattle.lexical_util.specs.Number.{IntegerType, integer_type}
 use Rattle.lexical_util.specs.Validity.{fault}
 use Rattle.lexical_util.specs.declared.error.Error.{Error}
 use Rattle.lexical_util.specs.declared.error.Error.TheVariants.{Overflow, Underflow, InvalidDigit, Empty, MissingSign, InvalidPositiveSign, InvalidLeadingZeros, InvalidMantissaRadix, InvalidDigitSeparator, InvalidBasePrefix, InvalidBaseSuffix, InvalidPunctuation, InvalidLiteralPrefixes}
+use Rattle.lexical_parse_integer.specs.Fronts.{number_in_front, number_in_front_if_valid}
 use Rattle.lexical_parse_integer.specs.Grammar.{complete, complete_if_valid, partial, partial_if_valid}
 use Rattle.jadvolni.specs.FormatFields.{are_known, format_of}
 use Rattle.jadvolni.specs.declared.format.FormatFields.{FormatFields}
@@ -78,7 +79,7 @@ if_known fields before known =
     if are_known fields then known
     else record { status = unknown_field; place = 0; number = before }
 
--- ---- the four calls of a type
+-- ---- the six calls of a type
 
 -- the unsigned type of so many bits
 abbrev pub unsigned : ℕ → IntegerType
@@ -107,6 +108,16 @@ abbrev pub partial_call_under : FormatFields → IntegerType → List ℕ → �
 partial_call_under fields type text before =
     if_known fields before
     (partial_effect before (partial_if_valid (format_of fields) type text))
+
+-- reading the number in front of the text
+abbrev pub front_call : IntegerType → List ℕ → ℤ → Effect
+front_call type text before = partial_effect before (number_in_front standard type text)
+
+-- reading the number in front of the text under a format
+abbrev pub front_call_under : FormatFields → IntegerType → List ℕ → ℤ → Effect
+front_call_under fields type text before =
+    if_known fields before
+    (partial_effect before (number_in_front_if_valid (format_of fields) type text))
 
 -- ---- formats
 

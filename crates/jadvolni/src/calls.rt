@@ -1,10 +1,11 @@
-//! The four calls of every type, which the exports of that type make.
+//! The six calls of every type, which the exports of that type make.
 
 ghost use Rattle.std.specs.Prelude.{◌≡◌, IsTrue};
 ghost use Rattle.lexical_parse_integer.specs.Answer.{with_place, view_of};
 ghost use Rattle.lexical_util.specs.Format.{standard};
 ghost use Rattle.jadvolni.specs.Effect.{effect, complete_effect, partial_effect};
 ghost use Rattle.jadvolni.specs.Effect.{complete_call, complete_call_under, partial_call, partial_call_under};
+ghost use Rattle.jadvolni.specs.Effect.{front_call, front_call_under};
 ghost use Rattle.jadvolni.specs.FormatFields.{are_known, format_of};
 
 use crate::format::FormatFields;
@@ -12,7 +13,8 @@ use crate::outcome::{Outcome, UNKNOWN_FIELD};
 use crate::slot::Slot;
 use lexical_parse_integer::algorithm::value_if_short;
 use lexical_parse_integer::{
-    FromLexical, FromLexicalWithOptions, NumberFormatBuilder, Options, Result, format, options,
+    FromLexical, FromLexicalWithOptions, NumberFormatBuilder, Options, Result, format,
+    number_in_front, options,
 };
 use lexical_util::num::Integer;
 
@@ -173,4 +175,32 @@ pub fn partial_under<T: FromLexicalWithOptions<Options = Options>, S: Slot<T>>(
     let format = NumberFormatBuilder::from_radix(fields.mantissa_radix);
     let answer = T::from_lexical_partial_with_options(text, &format, &options::STANDARD);
     give_front(answer, value)
+}
+
+/// The number in front of the text, under the standard format.
+#[inline(always)]
+pub fn front<T: FromLexicalWithOptions<Options = Options>, S: Slot<T>>(
+    text: &[u8],
+    value: &mut S,
+) -> Outcome
+    ensures { effect result (S.number value.new)
+        ≡ front_call T.TYPE text.now (S.number value.old) }
+{
+    give_front(number_in_front::<T>(text, &format::STANDARD), value)
+}
+
+/// The number in front of the text, under a format that may be invalid.
+#[inline(always)]
+pub fn front_under<T: FromLexicalWithOptions<Options = Options>, S: Slot<T>>(
+    text: &[u8],
+    fields: &FormatFields,
+    value: &mut S,
+) -> Outcome
+    ensures { effect result (S.number value.new)
+        ≡ front_call_under fields.now T.TYPE text.now (S.number value.old) }
+{
+    if !fields.are_known() {
+        return UNKNOWN;
+    }
+    give_front(number_in_front::<T>(text, &fields.format()), value)
 }

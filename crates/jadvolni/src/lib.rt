@@ -4,6 +4,7 @@
 pub mod calls;
 pub mod columns;
 pub mod format;
+pub mod fronts;
 pub mod halves;
 pub mod outcome;
 pub mod signed;

@@ -5,6 +5,8 @@ pub mod DigitsRead
 pub mod FirstDigit
 pub mod FormatBytes
 pub mod FrontAnswers
+pub mod FrontDigits
+pub mod FrontNumbers
 pub mod NumeralSteps
 pub mod OctalZeros
 pub mod ParserAnswers

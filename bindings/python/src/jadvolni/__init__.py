@@ -5,7 +5,7 @@
     -12
     >>> jadvolni.parse("FF", "u8", jadvolni.Format(radix=16))
     255
-    >>> jadvolni.parse_partial(b"12px", "u16")
+    >>> jadvolni.parse_front(b"12px", "u16")
     (12, 2)
     >>> list(jadvolni.parse_column(b"12,7,", "u64", b","))
     [12, 7]
@@ -24,6 +24,7 @@ from ._core import (
     __version__,
     parse,
     parse_column,
+    parse_front,
     parse_partial,
 )
 from ._format import Format
@@ -39,5 +40,6 @@ __all__ = [
     "numpy_column",
     "parse",
     "parse_column",
+    "parse_front",
     "parse_partial",
 ]

@@ -24,6 +24,9 @@ class FormatError(ValueError):
     place: None
 
 def parse(text: Text, type: NumberType = "i64", format: Optional[Format] = None) -> int: ...
+def parse_front(
+    text: Text, type: NumberType = "i64", format: Optional[Format] = None
+) -> tuple[int, int]: ...
 def parse_partial(
     text: Text, type: NumberType = "i64", format: Optional[Format] = None
 ) -> tuple[int, int]: ...

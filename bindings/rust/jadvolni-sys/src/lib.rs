@@ -83,62 +83,86 @@ extern "C" {
     pub fn jadvolni_format_error(format: *const jadvolni_format) -> u32;
 
     pub fn jadvolni_parse_u8(text: *const c_char, len: usize, value: *mut u8) -> jadvolni_result;
+    pub fn jadvolni_parse_u8_front(text: *const c_char, len: usize, value: *mut u8) -> jadvolni_result;
     pub fn jadvolni_parse_u8_partial(text: *const c_char, len: usize, value: *mut u8) -> jadvolni_result;
     pub fn jadvolni_parse_u8_with_format(text: *const c_char, len: usize, format: *const jadvolni_format, value: *mut u8) -> jadvolni_result;
+    pub fn jadvolni_parse_u8_front_with_format(text: *const c_char, len: usize, format: *const jadvolni_format, value: *mut u8) -> jadvolni_result;
     pub fn jadvolni_parse_u8_partial_with_format(text: *const c_char, len: usize, format: *const jadvolni_format, value: *mut u8) -> jadvolni_result;
 
     pub fn jadvolni_parse_u16(text: *const c_char, len: usize, value: *mut u16) -> jadvolni_result;
+    pub fn jadvolni_parse_u16_front(text: *const c_char, len: usize, value: *mut u16) -> jadvolni_result;
     pub fn jadvolni_parse_u16_partial(text: *const c_char, len: usize, value: *mut u16) -> jadvolni_result;
     pub fn jadvolni_parse_u16_with_format(text: *const c_char, len: usize, format: *const jadvolni_format, value: *mut u16) -> jadvolni_result;
+    pub fn jadvolni_parse_u16_front_with_format(text: *const c_char, len: usize, format: *const jadvolni_format, value: *mut u16) -> jadvolni_result;
     pub fn jadvolni_parse_u16_partial_with_format(text: *const c_char, len: usize, format: *const jadvolni_format, value: *mut u16) -> jadvolni_result;
 
     pub fn jadvolni_parse_u32(text: *const c_char, len: usize, value: *mut u32) -> jadvolni_result;
+    pub fn jadvolni_parse_u32_front(text: *const c_char, len: usize, value: *mut u32) -> jadvolni_result;
     pub fn jadvolni_parse_u32_partial(text: *const c_char, len: usize, value: *mut u32) -> jadvolni_result;
     pub fn jadvolni_parse_u32_with_format(text: *const c_char, len: usize, format: *const jadvolni_format, value: *mut u32) -> jadvolni_result;
+    pub fn jadvolni_parse_u32_front_with_format(text: *const c_char, len: usize, format: *const jadvolni_format, value: *mut u32) -> jadvolni_result;
     pub fn jadvolni_parse_u32_partial_with_format(text: *const c_char, len: usize, format: *const jadvolni_format, value: *mut u32) -> jadvolni_result;
 
     pub fn jadvolni_parse_u64(text: *const c_char, len: usize, value: *mut u64) -> jadvolni_result;
+    pub fn jadvolni_parse_u64_front(text: *const c_char, len: usize, value: *mut u64) -> jadvolni_result;
     pub fn jadvolni_parse_u64_partial(text: *const c_char, len: usize, value: *mut u64) -> jadvolni_result;
     pub fn jadvolni_parse_u64_with_format(text: *const c_char, len: usize, format: *const jadvolni_format, value: *mut u64) -> jadvolni_result;
+    pub fn jadvolni_parse_u64_front_with_format(text: *const c_char, len: usize, format: *const jadvolni_format, value: *mut u64) -> jadvolni_result;
     pub fn jadvolni_parse_u64_partial_with_format(text: *const c_char, len: usize, format: *const jadvolni_format, value: *mut u64) -> jadvolni_result;
 
     pub fn jadvolni_parse_u128(text: *const c_char, len: usize, value: *mut jadvolni_uint128) -> jadvolni_result;
+    pub fn jadvolni_parse_u128_front(text: *const c_char, len: usize, value: *mut jadvolni_uint128) -> jadvolni_result;
     pub fn jadvolni_parse_u128_partial(text: *const c_char, len: usize, value: *mut jadvolni_uint128) -> jadvolni_result;
     pub fn jadvolni_parse_u128_with_format(text: *const c_char, len: usize, format: *const jadvolni_format, value: *mut jadvolni_uint128) -> jadvolni_result;
+    pub fn jadvolni_parse_u128_front_with_format(text: *const c_char, len: usize, format: *const jadvolni_format, value: *mut jadvolni_uint128) -> jadvolni_result;
     pub fn jadvolni_parse_u128_partial_with_format(text: *const c_char, len: usize, format: *const jadvolni_format, value: *mut jadvolni_uint128) -> jadvolni_result;
 
     pub fn jadvolni_parse_usize(text: *const c_char, len: usize, value: *mut usize) -> jadvolni_result;
+    pub fn jadvolni_parse_usize_front(text: *const c_char, len: usize, value: *mut usize) -> jadvolni_result;
     pub fn jadvolni_parse_usize_partial(text: *const c_char, len: usize, value: *mut usize) -> jadvolni_result;
     pub fn jadvolni_parse_usize_with_format(text: *const c_char, len: usize, format: *const jadvolni_format, value: *mut usize) -> jadvolni_result;
+    pub fn jadvolni_parse_usize_front_with_format(text: *const c_char, len: usize, format: *const jadvolni_format, value: *mut usize) -> jadvolni_result;
     pub fn jadvolni_parse_usize_partial_with_format(text: *const c_char, len: usize, format: *const jadvolni_format, value: *mut usize) -> jadvolni_result;
 
     pub fn jadvolni_parse_i8(text: *const c_char, len: usize, value: *mut i8) -> jadvolni_result;
+    pub fn jadvolni_parse_i8_front(text: *const c_char, len: usize, value: *mut i8) -> jadvolni_result;
     pub fn jadvolni_parse_i8_partial(text: *const c_char, len: usize, value: *mut i8) -> jadvolni_result;
     pub fn jadvolni_parse_i8_with_format(text: *const c_char, len: usize, format: *const jadvolni_format, value: *mut i8) -> jadvolni_result;
+    pub fn jadvolni_parse_i8_front_with_format(text: *const c_char, len: usize, format: *const jadvolni_format, value: *mut i8) -> jadvolni_result;
     pub fn jadvolni_parse_i8_partial_with_format(text: *const c_char, len: usize, format: *const jadvolni_format, value: *mut i8) -> jadvolni_result;
 
     pub fn jadvolni_parse_i16(text: *const c_char, len: usize, value: *mut i16) -> jadvolni_result;
+    pub fn jadvolni_parse_i16_front(text: *const c_char, len: usize, value: *mut i16) -> jadvolni_result;
     pub fn jadvolni_parse_i16_partial(text: *const c_char, len: usize, value: *mut i16) -> jadvolni_result;
     pub fn jadvolni_parse_i16_with_format(text: *const c_char, len: usize, format: *const jadvolni_format, value: *mut i16) -> jadvolni_result;
+    pub fn jadvolni_parse_i16_front_with_format(text: *const c_char, len: usize, format: *const jadvolni_format, value: *mut i16) -> jadvolni_result;
     pub fn jadvolni_parse_i16_partial_with_format(text: *const c_char, len: usize, format: *const jadvolni_format, value: *mut i16) -> jadvolni_result;
 
     pub fn jadvolni_parse_i32(text: *const c_char, len: usize, value: *mut i32) -> jadvolni_result;
+    pub fn jadvolni_parse_i32_front(text: *const c_char, len: usize, value: *mut i32) -> jadvolni_result;
     pub fn jadvolni_parse_i32_partial(text: *const c_char, len: usize, value: *mut i32) -> jadvolni_result;
     pub fn jadvolni_parse_i32_with_format(text: *const c_char, len: usize, format: *const jadvolni_format, value: *mut i32) -> jadvolni_result;
+    pub fn jadvolni_parse_i32_front_with_format(text: *const c_char, len: usize, format: *const jadvolni_format, value: *mut i32) -> jadvolni_result;
     pub fn jadvolni_parse_i32_partial_with_format(text: *const c_char, len: usize, format: *const jadvolni_format, value: *mut i32) -> jadvolni_result;
 
     pub fn jadvolni_parse_i64(text: *const c_char, len: usize, value: *mut i64) -> jadvolni_result;
+    pub fn jadvolni_parse_i64_front(text: *const c_char, len: usize, value: *mut i64) -> jadvolni_result;
     pub fn jadvolni_parse_i64_partial(text: *const c_char, len: usize, value: *mut i64) -> jadvolni_result;
     pub fn jadvolni_parse_i64_with_format(text: *const c_char, len: usize, format: *const jadvolni_format, value: *mut i64) -> jadvolni_result;
+    pub fn jadvolni_parse_i64_front_with_format(text: *const c_char, len: usize, format: *const jadvolni_format, value: *mut i64) -> jadvolni_result;
     pub fn jadvolni_parse_i64_partial_with_format(text: *const c_char, len: usize, format: *const jadvolni_format, value: *mut i64) -> jadvolni_result;
 
     pub fn jadvolni_parse_i128(text: *const c_char, len: usize, value: *mut jadvolni_int128) -> jadvolni_result;
+    pub fn jadvolni_parse_i128_front(text: *const c_char, len: usize, value: *mut jadvolni_int128) -> jadvolni_result;
     pub fn jadvolni_parse_i128_partial(text: *const c_char, len: usize, value: *mut jadvolni_int128) -> jadvolni_result;
     pub fn jadvolni_parse_i128_with_format(text: *const c_char, len: usize, format: *const jadvolni_format, value: *mut jadvolni_int128) -> jadvolni_result;
+    pub fn jadvolni_parse_i128_front_with_format(text: *const c_char, len: usize, format: *const jadvolni_format, value: *mut jadvolni_int128) -> jadvolni_result;
     pub fn jadvolni_parse_i128_partial_with_format(text: *const c_char, len: usize, format: *const jadvolni_format, value: *mut jadvolni_int128) -> jadvolni_result;
 
     pub fn jadvolni_parse_isize(text: *const c_char, len: usize, value: *mut isize) -> jadvolni_result;
+    pub fn jadvolni_parse_isize_front(text: *const c_char, len: usize, value: *mut isize) -> jadvolni_result;
     pub fn jadvolni_parse_isize_partial(text: *const c_char, len: usize, value: *mut isize) -> jadvolni_result;
     pub fn jadvolni_parse_isize_with_format(text: *const c_char, len: usize, format: *const jadvolni_format, value: *mut isize) -> jadvolni_result;
+    pub fn jadvolni_parse_isize_front_with_format(text: *const c_char, len: usize, format: *const jadvolni_format, value: *mut isize) -> jadvolni_result;
     pub fn jadvolni_parse_isize_partial_with_format(text: *const c_char, len: usize, format: *const jadvolni_format, value: *mut isize) -> jadvolni_result;
 }

@@ -1,4 +1,4 @@
-//! The twelve integer types, and the four calls of each.
+//! The twelve integer types, and the six calls of each.
 
 use crate::{Error, Format};
 use core::convert::identity;
@@ -16,14 +16,13 @@ type CallUnder<Kept> = unsafe extern "C" fn(
     *mut Kept,
 ) -> sys::jadvolni_result;
 
-/// What the library keeps a number in, and its four calls. Each reads the text and the format that
+/// What the library keeps a number in, and its six calls. Each reads the text and the format that
 /// it is handed, writes a `Kept` at most, and keeps nothing.
 pub trait Calls: Sized {
     type Kept: Default;
-    const COMPLETE: Call<Self::Kept>;
-    const PARTIAL: Call<Self::Kept>;
-    const COMPLETE_UNDER: CallUnder<Self::Kept>;
-    const PARTIAL_UNDER: CallUnder<Self::Kept>;
+    /// Of the whole text, of the number in front of it, and of its front.
+    const CALLS: [Call<Self::Kept>; 3];
+    const CALLS_UNDER: [CallUnder<Self::Kept>; 3];
 
     /// The number that is kept.
     fn number(kept: Self::Kept) -> Self;
@@ -57,35 +56,43 @@ fn call_under<T: Calls>(
 
 #[inline]
 pub(crate) fn complete<T: Integer>(text: &[u8]) -> Result<T, Error> {
-    call(text, T::COMPLETE).map(|(number, _)| number)
+    call(text, T::CALLS[0]).map(|(number, _)| number)
+}
+
+#[inline]
+pub(crate) fn front<T: Integer>(text: &[u8]) -> Result<(T, usize), Error> {
+    call(text, T::CALLS[1])
 }
 
 #[inline]
 pub(crate) fn partial<T: Integer>(text: &[u8]) -> Result<(T, usize), Error> {
-    call(text, T::PARTIAL)
+    call(text, T::CALLS[2])
 }
 
 #[inline]
 pub(crate) fn complete_with<T: Integer>(text: &[u8], format: &Format) -> Result<T, Error> {
-    call_under(text, format, T::COMPLETE_UNDER).map(|(number, _)| number)
+    call_under(text, format, T::CALLS_UNDER[0]).map(|(number, _)| number)
+}
+
+#[inline]
+pub(crate) fn front_with<T: Integer>(text: &[u8], format: &Format) -> Result<(T, usize), Error> {
+    call_under(text, format, T::CALLS_UNDER[1])
 }
 
 #[inline]
 pub(crate) fn partial_with<T: Integer>(text: &[u8], format: &Format) -> Result<(T, usize), Error> {
-    call_under(text, format, T::PARTIAL_UNDER)
+    call_under(text, format, T::CALLS_UNDER[2])
 }
 
-/// A type, what its numbers are kept in, how one is had from that, and its four calls.
+/// A type, what its numbers are kept in, how one is had from that, and its six calls: three, and those with a format.
 macro_rules! integer {
-    ($type:ty, $kept:ty, $number:expr, $complete:ident $partial:ident $complete_under:ident $partial_under:ident) => {
+    ($type:ty, $kept:ty, $number:expr, $($call:ident)*, $($under:ident)*) => {
         impl Integer for $type {}
 
         impl Calls for $type {
             type Kept = $kept;
-            const COMPLETE: Call<$kept> = sys::$complete;
-            const PARTIAL: Call<$kept> = sys::$partial;
-            const COMPLETE_UNDER: CallUnder<$kept> = sys::$complete_under;
-            const PARTIAL_UNDER: CallUnder<$kept> = sys::$partial_under;
+            const CALLS: [Call<$kept>; 3] = [$(sys::$call),*];
+            const CALLS_UNDER: [CallUnder<$kept>; 3] = [$(sys::$under),*];
 
             #[inline]
             fn number(kept: $kept) -> $type {
@@ -103,15 +110,15 @@ fn signed(halves: sys::jadvolni_int128) -> i128 {
     (halves.high as i128) << 64 | halves.low as i128
 }
 
-integer!(u8, u8, identity, jadvolni_parse_u8 jadvolni_parse_u8_partial jadvolni_parse_u8_with_format jadvolni_parse_u8_partial_with_format);
-integer!(u16, u16, identity, jadvolni_parse_u16 jadvolni_parse_u16_partial jadvolni_parse_u16_with_format jadvolni_parse_u16_partial_with_format);
-integer!(u32, u32, identity, jadvolni_parse_u32 jadvolni_parse_u32_partial jadvolni_parse_u32_with_format jadvolni_parse_u32_partial_with_format);
-integer!(u64, u64, identity, jadvolni_parse_u64 jadvolni_parse_u64_partial jadvolni_parse_u64_with_format jadvolni_parse_u64_partial_with_format);
-integer!(u128, sys::jadvolni_uint128, unsigned, jadvolni_parse_u128 jadvolni_parse_u128_partial jadvolni_parse_u128_with_format jadvolni_parse_u128_partial_with_format);
-integer!(usize, usize, identity, jadvolni_parse_usize jadvolni_parse_usize_partial jadvolni_parse_usize_with_format jadvolni_parse_usize_partial_with_format);
-integer!(i8, i8, identity, jadvolni_parse_i8 jadvolni_parse_i8_partial jadvolni_parse_i8_with_format jadvolni_parse_i8_partial_with_format);
-integer!(i16, i16, identity, jadvolni_parse_i16 jadvolni_parse_i16_partial jadvolni_parse_i16_with_format jadvolni_parse_i16_partial_with_format);
-integer!(i32, i32, identity, jadvolni_parse_i32 jadvolni_parse_i32_partial jadvolni_parse_i32_with_format jadvolni_parse_i32_partial_with_format);
-integer!(i64, i64, identity, jadvolni_parse_i64 jadvolni_parse_i64_partial jadvolni_parse_i64_with_format jadvolni_parse_i64_partial_with_format);
-integer!(i128, sys::jadvolni_int128, signed, jadvolni_parse_i128 jadvolni_parse_i128_partial jadvolni_parse_i128_with_format jadvolni_parse_i128_partial_with_format);
-integer!(isize, isize, identity, jadvolni_parse_isize jadvolni_parse_isize_partial jadvolni_parse_isize_with_format jadvolni_parse_isize_partial_with_format);
+integer!(u8, u8, identity, jadvolni_parse_u8 jadvolni_parse_u8_front jadvolni_parse_u8_partial, jadvolni_parse_u8_with_format jadvolni_parse_u8_front_with_format jadvolni_parse_u8_partial_with_format);
+integer!(u16, u16, identity, jadvolni_parse_u16 jadvolni_parse_u16_front jadvolni_parse_u16_partial, jadvolni_parse_u16_with_format jadvolni_parse_u16_front_with_format jadvolni_parse_u16_partial_with_format);
+integer!(u32, u32, identity, jadvolni_parse_u32 jadvolni_parse_u32_front jadvolni_parse_u32_partial, jadvolni_parse_u32_with_format jadvolni_parse_u32_front_with_format jadvolni_parse_u32_partial_with_format);
+integer!(u64, u64, identity, jadvolni_parse_u64 jadvolni_parse_u64_front jadvolni_parse_u64_partial, jadvolni_parse_u64_with_format jadvolni_parse_u64_front_with_format jadvolni_parse_u64_partial_with_format);
+integer!(u128, sys::jadvolni_uint128, unsigned, jadvolni_parse_u128 jadvolni_parse_u128_front jadvolni_parse_u128_partial, jadvolni_parse_u128_with_format jadvolni_parse_u128_front_with_format jadvolni_parse_u128_partial_with_format);
+integer!(usize, usize, identity, jadvolni_parse_usize jadvolni_parse_usize_front jadvolni_parse_usize_partial, jadvolni_parse_usize_with_format jadvolni_parse_usize_front_with_format jadvolni_parse_usize_partial_with_format);
+integer!(i8, i8, identity, jadvolni_parse_i8 jadvolni_parse_i8_front jadvolni_parse_i8_partial, jadvolni_parse_i8_with_format jadvolni_parse_i8_front_with_format jadvolni_parse_i8_partial_with_format);
+integer!(i16, i16, identity, jadvolni_parse_i16 jadvolni_parse_i16_front jadvolni_parse_i16_partial, jadvolni_parse_i16_with_format jadvolni_parse_i16_front_with_format jadvolni_parse_i16_partial_with_format);
+integer!(i32, i32, identity, jadvolni_parse_i32 jadvolni_parse_i32_front jadvolni_parse_i32_partial, jadvolni_parse_i32_with_format jadvolni_parse_i32_front_with_format jadvolni_parse_i32_partial_with_format);
+integer!(i64, i64, identity, jadvolni_parse_i64 jadvolni_parse_i64_front jadvolni_parse_i64_partial, jadvolni_parse_i64_with_format jadvolni_parse_i64_front_with_format jadvolni_parse_i64_partial_with_format);
+integer!(i128, sys::jadvolni_int128, signed, jadvolni_parse_i128 jadvolni_parse_i128_front jadvolni_parse_i128_partial, jadvolni_parse_i128_with_format jadvolni_parse_i128_front_with_format jadvolni_parse_i128_partial_with_format);
+integer!(isize, isize, identity, jadvolni_parse_isize jadvolni_parse_isize_front jadvolni_parse_isize_partial, jadvolni_parse_isize_with_format jadvolni_parse_isize_front_with_format jadvolni_parse_isize_partial_with_format);

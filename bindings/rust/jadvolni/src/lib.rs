@@ -1,10 +1,10 @@
 //! Integers from bytes, by a library that is proved to answer what its grammar says.
 //!
 //! ```
-//! use jadvolni::{parse, parse_partial, parse_with_format, Error, Format};
+//! use jadvolni::{parse, parse_front, parse_with_format, Error, Format};
 //!
 //! assert_eq!(parse::<u64>("18446744073709551616"), Err(Error::Overflow(19)));
-//! assert_eq!(parse_partial::<u64>(b"1234 }"), Ok((1234, 4)));
+//! assert_eq!(parse_front::<u64>(b"1234 }"), Ok((1234, 4)));
 //! let hexadecimal = Format::STANDARD.mantissa_radix(16).base_prefix(Some(b'x'));
 //! assert_eq!(parse_with_format::<u8>("0x1F", &hexadecimal), Ok(31));
 //! ```
@@ -39,12 +39,25 @@ pub fn parse<T: Integer>(text: impl AsRef<[u8]>) -> Result<T, Error> {
     integer::complete(text.as_ref())
 }
 
+/// The number in front of the text as a `T`, and where reading stopped. Where no digit was read, that is
+/// `Error::Empty` at the place where reading stopped.
+///
+/// ```
+/// use jadvolni::{parse_front, Error};
+/// assert_eq!(parse_front::<u64>("1234 }"), Ok((1234, 4)));
+/// assert_eq!(parse_front::<u64>("x"), Err(Error::Empty(0)));
+/// ```
+#[inline]
+pub fn parse_front<T: Integer>(text: impl AsRef<[u8]>) -> Result<(T, usize), Error> {
+    integer::front(text.as_ref())
+}
+
 /// The front of the text as a `T`, and where reading stopped. A front of no digits, before other bytes, is 0 and no
-/// fault: `x` at place 0, and `+a` at place 1. Where a number has to be there, see that the byte before the place is a
-/// digit.
+/// fault: `x` at place 0, and `+a` at place 1. Where a number has to be there, take [`parse_front`].
 ///
 /// ```
 /// assert_eq!(jadvolni::parse_partial::<u64>("1234 }"), Ok((1234, 4)));
+/// assert_eq!(jadvolni::parse_partial::<u64>("x"), Ok((0, 0)));
 /// ```
 #[inline]
 pub fn parse_partial<T: Integer>(text: impl AsRef<[u8]>) -> Result<(T, usize), Error> {
@@ -63,7 +76,22 @@ pub fn parse_with_format<T: Integer>(text: impl AsRef<[u8]>, format: &Format) ->
     integer::complete_with(text.as_ref(), format)
 }
 
-/// The front of the text as a `T`, under a format, and where reading stopped.
+/// The number in front of the text as a `T`, under a format, and where reading stopped.
+///
+/// ```
+/// use jadvolni::{parse_front_with_format, Error, Format};
+/// assert_eq!(parse_front_with_format::<u64>("0b102", &Format::LITERAL), Ok((2, 4)));
+/// assert_eq!(parse_front_with_format::<u64>("0xg", &Format::LITERAL), Err(Error::Empty(2)));
+/// ```
+#[inline]
+pub fn parse_front_with_format<T: Integer>(
+    text: impl AsRef<[u8]>,
+    format: &Format,
+) -> Result<(T, usize), Error> {
+    integer::front_with(text.as_ref(), format)
+}
+
+/// The front of the text as a `T`, under a format, where no digit has to be there.
 ///
 /// ```
 /// assert_eq!(jadvolni::parse_partial_with_format::<u64>("0b102", &jadvolni::Format::LITERAL), Ok((2, 4)));

@@ -1,5 +1,8 @@
 //! Each fault of each call, and the calls beside those of std.
-use jadvolni::{parse, parse_partial, parse_partial_with_format, parse_with_format, Error, Format, Integer};
+use jadvolni::{
+    parse, parse_front, parse_front_with_format, parse_partial, parse_partial_with_format,
+    parse_with_format, Error, Format, Integer,
+};
 
 #[test]
 fn faults_of_texts() {
@@ -13,6 +16,19 @@ fn faults_of_texts() {
     assert_eq!(parse_with_format::<i64>("-01", &Format::JSON), Err(Error::InvalidLeadingZeros(1)));
     assert_eq!(parse_partial::<u64>("1234 }, {\"Key\""), Ok((1234, 4)));
     assert_eq!(parse_partial_with_format::<u64>("0b102", &Format::LITERAL), Ok((2, 4)));
+}
+
+#[test]
+fn fronts_without_a_digit() {
+    assert_eq!(parse_front::<i64>("x"), Err(Error::Empty(0)));
+    assert_eq!(parse_front::<i64>("+a"), Err(Error::Empty(1)));
+    assert_eq!(parse_front::<i64>("-x"), Err(Error::Empty(1)));
+    assert_eq!(parse_front::<u64>("-x"), Err(Error::Empty(0)));
+    assert_eq!(parse_front::<i64>("-0x"), Ok((0, 2)));
+    assert_eq!(parse_front_with_format::<i64>("[- 5]", &Format::JSON), Err(Error::Empty(0)));
+    assert_eq!(parse_front_with_format::<i64>("- 5]", &Format::JSON), Err(Error::Empty(1)));
+    assert_eq!(parse_front_with_format::<i64>("-5]", &Format::JSON), Ok((-5, 2)));
+    assert_eq!(parse_front_with_format::<i64>("0xg", &Format::LITERAL), Err(Error::Empty(2)));
 }
 
 #[test]
@@ -35,6 +51,7 @@ fn faults_of_formats() {
         assert_eq!(format.error(), Some(fault));
         assert_eq!(parse_with_format::<u8>("1", &format), Err(fault));
         assert_eq!(parse_partial_with_format::<u8>("1", &format), Err(fault));
+        assert_eq!(parse_front_with_format::<u8>("1", &format), Err(fault));
         assert_eq!(fault.place(), None);
     }
     assert_eq!(Format::default().error(), None);
@@ -120,12 +137,14 @@ fn texts_of_faults_are_those_of_the_list() {
     }
 }
 
-/// The least and the greatest number of a type, by all four calls.
+/// The least and the greatest number of a type, by all six calls.
 fn ends<T: Integer + ToString + PartialEq + std::fmt::Debug>(ends: [T; 2]) {
     for end in ends {
         let text = end.to_string();
         assert_eq!(parse::<T>(&text), Ok(end));
         assert_eq!(parse_partial::<T>(&text), Ok((end, text.len())));
+        assert_eq!(parse_front::<T>(&text), Ok((end, text.len())));
+        assert_eq!(parse_front_with_format::<T>(&text, &Format::STANDARD), Ok((end, text.len())));
         assert_eq!(parse_with_format::<T>(&text, &Format::STANDARD), Ok(end));
         assert_eq!(parse_partial_with_format::<T>(&text, &Format::STANDARD), Ok((end, text.len())));
     }

@@ -26,11 +26,11 @@ use lexical_util::result::Result;
 // What stands before a numeral: whether there is a minus, whether a prefix or an octal zero marks the radix, where the
 // numeral starts, and the radix in force there.
 #[derive(Clone, Copy)]
-pub(super) struct Head {
-    pub(super) is_minus: bool,
-    pub(super) is_marked: bool,
-    pub(super) start: usize,
-    pub(super) radix: u32,
+pub(crate) struct Head {
+    pub(crate) is_minus: bool,
+    pub(crate) is_marked: bool,
+    pub(crate) start: usize,
+    pub(crate) radix: u32,
 }
 
 // The digits of a numeral: their value, how many they are, and where the numeral ends.
@@ -65,7 +65,7 @@ pub(super) fn sign_of<T: Integer>(bytes: &[u8], format: &NumberFormat) -> Result
 
 // The head of a text, or the fault of its sign.
 #[inline(always)]
-pub(super) fn head_of<T: Integer>(bytes: &[u8], format: &NumberFormat) -> Result<Head>
+pub(crate) fn head_of<T: Integer>(bytes: &[u8], format: &NumberFormat) -> Result<Head>
     ensures head { IfOk result (λ head. head_of format.now T.TYPE bytes.now ≡ Ok (record {
       is_minus = head.is_minus;
       is_marked = head.is_marked;

@@ -1,0 +1,47 @@
+/* Calls that break what jadvolni.h asks of a caller, each chosen by MISUSE: compilers have to say so. */
+#include "jadvolni.h"
+
+#include <stdlib.h>
+
+#define FORMAT &(const jadvolni_format)JADVOLNI_FORMAT_STANDARD
+
+/* What the call answers, and what it leaves. */
+static uint64_t used(jadvolni_result r, uint64_t value)
+{
+    return r.status + r.place + value;
+}
+
+uint64_t misuse(void);
+uint64_t misuse(void)
+{
+    char text[4] = {'1', '2', '3', '4'};
+    uint64_t value = 0, values[2] = {0, 0};
+    uint16_t narrow = 0;
+    size_t count = 0;
+    (void)narrow, (void)count, (void)values, (void)text;
+#if MISUSE == 0
+    return used(jadvolni_parse_u64(text, 4, &value), value)
+        + used(jadvolni_parse_u64_front_with_format(NULL, 0, FORMAT, &value), value)
+        + used(jadvolni_parse_u64_column(text, 4, ',', FORMAT, values, 2, &count), values[0])
+        + used(jadvolni_parse_u64_column(text, 4, ',', FORMAT, NULL, 0, &count), count);
+#elif MISUSE == 1
+    return used(jadvolni_parse_u64(text, 40, &value), value);
+#elif MISUSE == 2
+    return used(jadvolni_parse_u64_column(text, 40, ',', FORMAT, values, 2, &count), values[0]);
+#elif MISUSE == 3
+    jadvolni_parse_u64_front(text, 4, &value);
+    return value;
+#elif MISUSE == 4
+    return used(jadvolni_parse_u64_partial(text, 4, NULL), value);
+#elif MISUSE == 5
+    return used(jadvolni_parse_u64_with_format(text, 4, NULL, &value), value);
+#elif MISUSE == 6
+    return used(jadvolni_parse_u64_column(text, 4, ',', FORMAT, values, 2, NULL), values[0]);
+#elif MISUSE == 7
+    return used(jadvolni_parse_u64_column(text, 4, ',', FORMAT, values, 3, &count), values[0]);
+#elif MISUSE == 8
+    return used(jadvolni_parse_u64(text, 4, (uint64_t *)(void *)&narrow), narrow);
+#elif MISUSE == 9
+    return used(jadvolni_parse_u64(NULL, 4, &value), value);
+#endif
+}

@@ -1,0 +1,121 @@
+"""The lists of a format's fields in C, Rattle and Rust, written from tools/fields.txt."""
+from __future__ import annotations
+
+import os
+import textwrap
+from typing import Callable, NamedTuple
+
+LIST = os.path.join("tools", "fields.txt")
+
+
+class Field(NamedTuple):
+    """A field: its name, its kind, what it means, and of a mark its bit."""
+
+    name: str
+    kind: str
+    about: str
+    bit: int
+
+
+class Region(NamedTuple):
+    """A part of a file, by the texts before and behind it, and how it is written."""
+
+    file: str
+    begin: str
+    end: str
+    written: Callable[[list[Field]], str]
+
+
+def fields_of(top: str) -> list[Field]:
+    """The fields in their order."""
+    found: list[Field] = []
+    with open(os.path.join(top, LIST), encoding="utf-8") as file:
+        rows = [line.strip().split(" | ") for line in file if not line.startswith("#")]
+    marks = 0
+    for name, kind, about in rows:
+        found.append(Field(name, kind, about, 1 << marks if kind == "mark" else 0))
+        marks += kind == "mark"
+    return found
+
+
+def in_c(fields: list[Field]) -> str:
+    """The struct of the header."""
+    lines = []
+    for field in fields:
+        about = field.about
+        if field.kind == "flag":
+            about = f"Flag: {about[0].lower()}{about[1:]}"
+        lines.append(textwrap.fill(about + " */", 100, initial_indent="    /* ",
+                                   subsequent_indent="     * ", break_on_hyphens=False))
+        lines.append(f"    uint8_t {field.name};\n")
+    return "\n".join(lines) + "\n"
+
+
+def in_struct(fields: list[Field]) -> str:
+    """A struct of Rust, or of Rattle."""
+    return "".join(f"    pub {field.name}: u8,\n" for field in fields)
+
+
+def in_builder(fields: list[Field]) -> str:
+    """The setters of Rattle's builder, marks last."""
+    def setter(field: Field) -> str:
+        if field.kind == "mark":
+            return f"punctuation(self.{field.name}, has_bit(nul, {field.bit}))"
+        return f"flag(self.{field.name})" if field.kind == "flag" else f"self.{field.name}"
+
+    ordered = sorted(fields, key=lambda field: field.kind == "mark")
+    return "".join(f"            .{field.name}({setter(field)})\n" for field in ordered)
+
+
+def in_record(fields: list[Field]) -> str:
+    """The format that the fields stand for, as the definition has it."""
+    def value(field: Field) -> str:
+        if field.kind == "mark":
+            nul = f"(has_bit {field.bit} fields.nul_is_punctuation)"
+            return f"punctuation fields.{field.name} {nul}"
+        return f"{'flag ' if field.kind == 'flag' else ''}fields.{field.name}"
+
+    return "".join(f"  {field.name} = {value(field)};\n" for field in fields)
+
+
+def in_setters(kind: str, fields: list[Field]) -> str:
+    """The setters of Rust's Format for the fields of a kind."""
+    bits = {1: "JADVOLNI_NUL_IS_SEPARATOR", 2: "JADVOLNI_NUL_IS_PREFIX",
+            4: "JADVOLNI_NUL_IS_SUFFIX"}
+    lines = []
+    for field in fields:
+        if field.kind == kind:
+            lines.append(textwrap.fill(field.about, 100, initial_indent="        /// ",
+                                       subsequent_indent="        /// "))
+            lines.append(f"        {field.name} {bits.get(field.bit, '')}".rstrip())
+    return "\n".join(lines) + "\n"
+
+
+REGIONS = [
+    Region("include/jadvolni.h", "typedef struct jadvolni_format {\n", "    /* Bits: ", in_c),
+    Region("crates/jadvolni/src/format.rt", "pub struct FormatFields {\n",
+           "    pub nul_is_punctuation", in_struct),
+    Region("crates/jadvolni/src/format.rt", "        NumberFormatBuilder::new()\n",
+           "            .build_unchecked()", in_builder),
+    Region("crates/jadvolni/specs/FormatFields.antt", "format_of fields = record {\n", "}\n",
+           in_record),
+    Region("bindings/rust/jadvolni-sys/src/lib.rs", "pub struct jadvolni_format {\n",
+           "    pub nul_is_punctuation", in_struct),
+    Region("bindings/rust/jadvolni/src/format.rs", "    punctuation! {\n", "    }\n",
+           lambda fields: in_setters("mark", fields)),
+    Region("bindings/rust/jadvolni/src/format.rs", "    flags! {\n", "    }\n",
+           lambda fields: in_setters("flag", fields)),
+]
+
+
+def files(top: str) -> dict[str, str]:
+    """The text of each file that lists the fields, as it has to be."""
+    found: dict[str, str] = {}
+    fields = fields_of(top)
+    for region in REGIONS:
+        with open(os.path.join(top, region.file), encoding="utf-8") as file:
+            text = found.get(region.file) or file.read()
+        before, begin, rest = text.partition(region.begin)
+        behind = rest[rest.index(region.end):]
+        found[region.file] = before + begin + region.written(fields) + behind
+    return found
