@@ -94,8 +94,7 @@ def runs_may(form: Format, prefix: bytes, body: bytes) -> bool:
     """Whether each whole run of separators may stand in its body."""
     for start, stop in itertools.combinations(range(len(body) + 1), 2):
         before, run, behind = body[:start], body[start:stop], body[stop:]
-        if set(run) == {form.digit_separator} and form.digit_separator not in (
-                before[-1:] + behind[:1]):
+        if set(run) == {form.digit_separator} and not set(before[-1:] + behind[:1]) & set(run):
             if not run_may(form, prefix, before, stop - start, behind):
                 return False
     return True

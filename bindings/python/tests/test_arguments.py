@@ -8,7 +8,8 @@ import sys
 import tracemalloc
 import unittest
 
-from jadvolni import Format, FormatError, ParseError, parse, parse_column, parse_front, parse_partial
+from jadvolni import (Format, FormatError, ParseError, parse, parse_column, parse_front,
+                      parse_partial)
 
 CALLS = (parse, parse_front, parse_partial, parse_column)
 
@@ -139,7 +140,8 @@ class Arguments(unittest.TestCase):
 
     def test_formats(self):
         wanted = "^format has to be a jadvolni.Format or None, and not "
-        others = (16, object(), Format, Alike("fields"), Alike(b"short"), Alike(bytes(24)), Alike(bytes(33)))
+        others = (16, object(), Format, Alike("fields"), Alike(b"short"), Alike(bytes(24)),
+                  Alike(bytes(33)))
         for call in CALLS:
             for format in (*others, Alike(AttributeError())):
                 with self.subTest(format=format):

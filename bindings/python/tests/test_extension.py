@@ -21,10 +21,12 @@ OTHER = """
 #include <stddef.h>
 #include <stdint.h>
 typedef struct result { uint32_t status; size_t place; } result;
-result jadvolni_parse_u64_with_format(const char *text, size_t len, const void *format, uint64_t *value)
+result jadvolni_parse_u64_with_format(const char *text, size_t len, const void *format,
+                                      uint64_t *value)
 { (void)text; (void)format; *value = 42; return (result){0, len}; }
-result jadvolni_parse_u64_column(const char *text, size_t len, uint8_t separator, const void *format,
-                           uint64_t *values, size_t capacity, size_t *count)
+result jadvolni_parse_u64_column(const char *text, size_t len, uint8_t separator,
+                                 const void *format, uint64_t *values, size_t capacity,
+                                 size_t *count)
 { (void)text; (void)separator; (void)format; *values = 42; *count = capacity;
   return (result){0, len}; }
 uint32_t jadvolni_format_error(const void *format) { (void)format; return 8; }

@@ -10,7 +10,8 @@ import threading
 import unittest
 
 import jadvolni
-from jadvolni import Format, FormatError, ParseError, parse, parse_column, parse_front, parse_partial
+from jadvolni import (Format, FormatError, ParseError, parse, parse_column, parse_front,
+                      parse_partial)
 
 README = pathlib.Path(__file__).resolve().parents[1] / "README.md"
 

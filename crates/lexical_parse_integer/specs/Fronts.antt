@@ -31,4 +31,5 @@ number_in_front format type text = if_digit (has_digit format type text) (partia
 
 -- the number in front of a text, where the format is valid
 abbrev pub number_in_front_if_valid : Format → IntegerType → List ℕ → Result (ℤ × ℕ) Error
-number_in_front_if_valid format type text = if_valid (fault format) (number_in_front format type text)
+number_in_front_if_valid format type text =
+    if_valid (fault format) (number_in_front format type text)

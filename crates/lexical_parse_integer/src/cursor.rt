@@ -310,7 +310,7 @@ impl<'a> Cursor<'a> {
         }
     }
 
-    // The same, for proofs that take no fact on the cursor apart.
+    // Takes the next digit, under clauses that take no fact on the cursor apart: for the proofs of loops.
     #[inline(always)]
     pub(crate) fn read_digit(&mut self) -> Option<u32>
         requires is_open { self.old.closed ≡ false }

@@ -57,7 +57,7 @@ impl Options {
         }
     }
 
-    /// The same as `new`, whatever the radix is.
+    /// The options of `new`, whatever the radix is.
     pub fn from_radix(_radix: u8) -> Self
         ensures { result ≡ record { no_multi_digit = true } }
     {

@@ -95,7 +95,7 @@ fn partial<T: Integer>(bytes: &[u8], format: &NumberFormat) -> Result<(T, usize)
     }
 }
 
-// The same for every text, in one call as the complete parser.
+// The partial answer for every text, in one call.
 #[inline(never)]
 fn partial_if_valid<T: Integer>(bytes: &[u8], format: &NumberFormat) -> Result<(T, usize)>
     ensures { view_of (with_place T.number) result ≡ partial_if_valid format.now T.TYPE bytes.now }
