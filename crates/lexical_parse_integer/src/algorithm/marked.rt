@@ -3,13 +3,12 @@
 //
 // As under formats without marks, only what is sure is answered: a value that its type has. `None` says nothing: what is
 // left is read from its front.
-ghost use Rattle.std.specs.Prelude.{◌≡◌, ◌<◌, ◌≤◌, ◌||◌, IfSome, IsNone, IsTrue, None, Ok, Some, length, false};
+ghost use Rattle.std.specs.Prelude.{◌≡◌, ◌<◌, ◌≤◌, IfSome, IsNone, IsTrue, None, Ok, Some, length, false};
 ghost use Rattle.lexical_util.specs.Ascii.{letter_x};
 ghost use Rattle.lexical_util.specs.Validity.{fault};
 ghost use Rattle.lexical_parse_integer.specs.Affixes.{marked_radix, octal_zero_at, prefix_radix};
 ghost use Rattle.lexical_parse_integer.specs.Grammar.{complete};
 ghost use Rattle.lexical_parse_integer.specs.Head.{head_of, sign};
-ghost use Rattle.lexical_parse_integer.specs.Plain.{keeps_zero_rule};
 ghost use Rattle.lexical_digits.specs.WrittenNumbers.{StandsFor};
 
 mod threes;
@@ -47,14 +46,6 @@ fn value_in_radix<T: Integer>(digits: &[u8], radix: u32, negative: bool) -> Opti
         16 => value_of_hexadecimal::<T>(digits, negative),
         _ => None,
     }
-}
-
-// Whether no zero stands in front of another digit, where the format forbids that behind such a head.
-#[inline(always)]
-fn keeps_rule_behind(head: Head, format: &NumberFormat, digits: &[u8]) -> bool
-    ensures { result ≡ (head.is_marked || keeps_zero_rule format.now digits.now) }
-{
-    head.is_marked || keeps_zero_rule(format, digits)
 }
 
 // Whether a text begins behind the digit 0, where no sign is asked for: a sign is less, so neither it nor a prefix is there.
@@ -110,7 +101,7 @@ fn value_behind<T: Integer>(bytes: &[u8], format: &NumberFormat, head: Head) -> 
         return None;
     }
     let digits = &bytes[head.start..];
-    if !keeps_rule_behind(head, format, digits) {
+    if !(head.is_marked | keeps_zero_rule(format, digits)) {
         return None;
     }
     value_in_radix::<T>(digits, head.radix, head.is_minus)

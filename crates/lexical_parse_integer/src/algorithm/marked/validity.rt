@@ -49,14 +49,6 @@ fn has_plain_radix(format: &NumberFormat) -> bool
     radix == 10 || (!format.literal_prefixes() && radix >= 2 && radix <= 36)
 }
 
-// Whether a byte stands behind the letters of radix 16, and so is no digit up to there.
-#[inline(always)]
-fn is_past_f(byte: u8) -> bool
-    ensures { IsTrue result → is_unfit_byte 16 byte ≡ false }
-{
-    byte > b'f' && byte < 128
-}
-
 // Whether a format without separator is surely valid: it has a prefix beside hexadecimal digits, or none.
 #[inline(always)]
 pub(super) fn is_valid_without_separator(format: &NumberFormat) -> bool
@@ -68,7 +60,8 @@ pub(super) fn is_valid_without_separator(format: &NumberFormat) -> bool
     }
     match format.base_prefix() {
         Some(prefix) => {
-            format.mantissa_radix() == 16 && !format.literal_prefixes() && is_past_f(prefix)
+            let is_past_digits = prefix > b'f' && prefix < 128;
+            format.mantissa_radix() == 16 && !format.literal_prefixes() && is_past_digits
         }
         None => has_plain_radix(format),
     }

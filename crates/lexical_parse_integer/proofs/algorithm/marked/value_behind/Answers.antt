@@ -1,4 +1,4 @@
-use Rattle.std.proofs.Common.{sym, ◌∙◌}
+use Rattle.std.proofs.Common.{Bool, ap, sym, ◌||◌, ◌∙◌}
 use Rattle.lexical_parse_integer.proofs.marked.MarkedAnswers.{digits_read, head_signed}
 use Rattle.lexical_digits.proofs.LongNumbers.{if_found}
 use Rattle.lexical_parse_integer.proofs.algorithm.marked.value_behind.Goals as goal
@@ -8,5 +8,5 @@ value_in_radix-requires-clause-minus g c = head_signed _ _ c.args.bytes.now _ c.
 
 pub returns : goal.returns
 returns g c =
-    let rule = sym c.keeps_rule_behind.ensures ∙ c.if-not-keeps_rule_behind.false in
+    let rule = ap (λ (b : Bool). c.args.head.is_marked || b) (sym c.keeps_zero_rule.ensures) ∙ c.if-not-head-keeps_zero_rule.false in
     if_found c.value_in_radix.result (λ v stands. digits_read _ _ c.args.bytes.now _ _ c.requires.valid c.requires.head c.if-bytes-head.false rule stands) c.value_in_radix.ensures
