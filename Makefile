@@ -53,7 +53,7 @@ uninstall-lexint:
 	rm -f $(DESTDIR)$(PREFIX)/bin/lexint $(DESTDIR)$(MANDIR)/man1/lexint.1
 
 vendor: ## copies the Rattle crates into your repository: DEST=../yours WITH="lexical_literals lexical_fields lexical_formats"
-	@tools/vendor.sh
+	@packaging/vendor.sh
 
 include tools/lib.mk
 

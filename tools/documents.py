@@ -16,8 +16,8 @@ of it:
 Functions are taken whole, with their doc comments. `all` takes the file's text from its first
 `ghost use` or `use` to its first test; `body of NAME` what stands between a function's braces, up
 to its first assertion; `imports and body of NAME` the file's `use` lines too; and `whole` the
-file's text after the comment that it begins with. `what it stands on` lists a file of definitions
-behind those that it imports, in reading order. With `as CRATE` at the end, `crate::` is that
+file's text after the comment that it begins with, `definitions` that after its imports too. `what
+it stands on` lists a file of definitions behind those that it imports, in reading order. With `as CRATE` at the end, `crate::` is that
 crate's name, as a caller elsewhere writes it.
 """
 from __future__ import annotations
@@ -122,6 +122,8 @@ def block_text(top: str, file: str, what: str) -> str:
         return re.sub(r"\A(?:/\*(?s:.*?)\*/\n|(?://[^\n]*\n)+)", "", text).strip("\n")
     if what == "what it stands on":
         return list_of_definitions(top, file)
+    if what == "definitions":
+        return re.sub(r"\A(?:--[^\n]*\n)+(?:(?:pub )?use [^\n]*\n)+", "", text).strip("\n")
     if what == "all":
         code = re.split(r"(?m)^#\[test\]", text)[0]
         code = re.split(r"(?m)^(?=(?:ghost )?use )", code, maxsplit=1)[-1]

@@ -87,7 +87,6 @@ vendor() {
 
 part lint lint
 part rows python3 tools/rows.py --check
-part lanes tools/lanes.sh
 part tests-of-documents python3 tools/test_documents.py
 part documents python3 tools/documents.py --check
 part house python3 tools/house.py

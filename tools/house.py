@@ -9,6 +9,8 @@
 - A folder has at most 40 files. A `must-fail` folder has as many as there are edits, since edits
   can't stand deeper.
 - Of the parser's proofs other crates cite `ForCallers` alone, whose names stay.
+- The word readers are lanes of std::simd, and name none of the four functions on whole words. No
+  contract can say this, since both ways give the same answers.
 
 It reads all but the folders that runs make. Needs Python 3.8 and nothing else.
 """
@@ -28,6 +30,15 @@ CLAUSE = re.compile(r"\s*(?:(?:requires|ensures|invariant|decreases)\b|ghost \w+
 COMMENT = re.compile(r"\s*(?:--|//)")
 INNER = re.compile(r"\blexical_parse_integer(?:\.|::)proofs(?:\.|::)(?!ForCallers\b)")
 IMPORT = re.compile(r"\s*(?:ghost )?(?:pub )?use ")
+
+# The word readers, what each has to have, and what none may name.
+READERS = {
+    "crates/lexical_parse_integer/src/algorithm/multi.rt": (
+        "match value_of_4lanes(bytes, c.radix())", "match value_of_8lanes(bytes, c.radix())"),
+    "crates/lexical_digits/src/lanes.rt": (
+        "use std::simd::prelude", "u8x4::from_slice(bytes)", "u8x8::from_slice(bytes)"),
+}
+WHOLE_WORDS = re.compile(r"\b(?:is|parse)_[48]digits")
 
 Numbered = Tuple[int, str]
 
@@ -101,10 +112,19 @@ def inner_proofs(names: List[str]) -> Iterator[str]:
                     yield f"{name}:{number}: of the parser's proofs, cite ForCallers alone"
 
 
+def other_readers() -> Iterator[str]:
+    """What word readers lack, or name of whole words."""
+    for name, parts in READERS.items():
+        text = "\n".join(lines_of(name))
+        yield from (f"{name}: a word reader has no {part}" for part in parts if part not in text)
+        yield from (f"{name}: a word reader names {found}" for found in WHOLE_WORDS.findall(text))
+
+
 def main() -> int:
     """Prints what is found, and answers the exit status."""
     names = all_files()
-    found = [*wide_lines(names), *long_files(names), *full_folders(names), *inner_proofs(names)]
+    found = [*wide_lines(names), *long_files(names), *full_folders(names), *inner_proofs(names),
+             *other_readers()]
     clauses = sum(bool(CLAUSE.match(line)) for name in names if name.endswith(".rt")
                   for _, line in clause_lines(lines_of(name)))
     print("\n".join(found) or (

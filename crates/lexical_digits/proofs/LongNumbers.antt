@@ -7,6 +7,7 @@ use Rattle.std.proofs.lemmas.List.{length-drop, length-take-le}
 use Rattle.std.proofs.lemmas.Bool.{lt-ltb}
 use Rattle.std.proofs.lemmas.Bool.Decides.{nat_tests}
 use Rattle.std.proofs.lemmas.Nat.{mul-le}
+use Rattle.std.proofs.Math.Nat.{pow-le-pow_right}
 use Rattle.lexical_util.specs.Number.{HasSign, mul_add, IntegerType, IsNumber, IsWidth, integer_type, number_if_fits, is_number}
 use Rattle.lexical_util.specs.Number.IsWidth.{w8, w16, w32, w64, w128}
 use Rattle.lexical_digits.specs.WrittenNumbers.{StandsFor, WritesDecimal, WritesFront}
@@ -161,14 +162,41 @@ more_digits t r b k count m text value next few s v step fits =
     }
 
 -- sixteen digits more
-pub sixteen_more : (t : IntegerType) (b : Bool) (k m : ℕ) (text : List ℕ) (value next scale rest : ℤ) → k + 16 ≤ length text → StandsFor t 10 b (take k text) value → WritesDecimal 0 (slice_range text k (k + 16)) m →
-    scale ≡ pos 10000000000000000 → rest ≡ pos m → next ≡ mul_add b value scale rest → IsNumber t next → StandsFor t 10 b (take (k + 16) text) next
-sixteen_more t b k m text value next scale rest within s v is_scale is_rest step fits =
+pub sixteen_more : (t : IntegerType) (k m : ℕ) (text : List ℕ) (value next rest : ℤ) → k + 16 ≤ length text → StandsFor t 10 false (take k text) value → WritesDecimal 0 (slice_range text k (k + 16)) m →
+    rest ≡ pos m → next ≡ mul_add false value (pos 10000000000000000) rest → IsNumber t next → StandsFor t 10 false (take (k + 16) text) next
+sixteen_more t k m text value next rest within s v is_rest step fits =
     let size : k + 16 - k ≡ 16 = omega arith in
     let left = length-drop k text in
     let part : WritesDecimal 0 (take 16 (drop k text)) m = subst (λ (n : ℕ). WritesDecimal 0 (take n (drop k text)) m) size v in
-    more_digits t 10 b k 16 m text value next (omega arith) s (decimal_front (take 16 (drop k text)) m part)
-    (step ∙ ap (λ (z : ℤ). mul_add b value z rest) is_scale ∙ ap (λ (z : ℤ). mul_add b value (pos 10000000000000000) z) is_rest) fits
+    more_digits t 10 false k 16 m text value next (omega arith) s (decimal_front (take 16 (drop k text)) m part) (step ∙ ap (λ (z : ℤ). mul_add false value (pos 10000000000000000) z) is_rest) fits
+
+-- types of more than 64 bits have all numbers of up to thirty-two digits
+long_is_number : (bits : ℕ) (signed : Bool) (n : ℕ) → IsWidth bits → 64 < bits → n < 100000000000000000000000000000000 → IsNumber (integer_type bits signed) (pos n)
+long_is_number _ signed n w8 long small = absurd (omega arith)
+long_is_number _ signed n w16 long small = absurd (omega arith)
+long_is_number _ signed n w32 long small = absurd (omega arith)
+long_is_number _ signed n w64 long small = absurd (omega arith)
+long_is_number _ true n w128 long small = lt-ltb n (2 ^ 127) (omega arith)
+long_is_number _ false n w128 long small = lt-ltb n (2 ^ 128) (omega arith)
+
+-- up to sixteen digits and sixteen more
+pub few_fit : (t : IntegerType) (k m : ℕ) (text : List ℕ) (value rest : ℤ) → IsWidth t.bits → 64 < t.bits → k ≤ 16 → StandsFor t 10 false (take k text) value → rest ≡ pos m → m < 10000000000000000 → IsNumber t (mul_add false value (pos 10000000000000000) rest)
+few_fit t k m text value rest width long few s is_rest small =
+    let w = s.writes in
+    let n : ℕ = positional_value 10 w.values in
+    let below : n < 10 ^ length (take k text) = w.below in
+    let most : 10 ^ length (take k text) ≤ 10 ^ 16 = pow-le-pow_right {n = 10} (omega arith) (length-take-most k 16 text few) in
+    let low : n < 10000000000000000 = omega arith in
+    rw (s.worth, w.worth, is_rest) (long_is_number t.bits t.is_signed (n * 10000000000000000 + m) width long (omega arith))
+  where
+    length-take-most : (k m : ℕ) (bytes : List ℕ) → k ≤ m → length (take k bytes) ≤ m
+    length-take-most zero m bytes few = omega arith
+    length-take-most (suc k) m [] few = omega arith
+    length-take-most (suc k) zero (b ∷ bs) few = absurd (omega arith)
+    length-take-most (suc k) (suc m) (b ∷ bs) few = let rest = length-take-most k m bs (omega arith) in omega arith
+
+pub at_least_zero : (t : IntegerType) (text : List ℕ) (value : ℤ) → StandsFor t 10 false text value → pos 0 ≤ℤ value
+at_least_zero t text value s = from_zero value (positional_value 10 s.writes.values) (s.worth ∙ s.writes.worth)
 
 -- a front behind its sign, and a last part
 pub stepped : (b : Bool) (front scale last next : ℤ) (n s m : ℕ) → front ≡ with_sign b n → scale ≡ pos s → last ≡ pos m → next ≡ mul_add b front scale last → next ≡ with_sign b (n * s + m)

@@ -1,7 +1,7 @@
 //! The values of decimal digits, where the type has them.
-ghost use Rattle.std.specs.Prelude.{◌≤ℤ◌, ◌∷◌, [], neg_ℤ, if◌then◌else◌, false, ◌≡◌, ◌+◌, ◌*◌, ◌<◌, ◌≤◌, IfSome, IsTrue, get_or, length, pos};
+ghost use Rattle.std.specs.Prelude.{◌≤ℤ◌, ◌∷◌, [], neg_ℤ, if◌then◌else◌, false, ◌≡◌, ◌+◌, ◌*◌, ◌<◌, ◌≤◌, true, IfSome, IsTrue, get_or, length, pos};
 ghost use Rattle.lexical_util.specs.Ascii.{minus};
-ghost use Rattle.lexical_util.specs.Number.{IsNumber, number_limit};
+ghost use Rattle.lexical_util.specs.Number.{IsNumber, mul_add, number_limit};
 ghost use Rattle.lexical_digits.specs.WrittenNumbers.{StandsFor};
 ghost use Rattle.lexical_digits.specs.Value.{with_sign};
 
@@ -109,6 +109,25 @@ pub fn value_of<T: Integer>(digits: &[u8], negative: bool) -> Option<T>
     value_of_two::<T>(high, low, 100_000_000, negative)
 }
 
+// The number that sixteen digits more make, where the type has it. Behind so few digits no type of 128 bits needs a test.
+#[inline(always)]
+fn with_sixteen<T: Integer>(value: T, rest: T, is_few: bool) -> Option<T>
+    requires bits { 32 < T.TYPE.bits }
+    requires value { pos 0 ≤ℤ T.number value }
+    requires rest { pos 0 ≤ℤ T.number rest }
+    requires few { is_few ≡ true → 64 < T.TYPE.bits → IsNumber T.TYPE
+        (mul_add false (T.number value) (pos 10000000000000000) (T.number rest)) }
+    ensures value { IfSome result (λ next. T.number next
+        ≡ mul_add false (T.number value) (pos 10000000000000000) (T.number rest)) }
+    ensures fits { IfSome result (λ next. IsNumber T.TYPE (T.number next)) }
+{
+    let scale = joined::<T>(100_000_000, 100_000_000, 0);
+    if T::BITS > 64 && is_few {
+        return Some(value.mul_add(scale, rest, false));
+    }
+    value.checked_mul_add(scale, rest, false)
+}
+
 /// The value of any number of digits, behind a minus where that is negative: sixteen by sixteen, and those that are left
 /// over before. It stays out of line, so that the parser of shorter texts is small enough to be held in place.
 #[inline(never)]
@@ -118,14 +137,13 @@ pub fn value_of_long<T: Integer>(digits: &[u8], negative: bool) -> Option<T>
     requires minus { IsTrue negative → IsTrue T.TYPE.is_signed }
     ensures { IfSome result (λ value. StandsFor T.TYPE 10 negative digits.now (T.number value)) }
 {
-    let scale = joined::<T>(100_000_000, 100_000_000, 0);
     let mut place = (digits.len() - 1) % 16 + 1;
-    let mut value = value_of::<T>(&digits[..place], negative)?;
+    let mut value = value_of::<T>(&digits[..place], false)?;
     while place < digits.len() {
         let (high, low) = numbers_to_16(&digits[place..place + 16])?;
         let rest = joined::<T>(high, 100_000_000, low);
-        value = value.checked_mul_add(scale, rest, negative)?;
+        value = with_sixteen::<T>(value, rest, place <= 16)?;
         place += 16;
     }
-    Some(value)
+    Some(signed_value::<T>(value, negative))
 }

@@ -148,3 +148,28 @@ optional = record standard { digit_separator = Some 95; integer_leading_digit_se
 lone_prefix : (complete optional u8 (48 ∷ 120 ∷ 95 ∷ []) ≡ Ok (pos 0)) × (complete optional u8 (48 ∷ 120 ∷ []) ≡ Err (Empty 2))
 unfolding grammar
 lone_prefix = (refl, refl)
+
+-- ---- JSON's texts: `-12` is what is printed of -12, and `-0` is read too
+
+minus_twelve : (complete json i16 (45 ∷ 49 ∷ 50 ∷ []) ≡ Ok (negsuc 11)) × (complete json i16 (45 ∷ 48 ∷ []) ≡ Ok (pos 0))
+unfolding grammar
+minus_twelve = (refl, refl)
+
+-- under the standard format `+7` is 7, which is printed otherwise
+plus_seven : complete standard u8 (43 ∷ 55 ∷ []) ≡ Ok (pos 7)
+unfolding grammar
+plus_seven = refl
+
+-- ---- letter case: `0xFf` and `0XfF` are 255
+
+two_five_five : (complete hexadecimal u8 (48 ∷ 120 ∷ 70 ∷ 102 ∷ []) ≡ Ok (pos 255)) × (complete hexadecimal u8 (48 ∷ 88 ∷ 102 ∷ 70 ∷ []) ≡ Ok (pos 255))
+unfolding grammar
+two_five_five = (refl, refl)
+
+-- a letter as a separator is compared exactly: `1x0` is 10, and `1X0` no integer
+abbrev parted_by_x : Format
+parted_by_x = record standard { digit_separator = Some 120; integer_internal_digit_separator = true }
+
+one_x_zero : (complete parted_by_x u8 (49 ∷ 120 ∷ 48 ∷ []) ≡ Ok (pos 10)) × (complete parted_by_x u8 (49 ∷ 88 ∷ 48 ∷ []) ≡ Err (InvalidDigit 1))
+unfolding grammar
+one_x_zero = (refl, refl)

@@ -13,3 +13,5 @@ pub mod OtherTypes
 pub mod LooserFormats
 pub mod DeadPlaces
 pub mod WithoutSeparators
+pub mod Canonical
+pub mod LetterCase

@@ -1,10 +1,12 @@
 -- What keeps a value, and what rules one out.
-use Rattle.std.specs.Prelude.{◌≡◌, ◌≢◌, ◌⊎◌, ◌+◌, ℕ, Bool, true, not, List, filter, None, ℤ, Result, Ok, Err}
+use Rattle.std.specs.Char.{is_ascii_alphabetic}
+use Rattle.std.specs.Prelude.{false, map, Some, ◌≡◌, ◌≢◌, ◌⊎◌, ◌+◌, ℕ, Bool, true, not, List, filter, None, ℤ, Result, Ok, Err}
 use Rattle.std.specs.Bool.{⊤}
 use Rattle.lexical_util.specs.declared.error.Error.{Error}
 use Rattle.lexical_util.specs.declared.error.Error.TheVariants.{Overflow, Underflow}
 use Rattle.lexical_util.specs.Format.{Format}
 use Rattle.lexical_util.specs.Number.{IntegerType}
+use Rattle.lexical_util.specs.Validity.{lower_case}
 use Rattle.lexical_parse_integer.specs.Grammar.{complete}
 use Rattle.lexical_parse_integer.specs.Laws.{SameFront}
 use Rattle.lexical_laws.specs.Integer.{is_separator}
@@ -65,3 +67,16 @@ IsDead format type text place =
 -- a text without the bytes that are the separator
 abbrev pub without_separators : Format → List ℕ → List ℕ
 without_separators format text = filter (λ byte. not (is_separator format byte)) text
+
+-- ---- letter case
+
+-- two texts are the same but for letter case
+abbrev pub AreAlike : List ℕ → List ℕ → Type 0
+AreAlike text other = map lower_case text ≡ map lower_case other
+
+-- A format looks at no letter case: neither its prefix nor its suffix does, and its separator is no letter.
+pub record IgnoresCase (format : Format) : Type 0 where
+  pub prefix : format.case_sensitive_base_prefix ≡ false
+  pub suffix : format.case_sensitive_base_suffix ≡ false
+  pub separator : (byte : ℕ) → format.digit_separator ≡ Some byte
+      → is_ascii_alphabetic byte ≡ false

@@ -3,17 +3,18 @@
 //! A law is a call whose contract says what always holds. A proof that needs one calls it and has its clauses.
 #![tactic(auto)]
 
-ghost use Rattle.std.specs.Prelude.{◌≡◌, ◌↔◌, ◌<◌, Err, false, IsNone, length, List, Ok, Some, true, ℕ, ℤ};
+ghost use Rattle.std.specs.Prelude.{◌≡◌, ◌↔◌, ◌<◌, ◌≤◌, ◌⊎◌, codes, Err, false, IsNone, length, List, Ok, Some, true, ℕ, ℤ};
+ghost use Rattle.std.specs.Fmt.{signed_decimal};
 ghost use Rattle.lexical_laws.specs.Integer.{IsInteger};
-ghost use Rattle.lexical_laws.specs.Keeping.{AdmitsMore, Implies, IsDead, IsRangeFault, without_separators};
+ghost use Rattle.lexical_laws.specs.Keeping.{AdmitsMore, AreAlike, IgnoresCase, Implies, IsDead, IsRangeFault, without_separators};
 ghost use Rattle.lexical_util.specs.Faults.{place_of};
 ghost use Rattle.lexical_util.specs.declared.error.Error.{Error};
 ghost use Rattle.lexical_parse_integer.specs.Grammar.{complete, digits_required};
-ghost use Rattle.lexical_util.specs.Format.{Format};
+ghost use Rattle.lexical_util.specs.Format.{Format, json};
 ghost use Rattle.lexical_util.specs.Number.{IntegerType, is_number};
 ghost use Rattle.lexical_util.specs.Validity.{fault};
 
-use lexical_parse_integer::laws::grammar::{complete_by_partial, locality};
+use lexical_parse_integer::laws::grammar::{complete_by_partial, locality, numerals};
 
 /// What an integer is: the complete parser reads a text as a value exactly where the text is made of a sign, a prefix,
 /// a body and a suffix that may stand there, and the body's digits are worth the value.
@@ -75,4 +76,27 @@ pub fn separators()
         → IsNone (fault format) → format.literal_octal_zero ≡ false
         → digits_required format ≡ true → complete format type text ≡ Ok value
         → complete format type (without_separators format text) ≡ Ok value }
+{}
+
+/// JSON's texts are canonical: a text that is read under `format::JSON` is what std prints of its value, or `-0`.
+///
+/// So signatures and keys of caches may be made of texts: but for `-0`, value and text go one to one, since what is
+/// printed is read back (`laws::numeral`).
+pub fn json_texts()
+    ensures { (type : IntegerType) (text : List ℕ) (value : ℤ) → type.bits ≤ 128
+        → complete json type text ≡ Ok value
+        → (text ≡ signed_decimal value) ⊎ (text ≡ codes "-0") }
+{
+    numerals();
+}
+
+/// Letter case counts for nothing: two texts that are the same but for it have the same value, under a valid format
+/// whose prefix and suffix look at no letter case, and whose separator is no letter.
+///
+/// In radix 16 with the prefix `x`, `0xFf` and `0XfF` are both 255. With the separator `x`, `1x0` may be 10, but `1X0`
+/// is no integer.
+pub fn letter_case()
+    ensures { (format : Format) (type : IntegerType) (text other : List ℕ) (value : ℤ)
+        → IsNone (fault format) → IgnoresCase format → AreAlike other text
+        → complete format type text ≡ Ok value → complete format type other ≡ Ok value }
 {}

@@ -14,11 +14,6 @@ is_digit_in radix bytes place = is_some (digit (get_or bytes place 0) radix)
 abbrev pub digits_among : ℕ → List ℕ → List ℕ
 digits_among radix bytes = filter_map (λ byte. digit byte radix) bytes
 
--- each byte is a digit of the radix
-abbrev pub AreDigitsOnly : ℕ → List ℕ → Type 0
-AreDigitsOnly radix bytes =
-    (place : ℕ) → place < length bytes → is_digit_in radix bytes place ≡ true
-
 -- Each byte is a digit of the radix or a separator that the format admits between digits; the first byte and the last
 -- are digits; and where no two separators may stand side by side, a digit follows each.
 pub record AreGrouped (format : Format) (radix : ℕ) (bytes : List ℕ) : Type 0 where

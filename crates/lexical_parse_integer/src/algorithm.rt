@@ -207,15 +207,12 @@ fn partial_out_of_line<T: Integer>(bytes: &[u8], format: &NumberFormat) -> Resul
 
 // ---- under the standard format, whose fields the compiler then folds into the code
 
-// The complete answer for a text that no quick way reads: mostly a fault.
+// The complete answer for a text that no quick way reads.
 #[inline(never)]
 fn standard_whole<T: Integer>(bytes: &[u8]) -> Result<T>
     ensures { view_of T.number result ≡ complete standard T.TYPE bytes.now }
 {
-    match fault_of_overflow::<T>(bytes) {
-        Some(fault) => Err(fault),
-        None => complete_from_front::<T>(bytes, &format::STANDARD),
-    }
+    complete_from_front::<T>(bytes, &format::STANDARD)
 }
 
 // The complete answer for a text that isn't digits alone behind a minus or none. The place for an answer through memory is
@@ -224,8 +221,13 @@ fn standard_whole<T: Integer>(bytes: &[u8]) -> Result<T>
 pub(crate) fn standard_complete<T: Integer>(bytes: &[u8]) -> Result<T>
     ensures { view_of T.number result ≡ complete standard T.TYPE bytes.now }
 {
-    if let Some(value) = value_behind_plus::<T>(bytes) {
-        return Ok(value);
+    if !bytes.is_empty() && bytes[0] == b'+' {
+        if let Some(value) = value_behind_plus::<T>(bytes) {
+            return Ok(value);
+        }
+    }
+    if let Some(fault) = fault_of_overflow::<T>(bytes) {
+        return Err(fault);
     }
     match place_after_digits::<T>(bytes) {
         Some(place) => Err(Error::InvalidDigit(place)),

@@ -1,15 +1,16 @@
 -- The digits among bytes that stand in a text, and what values are known of them.
-use Rattle.std.proofs.Common.{◌≡◌, ℕ, zero, suc, ◌+◌, ◌-◌, ◌<◌, Bool, true, false, List, [], ◌∷◌, length, get_or, map, filter, refl, sym, ap, ◌∙◌, subst, arith, Option, Some, None, is_some, option_and_then}
+use Rattle.std.proofs.Common.{◌≡◌, ℕ, zero, suc, ◌+◌, ◌-◌, ◌<◌, Bool, true, false, List, [], ◌∷◌, length, get_or, map, filter, refl, sym, ap, ◌∙◌, arith, Option, Some, None, is_some, option_and_then}
 use Rattle.std.specs.Prelude.{ℤ, neg_ℤ, pos, if◌then◌else◌}
 use Rattle.std.specs.List.{range_with_len}
 use Rattle.std.specs.Option.{unwrap_or}
 use Rattle.std.proofs.Math.Seq.{take-length}
+use Rattle.std.proofs.lemmas.Bool.{false≢true}
 use Rattle.lexical_util.specs.Digit.{digit}
-use Rattle.lexical_util.specs.Number.{IntegerType, IsNumber}
-use Rattle.lexical_parse_integer.specs.Marked.{AreDigitsOnly, AreWorth, digits_among}
+use Rattle.lexical_util.specs.Number.{IntegerType}
+use Rattle.lexical_parse_integer.specs.Marked.{AreGrouped, AreWorth, digits_among, is_digit_in}
 use Rattle.lexical_digits.specs.WrittenNumbers.{StandsFor}
 use Rattle.lexical_parse_integer.specs.Runs.{digit_at, separator_at, are_same}
-use Rattle.lexical_digits.specs.Value.{positional_value, with_sign}
+use Rattle.lexical_digits.specs.Value.{positional_value}
 use Rattle.lexical_util.specs.Format.{Format}
 use Rattle.lexical_parse_integer.proofs.words.WordsInTexts.{StandsAt}
 use Rattle.lexical_digits.proofs.DigitValues.{HaveDigits}
@@ -48,7 +49,11 @@ values_between r text (c ∷ cs) start s =
 
 -- ---- digits alone
 
-pub among_all : (r : ℕ) (bytes ds : List ℕ) → HaveDigits r bytes ds → digits_among r bytes ≡ ds
+-- each byte is a digit
+abbrev pub AreDigitsOnly : ℕ → List ℕ → Type 0
+AreDigitsOnly radix bytes = (place : ℕ) → place < length bytes → is_digit_in radix bytes place ≡ true
+
+among_all : (r : ℕ) (bytes ds : List ℕ) → HaveDigits r bytes ds → digits_among r bytes ≡ ds
 among_all r [] [] all = refl
 among_all r [] (d ∷ ds) all = cc
 among_all r (c ∷ cs) [] all = cc
@@ -58,28 +63,32 @@ among_all r (c ∷ cs) (d ∷ ds) all =
     let rest = among_all r cs ds more in
     rw (here, rest) refl
 
-pub digits_only : (r : ℕ) (bytes ds : List ℕ) → HaveDigits r bytes ds → AreDigitsOnly r bytes
-digits_only r [] ds all place l = absurd (omega arith)
-digits_only r (c ∷ cs) [] all place l = cc
-digits_only r (c ∷ cs) (d ∷ ds) all zero l = let here : digit c r ≡ Some d = cc in ap is_some here
-digits_only r (c ∷ cs) (d ∷ ds) all (suc place) l = let more : HaveDigits r cs ds = cc in digits_only r cs ds more place (omega arith)
+all_digits : (r : ℕ) (bytes ds : List ℕ) → HaveDigits r bytes ds → AreDigitsOnly r bytes
+all_digits r [] ds all place l = absurd (omega arith)
+all_digits r (c ∷ cs) [] all place l = cc
+all_digits r (c ∷ cs) (d ∷ ds) all zero l = let here : digit c r ≡ Some d = cc in ap is_some here
+all_digits r (c ∷ cs) (d ∷ ds) all (suc place) l = let more : HaveDigits r cs ds = cc in all_digits r cs ds more place (omega arith)
 
--- digits by the table
-table_have : (t : IntegerType) (r : ℕ) (negative : Bool) (bytes : List ℕ) (value : ℤ) (s : StandsFor t r negative bytes value) → HaveDigits r bytes s.writes.values
-table_have t r negative bytes value s = ap (map (λ byte. digit byte r)) (sym (take-length bytes)) ∙ s.writes.digits
+module _ (t : IntegerType) (r : ℕ) (negative : Bool) (bytes : List ℕ) (value : ℤ) (s : StandsFor t r negative bytes value) where
+  have : HaveDigits r bytes s.writes.values
+  have = ap (map (λ byte. digit byte r)) (sym (take-length bytes)) ∙ s.writes.digits
 
-pub table_only : (t : IntegerType) (r n : ℕ) (negative : Bool) (bytes : List ℕ) (value : ℤ) → r ≡ n → StandsFor t n negative bytes value → AreDigitsOnly r bytes
-table_only t r n negative bytes value same s = subst (λ (m : ℕ). AreDigitsOnly m bytes) (sym same) (digits_only n bytes s.writes.values (table_have t n negative bytes value s))
+  pub digits_alone : AreDigitsOnly r bytes
+  digits_alone = all_digits r bytes s.writes.values have
 
-pub table_worth : (t : IntegerType) (r n : ℕ) (negative : Bool) (bytes : List ℕ) (value : ℤ) → r ≡ n → StandsFor t n negative bytes value → AreWorth t r negative bytes value
-table_worth t r n negative bytes value same s =
-    let among : digits_among n bytes ≡ s.writes.values = among_all n bytes s.writes.values (table_have t n negative bytes value s) in
-    let worth : value ≡ with_sign negative (positional_value n (digits_among n bytes)) = s.worth ∙ ap (λ (z : ℤ). if negative then neg_ℤ z else z) (s.writes.worth ∙ ap (λ (ds : List ℕ). pos (positional_value n ds)) (sym among)) in
-    subst (λ (m : ℕ). AreWorth t m negative bytes value) (sym same) (record { worth = worth; fits = s.fits })
+  pub digits_worth : AreWorth t r negative bytes value
+  digits_worth = record {
+    worth = s.worth ∙ ap (λ (z : ℤ). if negative then neg_ℤ z else z) (s.writes.worth ∙ ap (λ (ds : List ℕ). pos (positional_value r ds)) (sym (among_all r bytes s.writes.values have)));
+    fits = s.fits;
+  }
 
--- decimal digits
-pub words_only : (t : IntegerType) (r : ℕ) (negative : Bool) (bytes : List ℕ) (value : ℤ) → r ≡ 10 → StandsFor t 10 negative bytes value → AreDigitsOnly r bytes
-words_only t r negative bytes value ten s = table_only t r 10 negative bytes value ten s
-
-pub words_worth : (t : IntegerType) (r : ℕ) (negative : Bool) (bytes : List ℕ) (value : ℤ) → r ≡ 10 → StandsFor t 10 negative bytes value → AreWorth t r negative bytes value
-words_worth t r negative bytes value ten s = table_worth t r 10 negative bytes value ten s
+-- they are groups too
+pub row_grouped : (f : Format) (r : ℕ) (bytes : List ℕ) → 0 < length bytes → AreDigitsOnly r bytes → AreGrouped f r bytes
+row_grouped f r bytes some all = record {
+  separators = λ k l none. absurd (false≢true (sym none ∙ all k l));
+  internal = λ k l none. absurd (false≢true (sym none ∙ all k l));
+  some = some;
+  first = all 0 some;
+  last = all (length bytes - 1) (omega arith);
+  alone = λ e k l none. all (k + 1) l;
+}

@@ -1,6 +1,6 @@
 -- What the parsers answer where a numeral of digits, with separators between them, stands behind sign and prefix.
 use Rattle.std.proofs.Common.{◌≡◌, ℕ, ◌+◌, ◌-◌, ◌<◌, ◌≤◌, Bool, true, false, not, ◌&&◌, ◌||◌, cond, List, [], ◌∷◌, ◌++◌, length, refl, sym, ap, ◌∙◌, subst, arith, Option, Some, None, IsNone, is_some, Ok, Err, Result}
-use Rattle.std.specs.Prelude.{◌==◌, nat_le, nat_lt, slice_index, slice_range, ℤ, IfSome}
+use Rattle.std.specs.Prelude.{◌==◌, nat_le, nat_lt, slice_get, slice_index, slice_range, ℤ, IfSome}
 use Rattle.std.proofs.Math.Bool.{and-false}
 use Rattle.std.proofs.lemmas.Bool.{eqb-true, false≢true, le-ltb, lt-ltb, ne_eqb}
 use Rattle.std.proofs.lemmas.Bool.Decides.{nat_tests}
@@ -12,18 +12,19 @@ use Rattle.lexical_util.specs.Digit.{digit}
 use Rattle.lexical_util.specs.Format.{Format}
 use Rattle.lexical_util.specs.Number.{IntegerType, is_number}
 use Rattle.lexical_util.specs.Validity.{fault}
-use Rattle.lexical_parse_integer.specs.Affixes.{is_affix, numeral_stop, octal_zero_at, prefix_radix, suffix_at}
+use Rattle.lexical_parse_integer.specs.Affixes.{is_affix, marked_radix, numeral_stop, octal_zero_at, prefix_radix, suffix_at}
 use Rattle.lexical_parse_integer.specs.Grammar.{common_faults, complete, complete_faults, fault_if, first_fault_or, prefix_fault, range_fault, zero_fault}
 use Rattle.lexical_parse_integer.specs.Head.{Head, head_after, head_behind, head_of, sign}
-use Rattle.lexical_parse_integer.specs.Marked.{AreDigitsOnly, AreGrouped, AreWorth, digits_among, is_digit_in, stop_after}
+use Rattle.lexical_parse_integer.specs.Marked.{AreGrouped, AreWorth, digits_among, is_digit_in, stop_after}
 use Rattle.lexical_parse_integer.specs.Numeral.{Numeral, digit_count, numeral_in, numeral_value}
 use Rattle.lexical_parse_integer.specs.Plain.{keeps_zero_rule}
-use Rattle.lexical_parse_integer.specs.Runs.{digits_between, end_of, is_in_numeral, places}
+use Rattle.lexical_parse_integer.specs.Runs.{are_same, digits_between, end_of, is_in_numeral, places}
 use Rattle.lexical_digits.specs.Value.{positional_value, with_sign}
+use Rattle.lexical_digits.specs.WrittenNumbers.{StandsFor}
 use Rattle.lexical_parse_integer.proofs.grammar.FrontValues.{fitting_fault}
 use Rattle.lexical_parse_integer.proofs.grammar.NumeralEnd.{belongs_other}
 use Rattle.lexical_parse_integer.proofs.grammar.RangeOfFronts.{shorter_fronts_fit}
-use Rattle.lexical_parse_integer.proofs.marked.DigitsAmong.{values_between}
+use Rattle.lexical_parse_integer.proofs.marked.DigitsAmong.{digits_alone, digits_worth, row_grouped, values_between}
 use Rattle.lexical_parse_integer.proofs.marked.GroupedNumerals.{grouped_end}
 use Rattle.lexical_parse_integer.proofs.reading.FormatBytes.{IsFit, fits, fits_octal, fits_prefix}
 use Rattle.lexical_parse_integer.proofs.reading.NumeralSteps.{places_count}
@@ -84,17 +85,6 @@ head_bare f t text s octal r signed none octal_is radix_is =
     let told : head_of f t text ≡ Ok (record { is_minus = s.0; is_marked = octal_zero_at f text s.1; start = s.1; radix = cond (octal_zero_at f text s.1) 8 f.mantissa_radix }) = rw (signed, none') refl in
     told ∙ ap (λ (b : Bool). Ok (record { is_minus = s.0; is_marked = b; start = s.1; radix = cond b 8 f.mantissa_radix })) (sym octal_is)
     ∙ ap (λ (n : ℕ). Ok (record { is_minus = s.0; is_marked = octal; start = s.1; radix = n })) (sym radix_is)
-
--- digits alone are grouped
-pub row_grouped : (f : Format) (r : ℕ) (bytes : List ℕ) → 0 < length bytes → AreDigitsOnly r bytes → AreGrouped f r bytes
-row_grouped f r bytes some all = record {
-  separators = λ k l none. absurd (false≢true (sym none ∙ all k l));
-  internal = λ k l none. absurd (false≢true (sym none ∙ all k l));
-  some = some;
-  first = all 0 some;
-  last = all (length bytes - 1) (omega arith);
-  alone = λ e k l none. all (k + 1) l;
-}
 
 -- ---- the numeral
 
@@ -274,50 +264,54 @@ no_suffix_past f text = rw (slice_get_past text (length text) (omega arith)) (by
     by_suffix (Some byte) = refl
     by_suffix None = refl
 
--- ---- what the parts of the code say
+-- ---- the whole text behind its head
 
 -- what follows from two facts of a value that was found
 pub if_both : {X : Type 0} {P Q R : X → Type 0} (found : Option X) → ((x : X) → P x → Q x → R x) → IfSome found P → IfSome found Q → IfSome found R
 if_both None step p q = tt
 if_both (Some x) step p q = step x p q
 
--- the region of a text, and what was found there
-pub region_read : (f : Format) (t : IntegerType) (text : List ℕ) (h : Head) (end : ℕ) (value : ℤ) → IsNone (fault f) → head_of f t text ≡ Ok h → h.start < end → end ≤ length text → stop_after f text end ≡ length text →
-    (h.is_marked || keeps_zero_rule f (slice_range text h.start end)) ≡ true → AreGrouped f h.radix (slice_range text h.start end) → AreWorth t h.radix h.is_minus (slice_range text h.start end) value → complete f t text ≡ Ok value
-region_read f t text h end value valid head some within reached rule grouped worth =
-    let size : h.start + (end - h.start) ≡ end = omega arith in
-    let stands : StandsAt text (slice_range text h.start end) h.start = subst (λ (k : ℕ). StandsAt text (slice_range text h.start k) h.start) size (stands_ahead text h.start (end - h.start) (omega arith)) in
-    let count : length (slice_range text h.start end) ≡ end - h.start = subst (λ (k : ℕ). length (slice_range text h.start k) ≡ end - h.start) size (length-ahead text h.start (end - h.start) (omega arith)) in
-    let place : h.start + length (slice_range text h.start end) ≡ end = omega arith in
-    let m : IsMarked f t text h (slice_range text h.start end) value = record { head = head; fit = fits_head f t text h valid head; stands = stands; grouped = grouped; rule = rule; worth = worth } in
-    whole_marked f t text h (slice_range text h.start end) value m (ap (stop_after f text) place ∙ reached)
+-- a format that has none lets no prefix and no octal zero stand
+pub no_prefix : (f : Format) (text : List ℕ) (place : ℕ) → f.base_prefix ≡ None → f.literal_prefixes ≡ false → None ≡ prefix_radix f text place
+unfolding prefix_radix marked_radix is_affix
+no_prefix f text place none off = by_zero (are_same (Some 48) (slice_get text place)) (slice_get text (place + 1))
+  where
+    by_zero : (b : Bool) (c : Option ℕ) → None ≡ cond b (marked_radix f c) None
+    by_zero false c = refl
+    by_zero true None = rw (none, off) refl
+    by_zero true (Some byte) = rw (none, off) refl
 
--- the same for digits alone
-pub row_read : (f : Format) (t : IntegerType) (text : List ℕ) (h : Head) (end : ℕ) (value : ℤ) → IsNone (fault f) → head_of f t text ≡ Ok h → h.start < end → end ≤ length text → stop_after f text end ≡ length text →
-    (h.is_marked || keeps_zero_rule f (slice_range text h.start end)) ≡ true → AreDigitsOnly h.radix (slice_range text h.start end) → AreWorth t h.radix h.is_minus (slice_range text h.start end) value → complete f t text ≡ Ok value
-row_read f t text h end value valid head some within reached rule all worth =
-    let size : h.start + (end - h.start) ≡ end = omega arith in
-    let count : length (slice_range text h.start end) ≡ end - h.start = subst (λ (k : ℕ). length (slice_range text h.start k) ≡ end - h.start) size (length-ahead text h.start (end - h.start) (omega arith)) in
-    region_read f t text h end value valid head some within reached rule (row_grouped f h.radix (slice_range text h.start end) (omega arith) all) worth
-
--- the same up to the text's end, behind a prefix
-pub prefixed_read : (f : Format) (t : IntegerType) (text : List ℕ) (s : Bool × ℕ) (r : ℕ) (value : ℤ) → IsNone (fault f) → sign f t text ≡ Ok s → Some r ≡ prefix_radix f text s.1 → s.1 + 2 < length text →
-    AreDigitsOnly r (slice_range text (s.1 + 2) (length text)) → AreWorth t r s.0 (slice_range text (s.1 + 2) (length text)) value → complete f t text ≡ Ok value
-prefixed_read f t text s r value valid signed here some all worth =
-    row_read f t text _ (length text) value valid (head_marked f t text s r signed here) some (omega arith) (no_suffix_past f text) refl all worth
-
-no_octal_zero : (f : Format) (text : List ℕ) (place : ℕ) → f.literal_octal_zero ≡ false → false ≡ octal_zero_at f text place
+pub no_octal_zero : (f : Format) (text : List ℕ) (place : ℕ) → f.literal_octal_zero ≡ false → false ≡ octal_zero_at f text place
 unfolding octal_zero_at
 no_octal_zero f text place off = rw off refl
 
--- the same without a prefix, and without octal zeros
-pub bare_read : (f : Format) (t : IntegerType) (text : List ℕ) (s : Bool × ℕ) (r : ℕ) (value : ℤ) → IsNone (fault f) → f.literal_octal_zero ≡ false → sign f t text ≡ Ok s → None ≡ prefix_radix f text s.1 → s.1 < length text → r ≡ f.mantissa_radix →
-    keeps_zero_rule f (slice_range text s.1 (length text)) ≡ true → AreDigitsOnly r (slice_range text s.1 (length text)) → AreWorth t r s.0 (slice_range text s.1 (length text)) value → complete f t text ≡ Ok value
-bare_read f t text s r value valid off signed none some same rule all worth =
-    row_read f t text _ (length text) value valid (head_bare f t text s false r signed none (no_octal_zero f text s.1 off) same) some (omega arith) (no_suffix_past f text) rule all worth
+pub valid_from : (o : Option Error) → o ≡ None → IsNone o
+valid_from o e = rw e refl
 
--- the same in radix 10, where separators stand between the digits
-pub bare_groups_read : (f : Format) (t : IntegerType) (text : List ℕ) (s : Bool × ℕ) (value : ℤ) → IsNone (fault f) → f.mantissa_radix ≡ 10 → f.literal_octal_zero ≡ false → sign f t text ≡ Ok s → None ≡ prefix_radix f text s.1 → s.1 < length text →
-    keeps_zero_rule f (slice_range text s.1 (length text)) ≡ true → AreGrouped f 10 (slice_range text s.1 (length text)) → AreWorth t 10 s.0 (slice_range text s.1 (length text)) value → complete f t text ≡ Ok value
-bare_groups_read f t text s value valid ten off signed none some rule grouped worth =
-    region_read f t text _ (length text) value valid (head_bare f t text s false 10 signed none (no_octal_zero f text s.1 off) (sym ten)) some (omega arith) (no_suffix_past f text) rule grouped worth
+-- groups of digits
+pub groups_read : (f : Format) (t : IntegerType) (text : List ℕ) (h : Head) (value : ℤ) (r : ℕ) → IsNone (fault f) → head_of f t text ≡ Ok h → h.radix ≡ r → h.start < length text →
+    (h.is_marked || keeps_zero_rule f (slice_range text h.start (length text))) ≡ true → AreGrouped f r (slice_range text h.start (length text)) → AreWorth t r h.is_minus (slice_range text h.start (length text)) value → complete f t text ≡ Ok value
+groups_read f t text h value r valid head radix some rule grouped worth =
+    let bytes : List ℕ = slice_range text h.start (length text) in
+    let size : h.start + (length text - h.start) ≡ length text = omega arith in
+    let stands : StandsAt text bytes h.start = subst (λ (k : ℕ). StandsAt text (slice_range text h.start k) h.start) size (stands_ahead text h.start (length text - h.start) (omega arith)) in
+    let count : length bytes ≡ length text - h.start = subst (λ (k : ℕ). length (slice_range text h.start k) ≡ length text - h.start) size (length-ahead text h.start (length text - h.start) (omega arith)) in
+    let place : h.start + length bytes ≡ length text = omega arith in
+    let m : IsMarked f t text h bytes value = record {
+      head = head;
+      fit = fits_head f t text h valid head;
+      stands = stands;
+      grouped = subst (λ (n : ℕ). AreGrouped f n bytes) (sym radix) grouped;
+      rule = rule;
+      worth = subst (λ (n : ℕ). AreWorth t n h.is_minus bytes value) (sym radix) worth;
+    } in
+    whole_marked f t text h bytes value m (ap (stop_after f text) place ∙ no_suffix_past f text)
+
+-- digits alone
+pub digits_read : (f : Format) (t : IntegerType) (text : List ℕ) (h : Head) (value : ℤ) → IsNone (fault f) → head_of f t text ≡ Ok h → h.start < length text →
+    (h.is_marked || keeps_zero_rule f (slice_range text h.start (length text))) ≡ true → StandsFor t h.radix h.is_minus (slice_range text h.start (length text)) value → complete f t text ≡ Ok value
+digits_read f t text h value valid head some rule stands =
+    let bytes : List ℕ = slice_range text h.start (length text) in
+    let size : h.start + (length text - h.start) ≡ length text = omega arith in
+    let count : length bytes ≡ length text - h.start = subst (λ (k : ℕ). length (slice_range text h.start k) ≡ length text - h.start) size (length-ahead text h.start (length text - h.start) (omega arith)) in
+    groups_read f t text h value h.radix valid head refl some rule (row_grouped f h.radix bytes (omega arith) (digits_alone t h.radix h.is_minus bytes value stands)) (digits_worth t h.radix h.is_minus bytes value stands)

@@ -6,13 +6,14 @@ use Rattle.std.proofs.lemmas.List.{get_or-drop, get_or-take, length-take-le}
 use Rattle.lexical_util.specs.Digit.{digit}
 use Rattle.lexical_util.specs.Format.{Format}
 use Rattle.lexical_util.specs.Number.{IntegerType, IsNumber, mul_add}
-use Rattle.lexical_parse_integer.specs.Marked.{AreDigitsOnly, AreGrouped, AreWorth, digits_among, is_digit_in}
+use Rattle.lexical_parse_integer.specs.Marked.{AreGrouped, AreWorth, digits_among, is_digit_in}
 use Rattle.lexical_digits.specs.WrittenNumbers.{bytes_number}
 use Rattle.lexical_digits.specs.Value.{positional_value, with_sign}
 use Rattle.lexical_digits.specs.Words.{AreDigits, word_bytes, word_value}
 use Rattle.lexical_digits.proofs.ShiftedWords.{half_bytes}
 use Rattle.lexical_digits.proofs.AsciiDigits.{ascii_from_digits, digit_from}
 use Rattle.lexical_digits.proofs.DigitValues.{positional_value-push, with_sign-step}
+use Rattle.lexical_parse_integer.proofs.marked.DigitsAmong.{AreDigitsOnly}
 use Rattle.lexical_parse_integer.proofs.marked.PartedFronts.{IsParted, digit_parted, more_among, parted_grouped, separator_parted}
 
 -- digits alone

@@ -1,24 +1,23 @@
-// Whole texts under formats with one mark: few digits behind a prefix, or digits with a separator before each three.
+// Whole texts under formats with marks: digits alone, or decimal digits with a separator before each three, behind a sign
+// and a prefix.
 //
 // As under formats without marks, only what is sure is answered: a value that its type has. `None` says nothing: what is
 // left is read from its front.
-ghost use Rattle.std.specs.Prelude.{◌≡◌, ◌<◌, ◌≤◌, IfSome, IsNone, IsTrue, None, Ok, Some, false, length, true};
+ghost use Rattle.std.specs.Prelude.{◌≡◌, ◌<◌, ◌≤◌, ◌||◌, IfSome, IsNone, IsTrue, None, Ok, Some, length, false};
+ghost use Rattle.lexical_util.specs.Ascii.{letter_x};
 ghost use Rattle.lexical_util.specs.Validity.{fault};
-ghost use Rattle.lexical_parse_integer.specs.Affixes.{prefix_radix};
+ghost use Rattle.lexical_parse_integer.specs.Affixes.{marked_radix, octal_zero_at, prefix_radix};
 ghost use Rattle.lexical_parse_integer.specs.Grammar.{complete};
-ghost use Rattle.lexical_parse_integer.specs.Head.{sign};
-ghost use Rattle.lexical_parse_integer.specs.Marked.{AreDigitsOnly, AreWorth};
+ghost use Rattle.lexical_parse_integer.specs.Head.{head_of, sign};
+ghost use Rattle.lexical_parse_integer.specs.Plain.{keeps_zero_rule};
 ghost use Rattle.lexical_digits.specs.WrittenNumbers.{StandsFor};
 
-pub(crate) mod lone_mark;
-pub(crate) mod prefixed;
 mod threes;
+pub(crate) mod validity;
 
-use crate::affixes::prefix_radix;
-use crate::algorithm::front::sign_of;
-use crate::algorithm::marked::lone_mark::is_valid_with_separator;
-use crate::algorithm::marked::prefixed::is_bare;
+use crate::algorithm::front::{Head, head_of, sign_of};
 use crate::algorithm::marked::threes::value_of_threes;
+use crate::algorithm::marked::validity::{is_valid_with_separator, is_valid_without_separator};
 use crate::algorithm::plain::keeps_zero_rule;
 use lexical_digits::fronts::value_of_digits;
 use lexical_digits::nibbles::value_of_nibbles;
@@ -38,90 +37,154 @@ fn value_of_hexadecimal<T: Integer>(digits: &[u8], negative: bool) -> Option<T>
 
 // The value of digits of radix 10 or 16 alone.
 #[inline(always)]
-fn value_of_short_row<T: Integer>(digits: &[u8], radix: u32, negative: bool) -> Option<T>
+fn value_in_radix<T: Integer>(digits: &[u8], radix: u32, negative: bool) -> Option<T>
     requires some { 1 ≤ length digits.now }
     requires minus { IsTrue negative → IsTrue T.TYPE.is_signed }
-    ensures digits { IfSome result (λ value. AreDigitsOnly radix digits.now) }
-    ensures worth { IfSome result
-        (λ value. AreWorth T.TYPE radix negative digits.now (T.number value)) }
+    ensures { IfSome result (λ value. StandsFor T.TYPE radix negative digits.now (T.number value)) }
 {
-    if radix == 10 {
-        return value_of_digits::<T>(digits, negative);
+    match radix {
+        10 => value_of_digits::<T>(digits, negative),
+        16 => value_of_hexadecimal::<T>(digits, negative),
+        _ => None,
     }
-    if radix == 16 {
-        return value_of_hexadecimal::<T>(digits, negative);
-    }
-    None
 }
 
-// The value of the whole text behind its sign, where that is decimal digits with a separator before each three.
+// Whether no zero stands in front of another digit, where the format forbids that behind such a head.
 #[inline(always)]
-fn value_of_threes_behind_sign<T: Integer>(
-    bytes: &[u8],
-    format: &NumberFormat,
-    separator: u8,
-    signed: (bool, usize),
-) -> Option<T>
-    requires valid { IsNone (fault format.now) }
-    requires decimal { format.now.mantissa_radix ≡ 10 }
-    requires octal_zeros { format.now.literal_octal_zero ≡ false }
-    requires separator { format.now.digit_separator ≡ Some separator }
-    requires internal { format.now.integer_internal_digit_separator ≡ true }
-    requires sign { sign format.now T.TYPE bytes.now ≡ Ok signed }
-    requires prefix { None ≡ prefix_radix format.now bytes.now signed.1 }
-    ensures { IfSome result (λ value. complete format.now T.TYPE bytes.now ≡ Ok (T.number value)) }
+fn keeps_rule_behind(head: Head, format: &NumberFormat, digits: &[u8]) -> bool
+    ensures { result ≡ (head.is_marked || keeps_zero_rule format.now digits.now) }
 {
-    if T::BITS < 32 || bytes.len() <= signed.1 {
-        return None;
-    }
-    let digits = &bytes[signed.1..];
-    if !keeps_zero_rule(format, digits) {
-        return None;
-    }
-    value_of_threes::<T>(digits, format, separator, signed.0)
+    head.is_marked || keeps_zero_rule(format, digits)
 }
 
-// The same where the sign is still to be read: out of line, for texts that aren't as most are.
-#[inline(never)]
-fn value_of_threes_with_sign<T: Integer>(
-    bytes: &[u8],
-    format: &NumberFormat,
-    separator: u8,
-) -> Option<T>
-    requires some { 0 < length bytes.now }
-    requires valid { IsNone (fault format.now) }
-    requires decimal { format.now.mantissa_radix ≡ 10 }
-    requires octal_zeros { format.now.literal_octal_zero ≡ false }
-    requires separator { format.now.digit_separator ≡ Some separator }
-    requires internal { format.now.integer_internal_digit_separator ≡ true }
-    ensures { IfSome result (λ value. complete format.now T.TYPE bytes.now ≡ Ok (T.number value)) }
+// Whether a text begins behind the digit 0, where no sign is asked for: a sign is less, so neither it nor a prefix is there.
+#[inline(always)]
+#[tactic(auto, unfolding(crate::specs::Head::sign, crate::specs::Affixes::prefix_radix, crate::specs::Affixes::octal_zero_at, crate::specs::Runs::are_same))]
+fn is_bare<T: Integer>(bytes: &[u8], format: &NumberFormat) -> bool
+    ensures sign { IsTrue result → sign format.now T.TYPE bytes.now ≡ Ok (false, 0) }
+    ensures prefix { IsTrue result → None ≡ prefix_radix format.now bytes.now 0 }
+    ensures octal_zero { IsTrue result → false ≡ octal_zero_at format.now bytes.now 0 }
 {
-    let Ok(signed) = sign_of::<T>(bytes, format) else {
-        return None;
-    };
-    match prefix_radix(bytes, format, signed.1) {
-        Some(_) => None,
-        None => value_of_threes_behind_sign::<T>(bytes, format, separator, signed),
+    !bytes.is_empty() && bytes[0] > b'0' && !format.required_mantissa_sign()
+}
+
+// Whether `x` behind a zero puts radix 16 in force.
+#[inline(always)]
+#[tactic(auto, unfolding(crate::specs::Affixes::marked_radix, crate::specs::Affixes::is_affix, crate::specs::Affixes::matches, crate::specs::Affixes::literal_radix))]
+fn is_x_hexadecimal(format: &NumberFormat) -> bool
+    ensures { IsTrue result → marked_radix format.now (Some letter_x) ≡ Some 16 }
+{
+    match format.base_prefix() {
+        Some(prefix) => prefix == b'x' && format.mantissa_radix() == 16,
+        None => format.literal_prefixes(),
     }
 }
 
-// The value of the whole text under a format that may be invalid, where it has a separator alone.
+// Whether a text begins with `0x`, which puts radix 16 in force, where no sign is asked for.
+#[inline(always)]
+#[tactic(auto, unfolding(crate::specs::Head::sign, crate::specs::Affixes::prefix_radix, crate::specs::Runs::are_same))]
+fn is_behind_x<T: Integer>(bytes: &[u8], format: &NumberFormat) -> bool
+    ensures sign { IsTrue result → sign format.now T.TYPE bytes.now ≡ Ok (false, 0) }
+    ensures prefix { IsTrue result → Some 16 ≡ prefix_radix format.now bytes.now 0 }
+{
+    bytes.len() > 2
+        && bytes[0] == b'0'
+        && bytes[1] == b'x'
+        && is_x_hexadecimal(format)
+        && !format.required_mantissa_sign()
+}
+
+// The value of the whole text behind its head, where that is digits alone.
+#[inline(always)]
+fn value_behind<T: Integer>(bytes: &[u8], format: &NumberFormat, head: Head) -> Option<T>
+    requires valid { IsNone (fault format.now) }
+    requires head { head_of format.now T.TYPE bytes.now ≡ Ok (record {
+      is_minus = head.is_minus;
+      is_marked = head.is_marked;
+      start = head.start;
+      radix = head.radix;
+    }) }
+    ensures { IfSome result (λ value. complete format.now T.TYPE bytes.now ≡ Ok (T.number value)) }
+{
+    if bytes.len() <= head.start {
+        return None;
+    }
+    let digits = &bytes[head.start..];
+    if !keeps_rule_behind(head, format, digits) {
+        return None;
+    }
+    value_in_radix::<T>(digits, head.radix, head.is_minus)
+}
+
+// The same where the head is still to be read: out of line, for texts that don't begin as most do.
 #[inline(never)]
-pub(crate) fn value_if_between_separators<T: Integer>(
-    bytes: &[u8],
-    format: &NumberFormat,
-    separator: u8,
-) -> Option<T>
-    requires separator { format.now.digit_separator ≡ Some separator }
+fn value_behind_any_head<T: Integer>(bytes: &[u8], format: &NumberFormat) -> Option<T>
+    requires { IsNone (fault format.now) }
+    ensures { IfSome result (λ value. complete format.now T.TYPE bytes.now ≡ Ok (T.number value)) }
+{
+    match head_of::<T>(bytes, format) {
+        Ok(head) => value_behind::<T>(bytes, format, head),
+        Err(_) => None,
+    }
+}
+
+// The value of the whole text under a format without separator that may be invalid, where digits alone stand behind its
+// head.
+#[inline(never)]
+pub(crate) fn value_of_row<T: Integer>(bytes: &[u8], format: &NumberFormat) -> Option<T>
+    requires { format.now.digit_separator ≡ None }
     ensures valid { IfSome result (λ value. IsNone (fault format.now)) }
     ensures answer { IfSome result
         (λ value. complete format.now T.TYPE bytes.now ≡ Ok (T.number value)) }
 {
-    if bytes.is_empty() || !is_valid_with_separator(format, separator) {
+    if !is_valid_without_separator(format) {
         return None;
     }
-    if is_bare::<T>(bytes, format) {
-        return value_of_threes_behind_sign::<T>(bytes, format, separator, (false, 0));
+    if is_behind_x::<T>(bytes, format) {
+        let head = Head {
+            is_minus: false,
+            is_marked: true,
+            start: 2,
+            radix: 16,
+        };
+        return value_behind::<T>(bytes, format, head);
     }
-    value_of_threes_with_sign::<T>(bytes, format, separator)
+    if is_bare::<T>(bytes, format) {
+        let head = Head {
+            is_minus: false,
+            is_marked: false,
+            start: 0,
+            radix: format.mantissa_radix(),
+        };
+        return value_behind::<T>(bytes, format, head);
+    }
+    value_behind_any_head::<T>(bytes, format)
+}
+
+// The value of the whole text under a format with a separator that may be invalid, where decimal digits with a separator
+// before each three stand behind its sign.
+#[inline(never)]
+pub(crate) fn value_of_groups<T: Integer>(
+    bytes: &[u8],
+    format: &NumberFormat,
+    separator: u8,
+) -> Option<T>
+    requires { format.now.digit_separator ≡ Some separator }
+    ensures valid { IfSome result (λ value. IsNone (fault format.now)) }
+    ensures answer { IfSome result
+        (λ value. complete format.now T.TYPE bytes.now ≡ Ok (T.number value)) }
+{
+    if T::BITS < 32
+        || !is_valid_with_separator(format, separator)
+        || !format.integer_internal_digit_separator()
+    {
+        return None;
+    }
+    let Ok((is_minus, start)) = sign_of::<T>(bytes, format) else {
+        return None;
+    };
+    if bytes.len() <= start || !keeps_zero_rule(format, &bytes[start..]) {
+        return None;
+    }
+    value_of_threes::<T>(&bytes[start..], format, separator, is_minus)
 }

@@ -5,9 +5,8 @@ ghost use Rattle.lexical_parse_integer.specs.Answer.{with_place, view_of};
 ghost use Rattle.lexical_parse_integer.specs.Grammar.{complete, complete_if_valid, partial_if_valid};
 
 use crate::algorithm::front::{complete_from_front, partial_from_front};
-use crate::algorithm::marked::lone_mark::fault_of;
-use crate::algorithm::marked::prefixed::{value_if_behind_prefix, value_if_literal};
-use crate::algorithm::marked::value_if_between_separators;
+use crate::algorithm::marked::validity::fault_of;
+use crate::algorithm::marked::{value_of_groups, value_of_row};
 use crate::algorithm::plain::{
     front_if_plain, is_plain, value_if_plain, value_if_short, value_of_plain,
 };
@@ -27,36 +26,30 @@ struct Call<'a> {
     format: &'a NumberFormat,
 }
 
-// The complete answer under a format that may be invalid. A short decimal text is read in place.
-#[inline(always)]
-fn complete<T: Integer>(bytes: &[u8], format: &NumberFormat) -> Result<T>
-    ensures { view_of T.number result ≡ complete_if_valid format.now T.TYPE bytes.now }
-{
-    match value_if_short::<T>(bytes, format) {
-        Some(value) => Ok(value),
-        None => complete_by_kind::<T>(bytes, format),
-    }
-}
-
-// The same by the reader for the format's kind, and by one call for what that leaves.
-#[inline(always)]
-fn complete_by_kind<T: Integer>(bytes: &[u8], format: &NumberFormat) -> Result<T>
-    ensures { view_of T.number result ≡ complete_if_valid format.now T.TYPE bytes.now }
-{
-    let call = Call { bytes, format };
-    match value_by_kind::<T>(bytes, format) {
-        Some(value) => Ok(value),
-        None => complete_otherwise::<T>(&call),
-    }
-}
-
-// The same for a text that this leaves. The place for its answer is made ready here, and so not for a value.
+// The complete answer for a text that the quick ways leave. The place for its answer is made ready here, and so not for a
+// value.
 #[inline(always)]
 fn complete_otherwise<T: Integer>(call: &Call<'_>) -> Result<T>
     ensures { view_of T.number result
         ≡ complete_if_valid call.now.format.now T.TYPE call.now.bytes.now }
 {
     complete_if_valid::<T>(call)
+}
+
+// The complete answer under a format that may be invalid: a short decimal text is read in place, and else there is a reader
+// for the format's kind, and one call for what that leaves.
+#[inline(always)]
+fn complete<T: Integer>(bytes: &[u8], format: &NumberFormat) -> Result<T>
+    ensures { view_of T.number result ≡ complete_if_valid format.now T.TYPE bytes.now }
+{
+    if let Some(value) = value_if_short::<T>(bytes, format) {
+        return Ok(value);
+    }
+    let call = Call { bytes, format };
+    match value_by_kind::<T>(bytes, format) {
+        Some(value) => Ok(value),
+        None => complete_otherwise::<T>(&call),
+    }
 }
 
 // The value of the whole text, by a reader for each kind of format, where `value_if_short` has left it. Each is a call that
@@ -68,26 +61,15 @@ fn value_by_kind<T: Integer>(bytes: &[u8], format: &NumberFormat) -> Option<T>
         (λ value. complete format.now T.TYPE bytes.now ≡ Ok (T.number value)) }
 {
     if !is_plain(format) {
-        return value_beside_marks::<T>(bytes, format);
+        return match format.digit_separator() {
+            Some(separator) => value_of_groups::<T>(bytes, format, separator),
+            None => value_of_row::<T>(bytes, format),
+        };
     }
     if format.mantissa_radix() == 10 && bytes.len() <= 16 {
         return None;
     }
     value_of_plain::<T>(bytes, format)
-}
-
-// The same under a format with marks. It stays out of line, so that the test of all marks needn't keep which they are.
-#[inline(never)]
-fn value_beside_marks<T: Integer>(bytes: &[u8], format: &NumberFormat) -> Option<T>
-    ensures valid { IfSome result (λ value. IsNone (fault format.now)) }
-    ensures answer { IfSome result
-        (λ value. complete format.now T.TYPE bytes.now ≡ Ok (T.number value)) }
-{
-    match format.digit_separator() {
-        Some(separator) => value_if_between_separators::<T>(bytes, format, separator),
-        None if format.has_base_prefix() => value_if_behind_prefix::<T>(bytes, format),
-        None => value_if_literal::<T>(bytes, format),
-    }
 }
 
 // The complete answer in one call, out of line.

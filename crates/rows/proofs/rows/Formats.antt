@@ -84,6 +84,14 @@ broken_punctuation_fault : FaultsAre (
     (record standard { base_prefix = Some 122; base_suffix = Some 90 }, Some InvalidPunctuation) ∷
     -- also where other fields tell the cases apart
     (record standard { base_prefix = Some 120; base_suffix = Some 88; case_sensitive_base_prefix = true; case_sensitive_base_suffix = true }, Some InvalidPunctuation) ∷
+    (record standard { digit_separator = Some 120; base_prefix = Some 120 }, Some InvalidPunctuation) ∷
+    (record standard { digit_separator = Some 120; base_suffix = Some 120 }, Some InvalidPunctuation) ∷
+    (record standard { base_prefix = Some 120; base_suffix = Some 120 }, Some InvalidPunctuation) ∷
+    (record standard { digit_separator = Some 88; base_prefix = Some 120 }, Some InvalidPunctuation) ∷
+    (record standard { digit_separator = Some 88; base_suffix = Some 120 }, Some InvalidPunctuation) ∷
+    (record standard { base_prefix = Some 88; base_suffix = Some 120 }, Some InvalidPunctuation) ∷
+    (record standard { digit_separator = Some 95; base_suffix = Some 95 }, Some InvalidPunctuation) ∷
+    (record standard { base_prefix = Some 95; base_suffix = Some 95 }, Some InvalidPunctuation) ∷
     [])
 unfolding grammar
 broken_punctuation_fault = refl
@@ -104,6 +112,7 @@ broken_literals_fault : FaultsAre (
     (record standard { literal_prefixes = true; digit_separator = Some 97 }, Some InvalidLiteralPrefixes) ∷
     (record standard { literal_prefixes = true; digit_separator = Some 88 }, Some InvalidLiteralPrefixes) ∷
     (record standard { literal_prefixes = true; base_prefix = Some 120; base_suffix = Some 88 }, Some InvalidPunctuation) ∷
+    (record standard { literal_prefixes = true; mantissa_radix = 37; base_prefix = Some 100 }, Some InvalidMantissaRadix) ∷
     (record standard { literal_prefixes = true; digit_separator = Some 95; base_suffix = Some 117 }, None) ∷
     (record standard { literal_prefixes = true }, None) ∷
     (record standard { literal_prefixes = true; digit_separator = Some 103; base_suffix = Some 121 }, None) ∷
@@ -129,6 +138,8 @@ broken_octal_zeros_fault : FaultsAre (
     (record standard { literal_octal_zero = true; literal_prefixes = true; base_prefix = Some 100 }, Some InvalidLiteralPrefixes) ∷
     (record standard { literal_octal_zero = true; mantissa_radix = 16; base_prefix = Some 120; base_suffix = Some 88 }, Some InvalidPunctuation) ∷
     (record standard { literal_octal_zero = true; mantissa_radix = 37 }, Some InvalidMantissaRadix) ∷
+    (record standard { literal_octal_zero = true; mantissa_radix = 37; base_prefix = Some 100 }, Some InvalidMantissaRadix) ∷
+    (record standard { literal_octal_zero = true; digit_separator = Some 97; base_prefix = Some 120; base_suffix = Some 111 }, None) ∷
     (record standard { literal_octal_zero = true; mantissa_radix = 16; base_suffix = Some 102 }, Some InvalidBaseSuffix) ∷
     [])
 unfolding grammar
@@ -215,6 +226,17 @@ valid_punctuation_fault : FaultsAre (
     -- letters alone have two cases
     (record standard { base_prefix = Some 91; base_suffix = Some 123 }, None) ∷
     (record standard { base_prefix = Some 64; base_suffix = Some 96 }, None) ∷
+    (record standard { mantissa_radix = 16; digit_separator = Some 103 }, None) ∷
+    (record standard { digit_separator = Some 120; base_prefix = Some 121 }, None) ∷
+    (record standard { digit_separator = Some 120; base_suffix = Some 121 }, None) ∷
+    (record standard { base_prefix = Some 120; base_suffix = Some 121 }, None) ∷
+    (record standard { digit_separator = Some 91; base_prefix = Some 123 }, None) ∷
+    (record standard { digit_separator = Some 91; base_suffix = Some 123 }, None) ∷
+    (record standard { digit_separator = Some 95; base_prefix = Some 127 }, None) ∷
+    (record standard { digit_separator = Some 95; base_suffix = Some 127 }, None) ∷
+    (record standard { base_prefix = Some 95; base_suffix = Some 127 }, None) ∷
+    (record standard { digit_separator = Some 64; base_prefix = Some 96 }, None) ∷
+    (record standard { digit_separator = Some 64; base_suffix = Some 96 }, None) ∷
     [])
 unfolding grammar
 valid_punctuation_fault = refl

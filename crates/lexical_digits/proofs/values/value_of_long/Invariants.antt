@@ -1,11 +1,10 @@
-use Rattle.std.proofs.Common.{◌≡◌, ◌≤◌, ◌-◌, ◌%◌, length, take, pos}
+use Rattle.std.proofs.Common.{◌≡◌, ◌≤◌, ◌-◌, ◌%◌, false, length, take}
 use Rattle.lexical_digits.specs.WrittenNumbers.{StandsFor}
 use Rattle.lexical_digits.proofs.values.value_of_long.Given as goal
 
 abbrev pub invariant-loop-place : goal.invariant-loop-place
 invariant-loop-place g l = record {
-  writes : StandsFor g.T.Integer.TYPE 10 l.negative (take l.place l.digits) (g.T.Integer.number l.value);
-  scale : g.T.Integer.number l.scale ≡ pos 10000000000000000;
+  writes : StandsFor g.T.Integer.TYPE 10 false (take l.place l.digits) (g.T.Integer.number l.value);
   within : l.place ≤ length l.digits;
   sixteens : (length l.digits - l.place) % 16 ≡ 0;
 }

@@ -20,25 +20,45 @@ fn state(c: &Cursor<'_>) -> (usize, usize, usize, bool) {
     (c.cursor(), c.start(), c.digits(), c.is_closed())
 }
 
+// A cursor is in this state.
+fn stands(rt: &impl Abort, c: &Cursor<'_>, want: (usize, usize, usize, bool)) {
+    answers(rt, state(c), want);
+}
+
+// A cursor that read nothing shows these of its text and its format.
+fn shows(rt: &impl Abort, c: &Cursor<'_>, length: usize, first: Option<u8>, is_contiguous: bool) {
+    stands(rt, c, (0, 0, 0, false));
+    let text = (c.buffer_length(), c.is_buffer_empty(), c.first());
+    answers(rt, text, (length, length == 0, first));
+    answers(rt, (c.radix(), c.is_contiguous()), (10, is_contiguous));
+}
+
 #[test]
 fn a_new_cursor_shows_its_text(rt: HostRuntime) {
     let format = with_all_parts();
     assert!(rt; format.is_valid());
     let c = Cursor::new(b"+0x1_23h.", &format);
-    answers(&rt, state(&c), (0, 0, 0, false));
-    answers(&rt, c.buffer_length(), 9);
-    answers(&rt, c.is_buffer_empty(), false);
-    answers(&rt, Cursor::new(b"", &format).is_buffer_empty(), true);
-    answers(&rt, c.first(), Some(b'+'));
-    answers(&rt, c.radix(), 10);
+    shows(&rt, &c, 9, Some(b'+'), false);
     answers(&rt, c.format(), format);
-    answers(&rt, c.is_contiguous(), false);
-    answers(&rt, Cursor::new(b"", &STANDARD).is_contiguous(), true);
+    shows(&rt, &Cursor::new(b"", &format), 0, None, false);
+    shows(&rt, &Cursor::new(b"", &STANDARD), 0, None, true);
 }
 
-// A cursor is in this state.
-fn stands(rt: &impl Abort, c: &Cursor<'_>, want: (usize, usize, usize, bool)) {
-    answers(rt, state(c), want);
+// The cursor gives this digit, or none, and is in this state then.
+fn gives(
+    rt: &impl Abort,
+    c: &mut Cursor<'_>,
+    digit: Option<u32>,
+    want: (usize, usize, usize, bool),
+) {
+    assert!(rt; !c.is_closed());
+    answers(rt, c.next_digit(), digit);
+    stands(rt, c, want);
+}
+
+fn has_suffix(rt: &impl Abort, c: &mut Cursor<'_>, want: bool) {
+    assert!(rt; !c.is_closed());
+    answers(rt, c.read_suffix(), want);
 }
 
 #[test]
@@ -50,16 +70,13 @@ fn a_cursor_reads_part_by_part(rt: HostRuntime) {
     stands(&rt, &c, (1, 1, 0, false));
     assert!(rt; c.read_prefix());
     stands(&rt, &c, (3, 3, 0, false));
-    answers(&rt, c.next_digit(), Some(1));
-    stands(&rt, &c, (4, 3, 1, false));
+    gives(&rt, &mut c, Some(1), (4, 3, 1, false));
     answers(&rt, c.first(), Some(b'_'));
-    answers(&rt, c.next_digit(), Some(2));
-    stands(&rt, &c, (6, 3, 2, false));
-    assert!(rt; !c.read_suffix());
-    answers(&rt, c.next_digit(), Some(3));
-    answers(&rt, c.next_digit(), None);
-    stands(&rt, &c, (7, 3, 3, false));
-    assert!(rt; c.read_suffix());
+    gives(&rt, &mut c, Some(2), (6, 3, 2, false));
+    has_suffix(&rt, &mut c, false);
+    gives(&rt, &mut c, Some(3), (7, 3, 3, false));
+    gives(&rt, &mut c, None, (7, 3, 3, false));
+    has_suffix(&rt, &mut c, true);
     stands(&rt, &c, (8, 3, 3, true));
     answers(&rt, c.first(), Some(b'.'));
 }

@@ -16,62 +16,7 @@ use lexical_parse_integer::parse::ParseInteger;
 use lexical_parse_integer::{
     Error, FromLexical, FromLexicalWithOptions, NumberFormat, NumberFormatBuilder, Options, Result,
 };
-use lexical_util::num::Integer;
-use std::fmt::Debug;
 use std::process::Abort;
-
-// What each type answers alike: a number of five digits, and the same behind a plus.
-fn five_digits<T: Integer + Debug>(rt: &impl Abort, value: T) {
-    let plain = algorithm_partial::<T>(b"12345", &STANDARD, &SMALL_NUMBERS);
-    answers(rt, plain, Ok((value, 5)));
-    let plus = algorithm_partial::<T>(b"+12345", &STANDARD, &SMALL_NUMBERS);
-    answers(rt, plus, Ok((value, 6)));
-}
-
-#[test]
-fn partial_answers_of_unsigned_types(rt: HostRuntime) {
-    five_digits::<u32>(&rt, 12345);
-    five_digits::<u128>(&rt, 12345);
-    let text = b"-12345";
-    answers(
-        &rt,
-        algorithm_partial::<u32>(text, &STANDARD, &SMALL_NUMBERS),
-        Ok((0, 0)),
-    );
-    answers(
-        &rt,
-        algorithm_partial::<u128>(text, &STANDARD, &SMALL_NUMBERS),
-        Ok((0, 0)),
-    );
-}
-
-#[test]
-fn partial_answers_of_signed_types(rt: HostRuntime) {
-    five_digits::<i32>(&rt, 12345);
-    five_digits::<i128>(&rt, 12345);
-    let minus = b"-12345";
-    answers(
-        &rt,
-        algorithm_partial::<i32>(minus, &STANDARD, &SMALL_NUMBERS),
-        Ok((-12345, 6)),
-    );
-    answers(
-        &rt,
-        algorithm_partial::<i128>(minus, &STANDARD, &SMALL_NUMBERS),
-        Ok((-12345, 6)),
-    );
-    let dot = b"+123.45";
-    answers(
-        &rt,
-        algorithm_partial::<i32>(dot, &STANDARD, &SMALL_NUMBERS),
-        Ok((123, 4)),
-    );
-    answers(
-        &rt,
-        algorithm_partial::<i128>(dot, &STANDARD, &SMALL_NUMBERS),
-        Ok((123, 4)),
-    );
-}
 
 #[test]
 fn parsers_of_a_type(rt: HostRuntime) {
@@ -79,31 +24,34 @@ fn parsers_of_a_type(rt: HostRuntime) {
     answers(&rt, answer, Err(Error::Overflow(19)));
     let front = u64::parse_partial(b"1234 }, {\"Key\"", &STANDARD, &SMALL_NUMBERS);
     answers(&rt, front, Ok((1234, 4)));
+    let dot = algorithm_partial::<i128>(b"+123.45", &STANDARD, &SMALL_NUMBERS);
+    answers(&rt, dot, Ok((123, 4)));
     let json = algorithm_complete::<i32>(b"-01", &JSON, &LARGE_NUMBERS);
     answers(&rt, json, Err(Error::InvalidLeadingZeros(1)));
 }
 
 // At an answer the cursor stands behind the suffix, and counts the digits alone.
+fn whole_stands(rt: &impl Abort, format: &NumberFormat, options: &Options) {
+    assert!(rt; format.is_valid());
+    let mut c = Cursor::new(b"-0x1_2h", format);
+    let answer = algorithm_complete_on::<i32>(&mut c, options);
+    answers(rt, (answer, c.cursor(), c.digits()), (Ok(-12), 7, 2));
+}
+
+fn front_stands(rt: &impl Abort, format: &NumberFormat, options: &Options) {
+    assert!(rt; format.is_valid());
+    let mut c = Cursor::new(b"-0x1_2hh", format);
+    let answer = algorithm_partial_on::<i32>(&mut c, options);
+    answers(rt, (answer, c.cursor(), c.digits()), (Ok((-12, 7)), 7, 2));
+}
+
 #[test]
 fn cursors_stand_where_reading_stops(rt: HostRuntime) {
     let format = with_all_parts();
-    assert!(rt; format.is_valid());
-    for options in [SMALL_NUMBERS, LARGE_NUMBERS] {
-        let mut whole = Cursor::new(b"-0x1_2h", &format);
-        answers(
-            &rt,
-            algorithm_complete_on::<i32>(&mut whole, &options),
-            Ok(-12),
-        );
-        answers(&rt, (whole.cursor(), whole.digits()), (7, 2));
-        let mut front = Cursor::new(b"-0x1_2hh", &format);
-        answers(
-            &rt,
-            algorithm_partial_on::<i32>(&mut front, &options),
-            Ok((-12, 7)),
-        );
-        answers(&rt, (front.cursor(), front.digits()), (7, 2));
-    }
+    whole_stands(&rt, &format, &SMALL_NUMBERS);
+    whole_stands(&rt, &format, &LARGE_NUMBERS);
+    front_stands(&rt, &format, &SMALL_NUMBERS);
+    front_stands(&rt, &format, &LARGE_NUMBERS);
 }
 
 // The number of the whole text and of its front, by what the bound says of the type alone.

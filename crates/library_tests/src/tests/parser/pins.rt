@@ -10,6 +10,7 @@ use lexical_parse_integer::algorithm::algorithm_complete_on;
 use lexical_parse_integer::cursor::Cursor;
 use lexical_parse_integer::format::{JSON, STANDARD};
 use lexical_parse_integer::options::LARGE_NUMBERS;
+
 // What a reader passed before its fault: the cursor is still over the text that it was given.
 fn passed_before_fault(text: &[u8]) -> Option<&[u8]>
     ensures { IfSome result
@@ -68,18 +69,29 @@ fn first_digit(text: &[u8]) -> Option<(u32, usize)>
     Some((digit, c.cursor() - 1))
 }
 
+// The callers run. What is pinned is in their clauses.
+
 #[test]
-fn words_of_contracts_are_pinned(rt: HostRuntime) {
-    answers(
-        &rt,
-        passed_before_fault(b"655361"),
-        Some(b"65536".as_slice()),
-    );
+fn a_fault_leaves_the_text(rt: HostRuntime) {
+    let front = passed_before_fault(b"655361");
+    answers(&rt, front, Some(b"65536".as_slice()));
     answers(&rt, passed_before_fault(b"7"), None);
+}
+
+#[test]
+fn an_answer_leaves_the_format(rt: HostRuntime) {
     answers(&rt, format_behind_answer(b"7", &JSON), JSON);
     answers(&rt, format_behind_answer(b"+7", &JSON), JSON);
-    answers(&rt, digits_at_front(&Cursor::new(b"7", &STANDARD)), 0);
-    answers(&rt, radix_anywhere(&Cursor::new(b"7", &STANDARD)), 10);
+}
+
+#[test]
+fn a_new_cursor_has_read_nothing(rt: HostRuntime) {
+    let c = Cursor::new(b"7", &STANDARD);
+    answers(&rt, (digits_at_front(&c), radix_anywhere(&c)), (0, 10));
+}
+
+#[test]
+fn no_digit_is_before_the_first(rt: HostRuntime) {
     answers(&rt, first_digit(b"7"), Some((7, 0)));
     answers(&rt, first_digit(b"x7"), None);
 }

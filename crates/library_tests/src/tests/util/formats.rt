@@ -130,19 +130,8 @@ fn ready_made_formats(rt: HostRuntime) {
     answers(&rt, JSON, json.build_strict());
 }
 
-type Marks = (u8, Option<u8>, Option<u8>, Option<u8>);
-
-// `STANDARD` with this radix, separator, prefix and suffix.
-fn marked((radix, separator, prefix, suffix): Marks) -> NumberFormatBuilder {
-    NumberFormatBuilder::new()
-        .mantissa_radix(radix)
-        .digit_separator(separator)
-        .base_prefix(prefix)
-        .base_suffix(suffix)
-}
-
 // The first rule that the builder's format breaks.
-fn builder_breaks(rt: &impl Abort, builder: NumberFormatBuilder, want: Option<Error>) {
+fn breaks(rt: &impl Abort, builder: NumberFormatBuilder, want: Option<Error>) {
     let format = builder.build_unchecked();
     let valid = want.is_none();
     answers(
@@ -157,127 +146,23 @@ fn builder_breaks(rt: &impl Abort, builder: NumberFormatBuilder, want: Option<Er
     );
 }
 
-fn breaks(rt: &impl Abort, marks: Marks, want: Option<Error>) {
-    builder_breaks(rt, marked(marks), want);
-}
-
-fn breaks_with_literals(rt: &impl Abort, marks: Marks, want: Option<Error>) {
-    builder_breaks(rt, marked(marks).literal_prefixes(true), want);
-}
-
-fn breaks_with_octal_zero(rt: &impl Abort, marks: Marks, want: Option<Error>) {
-    builder_breaks(rt, marked(marks).literal_octal_zero(true), want);
-}
-
-// Two marks in each of the three pairs that there are.
-fn pair_breaks(rt: &impl Abort, mark: u8, other: u8, want: Option<Error>) {
-    let (mark, other) = (Some(mark), Some(other));
-    breaks(rt, (10, mark, other, None), want);
-    breaks(rt, (10, mark, None, other), want);
-    breaks(rt, (10, None, mark, other), want);
-}
-
+// A format for each rule: tools/rows.txt has more.
 #[test]
-fn the_radix_is_judged_first(rt: HostRuntime) {
+fn the_first_broken_rule_is_told(rt: HostRuntime) {
+    let new = NumberFormatBuilder::new();
     let radix = Some(Error::InvalidMantissaRadix);
-    breaks(&rt, (0, None, None, None), radix);
-    breaks(&rt, (1, None, None, None), radix);
-    breaks(&rt, (2, None, None, None), None);
-    breaks(&rt, (36, None, None, None), None);
-    breaks(&rt, (37, None, None, None), radix);
-    breaks(&rt, (1, Some(b'+'), None, None), radix);
-    breaks(&rt, (37, None, Some(b'+'), None), radix);
-    breaks(&rt, (0, None, None, Some(b'-')), radix);
-    breaks(&rt, (1, None, Some(b'x'), Some(b'X')), radix);
-}
-
-#[test]
-fn the_separator_is_judged_next(rt: HostRuntime) {
+    breaks(&rt, new, None);
+    breaks(&rt, new.mantissa_radix(37).base_prefix(Some(b'+')), radix);
     let separator = Some(Error::InvalidDigitSeparator);
-    breaks(&rt, (10, Some(128), None, None), separator);
-    breaks(&rt, (10, Some(b'+'), None, None), separator);
-    breaks(&rt, (10, Some(b'-'), None, None), separator);
-    breaks(&rt, (10, Some(b'5'), None, None), separator);
-    breaks(&rt, (16, Some(b'a'), None, None), separator);
-    breaks(&rt, (16, Some(b'F'), None, None), separator);
-    breaks(&rt, (16, Some(b'g'), None, None), None);
-    breaks(&rt, (10, Some(b'+'), None, Some(b'-')), separator);
-    breaks(&rt, (10, Some(b'+'), Some(b'0'), None), separator);
-    breaks(&rt, (10, Some(b'5'), Some(b'x'), Some(b'X')), separator);
-    let flag_alone = NumberFormatBuilder::new().integer_internal_digit_separator(true);
-    answers(&rt, flag_alone.is_valid(), true);
-}
-
-#[test]
-fn prefix_and_suffix_are_judged_then(rt: HostRuntime) {
+    breaks(&rt, new.digit_separator(Some(b'+')), separator);
     let prefix = Some(Error::InvalidBasePrefix);
+    breaks(&rt, new.base_prefix(Some(b'0')), prefix);
     let suffix = Some(Error::InvalidBaseSuffix);
-    breaks(&rt, (10, None, Some(b'0'), None), prefix);
-    breaks(&rt, (10, None, Some(b'-'), Some(b'9')), prefix);
-    breaks(&rt, (10, Some(b'x'), Some(b'0'), Some(b'X')), prefix);
-    breaks(&rt, (10, None, None, Some(b'9')), suffix);
-    breaks(&rt, (10, Some(b'_'), Some(b'_'), Some(b'9')), suffix);
-    breaks(&rt, (10, Some(0), None, None), None);
-    breaks(&rt, (10, Some(127), None, None), None);
-    breaks(&rt, (10, Some(b'_'), Some(b'x'), Some(b'h')), None);
-}
-
-#[test]
-fn no_two_marks_are_alike(rt: HostRuntime) {
+    breaks(&rt, new.base_suffix(Some(b'9')), suffix);
     let punctuation = Some(Error::InvalidPunctuation);
-    pair_breaks(&rt, b'x', b'x', punctuation);
-    pair_breaks(&rt, b'x', b'X', punctuation);
-    pair_breaks(&rt, b'X', b'x', punctuation);
-    pair_breaks(&rt, b'_', b'_', punctuation);
-    pair_breaks(&rt, b'x', b'y', None);
-    pair_breaks(&rt, b'[', b'{', None);
-    pair_breaks(&rt, b'_', 127, None);
-    pair_breaks(&rt, b'@', b'`', None);
-}
-
-#[test]
-fn literal_prefixes_beside_other_fields(rt: HostRuntime) {
+    let alike = new.base_prefix(Some(b'x')).base_suffix(Some(b'X'));
+    breaks(&rt, alike, punctuation);
     let literals = Some(Error::InvalidLiteralPrefixes);
-    breaks_with_literals(&rt, (10, None, None, None), None);
-    breaks_with_literals(&rt, (10, Some(b'_'), None, Some(b'u')), None);
-    breaks_with_literals(&rt, (10, Some(b'g'), None, Some(b'y')), None);
-    breaks_with_literals(&rt, (16, None, None, None), literals);
-    breaks_with_literals(&rt, (10, None, Some(b'd'), None), literals);
-    breaks_with_literals(&rt, (10, None, None, Some(b'f')), literals);
-    breaks_with_literals(&rt, (10, None, None, Some(b'F')), literals);
-    breaks_with_literals(&rt, (10, None, None, Some(b'X')), literals);
-    breaks_with_literals(&rt, (10, None, None, Some(b'o')), literals);
-    breaks_with_literals(&rt, (10, None, None, Some(b'O')), literals);
-    breaks_with_literals(&rt, (10, None, None, Some(b'b')), literals);
-    breaks_with_literals(&rt, (10, Some(b'a'), None, None), literals);
-    breaks_with_literals(&rt, (10, Some(b'X'), None, None), literals);
-    breaks_with_literals(
-        &rt,
-        (10, None, Some(b'x'), Some(b'X')),
-        Some(Error::InvalidPunctuation),
-    );
-    breaks_with_literals(
-        &rt,
-        (37, None, Some(b'd'), None),
-        Some(Error::InvalidMantissaRadix),
-    );
-}
-
-#[test]
-fn octal_zeros_beside_other_fields(rt: HostRuntime) {
-    let literals = Some(Error::InvalidLiteralPrefixes);
-    breaks_with_octal_zero(&rt, (10, None, None, None), None);
-    breaks_with_octal_zero(&rt, (10, Some(b'a'), Some(b'x'), Some(b'o')), None);
-    breaks_with_octal_zero(&rt, (8, None, None, None), literals);
-    breaks_with_octal_zero(&rt, (16, None, None, None), literals);
-    breaks_with_octal_zero(
-        &rt,
-        (16, None, Some(b'x'), Some(b'X')),
-        Some(Error::InvalidPunctuation),
-    );
-    breaks_with_octal_zero(
-        &rt,
-        (37, None, Some(b'd'), None),
-        Some(Error::InvalidMantissaRadix),
-    );
+    let prefixed = new.literal_prefixes(true).base_prefix(Some(b'd'));
+    breaks(&rt, prefixed, literals);
 }

@@ -1,29 +1,29 @@
-use Rattle.std.proofs.Common.{ℕ, ap, arith, refl, ◌∙◌}
+use Rattle.std.proofs.Common.{ℕ, ap, arith, ◌∙◌}
 use Rattle.std.specs.Prelude.{pos}
 use Rattle.lexical_util.specs.Digit.{digit}
 use Rattle.lexical_util.specs.Number.{mul_add}
-use Rattle.lexical_parse_integer.proofs.marked.DigitsAmong.{words_only, words_worth}
-use Rattle.lexical_parse_integer.proofs.marked.MarkedAnswers.{row_grouped}
+use Rattle.lexical_parse_integer.proofs.marked.DigitsAmong.{digits_alone, digits_worth, row_grouped}
 use Rattle.lexical_parse_integer.proofs.marked.PartedFronts.{all_worth, worth_sign}
 use Rattle.lexical_parse_integer.proofs.marked.Threes.{row_ends, row_parted, three_ends, three_parted, three_worth, threes_grouped}
 use Rattle.lexical_digits.proofs.LongNumbers.{if_found}
 use Rattle.lexical_parse_integer.proofs.algorithm.marked.threes.value_of_threes.Goals as goal
 
 pub returns-then-bytes-le4-clause-grouped : goal.returns-then-bytes-le4-clause-grouped
-returns-then-bytes-le4-clause-grouped g c = if_found c.value_of_digits.result (λ v w. row_grouped _ 10 _ c.requires.some (words_only _ 10 _ _ _ refl w)) c.value_of_digits.ensures
+returns-then-bytes-le4-clause-grouped g c = if_found c.value_of_digits.result (λ v w. row_grouped _ 10 _ c.requires.some (digits_alone _ 10 _ _ _ w)) c.value_of_digits.ensures
 
 pub returns-then-bytes-le4-clause-worth : goal.returns-then-bytes-le4-clause-worth
-returns-then-bytes-le4-clause-worth g c = if_found c.value_of_digits.result (λ v w. words_worth _ 10 _ _ _ refl w) c.value_of_digits.ensures
+returns-then-bytes-le4-clause-worth g c = if_found c.value_of_digits.result (λ v w. digits_worth _ 10 _ _ _ w) c.value_of_digits.ensures
 
 pub loop-place-init : goal.loop-place-init
 loop-place-init g c =
     let told = c.guess_of_first-place.ensures in
-    let all = words_only _ 10 _ _ _ refl c.in_ok-value.ensures in
+    let stands = c.in_ok-value.ensures in
+    let all = digits_alone _ 10 _ _ _ stands in
     record {
       within = told.within;
       parted = row_parted _ _ _ c.args.bytes.now _ told.some told.within all;
       ends = row_ends _ c.args.bytes.now _ told.some told.within all;
-      worth = words_worth _ 10 _ _ _ refl c.in_ok-value.ensures;
+      worth = digits_worth _ 10 _ _ _ stands;
     }
 
 pub three_at-requires : goal.three_at-requires

@@ -1,0 +1,12 @@
+use Rattle.std.proofs.Common.{sym, ◌∙◌}
+use Rattle.lexical_parse_integer.proofs.marked.MarkedAnswers.{digits_read, head_signed}
+use Rattle.lexical_digits.proofs.LongNumbers.{if_found}
+use Rattle.lexical_parse_integer.proofs.algorithm.marked.value_behind.Goals as goal
+
+pub value_in_radix-requires-clause-minus : goal.value_in_radix-requires-clause-minus
+value_in_radix-requires-clause-minus g c = head_signed _ _ c.args.bytes.now _ c.requires.head
+
+pub returns : goal.returns
+returns g c =
+    let rule = sym c.keeps_rule_behind.ensures ∙ c.if-not-keeps_rule_behind.false in
+    if_found c.value_in_radix.result (λ v stands. digits_read _ _ c.args.bytes.now _ _ c.requires.valid c.requires.head c.if-bytes-head.false rule stands) c.value_in_radix.ensures
