@@ -46,15 +46,17 @@ def rust_setter(name: str, value: int) -> str:
 
 def in_rust(groups: list[Group]) -> str:
     """The module of Rust."""
-    lines = ["//! The formats of languages and of data, written from `tools/languages.txt` by `make docs`.",
+    lines = ["//! The formats of languages and of data, by `make docs` from `tools/languages.txt`.",
              "", "use crate::Format;", "", "#[rustfmt::skip]", "impl Format {"]
     for group in groups:
         setters = "".join(f"\n        .{rust_setter(*field)}" for field in group.fields or ())
         lines += [f"    /// {group.shows}.",
                   f"    pub const {group.name.upper()}: Format = Format::STANDARD{setters};", ""]
-    named = "".join(f'\n        ("{group.name}", Format::{group.name.upper()}),' for group in groups)
+    named = "".join(f'\n        ("{group.name}", Format::{group.name.upper()}),'
+                    for group in groups)
     lines += ["    /// All of them by their names, as `rust`.",
-              f"    pub const LANGUAGES: &'static [(&'static str, Format)] = &[{named}\n    ];", "}"]
+              f"    pub const LANGUAGES: &'static [(&'static str, Format)] = &[{named}\n    ];",
+              "}"]
     return "\n".join(lines) + "\n"
 
 
@@ -77,7 +79,7 @@ def python_arguments(group: Group) -> str:
 
 def in_python(groups: list[Group]) -> str:
     """The module of Python."""
-    lines = ['"""The formats of languages and of data, written from tools/languages.txt by make docs."""',
+    lines = ['"""The formats of languages and of data, by make docs from tools/languages.txt."""',
              "", "from ._format import Format", ""]
     for group in groups:
         call = f"{group.name.upper()} = Format({python_arguments(group)})"

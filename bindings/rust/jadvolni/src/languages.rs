@@ -1,4 +1,4 @@
-//! The formats of languages and of data, written from `tools/languages.txt` by `make docs`.
+//! The formats of languages and of data, by `make docs` from `tools/languages.txt`.
 
 use crate::Format;
 
