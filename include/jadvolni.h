@@ -279,14 +279,120 @@ static inline jadvolni_format jadvolni_format_of_radix(int radix)
     return format;
 }
 
-/* Integers as JSON has them (RFC 8259): no "+", and no zero before another digit. */
-#define JADVOLNI_FORMAT_JSON \
-    {10, 0, 0, 0, 0, 0, 1, 1, 1, 0, 1, 0, 0, 0, 0, 0, 0, 0, 0, {0}}
-
 /* The format of the project's tokenizer, and of no language: "1_000", "0xFF", "0o17", "0b1". "0777",
  * which is 511 in C, is 777 unless `literal_octal_zero` is set, and a sign is taken, as in "+1". */
 #define JADVOLNI_FORMAT_LITERAL \
     {10, '_', 0, 0, 0, 0, 0, 1, 0, 0, 0, 0, 1, 0, 1, 0, 1, 0, 0, {0}}
+
+/* The formats of languages and of data, by make docs from tools/languages.txt. */
+
+/* C, up to C17. */
+#define JADVOLNI_FORMAT_C \
+    {10, 0, 0, 0, 0, 0, 0, 1, 1, 0, 0, 0, 0, 0, 0, 0, 1, 1, 0, {0}}
+
+/* C, decimal constants. */
+#define JADVOLNI_FORMAT_C_DECIMAL \
+    {10, 0, 0, 0, 0, 0, 0, 1, 1, 0, 1, 0, 0, 0, 0, 0, 0, 0, 0, {0}}
+
+/* C, octal constants. */
+#define JADVOLNI_FORMAT_C_OCTAL \
+    {8, 0, 0, 0, 0, 0, 0, 1, 1, 0, 0, 0, 0, 0, 0, 0, 0, 0, 0, {0}}
+
+/* C, hexadecimal constants. */
+#define JADVOLNI_FORMAT_C_HEXADECIMAL \
+    {16, 0, 120, 0, 0, 0, 0, 1, 1, 0, 0, 0, 0, 0, 0, 0, 0, 0, 0, {0}}
+
+/* C23. */
+#define JADVOLNI_FORMAT_C23 \
+    {10, 39, 0, 0, 0, 0, 0, 1, 1, 0, 0, 0, 1, 0, 0, 0, 1, 1, 0, {0}}
+
+/* C++14 and later. */
+#define JADVOLNI_FORMAT_CPP14 \
+    {10, 39, 0, 0, 0, 0, 0, 1, 1, 0, 0, 0, 1, 0, 0, 0, 1, 1, 0, {0}}
+
+/* C#. */
+#define JADVOLNI_FORMAT_CSHARP \
+    {10, 95, 0, 0, 0, 0, 0, 1, 1, 0, 0, 0, 1, 0, 1, 1, 1, 0, 0, {0}}
+
+/* Java. */
+#define JADVOLNI_FORMAT_JAVA \
+    {10, 95, 0, 108, 0, 0, 0, 1, 1, 0, 0, 0, 1, 0, 1, 0, 1, 1, 0, {0}}
+
+/* Kotlin. */
+#define JADVOLNI_FORMAT_KOTLIN \
+    {10, 95, 0, 76, 0, 1, 0, 1, 1, 0, 1, 0, 1, 0, 1, 0, 1, 0, 0, {0}}
+
+/* Rust. */
+#define JADVOLNI_FORMAT_RUST \
+    {10, 95, 0, 0, 1, 0, 0, 1, 1, 0, 0, 0, 1, 1, 1, 1, 1, 0, 0, {0}}
+
+/* Go. */
+#define JADVOLNI_FORMAT_GO \
+    {10, 95, 0, 0, 0, 0, 0, 1, 1, 0, 0, 0, 1, 0, 0, 1, 1, 1, 0, {0}}
+
+/* Swift. */
+#define JADVOLNI_FORMAT_SWIFT \
+    {10, 95, 0, 0, 1, 0, 0, 1, 1, 0, 0, 0, 1, 1, 1, 0, 1, 0, 0, {0}}
+
+/* Ada, decimal literals. */
+#define JADVOLNI_FORMAT_ADA \
+    {10, 95, 0, 0, 0, 0, 0, 1, 1, 0, 0, 0, 1, 0, 0, 0, 0, 0, 0, {0}}
+
+/* VHDL, decimal literals. */
+#define JADVOLNI_FORMAT_VHDL \
+    {10, 95, 0, 0, 0, 0, 0, 1, 1, 0, 0, 0, 1, 0, 0, 0, 0, 0, 0, {0}}
+
+/* assemblers, hexadecimal numbers with an `h`. */
+#define JADVOLNI_FORMAT_ASSEMBLER_HEXADECIMAL \
+    {16, 0, 0, 104, 0, 0, 0, 1, 1, 0, 0, 0, 0, 0, 0, 0, 0, 0, 0, {0}}
+
+/* Python 3. */
+#define JADVOLNI_FORMAT_PYTHON \
+    {10, 95, 0, 0, 0, 0, 0, 1, 1, 0, 1, 0, 1, 0, 0, 1, 1, 0, 0, {0}}
+
+/* Ruby. */
+#define JADVOLNI_FORMAT_RUBY \
+    {10, 95, 0, 0, 0, 0, 0, 1, 0, 0, 0, 0, 1, 0, 0, 0, 1, 1, 0, {0}}
+
+/* JavaScript, in strict mode and in modules. */
+#define JADVOLNI_FORMAT_JAVASCRIPT \
+    {10, 95, 0, 110, 0, 1, 0, 1, 1, 0, 1, 0, 1, 0, 0, 0, 1, 0, 0, {0}}
+
+/* Julia. */
+#define JADVOLNI_FORMAT_JULIA \
+    {10, 95, 0, 0, 1, 0, 0, 1, 1, 0, 0, 0, 1, 0, 0, 0, 1, 0, 0, {0}}
+
+/* Haskell, with NumericUnderscores and BinaryLiterals. */
+#define JADVOLNI_FORMAT_HASKELL \
+    {10, 95, 0, 0, 0, 0, 0, 1, 1, 0, 0, 0, 1, 0, 1, 1, 1, 0, 0, {0}}
+
+/* OCaml. */
+#define JADVOLNI_FORMAT_OCAML \
+    {10, 95, 0, 0, 0, 0, 0, 1, 1, 0, 0, 0, 1, 1, 1, 0, 1, 0, 0, {0}}
+
+/* JSON. */
+#define JADVOLNI_FORMAT_JSON \
+    {10, 0, 0, 0, 0, 0, 1, 1, 1, 0, 1, 0, 0, 0, 0, 0, 0, 0, 0, {0}}
+
+/* JSON5. */
+#define JADVOLNI_FORMAT_JSON5 \
+    {10, 0, 0, 0, 0, 0, 0, 1, 0, 0, 1, 0, 0, 0, 0, 0, 1, 0, 0, {0}}
+
+/* TOML. */
+#define JADVOLNI_FORMAT_TOML \
+    {10, 95, 0, 0, 1, 0, 0, 1, 0, 0, 1, 0, 1, 0, 0, 0, 1, 0, 0, {0}}
+
+/* YAML 1.2, core schema. */
+#define JADVOLNI_FORMAT_YAML \
+    {10, 0, 0, 0, 1, 0, 0, 1, 0, 0, 0, 0, 0, 0, 0, 0, 1, 0, 0, {0}}
+
+/* SQL, up to SQL:2016. */
+#define JADVOLNI_FORMAT_SQL \
+    {10, 0, 0, 0, 0, 0, 0, 1, 0, 0, 0, 0, 0, 0, 0, 0, 0, 0, 0, {0}}
+
+/* SQL:2023. */
+#define JADVOLNI_FORMAT_SQL_2023 \
+    {10, 95, 0, 0, 0, 0, 0, 1, 0, 0, 0, 0, 1, 0, 0, 1, 1, 0, 0, {0}}
 
 /* JADVOLNI_UNKNOWN_FIELD where a reserved byte or bit isn't 0; else JADVOLNI_OK where the format breaks no
  * rule, and the status of the first that it breaks. */

@@ -60,12 +60,42 @@ inline const char *message(status of) noexcept
     return jadvolni_status_text(static_cast<std::uint32_t>(of));
 }
 
-// What a text may look like. Begin with jadvolni_format_of_radix, or copy one of the three, and change
+// What a text may look like. Begin with jadvolni_format_of_radix, or copy one of these, and change
 // fields. A format{} requires no digit: under it an empty text is 0.
 using format = jadvolni_format;
 inline constexpr format standard = JADVOLNI_FORMAT_STANDARD;
-inline constexpr format json = JADVOLNI_FORMAT_JSON;
 inline constexpr format literal = JADVOLNI_FORMAT_LITERAL;
+
+// The formats of languages and of data, as docs/FORMATS.md has them.
+namespace formats {
+inline constexpr format c = JADVOLNI_FORMAT_C;
+inline constexpr format c_decimal = JADVOLNI_FORMAT_C_DECIMAL;
+inline constexpr format c_octal = JADVOLNI_FORMAT_C_OCTAL;
+inline constexpr format c_hexadecimal = JADVOLNI_FORMAT_C_HEXADECIMAL;
+inline constexpr format c23 = JADVOLNI_FORMAT_C23;
+inline constexpr format cpp14 = JADVOLNI_FORMAT_CPP14;
+inline constexpr format csharp = JADVOLNI_FORMAT_CSHARP;
+inline constexpr format java = JADVOLNI_FORMAT_JAVA;
+inline constexpr format kotlin = JADVOLNI_FORMAT_KOTLIN;
+inline constexpr format rust = JADVOLNI_FORMAT_RUST;
+inline constexpr format go = JADVOLNI_FORMAT_GO;
+inline constexpr format swift = JADVOLNI_FORMAT_SWIFT;
+inline constexpr format ada = JADVOLNI_FORMAT_ADA;
+inline constexpr format vhdl = JADVOLNI_FORMAT_VHDL;
+inline constexpr format assembler_hexadecimal = JADVOLNI_FORMAT_ASSEMBLER_HEXADECIMAL;
+inline constexpr format python = JADVOLNI_FORMAT_PYTHON;
+inline constexpr format ruby = JADVOLNI_FORMAT_RUBY;
+inline constexpr format javascript = JADVOLNI_FORMAT_JAVASCRIPT;
+inline constexpr format julia = JADVOLNI_FORMAT_JULIA;
+inline constexpr format haskell = JADVOLNI_FORMAT_HASKELL;
+inline constexpr format ocaml = JADVOLNI_FORMAT_OCAML;
+inline constexpr format json = JADVOLNI_FORMAT_JSON;
+inline constexpr format json5 = JADVOLNI_FORMAT_JSON5;
+inline constexpr format toml = JADVOLNI_FORMAT_TOML;
+inline constexpr format yaml = JADVOLNI_FORMAT_YAML;
+inline constexpr format sql = JADVOLNI_FORMAT_SQL;
+inline constexpr format sql_2023 = JADVOLNI_FORMAT_SQL_2023;
+} // namespace formats
 
 // The first rule that the format breaks, and status::ok where it breaks none.
 [[nodiscard]] inline status format_error(const format &of) noexcept

@@ -26,6 +26,7 @@ from typing import Callable, Dict, Iterable, Iterator, List
 sys.dont_write_bytecode = True
 
 import check_examples  # noqa: E402
+import check_formats  # noqa: E402
 import check_misuse  # noqa: E402
 from c_calls import DECLARED  # noqa: E402
 from callers import (C_COMPILERS, CXX17, CXX_COMPILERS, OPTIMISED, SANITIZED, TOP,  # noqa: E402
@@ -331,6 +332,7 @@ def steps(place: Place) -> Iterator[Step]:
     yield from calls(place)
     yield "fronts under formats, beside the slow reading", partial(short_fronts, place)
     yield from check_misuse.steps(place)
+    yield from check_formats.steps(place)
     yield from check_examples.steps(place)
     yield "make install-lib", partial(install, place)
     yield "ten lines of C by pkg-config", partial(

@@ -1,7 +1,7 @@
 """What compilers say of calls that break the header's conditions: a part of make test-c.
 
-tests/c/misuse.c has such calls by number. Each has to be warned of, and number 0, which breaks none,
-has to be compiled without a word.
+tests/c/misuse.c has such calls by number. Each has to be warned of, and number 0, which breaks
+none, has to be compiled without a word.
 """
 from __future__ import annotations
 

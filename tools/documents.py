@@ -2,7 +2,8 @@
 """Writes the documents that are made from the source, or says where they aren't as written.
 
     tools/documents.py           writes docs/CONTRACTS.md, docs/FORMATS.md, the marked code blocks
-                                 of other documents, and the lists of a format's fields
+                                 of other documents, the lists of a format's fields, and the
+                                 formats of languages in C, C++, Rust and Python
     tools/documents.py --check   writes nothing, and ends with status 1 where one of them isn't as
                                  it would write it, or where check_pages.py finds something wrong
     tools/documents.py --words   prints how many words of each page were written by hand
@@ -30,6 +31,7 @@ import check_pages
 import contracts_page
 import field_lists
 import formats_page
+import ready_formats
 import source
 
 TOP = os.path.dirname(os.path.dirname(os.path.abspath(__file__)))
@@ -169,7 +171,7 @@ def old_ones(top: str, found: dict[str, str]) -> list[str]:
 
 def checked(found: dict[str, str], faults: list[str]) -> str:
     """Adds what is wrong with the documents, and says in a line what was looked at."""
-    old = old_ones(TOP, {**found, **field_lists.files(TOP)})
+    old = old_ones(TOP, {**found, **ready_formats.files(TOP, field_lists.files(TOP))})
     faults += [f"{path}: it isn't as the source has it: make docs writes it anew" for path in old]
     files = files_of(TOP)
     sources = [source.read(os.path.join(TOP, it)) for it in files if it.endswith(".rt")]
@@ -181,7 +183,7 @@ def checked(found: dict[str, str], faults: list[str]) -> str:
 
 def written(found: dict[str, str]) -> str:
     """Writes what is old, and says how many documents that were."""
-    wanted = {**found, **field_lists.files(TOP)}
+    wanted = {**found, **ready_formats.files(TOP, field_lists.files(TOP))}
     old = old_ones(TOP, wanted)
     for path in old:
         with open(os.path.join(TOP, path), "w", encoding="utf-8") as file:

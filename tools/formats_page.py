@@ -19,6 +19,8 @@ FRONT = (
     "let answer = u64::from_lexical_with_options(b\"0x_1F\", &lexical_formats::rust(), "
     "&options::STANDARD); // Ok(31)\n"
     "```\n\n"
+    "The other languages have the same formats: C as `JADVOLNI_FORMAT_RUST`, C++ as "
+    "`jadvolni::formats::rust`, Rust as `Format::RUST`, and Python as `jadvolni.formats.RUST`.\n\n"
     "Each function's contract says the fields of its format, and that the format is valid. "
     "Each row below is part of a theorem about the definitions of [GRAMMAR.md](GRAMMAR.md), and a "
     "line that the built program answers; its answer was worked out by hand from the language's "

@@ -33,7 +33,8 @@ FLAGS = ["-std=c11", "-O2", "-Wall", "-Wextra", "-fPIC", "-shared", "-fvisibilit
 # The extension exports nothing of the library: else the calls of another one of that name, loaded
 # before, would take the place of those that it was linked with.
 LINK_FLAGS = ["-Wl,--exclude-libs,ALL"]
-MODULES = ["__init__.py", "_blocks.py", "_format.py", "_numpy.py", "_core.pyi", "py.typed"]
+MODULES = ["__init__.py", "_blocks.py", "_format.py", "formats.py", "_numpy.py", "_core.pyi",
+           "py.typed"]
 
 
 def tag() -> str:

@@ -41,8 +41,8 @@ static void faults_of_texts()
     CHECK(is_fault(parse<int>("12x"), status::invalid_digit, 2));
     CHECK(is_fault(parse<int>(std::string_view()), status::empty, 0)); // its data() is nullptr
     CHECK(is_fault(parse<int>("12", with_sign), status::missing_sign, 0));
-    CHECK(is_fault(parse<int>("+1", jadvolni::json), status::invalid_positive_sign, 0));
-    CHECK(is_fault(parse<int>("-01", jadvolni::json), status::invalid_leading_zeros, 1));
+    CHECK(is_fault(parse<int>("+1", jadvolni::formats::json), status::invalid_positive_sign, 0));
+    CHECK(is_fault(parse<int>("-01", jadvolni::formats::json), status::invalid_leading_zeros, 1));
     CHECK(is_fault(parse_partial<short>("-32769,"), status::underflow, 5));
 }
 
@@ -81,8 +81,8 @@ static void numbers()
     CHECK(*front == -12 && front.place() == 3 && *parse_partial<int>("-12, 3") == -12);
     CHECK(is_fault(parse_front<int>("x"), status::empty, 0) && *parse_partial<int>("x") == 0);
     CHECK(is_fault(parse_front<int>("+a"), status::empty, 1) && is_fault(parse_front<int>("-x"), status::empty, 1));
-    CHECK(is_fault(parse_front<int>("[- 5]", jadvolni::json), status::empty, 0));
-    CHECK(is_fault(parse_front<int>("- 5]", jadvolni::json), status::empty, 1));
+    CHECK(is_fault(parse_front<int>("[- 5]", jadvolni::formats::json), status::empty, 0));
+    CHECK(is_fault(parse_front<int>("- 5]", jadvolni::formats::json), status::empty, 1));
     CHECK(is_fault(parse_front<int>("0xg", jadvolni::literal), status::empty, 2));
     CHECK(*parse<long>("0b1_01", jadvolni::literal) == 5);
     CHECK(parse_partial<long>("0x_1", jadvolni::literal).place() == 2);
@@ -120,11 +120,11 @@ static bool has_no_number(std::string_view text, const Under &...under)
 // A front without a digit is no number, also where the format requires none, and a prefix is no digit.
 static void fronts_without_a_digit()
 {
-    auto optional = jadvolni::standard, prefixed = jadvolni::json, suffixed = jadvolni::json;
+    auto optional = jadvolni::standard, prefixed = jadvolni::formats::json, suffixed = jadvolni::formats::json;
     optional.required_mantissa_digits = 0;
     prefixed.base_prefix = 'x';
     suffixed.base_suffix = 'h';
-    CHECK(has_no_number("abc", jadvolni::json) && has_no_number("-x", jadvolni::json));
+    CHECK(has_no_number("abc", jadvolni::formats::json) && has_no_number("-x", jadvolni::formats::json));
     CHECK(has_no_number("abc", jadvolni::literal) && has_no_number("0xg", jadvolni::literal));
     CHECK(has_no_number("", optional) && has_no_number("-", optional) && has_no_number({}, optional));
     CHECK(has_no_number("0xg", prefixed) && has_no_number("h", suffixed));

@@ -27,6 +27,7 @@ from ._core import (
     parse_front,
     parse_partial,
 )
+from . import formats
 from ._format import Format
 from ._blocks import iter_column
 from ._numpy import numpy_column
@@ -36,6 +37,7 @@ __all__ = [
     "FormatError",
     "ParseError",
     "__version__",
+    "formats",
     "iter_column",
     "numpy_column",
     "parse",

@@ -54,12 +54,6 @@ impl Format {
     /// Decimal digits after an optional sign. A digit is required.
     pub const STANDARD: Format = ZEROS.mantissa_radix(10).required_mantissa_digits(true);
 
-    /// Integers as JSON has them: no plus, and no zero before another digit.
-    pub const JSON: Format = Format::STANDARD
-        .required_integer_digits(true)
-        .no_positive_mantissa_sign(true)
-        .no_integer_leading_zeros(true);
-
     /// What the tokenizer reads: `1_000`, `0xFF`, `0o17`, `0b1`. It is no language's format: it reads
     /// `0777` as 777, which is octal to C, and takes `+1`.
     pub const LITERAL: Format = Format::STANDARD

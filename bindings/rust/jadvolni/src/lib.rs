@@ -21,6 +21,7 @@ struct Readme;
 mod error;
 mod format;
 mod integer;
+mod languages;
 
 pub use error::Error;
 pub use format::Format;
