@@ -17,8 +17,8 @@ Functions are taken whole, with their doc comments. `all` takes the file's text 
 `ghost use` or `use` to its first test; `body of NAME` what stands between a function's braces, up
 to its first assertion; `imports and body of NAME` the file's `use` lines too; and `whole` the
 file's text after the comment that it begins with, `definitions` that after its imports too. `what
-it stands on` lists a file of definitions behind those that it imports, in reading order. With `as CRATE` at the end, `crate::` is that
-crate's name, as a caller elsewhere writes it.
+it stands on` lists a file of definitions behind those that it imports, in reading order. With `as
+CRATE` at the end, `crate::` is that crate's name, as a caller elsewhere writes it.
 """
 from __future__ import annotations
 

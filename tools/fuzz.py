@@ -9,7 +9,7 @@ The seed is printed, and the same seed gives the same lines. A difference is mad
 be and printed, and the status is then 1.
 
 Where the format is the standard one or differs from it in the radix alone, complete parses are also
-compared with Python's `int`, and with Rust's `from_str_radix` by tools/from_str_radix.rs, where
+compared with Python's `int`, and with Rust's `from_str_radix` by tests/from_str_radix.rs, where
 there is a rustc.
 """
 from __future__ import annotations
@@ -33,7 +33,7 @@ from slow_grammar import STANDARD, TYPES
 from slow_reading import Session
 
 PROGRAM = os.path.join(TOP, "crates", "lexint", "out", "lexint")
-DRIVER = os.path.join(TOP, "tools", "from_str_radix.rs")
+DRIVER = os.path.join(TOP, "tests", "from_str_radix.rs")
 # How many lines a run gets: those of a line or two meet the ends of reads, long ones full buffers.
 LINES_OF_RUNS = (1, 2, 5, 50, 1000, 20000, 20000)
 SECONDS = 20
@@ -115,7 +115,7 @@ class Comparison:
     """The program beside its judges."""
 
     def __init__(self, program: str, driver: Optional[str]) -> None:
-        """DRIVER: the compiled tools/from_str_radix.rs, if there is one."""
+        """DRIVER: the compiled tests/from_str_radix.rs, if there is one."""
         self.program, self.driver = program, driver
         self.compared: Counter[str] = Counter()
 

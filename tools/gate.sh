@@ -95,7 +95,7 @@ part proofs proofs 3>&1
 part devices python3 tools/devices.py
 part answers python3 tools/run_rows.py
 part lines python3 tools/run_lines.py
-part shells tools/shell_snippet.sh crates/lexint/out/lexint
+part shells tests/shell_snippet.sh crates/lexint/out/lexint
 part libraries told libraries
 part programs told programs
 part callers told callers

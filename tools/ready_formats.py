@@ -82,8 +82,10 @@ def in_python(groups: list[Group]) -> str:
     lines = ['"""The formats of languages and of data, by make docs from tools/languages.txt."""',
              "", "from ._format import Format", ""]
     for group in groups:
-        call = f"{group.name.upper()} = Format({python_arguments(group)})"
-        lines += [f"# {group.shows}.", textwrap.fill(call, 99, subsequent_indent=" " * 4)]
+        call = f"{group.name.upper()} = Format("
+        arguments = f"{call}{python_arguments(group)})"
+        lines += [f"# {group.shows}.",
+                  textwrap.fill(arguments, 99, subsequent_indent=" " * len(call))]
     return "\n".join(lines) + "\n"
 
 

@@ -16,23 +16,23 @@ C23 = Format(no_positive_sign=True, literal_prefixes=True, separator=b"'", octal
 CPP14 = Format(no_positive_sign=True, literal_prefixes=True, separator=b"'", octal_zero=True)
 # C#.
 CSHARP = Format(no_positive_sign=True, literal_prefixes=True, separator=b'_',
-    consecutive_separator=True, prefix_separator=True)
+                consecutive_separator=True, prefix_separator=True)
 # Java.
 JAVA = Format(no_positive_sign=True, literal_prefixes=True, separator=b'_', suffix=b'l',
-    consecutive_separator=True, octal_zero=True)
+              consecutive_separator=True, octal_zero=True)
 # Kotlin.
 KOTLIN = Format(no_positive_sign=True, literal_prefixes=True, separator=b'_', suffix=b'L',
-    case_sensitive_suffix=True, consecutive_separator=True, no_leading_zeros=True)
+                case_sensitive_suffix=True, consecutive_separator=True, no_leading_zeros=True)
 # Rust.
 RUST = Format(no_positive_sign=True, literal_prefixes=True, separator=b'_',
-    trailing_separator=True, consecutive_separator=True, case_sensitive_prefix=True,
-    prefix_separator=True)
+              trailing_separator=True, consecutive_separator=True, case_sensitive_prefix=True,
+              prefix_separator=True)
 # Go.
 GO = Format(no_positive_sign=True, literal_prefixes=True, separator=b'_', prefix_separator=True,
-    octal_zero=True)
+            octal_zero=True)
 # Swift.
 SWIFT = Format(no_positive_sign=True, literal_prefixes=True, separator=b'_',
-    trailing_separator=True, consecutive_separator=True, case_sensitive_prefix=True)
+               trailing_separator=True, consecutive_separator=True, case_sensitive_prefix=True)
 # Ada, decimal literals.
 ADA = Format(no_positive_sign=True, separator=b'_')
 # VHDL, decimal literals.
@@ -41,28 +41,28 @@ VHDL = Format(no_positive_sign=True, separator=b'_')
 ASSEMBLER_HEXADECIMAL = Format(no_positive_sign=True, radix=16, suffix=b'h')
 # Python 3.
 PYTHON = Format(no_positive_sign=True, literal_prefixes=True, separator=b'_',
-    prefix_separator=True, no_leading_zeros=True)
+                prefix_separator=True, no_leading_zeros=True)
 # Ruby.
 RUBY = Format(literal_prefixes=True, separator=b'_', octal_zero=True)
 # JavaScript, in strict mode and in modules.
 JAVASCRIPT = Format(no_positive_sign=True, literal_prefixes=True, separator=b'_', suffix=b'n',
-    case_sensitive_suffix=True, no_leading_zeros=True)
+                    case_sensitive_suffix=True, no_leading_zeros=True)
 # Julia.
 JULIA = Format(no_positive_sign=True, literal_prefixes=True, separator=b'_',
-    case_sensitive_prefix=True)
+               case_sensitive_prefix=True)
 # Haskell, with NumericUnderscores and BinaryLiterals.
 HASKELL = Format(no_positive_sign=True, literal_prefixes=True, separator=b'_',
-    consecutive_separator=True, prefix_separator=True)
+                 consecutive_separator=True, prefix_separator=True)
 # OCaml.
 OCAML = Format(no_positive_sign=True, literal_prefixes=True, separator=b'_',
-    trailing_separator=True, consecutive_separator=True)
+               trailing_separator=True, consecutive_separator=True)
 # JSON.
 JSON = Format(no_positive_sign=True, no_leading_zeros=True)
 # JSON5.
 JSON5 = Format(literal_prefixes=True, no_leading_zeros=True)
 # TOML.
 TOML = Format(literal_prefixes=True, separator=b'_', case_sensitive_prefix=True,
-    no_leading_zeros=True)
+              no_leading_zeros=True)
 # YAML 1.2, core schema.
 YAML = Format(literal_prefixes=True, case_sensitive_prefix=True)
 # SQL, up to SQL:2016.

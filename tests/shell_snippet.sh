@@ -1,7 +1,7 @@
 #!/bin/sh
 # Runs the script of crates/lexint/README.md over texts that a careless one would get wrong.
 #
-#     tools/shell_snippet.sh PROGRAM
+#     tests/shell_snippet.sh PROGRAM
 #
 # PROGRAM is lexint as it was built. Every shell that is there runs every text, and shellcheck reads the script. The exit
 # status is 1 where an answer is another one.
