@@ -79,11 +79,10 @@ def binding(folder: str) -> ModuleType:
     sys.path.insert(0, PYTHON)
     os.environ.setdefault("JADVOLNI_LIBRARY", os.path.join(TOP, "build", "libjadvolni.a"))
     build_wheel = importlib.import_module("build_wheel")
-    package = Path(folder) / "jadvolni"
-    package.mkdir()
-    for name in build_wheel.SOURCES:
-        shutil.copy(build_wheel.HERE / "src" / build_wheel.NAME / name, package)
-    build_wheel.compiled(package)
+    for name, content in build_wheel.contents().items():
+        file = Path(folder) / name
+        file.parent.mkdir(exist_ok=True)
+        file.write_bytes(content)
     sys.path.insert(0, folder)
     return importlib.import_module("jadvolni")
 

@@ -28,7 +28,7 @@ std::size_t by_from_chars(const std::string &text, std::vector<std::uint64_t> &v
 }
 
 std::size_t by_column(const std::string &text, std::vector<std::uint64_t> &values) {
-    return jadvolni::column(text, '\n', values).count();
+    return jadvolni::parse_column(text, '\n', values).count();
 }
 
 struct Peer {
