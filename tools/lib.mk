@@ -21,7 +21,7 @@ lib: build/libjadvolni.a $(SHARED) ## proves and builds the library for C, as bu
 
 build/libjadvolni.a: $(LIBRARY_SOURCES)
 	@mkdir -p build
-	@RT=$(RT) tools/build.py jadvolni
+	@RT=$(RT) tools/build.sh jadvolni
 	@cp crates/jadvolni/out/libjadvolni.a $@
 
 # It needs no other library, not even that of C: -nostdlib leaves it out, and -z defs fails if anything is missing.
