@@ -5,7 +5,7 @@ ghost use Rattle.lexical_util.specs.Faults.{fault_text};
 
 use crate::tests::answers;
 use lexical_util::error::Error;
-use std::alloc::{AllocError, Allocator};
+use std::alloc::{AllocError, Allocator, Global};
 use std::error;
 use std::process::Abort;
 use std::test::Fail;
@@ -71,58 +71,79 @@ fn message_of<A: Allocator, E: error::Error>(alloc: A, e: &E) -> Result<String<A
     format!(in alloc; "{e}")
 }
 
-// The texts of faults, and what each says.
-const TEXTS: [(Error, &str); 14] = [
-    (Error::Overflow(19), "overflow at byte 19"),
-    (Error::Underflow(3), "underflow at byte 3"),
-    (Error::InvalidDigit(1), "invalid digit at byte 1"),
-    (Error::Empty(0), "missing digit at byte 0"),
-    (Error::MissingSign(0), "missing sign at byte 0"),
-    (
-        Error::InvalidPositiveSign(0),
-        "forbidden plus sign at byte 0",
-    ),
-    (
-        Error::InvalidLeadingZeros(10),
-        "forbidden leading zero at byte 10",
-    ),
-    (
-        Error::InvalidMantissaRadix,
-        "the radix of the format is not from 2 to 36",
-    ),
-    (
-        Error::InvalidDigitSeparator,
-        "the separator of the format is not ASCII, or is a sign or a digit",
-    ),
-    (
-        Error::InvalidBasePrefix,
-        "the prefix of the format is not ASCII, or is a sign or a digit",
-    ),
-    (
-        Error::InvalidBaseSuffix,
-        "the suffix of the format is not ASCII, or is a sign or a digit",
-    ),
-    (
-        Error::InvalidPunctuation,
-        "two of separator, prefix and suffix of the format are alike",
-    ),
-    (
-        Error::InvalidLiteralPrefixes,
-        "the format cannot have literal prefixes",
-    ),
-    (
-        Error::Overflow(usize::MAX),
-        "overflow at byte 18446744073709551615",
-    ),
-];
+// Both calls write this text of a fault.
+fn has_text(rt: &impl Abort, alloc: Global, fault: Error, text: &str) -> Result<(), Fail> {
+    answers(rt, text_of(alloc, &fault)?.as_str(), text);
+    answers(rt, message_of(alloc, &fault)?.as_str(), text);
+    Ok(())
+}
 
-// Both calls write the text of each.
 #[test]
 fn texts_of_faults(rt: HostRuntime) -> Result<(), Fail> {
-    for (fault, text) in TEXTS {
-        let told = text_of(rt.alloc(), &fault)?;
-        let message = message_of(rt.alloc(), &fault)?;
-        answers(&rt, [told.as_str(), message.as_str()], [text; 2]);
-    }
+    let alloc = rt.alloc();
+    has_text(&rt, alloc, Error::Overflow(19), "overflow at byte 19")?;
+    has_text(&rt, alloc, Error::Underflow(3), "underflow at byte 3")?;
+    has_text(
+        &rt,
+        alloc,
+        Error::InvalidDigit(1),
+        "invalid digit at byte 1",
+    )?;
+    has_text(&rt, alloc, Error::Empty(0), "missing digit at byte 0")?;
+    has_text(&rt, alloc, Error::MissingSign(0), "missing sign at byte 0")?;
+    has_text(
+        &rt,
+        alloc,
+        Error::InvalidPositiveSign(0),
+        "forbidden plus sign at byte 0",
+    )?;
+    has_text(
+        &rt,
+        alloc,
+        Error::InvalidLeadingZeros(10),
+        "forbidden leading zero at byte 10",
+    )?;
+    has_text(
+        &rt,
+        alloc,
+        Error::InvalidMantissaRadix,
+        "the radix of the format is not from 2 to 36",
+    )?;
+    has_text(
+        &rt,
+        alloc,
+        Error::InvalidDigitSeparator,
+        "the separator of the format is not ASCII, or is a sign or a digit",
+    )?;
+    has_text(
+        &rt,
+        alloc,
+        Error::InvalidBasePrefix,
+        "the prefix of the format is not ASCII, or is a sign or a digit",
+    )?;
+    has_text(
+        &rt,
+        alloc,
+        Error::InvalidBaseSuffix,
+        "the suffix of the format is not ASCII, or is a sign or a digit",
+    )?;
+    has_text(
+        &rt,
+        alloc,
+        Error::InvalidPunctuation,
+        "two of separator, prefix and suffix of the format are alike",
+    )?;
+    has_text(
+        &rt,
+        alloc,
+        Error::InvalidLiteralPrefixes,
+        "the format cannot have literal prefixes",
+    )?;
+    has_text(
+        &rt,
+        alloc,
+        Error::Overflow(18446744073709551615),
+        "overflow at byte 18446744073709551615",
+    )?;
     Ok(())
 }
