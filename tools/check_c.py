@@ -123,7 +123,7 @@ def fields_of_rust(text: str, name: str) -> List[str]:
 
 
 def layout() -> str:
-    """The header, the crate and jadvolni-sys have the same fields in the same order."""
+    """The header, the crate and jadvolni-sys have the same fields in the same order, and calls."""
     crate = "".join(text_of("crates", "jadvolni", "src", f"{name}.rt")
                     for name in ("outcome", "format", "halves"))
     bound = text_of("bindings", "rust", "jadvolni-sys", "src", "lib.rs")
@@ -133,7 +133,7 @@ def layout() -> str:
             found = fields_of_rust(text, other)
             if found != wanted or not found:
                 raise Failed(f"{other} has {found}, and jadvolni_{name} {wanted}")
-    return f"{len(STRUCTS)} structs"
+    return f"{len(STRUCTS)} structs, {exported(re.findall(r'pub fn (jadvolni_[a-z0-9_]+)', bound))}"
 
 
 # ---- callers that count their own checks
