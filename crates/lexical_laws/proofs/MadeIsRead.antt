@@ -80,7 +80,7 @@ own_digit f body c valid d = by_zero (octal_zero_at f body 0) refl d
 -- A text that is made so has this head.
 record HeadMade (f : Format) (t : IntegerType) (text prefix body : List ℕ) (m : Bool) (start r : ℕ) : Type 0 where
   marked : Bool
-  head : head_of f t text ≡ Ok (record { is_minus = m; is_marked = marked; start = start; radix = r })
+  head : head_of f t text ≡ Ok (record { is_negative = m; is_marked = marked; start = start; radix = r })
   some : marked ≡ true → body ≢ []
   unmarked : marked ≡ false → (prefix ≡ []) × (octal_zero_at f body 0 ≡ false)
 
@@ -118,8 +118,8 @@ module _ (f : Format) (t : IntegerType) (body suffix ds : List ℕ) (valid : IsN
       let place : length front + 0 ≡ length front = omega arith in
       record {
         marked = octal_zero_at f body 0;
-        head = bare ∙ ap (λ o. Ok (record { is_minus = m; is_marked = o; start = length front; radix = cond o 8 f.mantissa_radix })) octal
-            ∙ ap (λ n. Ok (record { is_minus = m; is_marked = octal_zero_at f body 0; start = n; radix = bare_radix f body 0 })) (sym place);
+        head = bare ∙ ap (λ o. Ok (record { is_negative = m; is_prefixed = false; is_octal = o; start = length front; radix = cond o 8 f.mantissa_radix })) octal
+            ∙ ap (λ n. Ok (record { is_negative = m; is_prefixed = false; is_octal = octal_zero_at f body 0; start = n; radix = bare_radix f body 0 })) (sym place);
         some = octal_some f body;
         unmarked = λ e. (refl, e);
       }
@@ -262,7 +262,7 @@ module _ (f : Format) (t : IntegerType) (front prefix body suffix ds : List ℕ)
 
   pub made_is_read : (v : ℤ) → (digits_required f ≡ true → ds ≢ []) → KeepsZeros → v ≡ with_sign m (positional_value r ds) → is_number t v ≡ true → complete f t text ≡ Ok v
   made_is_read v enough zeros worth fits =
-      let h : Head = record { is_minus = m; is_marked = head.marked; start = start; radix = r } in
+      let h : Head = record { is_negative = m; is_marked = head.marked; start = start; radix = r } in
       let least = fit.is_radix.low in
       complete_is f t text h head.head
       ∙ answer_by f t text h (numeral_in f text start r) ds digits_are stop_is (radix_kept f text start r (omega arith)) prefixed (zeros_kept zeros) enough
@@ -271,7 +271,7 @@ module _ (f : Format) (t : IntegerType) (front prefix body suffix ds : List ℕ)
 
   pub made_leaves : (v : ℤ) → KeepsZeros → v ≡ with_sign m (positional_value r ds) → is_number t v ≡ false → IsRangeFault (complete f t text)
   made_leaves v zeros worth leaves =
-      let h : Head = record { is_minus = m; is_marked = head.marked; start = start; radix = r } in
+      let h : Head = record { is_negative = m; is_marked = head.marked; start = start; radix = r } in
       subst IsRangeFault (sym (complete_is f t text h head.head))
       (leaves_by f t text h (numeral_in f text start r) ds digits_are prefixed (zeros_kept zeros)
       (ap (λ k. is_number t (with_sign m (positional_value k ds))) (radix_is f text start r) ∙ ap (is_number t) (sym worth) ∙ leaves))
@@ -279,4 +279,4 @@ module _ (f : Format) (t : IntegerType) (front prefix body suffix ds : List ℕ)
 -- a text that the grammar makes is read
 pub integer_is_read : (f : Format) (t : IntegerType) (text : List ℕ) (v : ℤ) → IsNone (fault f) → IsInteger f t text v → complete f t text ≡ Ok v
 integer_is_read f t whole v valid i =
-    ap (complete f t) i.parts ∙ made_is_read f t i.sign i.prefix i.body i.suffix i.digits i.is_minus i.radix valid i.sign_may i.prefix_may i.body_may i.suffix_may v i.enough i.zeros i.worth i.fits
+    ap (complete f t) i.parts ∙ made_is_read f t i.sign i.prefix i.body i.suffix i.digits i.is_negative i.radix valid i.sign_may i.prefix_may i.body_may i.suffix_may v i.enough i.zeros i.worth i.fits

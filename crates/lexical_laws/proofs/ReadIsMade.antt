@@ -47,12 +47,12 @@ no_fault false e h = refl
 
 -- What it means that a numeral has no fault.
 record IsFaultless (f : Format) (t : IntegerType) (text : List ℕ) (h : Head) (x : Numeral) (v : ℤ) : Type 0 where
-  prefix : (h.is_marked && (h.start == length text)) ≡ false
-  zeros : (((f.no_integer_leading_zeros && not h.is_marked) && nat_le 2 (digit_count x)) && (slice_index x.digits 0 == 0)) ≡ false
-  range : range_fault t h.is_minus x ≡ None
+  prefix : (h.is_prefixed && (h.start == length text)) ≡ false
+  zeros : (((f.no_integer_leading_zeros && not (chooses_radix h)) && nat_le 2 (digit_count x)) && (slice_index x.digits 0 == 0)) ≡ false
+  range : range_fault t h.is_negative x ≡ None
   over : length text ≤ x.stop
   enough : lacks_digits f x ≡ false
-  value : numeral_value h.is_minus x ≡ v
+  value : numeral_value h.is_negative x ≡ v
 
 faultless : (f : Format) (t : IntegerType) (text : List ℕ) (h : Head) (x : Numeral) (v : ℤ) → complete_by f t text h x ≡ Ok v → IsFaultless f t text h x v
 faultless f t text h x v read =
@@ -205,7 +205,7 @@ module _ (f : Format) (t : IntegerType) (text : List ℕ) (h : Head) (v : ℤ) (
   same_octal : octal_zero_at f w.more 0 ≡ octal_zero_at f body 0
   same_octal = ap (λ x. octal_zero_at f x 0) (sym (take-append-drop (end - start) w.more)) ∙ octal_of_body f r body (values r body) suffix body_may.bytes suffix_may
 
-  some_body : h.is_marked ≡ true → body ≢ []
+  some_body : (chooses_radix h) ≡ true → body ≢ []
   some_body on is = elim stops [
     | inl e ↦
         let n = ap length is in
@@ -225,11 +225,11 @@ module _ (f : Format) (t : IntegerType) (text : List ℕ) (h : Head) (v : ℤ) (
   zeros : f.no_integer_leading_zeros ≡ true → w.prefix ≡ [] → octal_zero_at f body 0 ≡ false → (d : ℕ) (rest : List ℕ) → values r body ≢ 0 ∷ d ∷ rest
   zeros on none octal d rest is =
       let digits : (numeral_in f text start r).digits ≡ 0 ∷ d ∷ rest = digits_are ∙ is in
-      let off : h.is_marked ≡ false = elim w.marks [
+      let off : (chooses_radix h) ≡ false = elim w.marks [
         | inl m ↦ m.2 ∙ same_octal ∙ octal
         | inr m ↦ (let both = sym none ∙ m.1 in cc)
       ] in
-      zeros_told f.no_integer_leading_zeros h.is_marked d rest (sym (ap (λ y. ((f.no_integer_leading_zeros && not h.is_marked) && nat_le 2 (length y)) && (slice_index y 0 == 0)) digits) ∙ ok.zeros) on off
+      zeros_told f.no_integer_leading_zeros (chooses_radix h) d rest (sym (ap (λ y. ((f.no_integer_leading_zeros && not (chooses_radix h)) && nat_le 2 (length y)) && (slice_index y 0 == 0)) digits) ∙ ok.zeros) on off
 
   enough : digits_required f ≡ true → values r body ≢ []
   enough on is =
@@ -237,17 +237,17 @@ module _ (f : Format) (t : IntegerType) (text : List ℕ) (h : Head) (v : ℤ) (
       let test = rw (on, is) at lacks in
       false≢true (sym test)
 
-  worth : numeral_value h.is_minus (numeral_in f text start r) ≡ with_sign h.is_minus (positional_value r (values r body))
+  worth : numeral_value h.is_negative (numeral_in f text start r) ≡ with_sign h.is_negative (positional_value r (values r body))
   worth =
-      ap (λ y. with_sign h.is_minus (positional_value (numeral_in f text start r).radix y)) (take_all (length (numeral_in f text start r).digits) (numeral_in f text start r).digits (omega arith) ∙ digits_are)
-      ∙ ap (λ k. with_sign h.is_minus (positional_value k (values r body))) (radix_is f text start r)
+      ap (λ y. with_sign h.is_negative (positional_value (numeral_in f text start r).radix y)) (take_all (length (numeral_in f text start r).digits) (numeral_in f text start r).digits (omega arith) ∙ digits_are)
+      ∙ ap (λ k. with_sign h.is_negative (positional_value k (values r body))) (radix_is f text start r)
 
   fits : is_number t v ≡ true
   fits = elim (cases_lt 0 (digit_count (numeral_in f text start r))) [
-    | inl lt ↦ ap (is_number t) (sym ok.value) ∙ fits_told t h.is_minus (numeral_in f text start r) lt ok.range
+    | inl lt ↦ ap (is_number t) (sym ok.value) ∙ fits_told t h.is_negative (numeral_in f text start r) lt ok.range
     | inr ge ↦
         let none : values r body ≡ [] = no_byte (values r body) (omega (arith, ap length digits_are)) in
-        ap (is_number t) (sym ok.value ∙ worth ∙ ap (λ y. with_sign h.is_minus (positional_value r y)) none) ∙ zero_is_number t h.is_minus
+        ap (is_number t) (sym ok.value ∙ worth ∙ ap (λ y. with_sign h.is_negative (positional_value r y)) none) ∙ zero_is_number t h.is_negative
   ]
 
   is_made : IsInteger f t text v
@@ -256,7 +256,7 @@ module _ (f : Format) (t : IntegerType) (text : List ℕ) (h : Head) (v : ℤ) (
     prefix = w.prefix;
     body = body;
     suffix = suffix;
-    is_minus = h.is_minus;
+    is_negative = h.is_negative;
     radix = r;
     digits = values r body;
     parts = w.parts ∙ ap (λ x. w.front ++ (w.prefix ++ x)) (sym (take-append-drop (end - start) w.more));

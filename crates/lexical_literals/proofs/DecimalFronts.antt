@@ -26,7 +26,7 @@ use Rattle.lexical_literals.specs.Tokens.{is_word_byte}
 
 -- a head without sign and prefix
 abbrev bare : Head
-bare = record { is_minus = false; is_marked = false; start = 0; radix = 10 }
+bare = record { is_negative = false; is_prefixed = false; is_octal = false; start = 0; radix = 10 }
 
 -- no literal prefix goes on with this byte
 abbrev NoLetter : Format → Option ℕ → Type 0

@@ -39,7 +39,7 @@ without_third None (Some e) c d rest w z both read = cc
 without_third (Some e) b c d rest w z both read = cc
 
 no_minus : (f : Format) (text : List ℕ) (h : Head) (b : Bool) → head_of f narrow text ≡ Ok h
-    → h.is_minus ≡ b → b ≡ false
+    → h.is_negative ≡ b → b ≡ false
 no_minus f text h false is minus = refl
 no_minus f text h true is minus = absurd (false≢true (head_signed f narrow text h is minus))
 
@@ -53,7 +53,7 @@ behind f text type head =
     let numeral = numeral_in f text head.start head.radix in
     first_fault_or
     (common_faults f type text head numeral ++ partial_faults f text numeral)
-    (numeral_value head.is_minus numeral, numeral.stop)
+    (numeral_value head.is_negative numeral, numeral.stop)
 
 -- the answer as `u64`, where it is a number
 pub wider_read : (f : Format) (text : List ℕ) (v : ℤ) (n : ℕ) → Ok (v, n) ≡ partial f narrow text
@@ -67,5 +67,5 @@ wider_read f text v n read = sym (rw (sym (same_head f text)) (by_head (head_of 
     by_head (Err e) is told = cc
     by_head (Ok h) is told =
         let x : Numeral = numeral_in f text h.start h.radix in
-        without_third (prefix_fault text h) (zero_fault f h.is_marked x) _ _ (partial_faults f text x) _ _
-        (no_wide_range x h.is_minus (no_minus f text h h.is_minus is refl)) told
+        without_third (prefix_fault text h) (zero_fault f (chooses_radix h) x) _ _ (partial_faults f text x) _ _
+        (no_wide_range x h.is_negative (no_minus f text h h.is_negative is refl)) told

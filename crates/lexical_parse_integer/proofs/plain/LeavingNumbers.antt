@@ -99,7 +99,7 @@ pub leaving_read : (t : IntegerType) (text digits : List ℕ) (s : Bool × ℕ) 
 leaving_read t text digits s count sign_is on size l =
     let f : Format = standard in
     let n : ℕ = row_count f 10 text s.1 in
-    let h : Head = record { is_minus = s.0; is_marked = false; start = s.1; radix = 10 } in
+    let h : Head = record { is_negative = s.0; is_prefixed = false; is_octal = false; start = s.1; radix = 10 } in
     let x : Numeral = row_numeral f text s.1 10 n in
     let within = l.within in
     let low : s.1 ≤ length text = omega arith in

@@ -149,7 +149,7 @@ module _ (f : Format) (text : List ℕ) (r start : ℕ) where
 -- ---- the answers
 
 -- without a fault that both parsers have, a text is read
-pub front_read : (f : Format) (t : IntegerType) (text : List ℕ) (h : Head) (value : ℤ) (n e stop : ℕ) → head_of f t text ≡ Ok h → false ≡ (h.is_marked && (h.start == length text)) → ReadsNumeral t h.is_minus h.is_marked (view_at f text h.radix h.start h.start 0) (view_at f text h.radix h.start e n) value → stop ≡ cond (nat_lt 0 n && suffix_at f text e) (e + 1) e → IsRead f t text value (view_at f text h.radix h.start stop n)
+pub front_read : (f : Format) (t : IntegerType) (text : List ℕ) (h : Head) (value : ℤ) (n e stop : ℕ) → head_of f t text ≡ Ok h → false ≡ (h.is_prefixed && (h.start == length text)) → ReadsNumeral t h.is_negative (chooses_radix h) (view_at f text h.radix h.start h.start 0) (view_at f text h.radix h.start e n) value → stop ≡ cond (nat_lt 0 n && suffix_at f text e) (e + 1) e → IsRead f t text value (view_at f text h.radix h.start stop n)
 front_read f t text h value n e stop head more reads stop_is =
     let all = reads.all in
     record {
@@ -179,18 +179,18 @@ front_answer f t text value v b r told =
     let e₄ = r.no_range_fault in
     rw (e₁, e₂, e₃, e₄, stop, test) (by_test b)
   where
-    by_test : (b : Bool) → first_fault_or {A = ℤ × ℕ} (fault_if b (Empty v.position) ∷ []) (numeral_value r.head.is_minus (numeral_in f text r.head.start r.head.radix), v.position) ≡ cond b (Err (Empty v.position)) (Ok (value, v.position))
+    by_test : (b : Bool) → first_fault_or {A = ℤ × ℕ} (fault_if b (Empty v.position) ∷ []) (numeral_value r.head.is_negative (numeral_in f text r.head.start r.head.radix), v.position) ≡ cond b (Err (Empty v.position)) (Ok (value, v.position))
     by_test true = refl
     by_test false = ap (λ z. Ok (z, v.position)) (sym r.value_is)
 
 -- a prefix alone
-pub prefix_answer : (f : Format) (t : IntegerType) (text : List ℕ) (h : Head) → head_of f t text ≡ Ok h → true ≡ (h.is_marked && (h.start == length text)) → partial f t text ≡ Err (Empty (length text))
+pub prefix_answer : (f : Format) (t : IntegerType) (text : List ℕ) (h : Head) → head_of f t text ≡ Ok h → true ≡ (h.is_prefixed && (h.start == length text)) → partial f t text ≡ Err (Empty (length text))
 prefix_answer f t text h head alone =
     fault_goes_part f t text h (Empty (length text)) head
-    (ap (λ b. option_or (cond b (Some (Empty (length text))) None) (option_or (zero_fault f h.is_marked (numeral_in f text h.start h.radix)) (range_fault t h.is_minus (numeral_in f text h.start h.radix)))) (sym alone))
+    (ap (λ b. option_or (cond b (Some (Empty (length text))) None) (option_or (zero_fault f (chooses_radix h) (numeral_in f text h.start h.radix)) (range_fault t h.is_negative (numeral_in f text h.start h.radix)))) (sym alone))
 
 -- the fault of a numeral
-pub numeral_answer : (f : Format) (t : IntegerType) (text : List ℕ) (h : Head) (e : Error) → head_of f t text ≡ Ok h → false ≡ (h.is_marked && (h.start == length text)) → option_or (zero_fault f h.is_marked (numeral_in f text h.start h.radix)) (range_fault t h.is_minus (numeral_in f text h.start h.radix)) ≡ Some e → partial f t text ≡ Err e
+pub numeral_answer : (f : Format) (t : IntegerType) (text : List ℕ) (h : Head) (e : Error) → head_of f t text ≡ Ok h → false ≡ (h.is_prefixed && (h.start == length text)) → option_or (zero_fault f (chooses_radix h) (numeral_in f text h.start h.radix)) (range_fault t h.is_negative (numeral_in f text h.start h.radix)) ≡ Some e → partial f t text ≡ Err e
 numeral_answer f t text h e head more fault =
     fault_goes_part f t text h e head
-    (ap (λ b. option_or (cond b (Some (Empty (length text))) None) (option_or (zero_fault f h.is_marked (numeral_in f text h.start h.radix)) (range_fault t h.is_minus (numeral_in f text h.start h.radix)))) (sym more) ∙ fault)
+    (ap (λ b. option_or (cond b (Some (Empty (length text))) None) (option_or (zero_fault f (chooses_radix h) (numeral_in f text h.start h.radix)) (range_fault t h.is_negative (numeral_in f text h.start h.radix)))) (sym more) ∙ fault)

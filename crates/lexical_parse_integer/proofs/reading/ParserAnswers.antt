@@ -241,20 +241,20 @@ unfolding partial
 sign_goes_part f t text e h = rw h refl
 
 abbrev pub common_fault : Format → IntegerType → List ℕ → Head → Option Error
-common_fault f t text h = option_or (prefix_fault text h) (option_or (zero_fault f h.is_marked (numeral_in f text h.start h.radix)) (range_fault t h.is_minus (numeral_in f text h.start h.radix)))
+common_fault f t text h = option_or (prefix_fault text h) (option_or (zero_fault f (chooses_radix h) (numeral_in f text h.start h.radix)) (range_fault t h.is_negative (numeral_in f text h.start h.radix)))
 
 fault_completes : (f : Format) (t : IntegerType) (text : List ℕ) (h : Head) (e : Error) → head_of f t text ≡ Ok h → common_fault f t text h ≡ Some e → complete f t text ≡ Err e
 unfolding complete
-fault_completes f t text h e is fault = rw is (first_told (prefix_fault text h) (zero_fault f h.is_marked (numeral_in f text h.start h.radix)) (range_fault t h.is_minus (numeral_in f text h.start h.radix)) _ _ e fault)
+fault_completes f t text h e is fault = rw is (first_told (prefix_fault text h) (zero_fault f (chooses_radix h) (numeral_in f text h.start h.radix)) (range_fault t h.is_negative (numeral_in f text h.start h.radix)) _ _ e fault)
 
 pub fault_goes_part : (f : Format) (t : IntegerType) (text : List ℕ) (h : Head) (e : Error) → head_of f t text ≡ Ok h → common_fault f t text h ≡ Some e → partial f t text ≡ Err e
 unfolding partial
-fault_goes_part f t text h e is fault = rw is (first_told (prefix_fault text h) (zero_fault f h.is_marked (numeral_in f text h.start h.radix)) (range_fault t h.is_minus (numeral_in f text h.start h.radix)) _ _ e fault)
+fault_goes_part f t text h e is fault = rw is (first_told (prefix_fault text h) (zero_fault f (chooses_radix h) (numeral_in f text h.start h.radix)) (range_fault t h.is_negative (numeral_in f text h.start h.radix)) _ _ e fault)
 
 -- both at once, by the cursor at the head
 module _ (f : Format) (t : IntegerType) (text : List ℕ) (minus p : Bool) (v : CursorView) (at : IsAtHead f t text minus p v) where
   abbrev head : Head
-  head = record { is_minus = minus; is_marked = p; start = v.start; radix = v.radix }
+  head = record { is_negative = minus; is_marked = p; start = v.start; radix = v.radix }
 
   pub same_text : numeral_in f text v.start v.radix ≡ numeral_of v
   same_text = ap (λ g. numeral_in g text v.start v.radix) (sym at.format) ∙ ap (λ b. numeral_in v.format b v.start v.radix) (sym at.bytes)
@@ -314,7 +314,7 @@ is_read f t text minus p b v w x value at goes g reads stops after =
     let ends : w.position ≡ numeral_end w = all.at_end ∙ ap (λ (y : Numeral). y.ends) (sym (same_numeral v w g)) ∙ numeral_ends w in
     let digits : x.digits ≡ w.digits = kept.2 in
     record {
-      head = record { is_minus = minus; is_marked = p; start = v.start; radix = v.radix };
+      head = record { is_negative = minus; is_marked = p; start = v.start; radix = v.radix };
       head_is = at.head_is;
       no_prefix_fault = not_alone f t text minus p v at goes;
       no_zero_fault = ap (λ h. zero_fault h p here) (sym at.format) ∙ ap (zero_fault v.format p) (sym first) ∙ reads.no_zeros;

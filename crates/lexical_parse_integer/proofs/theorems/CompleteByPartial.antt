@@ -110,13 +110,13 @@ unfolding complete partial head_of range_fault IsSignFault
 complete_is_completion f t text = behind (sign f t text) refl
   where
     behind : (r : Result (Bool × ℕ) Error) → sign f t text ≡ r →
-        after_head (head_after f text r) (λ h. let x = numeral_in f text h.start h.radix in first_fault_or (common_faults f t text h x ++ complete_faults f text x) (numeral_value h.is_minus x))
-        ≡ completion_of (length text) (after_head (head_after f text r) (λ h. let x = numeral_in f text h.start h.radix in first_fault_or (common_faults f t text h x ++ partial_faults f text x) (numeral_value h.is_minus x, x.stop)))
+        after_head (head_after f text r) (λ h. let x = numeral_in f text h.start h.radix in first_fault_or (common_faults f t text h x ++ complete_faults f text x) (numeral_value h.is_negative x))
+        ≡ completion_of (length text) (after_head (head_after f text r) (λ h. let x = numeral_in f text h.start h.radix in first_fault_or (common_faults f t text h x ++ partial_faults f text x) (numeral_value h.is_negative x, x.stop)))
     behind (Ok s) e =
         let h : Head = head_behind f text s (prefix_radix f text s.1) in
         let x : Numeral = numeral_in f text h.start h.radix in
         let low : h.start ≤ length text = head_within f text s _ (sign_within f t text s e) refl in
-        all_cases (length text) x.stop _ _ _ (lacks_digits f x) (is_some f.digit_separator) h.is_minus (first_outside t h.is_minus x) (λ k. slice_index x.places k) (numeral_value h.is_minus x) (below x.stop (length text) (numeral_within f text h.start h.radix low))
+        all_cases (length text) x.stop _ _ _ (lacks_digits f x) (is_some f.digit_separator) h.is_negative (first_outside t h.is_negative x) (λ k. slice_index x.places k) (numeral_value h.is_negative x) (below x.stop (length text) (numeral_within f text h.start h.radix low))
     behind (Err e) h = elim (sign_fault f t text e h) [ inl is ↦ rw is refl | inr is ↦ rw is refl ]
 
 -- an answer without a fault is the value

@@ -214,7 +214,7 @@ unfolding grammar
 seven_json = (refl, refl)
 
 -- ---- turns: the head of `12345678` is read in radix 10, and its eight digits have room in 64 bits
-pub eight_digits : (head_of standard (integer_type 64 false) (codes "12345678") ≡ Ok (record { is_minus = false; is_marked = false; start = 0; radix = 10 })) × (digit_count (numeral_in standard (codes "12345678") 0 10) ≡ 8) × (overflow_digits (integer_type 64 false) 10 ≡ 16)
+pub eight_digits : (head_of standard (integer_type 64 false) (codes "12345678") ≡ Ok (record { is_negative = false; is_prefixed = false; is_octal = false; start = 0; radix = 10 })) × (digit_count (numeral_in standard (codes "12345678") 0 10) ≡ 8) × (overflow_digits (integer_type 64 false) 10 ≡ 16)
 unfolding grammar
 eight_digits = (refl, refl, refl)
 

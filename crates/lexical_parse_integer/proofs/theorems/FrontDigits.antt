@@ -88,7 +88,7 @@ numeral_tells f r text start none plain low before =
 
 -- ---- the front of a text without a prefix
 
-pub tells_digits : (f : Format) (t : IntegerType) (text : List ℕ) (h : Head) (v : ℤ) (k : ℕ) → f.digit_separator ≡ None → f.base_suffix ≡ None → head_of f t text ≡ Ok h → h.is_marked ≡ false
+pub tells_digits : (f : Format) (t : IntegerType) (text : List ℕ) (h : Head) (v : ℤ) (k : ℕ) → f.digit_separator ≡ None → f.base_suffix ≡ None → head_of f t text ≡ Ok h → (chooses_radix h) ≡ false
     → partial f t text ≡ Ok (v, k) → stops_after_digit f.mantissa_radix text k ≡ nat_lt 0 (digit_count (numeral_in f text h.start h.radix))
 unfolding head_of partial
 tells_digits f t text h v k none plain head unprefixed told = behind (sign f t text) refl head
@@ -96,8 +96,8 @@ tells_digits f t text h v k none plain head unprefixed told = behind (sign f t t
     stops : head_of f t text ≡ Ok h → (numeral_in f text h.start h.radix).stop ≡ k
     stops is =
         let x : Numeral = numeral_in f text h.start h.radix in
-        let front : first_fault_or (common_faults f t text h x ++ partial_faults f text x) (numeral_value h.is_minus x, x.stop) ≡ Ok (v, k) = rw is at told in
-        ap (λ (w : ℤ × ℕ). w.1) (ok_told (common_faults f t text h x ++ partial_faults f text x) (numeral_value h.is_minus x, x.stop) (v, k) front)
+        let front : first_fault_or (common_faults f t text h x ++ partial_faults f text x) (numeral_value h.is_negative x, x.stop) ≡ Ok (v, k) = rw is at told in
+        ap (λ (w : ℤ × ℕ). w.1) (ok_told (common_faults f t text h x ++ partial_faults f text x) (numeral_value h.is_negative x, x.stop) (v, k) front)
 
     by_prefix : (s : Bool × ℕ) (p : Option ℕ) → sign f t text ≡ Ok s → head_behind f text s p ≡ h → stops_after_digit f.mantissa_radix text k ≡ nat_lt 0 (digit_count (numeral_in f text h.start h.radix))
     by_prefix s None e is =

@@ -53,13 +53,13 @@ unfolding partial head_of
 front_is_some f t text v k d first = behind (sign f t text) refl
   where
     behind : (r : Result (Bool × ℕ) Error) → sign f t text ≡ r →
-        after_head {A = ℤ × ℕ} (head_after f text r) (λ h. let x = numeral_in f text h.start h.radix in first_fault_or (common_faults f t text h x ++ partial_faults f text x) (numeral_value h.is_minus x, x.stop)) ≡ Ok (v, k) → 0 < k
+        after_head {A = ℤ × ℕ} (head_after f text r) (λ h. let x = numeral_in f text h.start h.radix in first_fault_or (common_faults f t text h x ++ partial_faults f text x) (numeral_value h.is_negative x, x.stop)) ≡ Ok (v, k) → 0 < k
     behind (Ok s) e told =
         let h : Head = head_behind f text s (prefix_radix f text s.1) in
         let x : Numeral = numeral_in f text h.start h.radix in
         let low : h.start ≤ length text = head_within f text s _ (sign_within f t text s e) refl in
         let some : 0 < x.stop = stop_behind f text h.start h.radix (head_end f text s (prefix_radix f text s.1) d first low) in
-        let same = ok_told (common_faults f t text h x ++ partial_faults f text x) (numeral_value h.is_minus x, x.stop) (v, k) told in
+        let same = ok_told (common_faults f t text h x ++ partial_faults f text x) (numeral_value h.is_negative x, x.stop) (v, k) told in
         let at : x.stop ≡ k = ap (λ (w : ℤ × ℕ). w.1) same in
         omega arith
     behind (Err e) h told = cc

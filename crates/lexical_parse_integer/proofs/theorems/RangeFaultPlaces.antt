@@ -58,13 +58,13 @@ unfolding partial head_of range_fault IsSignFault
 partial_leaves_within format type text = behind (sign format type text) refl
   where
     behind : (r : Result (Bool × ℕ) Error) → sign format type text ≡ r →
-        LeavesWithin (length text) (after_head {A = ℤ × ℕ} (head_after format text r) (λ h. let x = numeral_in format text h.start h.radix in first_fault_or (common_faults format type text h x ++ partial_faults format text x) (numeral_value h.is_minus x, x.stop)))
+        LeavesWithin (length text) (after_head {A = ℤ × ℕ} (head_after format text r) (λ h. let x = numeral_in format text h.start h.radix in first_fault_or (common_faults format type text h x ++ partial_faults format text x) (numeral_value h.is_negative x, x.stop)))
     behind (Ok s) e =
         let h : Head = head_behind format text s (prefix_radix format text s.1) in
         let x : Numeral = numeral_in format text h.start h.radix in
         let low : h.start ≤ length text = head_within format text s _ (sign_within format type text s e) refl in
-        by_faults (length text) _ x.stop _ _ _ h.is_minus (first_outside type h.is_minus x) (λ m. get_or x.places m 0) (numeral_value h.is_minus x, x.stop)
-        (λ m told. digit_within format text h.start h.radix m low (outside_told type h.is_minus x m told).0)
+        by_faults (length text) _ x.stop _ _ _ h.is_negative (first_outside type h.is_negative x) (λ m. get_or x.places m 0) (numeral_value h.is_negative x, x.stop)
+        (λ m told. digit_within format text h.start h.radix m low (outside_told type h.is_negative x m told).0)
     behind (Err e) h = elim (sign_fault format type text e h) [ inl is ↦ rw is tt | inr is ↦ rw is tt ]
 
 completion_within : (size : ℕ) (front : Result (ℤ × ℕ) Error) → LeavesWithin size front → LeavesWithin size (completion_of size front)

@@ -27,8 +27,8 @@ use lexical_util::result::Result;
 // numeral starts, and the radix in force there.
 #[derive(Clone, Copy)]
 pub(crate) struct Head {
-    pub(crate) is_minus: bool,
-    pub(crate) is_marked: bool,
+    pub(crate) is_negative: bool,
+    pub(crate) radix_chosen: bool,
     pub(crate) start: usize,
     pub(crate) radix: u32,
 }
@@ -67,17 +67,18 @@ pub(super) fn sign_of<T: Integer>(bytes: &[u8], format: &NumberFormat) -> Result
 #[inline(always)]
 pub(crate) fn head_of<T: Integer>(bytes: &[u8], format: &NumberFormat) -> Result<Head>
     ensures head { IfOk result (λ head. head_of format.now T.TYPE bytes.now ≡ Ok (record {
-      is_minus = head.is_minus;
-      is_marked = head.is_marked;
+      is_negative = head.is_negative;
+      is_prefixed = head.is_prefixed;
+      is_octal = head.is_octal;
       start = head.start;
       radix = head.radix;
     })) }
     ensures fault { IfErr result (λ error. head_of format.now T.TYPE bytes.now ≡ Err error) }
 {
-    let (is_minus, start) = sign_of::<T>(bytes, format)?;
+    let (is_negative, start) = sign_of::<T>(bytes, format)?;
     match prefix_radix(bytes, format, start) {
         Some(radix) => Ok(Head {
-            is_minus,
+            is_negative,
             is_marked: true,
             start: start + 2,
             radix,
@@ -86,7 +87,7 @@ pub(crate) fn head_of<T: Integer>(bytes: &[u8], format: &NumberFormat) -> Result
             let is_octal = octal_zero_at(bytes, format, start);
             let radix = if is_octal { 8 } else { format.mantissa_radix() };
             Ok(Head {
-                is_minus,
+                is_negative,
                 is_marked: is_octal,
                 start,
                 radix,
@@ -98,9 +99,9 @@ pub(crate) fn head_of<T: Integer>(bytes: &[u8], format: &NumberFormat) -> Result
 // Whether a prefix is all that there is.
 #[inline(always)]
 fn is_prefix_alone(bytes: &[u8], head: Head) -> bool
-    ensures { result ≡ (head.is_marked && (head.start == length bytes.now)) }
+    ensures { result ≡ (head.is_prefixed && (head.start == length bytes.now)) }
 {
-    head.is_marked && head.start == bytes.len()
+    head.is_prefixed && head.start == bytes.len()
 }
 
 // The place of a zero before another digit, where the format forbids it.
@@ -161,12 +162,12 @@ fn join<T: Integer>(
 #[inline(always)]
 fn read_digits<T: Integer>(bytes: &[u8], format: &NumberFormat, head: Head) -> Result<Digits<T>>
     requires sound { IsSound (view_at format.now bytes.now head.radix head.start head.start 0) }
-    requires minus { head.is_minus ≡ true → T.TYPE.is_signed ≡ true }
-    ensures all { IfOk result (λ found. ReadsAll T.TYPE head.is_minus
+    requires minus { head.is_negative ≡ true → T.TYPE.is_signed ≡ true }
+    ensures all { IfOk result (λ found. ReadsAll T.TYPE head.is_negative
         (view_at format.now bytes.now head.radix head.start head.start 0)
         (view_at format.now bytes.now head.radix head.start found.end found.count)
         (T.number found.value)) }
-    ensures leaves { IfErr result (λ error. range_fault T.TYPE head.is_minus
+    ensures leaves { IfErr result (λ error. range_fault T.TYPE head.is_negative
         (numeral_in format.now bytes.now head.start head.radix) ≡ Some error) }
 {
     let most = T::overflow_digits(head.radix);
@@ -176,7 +177,7 @@ fn read_digits<T: Integer>(bytes: &[u8], format: &NumberFormat, head: Head) -> R
     loop {
         match seek(bytes, format, head.radix, head.start, place) {
             Found::Digit(at, digit) => {
-                value = join::<T>(value, digit, head.radix, at, head.is_minus, count < most)?;
+                value = join::<T>(value, digit, head.radix, at, head.is_negative, count < most)?;
                 count += 1;
                 place = at + 1;
             }
@@ -189,14 +190,14 @@ fn read_digits<T: Integer>(bytes: &[u8], format: &NumberFormat, head: Head) -> R
 #[inline(always)]
 fn read_numeral<T: Integer>(bytes: &[u8], format: &NumberFormat, head: Head) -> Result<Digits<T>>
     requires sound { IsSound (view_at format.now bytes.now head.radix head.start head.start 0) }
-    requires minus { head.is_minus ≡ true → T.TYPE.is_signed ≡ true }
-    ensures all { IfOk result (λ found. ReadsNumeral T.TYPE head.is_minus head.is_marked
+    requires minus { head.is_negative ≡ true → T.TYPE.is_signed ≡ true }
+    ensures all { IfOk result (λ found. ReadsNumeral T.TYPE head.is_negative head.is_marked
         (view_at format.now bytes.now head.radix head.start head.start 0)
         (view_at format.now bytes.now head.radix head.start found.end found.count)
         (T.number found.value)) }
     ensures fault { IfErr result (λ error. option_or (zero_fault format.now head.is_marked
         (numeral_in format.now bytes.now head.start head.radix))
-        (range_fault T.TYPE head.is_minus
+        (range_fault T.TYPE head.is_negative
         (numeral_in format.now bytes.now head.start head.radix)) ≡ Some error) }
 {
     if let Some(place) = zero_before_digit(bytes, format, head) {

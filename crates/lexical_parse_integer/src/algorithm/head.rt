@@ -21,7 +21,7 @@ use lexical_util::result::Result;
 #[tactic(auto, unfolding(crate::specs::Head::sign))]
 pub fn parse_sign<T: Integer>(c: &mut Cursor<'_>) -> Result<bool>
     requires { c.old.position ≡ 0 }
-    ensures answer { view_of (λ is_minus. (is_minus, c.new.position)) result
+    ensures answer { view_of (λ is_negative. (is_negative, c.new.position)) result
         ≡ sign c.old.format T.TYPE c.old.bytes }
     ensures moved { OnOk result
         (c.new ≡ record c.old { start = c.new.position; position = c.new.position }) }
@@ -71,7 +71,7 @@ pub(crate) fn read_head<T: Integer>(c: &mut Cursor<'_>) -> Result<(bool, bool)>
 
 // Whether a prefix is all that there is.
 #[inline(always)]
-pub(crate) fn is_prefix_alone(c: &Cursor<'_>, is_marked: bool) -> bool
+pub(crate) fn is_prefix_alone(c: &Cursor<'_>, radix_chosen: bool) -> bool
     ensures { result ≡ (is_marked && (c.now.position == length c.now.bytes)) }
 {
     is_marked && c.is_buffer_empty()

@@ -85,19 +85,19 @@ pub(crate) fn read_digits<T: Integer>(
 pub(crate) fn read_numeral<T: Integer>(
     c: &mut Cursor<'_>,
     negative: bool,
-    is_marked: bool,
+    radix_chosen: bool,
     no_multi_digit: bool,
 ) -> Result<T>
     requires front { IsAtNumeral c.old }
     requires minus { negative ≡ true → T.TYPE.is_signed ≡ true }
     ensures all { IfOk result
-        (λ value. ReadsNumeral T.TYPE negative is_marked c.old c.new (T.number value)) }
+        (λ value. ReadsNumeral T.TYPE negative radix_chosen c.old c.new (T.number value)) }
     ensures fault { IfErr result
-        (λ e. option_or (zero_fault c.old.format is_marked (numeral_of c.old))
+        (λ e. option_or (zero_fault c.old.format radix_chosen (numeral_of c.old))
         (range_fault T.TYPE negative (numeral_of c.old)) ≡ Some e) }
     ensures goes_on { GoesOn c.old c.new }
     ensures turns { Folded (KeepsTurns T.BITS T.TYPE no_multi_digit c.old c.new) }
 {
-    let first = read_first::<T>(c, negative, is_marked)?;
+    let first = read_first::<T>(c, negative, radix_chosen)?;
     read_digits::<T>(c, first, negative, no_multi_digit)
 }

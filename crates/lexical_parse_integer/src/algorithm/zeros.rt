@@ -43,17 +43,17 @@ fn has_more(c: &mut Cursor<'_>) -> bool
 pub(crate) fn read_first<T: Integer>(
     c: &mut Cursor<'_>,
     negative: bool,
-    is_marked: bool,
+    radix_chosen: bool,
 ) -> Result<T>
     requires front { IsAtNumeral c.old }
     ensures first { IfOk result
-        (λ value. ReadsFirst T.TYPE negative is_marked c.old c.new (T.number value)) }
+        (λ value. ReadsFirst T.TYPE negative radix_chosen c.old c.new (T.number value)) }
     ensures ahead { LooksAhead c.old c.new }
     ensures fault { IfErr result
-        (λ e. option_or (zero_fault c.old.format is_marked (numeral_of c.old))
+        (λ e. option_or (zero_fault c.old.format radix_chosen (numeral_of c.old))
         (range_fault T.TYPE negative (numeral_of c.old)) ≡ Some e) }
 {
-    if is_marked || !c.format().no_integer_leading_zeros() {
+    if radix_chosen || !c.format().no_integer_leading_zeros() {
         return Ok(T::ZERO);
     }
     if c.is_contiguous() && c.first() != Some(b'0') {
