@@ -143,8 +143,8 @@ head_bare f t front rest minus may unsigned none_here =
 -- What a prefix, or none, says of a head.
 abbrev pub MarksHead : Format → List ℕ → List ℕ → Head → Type 0
 MarksHead f prefix more h =
-    ((prefix ≡ []) × (h.radix ≡ bare_radix f more 0) × ((chooses_radix h) ≡ octal_zero_at f more 0))
-    ⊎ ((byte : ℕ) × (prefix ≡ 48 ∷ byte ∷ []) × (marked_radix f (Some byte) ≡ Some h.radix) × ((chooses_radix h) ≡ true))
+    ((prefix ≡ []) × (h.radix ≡ bare_radix f more 0) × (h.is_octal ≡ octal_zero_at f more 0) × (h.is_prefixed ≡ false))
+    ⊎ ((byte : ℕ) × (prefix ≡ 48 ∷ byte ∷ []) × (marked_radix f (Some byte) ≡ Some h.radix) × (h.is_prefixed ≡ true))
 
 -- A text is a sign, a prefix and more, as its head says.
 pub record HeadSplit (f : Format) (t : IntegerType) (text : List ℕ) (h : Head) : Type 0 where
@@ -185,7 +185,7 @@ head_split f t text h e = by_sign (sign f t text) refl e
               may = w.may;
               start = w.size ∙ omega arith;
               short = w.short;
-              marks = inl (refl, ap (λ o. cond o 8 f.mantissa_radix) same_octal, same_octal);
+              marks = inl (refl, ap (λ o. cond o 8 f.mantissa_radix) same_octal, same_octal, refl);
             })
         by_prefix (Some r) some =
             let told = prefix_told f w.rest r some in

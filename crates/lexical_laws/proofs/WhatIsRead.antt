@@ -10,7 +10,7 @@ use Rattle.lexical_util.specs.Number.{IntegerType, is_number}
 use Rattle.lexical_util.specs.Validity.{fault}
 use Rattle.lexical_parse_integer.specs.Affixes.{bare_radix, is_affix, octal_zero_at}
 use Rattle.lexical_parse_integer.specs.Grammar.{digits_required, first_outside, lacks_digits, range_error, range_fault}
-use Rattle.lexical_parse_integer.specs.Head.{Head}
+use Rattle.lexical_parse_integer.specs.Head.{Head, chooses_radix}
 use Rattle.lexical_parse_integer.specs.Numeral.{Numeral, digit_count, numeral_value}
 use Rattle.lexical_parse_integer.specs.Runs.{are_same, digit_at, separator_at}
 use Rattle.lexical_parse_integer.specs.Value.{positional_value, with_sign}

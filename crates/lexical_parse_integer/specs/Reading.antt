@@ -135,17 +135,18 @@ pub record IsOver (text : List ℕ) (under : Format) (cursor : CursorView) : Typ
   pub format : cursor.format ≡ under
   pub sound : IsSound cursor
 
--- sign and prefix are read, or what else marks the radix
+-- sign and prefix are read, or it is known that an octal zero stands there
 pub record IsAtHead (under : Format) (type : IntegerType) (text : List ℕ)
-    (is_negative is_octal : Bool) (cursor : CursorView) : Type 0 where
+    (is_negative is_prefixed is_octal : Bool) (cursor : CursorView) : Type 0 where
   pub head_is : head_of under type text
       ≡ Ok (record {
         is_negative = is_negative;
-        is_prefixed = cursor.is_prefixed;
+        is_prefixed = is_prefixed;
         is_octal = is_octal;
         start = cursor.start;
         radix = cursor.radix;
       })
+  pub prefixed : cursor.is_prefixed ≡ is_prefixed
   pub bytes : cursor.bytes ≡ text
   pub format : cursor.format ≡ under
   pub at_start : cursor.position ≡ cursor.start

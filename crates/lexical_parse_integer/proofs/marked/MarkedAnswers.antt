@@ -14,9 +14,9 @@ use Rattle.lexical_util.specs.Number.{IntegerType, is_number}
 use Rattle.lexical_util.specs.Validity.{fault}
 use Rattle.lexical_parse_integer.specs.Affixes.{is_affix, marked_radix, numeral_stop, octal_zero_at, prefix_radix, suffix_at}
 use Rattle.lexical_parse_integer.specs.Grammar.{common_faults, complete, complete_faults, fault_if, first_fault_or, prefix_fault, range_fault, zero_fault}
-use Rattle.lexical_parse_integer.specs.Head.{Head, head_after, head_behind, head_of, sign}
+use Rattle.lexical_parse_integer.specs.Head.{Head, head_after, head_behind, head_of, sign, chooses_radix}
 use Rattle.lexical_parse_integer.specs.Marked.{AreGrouped, AreWorth, digits_among, is_digit_in, stop_after}
-use Rattle.lexical_parse_integer.specs.Numeral.{Numeral, digit_count, numeral_in, numeral_value}
+use Rattle.lexical_parse_integer.specs.Numeral.{Numeral, digit_count, numeral_in, numeral_value, numeral_behind}
 use Rattle.lexical_parse_integer.specs.Plain.{keeps_zero_rule}
 use Rattle.lexical_parse_integer.specs.Runs.{are_same, digits_between, end_of, is_in_numeral, places}
 use Rattle.lexical_digits.specs.Value.{positional_value, with_sign}
@@ -104,16 +104,16 @@ few_among r (c ∷ cs) = by_digit (digit c r) refl (few_among r cs)
     by_digit None e low = rw e (omega arith)
     by_digit (Some d) e low = rw e (omega arith)
 
-numeral_digits : (f : Format) (r : ℕ) (text bytes : List ℕ) (start : ℕ) → StandsAt text bytes start → end_of f r text start ≡ start + length bytes → (numeral_in f text start r).digits ≡ digits_among r bytes
+numeral_digits : (f : Format) (pre : Bool) (r : ℕ) (text bytes : List ℕ) (start : ℕ) → StandsAt text bytes start → end_of f pre r text start ≡ start + length bytes → (numeral_in f pre r text start).digits ≡ digits_among r bytes
 unfolding numeral_in digits_between
-numeral_digits f r text bytes start s end =
-    let back : end_of f r text start - start ≡ length bytes = omega arith in
+numeral_digits f pre r text bytes start s end =
+    let back : end_of f pre r text start - start ≡ length bytes = omega arith in
     rw back (values_between r text bytes start s)
 
-numeral_stops : (f : Format) (r : ℕ) (text : List ℕ) (start end : ℕ) → end_of f r text start ≡ end → 0 < length (places f r text start) → (numeral_in f text start r).stop ≡ stop_after f text end
+numeral_stops : (f : Format) (pre : Bool) (r : ℕ) (text : List ℕ) (start end : ℕ) → end_of f pre r text start ≡ end → 0 < length (places f pre r text start) → (numeral_in f pre r text start).stop ≡ stop_after f text end
 unfolding numeral_in numeral_stop
-numeral_stops f r text start end is some =
-    let more : nat_lt 0 (length (places f r text start)) ≡ true = lt-ltb 0 (length (places f r text start)) some in
+numeral_stops f pre r text start end is some =
+    let more : nat_lt 0 (length (places f pre r text start)) ≡ true = lt-ltb 0 (length (places f pre r text start)) some in
     rw (more, is) refl
 
 -- ---- no fault
@@ -171,7 +171,7 @@ zero_rule f r bytes is_marked x digits some first rule = told is_marked rule
 complete_by : Format → IntegerType → List ℕ → Head → Numeral → Result ℤ Error
 complete_by f t text h x = first_fault_or (common_faults f t text h x ++ complete_faults f text x) (numeral_value h.is_negative x)
 
-complete_is : (f : Format) (t : IntegerType) (text : List ℕ) (h : Head) → head_of f t text ≡ Ok h → complete f t text ≡ complete_by f t text h (numeral_in f text h.start h.radix)
+complete_is : (f : Format) (t : IntegerType) (text : List ℕ) (h : Head) → head_of f t text ≡ Ok h → complete f t text ≡ complete_by f t text h (numeral_behind f text h)
 unfolding complete complete_by
 complete_is f t text h head = rw head refl
 
@@ -186,7 +186,7 @@ pub record IsMarked (f : Format) (t : IntegerType) (text : List ℕ) (h : Head) 
 
 module _ (f : Format) (t : IntegerType) (text : List ℕ) (h : Head) (bytes : List ℕ) (value : ℤ) (m : IsMarked f t text h bytes value) where
   abbrev x : Numeral
-  x = numeral_in f text h.start h.radix
+  x = numeral_behind f text h
 
   abbrev end : ℕ
   end = h.start + length bytes
@@ -196,10 +196,10 @@ module _ (f : Format) (t : IntegerType) (text : List ℕ) (h : Head) (bytes : Li
 
   -- nothing that belongs follows
   abbrev IsOver : Type 0
-  IsOver = end < length text → is_in_numeral f h.radix text h.start end ≡ false
+  IsOver = end < length text → is_in_numeral f h.is_prefixed h.radix text h.start end ≡ false
 
   digits_are : IsOver → x.digits ≡ digits_among h.radix bytes
-  digits_are over = numeral_digits f h.radix text bytes h.start m.stands (grouped_end f h.radix text bytes h.start (separator_no_digit f h.radix text m.fit.separator) m.stands m.grouped over)
+  digits_are over = numeral_digits f h.is_prefixed h.radix text bytes h.start m.stands (grouped_end f h.is_prefixed h.radix text bytes h.start (separator_no_digit f h.radix text m.fit.separator) m.stands m.grouped over)
 
   some_digits : IsOver → 0 < digit_count x
   some_digits over = let some = some_among h.radix bytes m.grouped.some m.grouped.first in rw (digits_are over) some
@@ -207,8 +207,8 @@ module _ (f : Format) (t : IntegerType) (text : List ℕ) (h : Head) (bytes : Li
   stop_is : IsOver → x.stop ≡ stop_after f text end
   stop_is over =
       let some = some_digits over in
-      let count = places_count f h.radix text h.start in
-      numeral_stops f h.radix text h.start end (grouped_end f h.radix text bytes h.start (separator_no_digit f h.radix text m.fit.separator) m.stands m.grouped over) (omega arith)
+      let count = places_count f h.is_prefixed h.radix text h.start in
+      numeral_stops f h.is_prefixed h.radix text h.start end (grouped_end f h.is_prefixed h.radix text bytes h.start (separator_no_digit f h.radix text m.fit.separator) m.stands m.grouped over) (omega arith)
 
   radix_is : x.radix ≡ h.radix
   unfolding numeral_in
@@ -248,9 +248,9 @@ module _ (f : Format) (t : IntegerType) (text : List ℕ) (h : Head) (bytes : Li
   over_at_suffix : stop_after f text end ≡ length text → IsOver
   over_at_suffix reached more = by_suffix (suffix_at f text end) refl reached
     where
-      by_suffix : (b : Bool) → suffix_at f text end ≡ b → cond b (end + 1) end ≡ length text → is_in_numeral f h.radix text h.start end ≡ false
+      by_suffix : (b : Bool) → suffix_at f text end ≡ b → cond b (end + 1) end ≡ length text → is_in_numeral f h.is_prefixed h.radix text h.start end ≡ false
       by_suffix false e at = absurd (omega arith)
-      by_suffix true e at = belongs_other f h.radix text h.start end (suffix_no_separator f text m.fit.suffix_separator end e) (suffix_no_digit f h.radix text m.fit.suffix_digit end e)
+      by_suffix true e at = belongs_other f h.is_prefixed h.radix text h.start end (suffix_no_separator f text m.fit.suffix_separator end e) (suffix_no_digit f h.radix text m.fit.suffix_digit end e)
 
   pub whole_marked : stop_after f text end ≡ length text → complete f t text ≡ Ok value
   whole_marked reached = whole_with (over_at_suffix reached) reached

@@ -30,7 +30,7 @@ no_separator f b k e = rw e refl
 pub look_some : (v : CursorView) (d : ℕ) → IsSound v → v.closed ≡ false → digit_at v.radix v.bytes v.position ≡ Some d → IsDigitOf (numeral_of v) v.digits d v.position
 look_some v d s open_now e =
     let o = s.while_open open_now in
-    let found = finds_here v.format v.radix v.bytes v.start v.position s.after_start o.before_end s.within d e in
+    let found = finds_here v.format v.is_prefixed v.radix v.bytes v.start v.position s.after_start o.before_end s.within d e in
     digit_found v (record v { position = v.position + 1; digits = v.digits + 1; turns = v.turns + 1 }) d s open_now
     (record { place = v.position; from = found.0; least = found.2; before_end = found.1; value_is = e; after = refl })
 
@@ -38,7 +38,7 @@ look_some v d s open_now e =
 pub look_none : (v : CursorView) → IsSound v → v.closed ≡ false → v.format.digit_separator ≡ None → digit_at v.radix v.bytes v.position ≡ None → v.digits ≡ digit_count (numeral_of v)
 look_none v s open_now none e =
     let o = s.while_open open_now in
-    let found = ends_here v.format v.radix v.bytes v.start v.position s.after_start o.before_end s.within e (no_separator v.format v.bytes v.position none) in
+    let found = ends_here v.format v.is_prefixed v.radix v.bytes v.start v.position s.after_start o.before_end s.within e (no_separator v.format v.bytes v.position none) in
     let at_end : v.position ≡ numeral_end v = found.0 in
     all_found v s open_now (record v { position = numeral_end v }) (record { none_left = λ k low high. absurd (omega arith); after = refl })
 

@@ -56,7 +56,7 @@ digit_found v w value s open_now t =
     let skipped = ap length (digits_between_to v.radix v.bytes v.start v.position t.place s.after_start t.from t.least) in
     let found = place_found v.radix v.bytes v.start t.place (numeral_end v) v.digits value (omega (arith, s.after_start, t.from)) t.before_end t.value_is (o.digits ∙ sym skipped) in
     let h : ℕ → ℕ = λ k. unwrap_or (digit_at v.radix v.bytes k) 0 in
-    let all : List ℕ = places v.format v.radix v.bytes v.start in
+    let all : List ℕ = places v.format v.is_prefixed v.radix v.bytes v.start in
     let size = length-map all h in
     record {
       more = omega (arith, found.0);
@@ -69,23 +69,24 @@ unfolding numeral_in
 all_found v s open_now w t =
     let o = s.while_open open_now in
     let skipped = ap length (digits_between_to v.radix v.bytes v.start v.position (numeral_end v) s.after_start o.before_end t.none_left) in
-    o.digits ∙ sym skipped ∙ sym (length-map (places v.format v.radix v.bytes v.start) (λ k. unwrap_or (digit_at v.radix v.bytes k) 0))
+    o.digits ∙ sym skipped ∙ sym (length-map (places v.format v.is_prefixed v.radix v.bytes v.start) (λ k. unwrap_or (digit_at v.radix v.bytes k) 0))
 
 -- as many values as places
-pub places_count : (f : Format) (r : ℕ) (text : List ℕ) (start : ℕ) → length (numeral_in f text start r).digits ≡ length (places f r text start)
+pub places_count : (f : Format) (pre : Bool) (r : ℕ) (text : List ℕ) (start : ℕ) → length (numeral_in f pre r text start).digits ≡ length (places f pre r text start)
 unfolding numeral_in
-places_count f r text start = length-map (places f r text start) (λ place. unwrap_or (digit_at r text place) 0)
+places_count f pre r text start = length-map (places f pre r text start) (λ place. unwrap_or (digit_at r text place) 0)
 
 -- ---- going on
 
 pub goes_on_none : (v : CursorView) → Folded (IsSound v) → v.closed ≡ false → GoesOn v v
-goes_on_none v s open_now = record { bytes = refl; format = refl; radix = refl; start = refl; identity = refl; closed = open_now; sound = s }
+goes_on_none v s open_now = record { bytes = refl; format = refl; prefixed = refl; radix = refl; start = refl; identity = refl; closed = open_now; sound = s }
 
 pub goes_on_digit : (u v w : CursorView) (value : ℕ) → GoesOn u v → TakesDigit v w value → Folded (IsSound w) → GoesOn u w
 goes_on_digit u v w value g t s =
     record {
       bytes = ap (λ (z : CursorView). z.bytes) t.after ∙ g.bytes;
       format = ap (λ (z : CursorView). z.format) t.after ∙ g.format;
+      prefixed = ap (λ (z : CursorView). z.is_prefixed) t.after ∙ g.prefixed;
       radix = ap (λ (z : CursorView). z.radix) t.after ∙ g.radix;
       start = ap (λ (z : CursorView). z.start) t.after ∙ g.start;
       identity = ap (λ (z : CursorView). z.identity) t.after ∙ g.identity;
@@ -98,6 +99,7 @@ goes_on_end u v w g t s =
     record {
       bytes = ap (λ (z : CursorView). z.bytes) t.after ∙ g.bytes;
       format = ap (λ (z : CursorView). z.format) t.after ∙ g.format;
+      prefixed = ap (λ (z : CursorView). z.is_prefixed) t.after ∙ g.prefixed;
       radix = ap (λ (z : CursorView). z.radix) t.after ∙ g.radix;
       start = ap (λ (z : CursorView). z.start) t.after ∙ g.start;
       identity = ap (λ (z : CursorView). z.identity) t.after ∙ g.identity;
@@ -110,6 +112,7 @@ goes_on_further u v w g h =
     record {
       bytes = h.bytes ∙ g.bytes;
       format = h.format ∙ g.format;
+      prefixed = h.prefixed ∙ g.prefixed;
       radix = h.radix ∙ g.radix;
       start = h.start ∙ g.start;
       identity = h.identity ∙ g.identity;
@@ -120,10 +123,11 @@ goes_on_further u v w g h =
 -- the numeral stays the same
 pub same_numeral : (u v : CursorView) → GoesOn u v → numeral_of v ≡ numeral_of u
 same_numeral u v g =
-    ap (λ f. numeral_in f v.bytes v.start v.radix) g.format
-    ∙ ap (λ b. numeral_in u.format b v.start v.radix) g.bytes
-    ∙ ap (λ j. numeral_in u.format u.bytes j v.radix) g.start
-    ∙ ap (λ r. numeral_in u.format u.bytes u.start r) g.radix
+    ap (λ f. numeral_in f v.is_prefixed v.radix v.bytes v.start) g.format
+    ∙ ap (λ p. numeral_in u.format p v.radix v.bytes v.start) g.prefixed
+    ∙ ap (λ b. numeral_in u.format u.is_prefixed v.radix b v.start) g.bytes
+    ∙ ap (λ j. numeral_in u.format u.is_prefixed v.radix u.bytes j) g.start
+    ∙ ap (λ r. numeral_in u.format u.is_prefixed r u.bytes u.start) g.radix
 
 -- ---- reading on
 

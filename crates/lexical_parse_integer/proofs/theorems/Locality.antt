@@ -12,7 +12,7 @@ use Rattle.lexical_util.specs.Validity.{fault}
 use Rattle.lexical_parse_integer.specs.Answer.{with_place, view_of}
 use Rattle.lexical_parse_integer.specs.Affixes.{bare_radix, octal_zero_at, prefix_radix}
 use Rattle.lexical_parse_integer.specs.Grammar.{first_outside, partial, range_error, range_fault}
-use Rattle.lexical_parse_integer.specs.Head.{Head, head_behind, head_of, sign}
+use Rattle.lexical_parse_integer.specs.Head.{Head, head_behind, head_of, sign, chooses_radix}
 use Rattle.lexical_parse_integer.specs.Laws.{IsLocal, IsSettledAt, SameFront}
 use Rattle.lexical_parse_integer.specs.Numeral.{Numeral, digit_count, front_value}
 use Rattle.lexical_digits.specs.Value.{positional_value, with_sign}
@@ -53,7 +53,7 @@ same_faults f t text other h x none a b c d =
     let start_other : (h.start == length other) ≡ false = ne_eqb h.start (length other) (λ e. omega arith) in
     let stop_text : (x.stop == length text) ≡ false = ne_eqb x.stop (length text) (λ e. omega arith) in
     let stop_other : (x.stop == length other) ≡ false = ne_eqb x.stop (length other) (λ e. omega arith) in
-    rw (none, start_text, start_other, stop_text, stop_other, and-false (chooses_radix h)) refl
+    rw (none, start_text, start_other, stop_text, stop_other, and-false h.is_prefixed) refl
 
 module _ (f : Format) (t : IntegerType) (text other : List ℕ) (k : ℕ) (h : Head) (none : f.digit_separator ≡ None) (same : Agree (k + 1) text other) where
   digit_same : (j : ℕ) → j ≤ k → has_digit h.radix other j ≡ has_digit h.radix text j
@@ -98,8 +98,8 @@ module _ (f : Format) (t : IntegerType) (text other : List ℕ) (k : ℕ) (h : H
       let place : get_or x.places m 0 ≡ start + m = place_of_row start count m inside in
       let last : start + m ≡ k = omega arith in
       let there = agree_inside (k + 1) k text other same (omega arith) (omega (arith, ends.high)) in
-      let count' : ℕ = row_count f r other start in
-      let ends' = row_ends f r other start none (omega arith) in
+      let count' : ℕ = row_count f h.is_prefixed r other start in
+      let ends' = row_ends f h.is_prefixed r other start none (omega arith) in
       let reached : start + (m + 1) ≤ start + count' = below_stop (has_digit r other) start (length other) (start + count') (start + (m + 1)) ends' (omega arith) (λ j l l'. digit_same j (omega arith) ∙ ends.holds j (omega (arith, ends'.low)) (omega arith)) in
       let y : Numeral = head_row f other h count' in
       let size' = digits_of_row r other start count' in
@@ -111,7 +111,7 @@ module _ (f : Format) (t : IntegerType) (text other : List ℕ) (k : ℕ) (h : H
       let more : m + 1 ≡ suc m = omega arith in
       let digits' : take (suc m) y.digits ≡ take (suc m) x.digits = rw more at digits in
       let first : get_or y.digits 0 0 ≡ get_or x.digits 0 0 = first_of_front m y.digits x.digits digits' in
-      let prefix' : (h.is_prefixed && (start == length other)) ≡ false = pair_false (chooses_radix h) (start == length other) (ne_eqb start (length other) (λ e. omega arith)) in
+      let prefix' : (h.is_prefixed && (start == length other)) ≡ false = pair_false h.is_prefixed (start == length other) (ne_eqb start (length other) (λ e. omega arith)) in
       let zeros_x : (((f.no_integer_leading_zeros && not (chooses_radix h)) && nat_le 2 (digit_count y)) && (get_or x.digits 0 0 == 0)) ≡ false =
       same_zeros (f.no_integer_leading_zeros && not (chooses_radix h)) (digit_count x) (digit_count y) (get_or x.digits 0 0) zeros (λ one is. let far = deep is in absurd (omega arith)) in
       let zeros' : (((f.no_integer_leading_zeros && not (chooses_radix h)) && nat_le 2 (digit_count y)) && (get_or y.digits 0 0 == 0)) ≡ false =
@@ -165,8 +165,8 @@ local_by f t none valid text other k settled front = by_sign (sign f t text) ref
         let p : Option ℕ = prefix_radix f text s.1 in
         let h : Head = head_behind f text s p in
         let low : h.start ≤ length text = head_within f text s p (sign_within f t text s with_sign) refl in
-        let count : ℕ = row_count f h.radix text h.start in
-        let ends : EndsRow h.radix text h.start (h.start + count) = row_ends f h.radix text h.start none low in
+        let count : ℕ = row_count f h.is_prefixed h.radix text h.start in
+        let ends : EndsRow h.radix text h.start (h.start + count) = row_ends f h.is_prefixed h.radix text h.start none low in
         let whole = partial_row f t text h count none (head_behind_sign f t text s with_sign) low ends in
         let settles : SettlesRow f t text h (head_row f text h count) k = settled_row f t text h (head_row f text h count) k (subst (λ (a : Result (ℤ × ℕ) Error). IsSettledAt (length text) k a) whole settled) in
         let far : IsReach h.radix text h.start count k = reach f t text h count k ends settles in

@@ -15,7 +15,7 @@ use Rattle.lexical_util.specs.Format.{Format}
 use Rattle.lexical_util.specs.Number.{IntegerType, is_number}
 use Rattle.lexical_parse_integer.specs.Affixes.{prefix_radix, suffix_at}
 use Rattle.lexical_parse_integer.specs.Grammar.{common_faults, fault_if, first_fault_or, first_outside, lacks_digits, partial, partial_faults, range_error, range_fault}
-use Rattle.lexical_parse_integer.specs.Head.{Head, head_behind, head_of, sign}
+use Rattle.lexical_parse_integer.specs.Head.{Head, head_behind, head_of, sign, chooses_radix}
 use Rattle.lexical_parse_integer.specs.Laws.{IsSettledAt}
 use Rattle.lexical_parse_integer.specs.Numeral.{Numeral, digit_count, front_value, numeral_value}
 use Rattle.lexical_parse_integer.specs.Runs.{digit_at}
@@ -34,7 +34,7 @@ head_row f text h count = row_numeral f text h.start h.radix count
 
 pub partial_row : (f : Format) (t : IntegerType) (text : List ℕ) (h : Head) (count : ℕ) → f.digit_separator ≡ None → head_of f t text ≡ Ok h → h.start ≤ length text → EndsRow h.radix text h.start (h.start + count) → partial f t text ≡ partial_by f t text h (head_row f text h count)
 unfolding partial
-partial_row f t text h count none head low ends = rw (head, numeral_in_a_row f text h.start h.radix count none low ends) refl
+partial_row f t text h count none head low ends = rw (head, numeral_in_a_row f h.is_prefixed text h.start h.radix count none low ends) refl
 
 pub head_behind_sign : (f : Format) (t : IntegerType) (text : List ℕ) (s : Bool × ℕ) → sign f t text ≡ Ok s → head_of f t text ≡ Ok (head_behind f text s (prefix_radix f text s.1))
 unfolding head_of

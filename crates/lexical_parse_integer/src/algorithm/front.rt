@@ -23,14 +23,25 @@ use lexical_util::format::NumberFormat;
 use lexical_util::num::Integer;
 use lexical_util::result::Result;
 
-// What stands before a numeral: whether there is a minus, whether a prefix or an octal zero marks the radix, where the
-// numeral starts, and the radix in force there.
+// What stands before a numeral: whether there is a minus, whether a prefix or an octal zero stands behind the sign, where
+// the numeral starts, and the radix in force there.
 #[derive(Clone, Copy)]
 pub(crate) struct Head {
     pub(crate) is_negative: bool,
-    pub(crate) radix_chosen: bool,
+    pub(crate) is_prefixed: bool,
+    pub(crate) is_octal: bool,
     pub(crate) start: usize,
     pub(crate) radix: u32,
+}
+
+impl Head {
+    // Whether the text chooses its radix.
+    #[inline(always)]
+    pub(crate) fn chooses_radix(self) -> bool
+        ensures { result ≡ (self.is_prefixed || self.is_octal) }
+    {
+        self.is_prefixed | self.is_octal
+    }
 }
 
 // The digits of a numeral: their value, how many they are, and where the numeral ends.
@@ -79,7 +90,8 @@ pub(crate) fn head_of<T: Integer>(bytes: &[u8], format: &NumberFormat) -> Result
     match prefix_radix(bytes, format, start) {
         Some(radix) => Ok(Head {
             is_negative,
-            is_marked: true,
+            is_prefixed: true,
+            is_octal: false,
             start: start + 2,
             radix,
         }),
@@ -88,7 +100,8 @@ pub(crate) fn head_of<T: Integer>(bytes: &[u8], format: &NumberFormat) -> Result
             let radix = if is_octal { 8 } else { format.mantissa_radix() };
             Ok(Head {
                 is_negative,
-                is_marked: is_octal,
+                is_prefixed: false,
+                is_octal,
                 start,
                 radix,
             })
@@ -107,14 +120,16 @@ fn is_prefix_alone(bytes: &[u8], head: Head) -> bool
 // The place of a zero before another digit, where the format forbids it.
 #[inline(always)]
 fn zero_before_digit(bytes: &[u8], format: &NumberFormat, head: Head) -> Option<usize>
-    requires sound { IsSound (view_at format.now bytes.now head.radix head.start head.start 0) }
-    ensures none { IsNone result → zero_fault format.now head.is_marked
-        (numeral_in format.now bytes.now head.start head.radix) ≡ None }
-    ensures some { IfSome result (λ place. zero_fault format.now head.is_marked
-        (numeral_in format.now bytes.now head.start head.radix)
+    requires sound { IsSound (view_at format.now head.is_prefixed head.radix bytes.now head.start head.start 0) }
+    ensures none { IsNone result → zero_fault format.now
+        (head.is_prefixed || head.is_octal)
+        (numeral_in format.now head.is_prefixed head.radix bytes.now head.start) ≡ None }
+    ensures some { IfSome result (λ place. zero_fault format.now
+        (head.is_prefixed || head.is_octal)
+        (numeral_in format.now head.is_prefixed head.radix bytes.now head.start)
         ≡ Some (InvalidLeadingZeros place)) }
 {
-    if head.is_marked || !format.no_integer_leading_zeros() {
+    if head.chooses_radix() || !format.no_integer_leading_zeros() {
         return None;
     }
     let Found::Digit(place, digit) = seek(bytes, format, head.radix, head.start, head.start) else {
@@ -161,14 +176,14 @@ fn join<T: Integer>(
 // All digits of a numeral, or the fault of the first with which their value leaves the type.
 #[inline(always)]
 fn read_digits<T: Integer>(bytes: &[u8], format: &NumberFormat, head: Head) -> Result<Digits<T>>
-    requires sound { IsSound (view_at format.now bytes.now head.radix head.start head.start 0) }
+    requires sound { IsSound (view_at format.now head.is_prefixed head.radix bytes.now head.start head.start 0) }
     requires minus { head.is_negative ≡ true → T.TYPE.is_signed ≡ true }
     ensures all { IfOk result (λ found. ReadsAll T.TYPE head.is_negative
-        (view_at format.now bytes.now head.radix head.start head.start 0)
-        (view_at format.now bytes.now head.radix head.start found.end found.count)
+        (view_at format.now head.is_prefixed head.radix bytes.now head.start head.start 0)
+        (view_at format.now head.is_prefixed head.radix bytes.now head.start found.end found.count)
         (T.number found.value)) }
     ensures leaves { IfErr result (λ error. range_fault T.TYPE head.is_negative
-        (numeral_in format.now bytes.now head.start head.radix) ≡ Some error) }
+        (numeral_in format.now head.is_prefixed head.radix bytes.now head.start) ≡ Some error) }
 {
     let most = T::overflow_digits(head.radix);
     let mut value = T::ZERO;
@@ -189,16 +204,18 @@ fn read_digits<T: Integer>(bytes: &[u8], format: &NumberFormat, head: Head) -> R
 // A numeral: the rule on zeros is judged first, since its fault comes before that of the value.
 #[inline(always)]
 fn read_numeral<T: Integer>(bytes: &[u8], format: &NumberFormat, head: Head) -> Result<Digits<T>>
-    requires sound { IsSound (view_at format.now bytes.now head.radix head.start head.start 0) }
+    requires sound { IsSound (view_at format.now head.is_prefixed head.radix bytes.now head.start head.start 0) }
     requires minus { head.is_negative ≡ true → T.TYPE.is_signed ≡ true }
-    ensures all { IfOk result (λ found. ReadsNumeral T.TYPE head.is_negative head.is_marked
-        (view_at format.now bytes.now head.radix head.start head.start 0)
-        (view_at format.now bytes.now head.radix head.start found.end found.count)
+    ensures all { IfOk result (λ found. ReadsNumeral T.TYPE head.is_negative
+        (head.is_prefixed || head.is_octal)
+        (view_at format.now head.is_prefixed head.radix bytes.now head.start head.start 0)
+        (view_at format.now head.is_prefixed head.radix bytes.now head.start found.end found.count)
         (T.number found.value)) }
-    ensures fault { IfErr result (λ error. option_or (zero_fault format.now head.is_marked
-        (numeral_in format.now bytes.now head.start head.radix))
+    ensures fault { IfErr result (λ error. option_or (zero_fault format.now
+        (head.is_prefixed || head.is_octal)
+        (numeral_in format.now head.is_prefixed head.radix bytes.now head.start))
         (range_fault T.TYPE head.is_negative
-        (numeral_in format.now bytes.now head.start head.radix)) ≡ Some error) }
+        (numeral_in format.now head.is_prefixed head.radix bytes.now head.start)) ≡ Some error) }
 {
     if let Some(place) = zero_before_digit(bytes, format, head) {
         return Err(Error::InvalidLeadingZeros(place));

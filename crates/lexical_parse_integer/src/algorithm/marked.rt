@@ -102,7 +102,7 @@ fn value_behind<T: Integer>(bytes: &[u8], format: &NumberFormat, head: Head) -> 
         return None;
     }
     let digits = &bytes[head.start..];
-    if !(head.is_marked | keeps_zero_rule(format, digits)) {
+    if !(head.chooses_radix() | keeps_zero_rule(format, digits)) {
         return None;
     }
     value_in_radix::<T>(digits, head.radix, head.is_negative)
@@ -136,7 +136,8 @@ pub(crate) fn value_of_row<T: Integer>(bytes: &[u8], format: &NumberFormat) -> O
     if is_behind_x::<T>(bytes, format) {
         let head = Head {
             is_negative: false,
-            is_marked: true,
+            is_prefixed: true,
+            is_octal: false,
             start: 2,
             radix: 16,
         };
@@ -145,7 +146,8 @@ pub(crate) fn value_of_row<T: Integer>(bytes: &[u8], format: &NumberFormat) -> O
     if is_bare::<T>(bytes, format) {
         let head = Head {
             is_negative: false,
-            is_marked: false,
+            is_prefixed: false,
+            is_octal: false,
             start: 0,
             radix: format.mantissa_radix(),
         };
