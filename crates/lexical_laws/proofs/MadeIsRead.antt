@@ -1,9 +1,8 @@
 -- A text that the grammar makes is read.
-use Rattle.std.proofs.Common.{◌≡◌, ℕ, zero, suc, ◌+◌, ◌-◌, ◌≤◌, Bool, true, false, ◌&&◌, cond, List, [], ◌∷◌, ◌++◌, length, get_or, map, filter, Option, Some, None, IsNone, is_some, Ok, refl, sym, ap, subst, ◌∙◌, arith, ◌⊎◌, inl, inr, length-append}
+use Rattle.std.proofs.Common.{◌||◌, ◌≡◌, ℕ, zero, suc, ◌+◌, ◌-◌, ◌≤◌, Bool, true, false, ◌&&◌, cond, List, [], ◌∷◌, ◌++◌, length, get_or, map, filter, Option, Some, None, IsNone, is_some, Ok, refl, sym, ap, subst, ◌∙◌, arith, ◌⊎◌, inl, inr, length-append}
 use Rattle.std.proofs.Math.IntN.{ℤ}
 use Rattle.std.proofs.Math.Bool.{and-false}
 use Rattle.std.proofs.lemmas.Bool.{and_parts, cases_lt, false≢true, lt-ltb, ne_eqb}
-use Rattle.std.proofs.lemmas.Bool.Decides.{nat_tests}
 use Rattle.std.proofs.lemmas.List.{length-map}
 use Rattle.std.proofs.lemmas.Option.{slice_get-get_or}
 use Rattle.std.specs.List.{range_with_len}
@@ -18,12 +17,11 @@ use Rattle.lexical_parse_integer.specs.Affixes.{bare_radix, is_affix, numeral_st
 use Rattle.lexical_parse_integer.specs.Grammar.{complete, digits_required}
 use Rattle.lexical_parse_integer.specs.Head.{Head, head_of}
 use Rattle.lexical_parse_integer.specs.Numeral.{numeral_in, numeral_behind}
-use Rattle.lexical_parse_integer.specs.Runs.{are_same, digit_at, digits_between, end_of, places, separator_at}
+use Rattle.lexical_parse_integer.specs.Runs.{digit_at, digits_between, end_of, places, separator_at}
 use Rattle.lexical_parse_integer.specs.Value.{positional_value, with_sign}
 use Rattle.lexical_parse_integer.proofs.ForCallers.{IsFit, complete_by, true_or_false}
 use Rattle.lexical_laws.specs.Integer.{IsBody, IsInteger, IsPrefix, IsSign, IsSuffix, is_separator}
 use Rattle.lexical_laws.specs.Integer.IsPrefix.{no_prefix, a_prefix}
-use Rattle.lexical_laws.specs.Integer.IsSign.{no_sign as none, a_plus, a_minus}
 use Rattle.lexical_laws.specs.Integer.IsSuffix.{no_suffix, a_suffix}
 use Rattle.lexical_laws.specs.Keeping.{IsRangeFault}
 use Rattle.lexical_laws.proofs.Bodies.{BytesAre, StandsAt, bytes_fit, bytes_values, digit_at-some, values_at}

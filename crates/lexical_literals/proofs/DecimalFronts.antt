@@ -78,7 +78,7 @@ stands_not f text k none apart = rw (none, apart) refl
 end_is : (f : Format) (text : List ℕ) (n : ℕ) → EndsRow 10 text 0 n
     → (n < length text → separator_at f text n ≡ false) → end_of f false 10 text 0 ≡ n
 end_is f text n s apart =
-    IsStop-unique (is_in_numeral f false 10 text 0) 0 (length text) _ _ (IsStop-end_of f pre 10 text 0 (omega arith))
+    IsStop-unique (is_in_numeral f false 10 text 0) 0 (length text) _ _ (IsStop-end_of f false 10 text 0 (omega arith))
     (record {
       low = s.low;
       high = s.high;
@@ -159,7 +159,7 @@ standard_told c d cs v n first read =
     let stop : x.stop ≡ n = ap (λ (w : ℤ × ℕ). w.1) parts.1 in
     let end : end_of standard false 10 text 0 ≡ n = sym (stop_is text) ∙ stop in
     record {
-      row = subst (λ (k : ℕ). EndsRow 10 text 0 k) end (end_of_row standard pre 10 text 0 refl (omega arith));
+      row = subst (λ (k : ℕ). EndsRow 10 text 0 k) end (end_of_row standard false 10 text 0 refl (omega arith));
       end = end;
       fits = parts.0;
       value = ap (λ (w : ℤ × ℕ). w.0) parts.1;
@@ -192,7 +192,7 @@ count_told text n s some =
     let there : (digit_count (row_numeral standard text 0 10 n) == 0) ≡ false = ne_eqb _ 0 (λ e. omega arith) in
     let at_zero : n ≡ 0 + n = omega arith in
     ap (λ (x : Numeral). digit_count x == 0)
-    (numeral_in_a_row standard pre text 0 10 n refl (omega arith)
+    (numeral_in_a_row standard false text 0 10 n refl (omega arith)
     (subst (λ (k : ℕ). EndsRow 10 text 0 k) at_zero s)) ∙ there
 
 -- a text that the standard format reads as `u64`, and whose digits end at a byte that is neither a separator nor one of
