@@ -37,7 +37,7 @@ pub record Reads (type : IntegerType) (is_negative : Bool) (numeral : Numeral) (
   pub fit : FrontsFit type is_negative numeral read
 
 -- a cursor has gone on in its numeral
-pub record GoesOn (old new : CursorView) : Type 0 where
+pub record MovesOn (old new : CursorView) : Type 0 where
   pub bytes : new.bytes ≡ old.bytes
   pub format : new.format ≡ old.format
   pub prefixed : new.is_prefixed ≡ old.is_prefixed
@@ -59,7 +59,7 @@ pub record IsReading (type : IntegerType) (is_negative : Bool) (cursor : CursorV
 pub record ReadsOn (type : IntegerType) (is_negative : Bool) (old new : CursorView) (value : ℤ)
     : Type 0 where
   pub reads : Reads type is_negative (numeral_of old) new.digits value
-  pub goes_on : GoesOn old new
+  pub goes_on : MovesOn old new
 
 -- no digit of a numeral was read yet
 pub record IsAtNumeral (cursor : CursorView) : Type 0 where
@@ -69,7 +69,7 @@ pub record IsAtNumeral (cursor : CursorView) : Type 0 where
 
 -- the first digit was looked for, and taken where it has to be: one turn a digit, and without a separator one at most
 pub record LooksAhead (old new : CursorView) : Type 0 where
-  pub goes_on : GoesOn old new
+  pub goes_on : MovesOn old new
   pub turns : new.turns ≡ old.turns + new.digits
   pub count : new.digits ≤ digit_count (numeral_of old)
   pub one : IsNone old.format.digit_separator → new.digits ≤ 1
@@ -87,7 +87,7 @@ pub record ReadsFirst (type : IntegerType) (is_negative radix_chosen : Bool) (ol
 pub record ReadsWords (type : IntegerType) (is_negative : Bool) (word room : ℕ)
     (old new : CursorView) (value : ℤ) : Type 0 where
   pub reads : Reads type is_negative (numeral_of old) new.digits value
-  pub goes_on : GoesOn old new
+  pub goes_on : MovesOn old new
   pub turns : new.digits + word * old.turns ≡ old.digits + word * new.turns
   pub within : (new.digits ≡ old.digits) ⊎ (new.digits ≤ room)
   pub ended : (room < new.digits + word) ⊎ (digit_count (numeral_of old) < new.digits + word)

@@ -9,7 +9,7 @@ use Rattle.lexical_parse_integer.specs.CursorView.{CursorView, numeral_of}
 use Rattle.lexical_parse_integer.specs.Folded.{Folded}
 use Rattle.lexical_parse_integer.specs.Head.{Head, head_of}
 use Rattle.lexical_parse_integer.specs.Numeral.{digit_count, numeral_in, numeral_behind}
-use Rattle.lexical_parse_integer.specs.Reading.{GoesOn, IsAtHead, IsAtNumeral, KeepsTurns, LeavesFewTurns, LeavesTurns, LooksAhead, ReadsWords}
+use Rattle.lexical_parse_integer.specs.Reading.{MovesOn, IsAtHead, IsAtNumeral, KeepsTurns, LeavesFewTurns, LeavesTurns, LooksAhead, ReadsWords}
 use Rattle.lexical_parse_integer.specs.Turns.{AsksWords, HasFewTurns, turns_bound, digits_per_word}
 use Rattle.lexical_parse_integer.proofs.Folds.{fact_of, folded}
 use Rattle.lexical_parse_integer.proofs.bound.TurnBound.{TakesWords, few_turns, one_within, still_few}
@@ -49,7 +49,7 @@ turns_where_digits bits t n u w none one = folded (record { each = λ _. one; fe
 -- ---- all digits
 
 -- a turn for each digit that is left
-pub turns_of_rest : (bits : ℕ) (t : IntegerType) (n : Bool) (u v w : CursorView) → GoesOn u v → v.digits ≤ digit_count (numeral_of u) → w.digits ≤ digit_count (numeral_of v) → Folded (LeavesTurns bits t n u v) → w.turns + v.digits ≡ v.turns + w.digits → Folded (KeepsTurns bits t n u w)
+pub turns_of_rest : (bits : ℕ) (t : IntegerType) (n : Bool) (u v w : CursorView) → MovesOn u v → v.digits ≤ digit_count (numeral_of u) → w.digits ≤ digit_count (numeral_of v) → Folded (LeavesTurns bits t n u v) → w.turns + v.digits ≡ v.turns + w.digits → Folded (KeepsTurns bits t n u w)
 turns_of_rest bits t n u v w g some all left rest =
     let same : digit_count (numeral_of v) ≡ digit_count (numeral_of u) = ap digit_count (same_numeral u v g) in
     folded (record {

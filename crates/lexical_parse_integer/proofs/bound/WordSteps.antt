@@ -7,7 +7,7 @@ use Rattle.std.proofs.lemmas.Bool.{cases_lt, false≢true}
 use Rattle.std.proofs.lemmas.List.{take_more, get_or-map, length-map}
 use Rattle.lexical_parse_integer.specs.CursorView.{AreDigitsAhead, CursorView, IsSound, numeral_end, numeral_of}
 use Rattle.lexical_parse_integer.specs.Numeral.{Numeral, digit_count, front_value, numeral_in}
-use Rattle.lexical_parse_integer.specs.Reading.{FrontsFit, GoesOn, Reads}
+use Rattle.lexical_parse_integer.specs.Reading.{FrontsFit, MovesOn, Reads}
 use Rattle.lexical_parse_integer.specs.Runs.{is_in_numeral, digit_at, digits_between, places, separator_at}
 use Rattle.lexical_digits.specs.Value.{positional_value, with_sign}
 use Rattle.lexical_digits.specs.Words.{word_value}
@@ -140,7 +140,7 @@ pub record ReadsWord (bits : ℕ) (s b : Bool) (u v : CursorView) (w : ℕ) (nex
   pub fits : IsNumber (integer_type bits s) next
   pub reads : Reads (integer_type bits s) b (numeral_of u) (v.digits + w) next
 
-pub reads_word : (bits : ℕ) (s b : Bool) (u v : CursorView) (w o : ℕ) (value scale word : ℤ) → 1 ≤ w → GoesOn u v → v.radix ≤ 10 → v.format.digit_separator ≡ None → HasRoom (integer_type bits s) v.radix o → (b ≡ true → s ≡ true) → v.digits + w ≤ o → AreDigitsAhead v w → Reads (integer_type bits s) b (numeral_of u) v.digits value
+pub reads_word : (bits : ℕ) (s b : Bool) (u v : CursorView) (w o : ℕ) (value scale word : ℤ) → 1 ≤ w → MovesOn u v → v.radix ≤ 10 → v.format.digit_separator ≡ None → HasRoom (integer_type bits s) v.radix o → (b ≡ true → s ≡ true) → v.digits + w ≤ o → AreDigitsAhead v w → Reads (integer_type bits s) b (numeral_of u) v.digits value
     → scale ≡ pos (v.radix ^ w) → word ≡ pos (word_value v.radix (slice_range v.bytes v.position (v.position + w))) → ReadsWord bits s b u v w (mul_add b value scale word)
 reads_word bits s b u v w o value scale word some g ten none room may le ahead reads is_scale is_word =
     let sound = fact_of g.sound in
@@ -175,7 +175,7 @@ reads_word bits s b u v w o value scale word some g ten none room may le ahead r
       reads = subst (λ (x : Numeral). Reads (integer_type bits s) b x (v.digits + w) (mul_add b value scale word)) same there;
     }
 
-pub goes_on_word : (u v next : CursorView) (w : ℕ) → GoesOn u v → Folded (IsSound next) → next ≡ record v { position = v.position + w; digits = v.digits + w; turns = v.turns + 1 } → GoesOn u next
+pub goes_on_word : (u v next : CursorView) (w : ℕ) → MovesOn u v → Folded (IsSound next) → next ≡ record v { position = v.position + w; digits = v.digits + w; turns = v.turns + 1 } → MovesOn u next
 goes_on_word u v next w g s e = record {
   bytes = ap (λ (z : CursorView). z.bytes) e ∙ g.bytes;
   format = ap (λ (z : CursorView). z.format) e ∙ g.format;
@@ -187,7 +187,7 @@ goes_on_word u v next w g s e = record {
   sound = s;
 }
 
-pub few_left_from : (u v : CursorView) (w : ℕ) → GoesOn u v → v.format.digit_separator ≡ None → (AreDigitsAhead v w → ⊥) → digit_count (numeral_of u) < v.digits + w
+pub few_left_from : (u v : CursorView) (w : ℕ) → MovesOn u v → v.format.digit_separator ≡ None → (AreDigitsAhead v w → ⊥) → digit_count (numeral_of u) < v.digits + w
 few_left_from u v w g none no_word =
     let low = few_left v w (fact_of g.sound) g.closed none no_word in
     let same : digit_count (numeral_of v) ≡ digit_count (numeral_of u) = ap digit_count (same_numeral u v g) in

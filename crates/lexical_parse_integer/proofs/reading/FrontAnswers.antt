@@ -14,7 +14,7 @@ use Rattle.lexical_parse_integer.specs.CursorView.{CursorView, IsSound, ReachesE
 use Rattle.lexical_parse_integer.specs.Grammar.{digits_required, fault_if, first_fault_or, partial, range_error, range_fault, zero_fault}
 use Rattle.lexical_parse_integer.specs.Head.{Head, head_after, head_behind, head_of, sign, chooses_radix}
 use Rattle.lexical_parse_integer.specs.Numeral.{Numeral, digit_count, numeral_in, numeral_value, numeral_behind}
-use Rattle.lexical_parse_integer.specs.Reading.{GoesOn, IsRead, Reads, ReadsAll, ReadsNumeral, view_at}
+use Rattle.lexical_parse_integer.specs.Reading.{MovesOn, IsRead, Reads, ReadsAll, ReadsNumeral, view_at}
 use Rattle.lexical_parse_integer.specs.Runs.{end_of, places}
 use Rattle.lexical_parse_integer.specs.Seeking.{Finds, starts_behind_prefix}
 use Rattle.lexical_parse_integer.specs.declared.seek.Found.{Found}
@@ -100,7 +100,7 @@ module _ (f : Format) (pre : Bool) (text : List ℕ) (r start : ℕ) where
   abbrev x : Numeral
   x = numeral_in f pre r text start
 
-  on : (k n m j : ℕ) → IsSound (at m j) → GoesOn (at k n) (at m j)
+  on : (k n m j : ℕ) → IsSound (at m j) → MovesOn (at k n) (at m j)
   on k n m j s = record { bytes = refl; format = refl; prefixed = refl; radix = refl; start = refl; identity = refl; closed = refl; sound = folded s }
 
   -- what a search finds that is told by its start alone

@@ -9,7 +9,7 @@ use Rattle.lexical_parse_integer.specs.CursorView.{CursorView, IsSound, ReachesE
 use Rattle.lexical_parse_integer.specs.Folded.{Folded}
 use Rattle.lexical_parse_integer.specs.Grammar.{range_fault}
 use Rattle.lexical_parse_integer.specs.Numeral.{Numeral, digit_count, numeral_in, numeral_value}
-use Rattle.lexical_parse_integer.specs.Reading.{GoesOn, IsReading, Reads, ReadsAll, ReadsOn}
+use Rattle.lexical_parse_integer.specs.Reading.{MovesOn, IsReading, Reads, ReadsAll, ReadsOn}
 use Rattle.lexical_parse_integer.specs.Runs.{digit_at, digits_between, places}
 use Rattle.lexical_util.specs.declared.error.Error.{Error}
 use Rattle.lexical_util.specs.Digit.{value_if_below, digit, digit_value}
@@ -78,10 +78,10 @@ places_count f pre r text start = length-map (places f pre r text start) (λ pla
 
 -- ---- going on
 
-pub goes_on_none : (v : CursorView) → Folded (IsSound v) → v.closed ≡ false → GoesOn v v
+pub goes_on_none : (v : CursorView) → Folded (IsSound v) → v.closed ≡ false → MovesOn v v
 goes_on_none v s open_now = record { bytes = refl; format = refl; prefixed = refl; radix = refl; start = refl; identity = refl; closed = open_now; sound = s }
 
-pub goes_on_digit : (u v w : CursorView) (value : ℕ) → GoesOn u v → TakesDigit v w value → Folded (IsSound w) → GoesOn u w
+pub goes_on_digit : (u v w : CursorView) (value : ℕ) → MovesOn u v → TakesDigit v w value → Folded (IsSound w) → MovesOn u w
 goes_on_digit u v w value g t s =
     record {
       bytes = ap (λ (z : CursorView). z.bytes) t.after ∙ g.bytes;
@@ -94,7 +94,7 @@ goes_on_digit u v w value g t s =
       sound = s;
     }
 
-pub goes_on_end : (u v w : CursorView) → GoesOn u v → ReachesEnd v w → Folded (IsSound w) → GoesOn u w
+pub goes_on_end : (u v w : CursorView) → MovesOn u v → ReachesEnd v w → Folded (IsSound w) → MovesOn u w
 goes_on_end u v w g t s =
     record {
       bytes = ap (λ (z : CursorView). z.bytes) t.after ∙ g.bytes;
@@ -107,7 +107,7 @@ goes_on_end u v w g t s =
       sound = s;
     }
 
-pub goes_on_further : (u v w : CursorView) → GoesOn u v → GoesOn v w → GoesOn u w
+pub goes_on_further : (u v w : CursorView) → MovesOn u v → MovesOn v w → MovesOn u w
 goes_on_further u v w g h =
     record {
       bytes = h.bytes ∙ g.bytes;
@@ -121,7 +121,7 @@ goes_on_further u v w g h =
     }
 
 -- the numeral stays the same
-pub same_numeral : (u v : CursorView) → GoesOn u v → numeral_of v ≡ numeral_of u
+pub same_numeral : (u v : CursorView) → MovesOn u v → numeral_of v ≡ numeral_of u
 same_numeral u v g =
     ap (λ f. numeral_in f v.is_prefixed v.radix v.bytes v.start) g.format
     ∙ ap (λ p. numeral_in u.format p v.radix v.bytes v.start) g.prefixed
@@ -149,7 +149,7 @@ reads_further t b u v w before value first next =
       goes_on = goes_on_further u v w first.goes_on next.goes_on;
     }
 
-pub reads_all_further : (t : IntegerType) (b : Bool) (u v w : CursorView) (value : ℤ) → GoesOn u v → ReadsAll t b v w value → ReadsAll t b u w value
+pub reads_all_further : (t : IntegerType) (b : Bool) (u v w : CursorView) (value : ℤ) → MovesOn u v → ReadsAll t b v w value → ReadsAll t b u w value
 reads_all_further t b u v w value g all =
     let same = same_numeral u v g in
     record {
@@ -164,5 +164,5 @@ pub reads_no_more : (t : IntegerType) (b : Bool) (u : CursorView) (value : ℤ) 
 reads_no_more t b u value ready = record { reads = ready.reads; goes_on = goes_on_none u ready.sound ready.still_open }
 
 -- a fault of the numeral stays its fault
-pub fault_further : (t : IntegerType) (b : Bool) (u v : CursorView) (e : Error) → GoesOn u v → range_fault t b (numeral_of v) ≡ Some e → range_fault t b (numeral_of u) ≡ Some e
+pub fault_further : (t : IntegerType) (b : Bool) (u v : CursorView) (e : Error) → MovesOn u v → range_fault t b (numeral_of v) ≡ Some e → range_fault t b (numeral_of u) ≡ Some e
 fault_further t b u v e g fault = ap (range_fault t b) (sym (same_numeral u v g)) ∙ fault

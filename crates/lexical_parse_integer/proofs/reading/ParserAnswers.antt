@@ -10,7 +10,7 @@ use Rattle.lexical_parse_integer.specs.CursorView.{CursorView, behind_prefix, Is
 use Rattle.lexical_parse_integer.specs.Grammar.{complete, digits_required, first_fault_or, partial, prefix_fault, range_fault, zero_fault}
 use Rattle.lexical_parse_integer.specs.Head.{Head, head_of, no_sign, sign, sign_by, chooses_radix}
 use Rattle.lexical_parse_integer.specs.Numeral.{Numeral, digit_count, numeral_in, numeral_value, numeral_behind}
-use Rattle.lexical_parse_integer.specs.Reading.{GoesOn, IsAtHead, IsOver, IsRead, IsReading, Reads, ReadsNumeral, StandsAtStop}
+use Rattle.lexical_parse_integer.specs.Reading.{MovesOn, IsAtHead, IsOver, IsRead, IsReading, Reads, ReadsNumeral, StandsAtStop}
 use Rattle.lexical_util.specs.Format.{Format}
 use Rattle.lexical_util.specs.Number.{IntegerType}
 use Rattle.lexical_parse_integer.specs.Seeking.{starts_behind_prefix}
@@ -291,12 +291,12 @@ module _ (f : Format) (t : IntegerType) (text : List ℕ) (minus p o : Bool) (v 
       both e (ap (λ q. option_or q (option_or (zero_fault f (p || o) (numeral_behind f text head)) (range_fault t minus (numeral_behind f text head)))) (not_alone goes)
       ∙ ap (λ x. option_or (zero_fault f (p || o) x) (range_fault t minus x)) same_text ∙ ap (λ g. option_or (zero_fault g (p || o) (numeral_of v)) (range_fault t minus (numeral_of v))) (sym at.format) ∙ fault)
 
-pub range_behind : (t : IntegerType) (minus p : Bool) (v w : CursorView) (e : Error) → GoesOn v w → zero_fault v.format p (numeral_of v) ≡ None → range_fault t minus (numeral_of w) ≡ Some e → option_or (zero_fault v.format p (numeral_of v)) (range_fault t minus (numeral_of v)) ≡ Some e
+pub range_behind : (t : IntegerType) (minus p : Bool) (v w : CursorView) (e : Error) → MovesOn v w → zero_fault v.format p (numeral_of v) ≡ None → range_fault t minus (numeral_of w) ≡ Some e → option_or (zero_fault v.format p (numeral_of v)) (range_fault t minus (numeral_of v)) ≡ Some e
 range_behind t minus p v w e g none fault =
     ap (λ z. option_or z (range_fault t minus (numeral_of v))) none ∙ ap (range_fault t minus) (sym (same_numeral v w g)) ∙ fault
 
 -- behind the first digit, reading may go on
-pub reading_behind : (t : IntegerType) (minus : Bool) (v w : CursorView) (value : ℤ) → (minus ≡ true → t.is_signed ≡ true) → GoesOn v w → Reads t minus (numeral_of v) w.digits value → IsReading t minus w value
+pub reading_behind : (t : IntegerType) (minus : Bool) (v w : CursorView) (value : ℤ) → (minus ≡ true → t.is_signed ≡ true) → MovesOn v w → Reads t minus (numeral_of v) w.digits value → IsReading t minus w value
 reading_behind t minus v w value signed g reads =
     record {
       still_open = g.closed;
@@ -315,7 +315,7 @@ pub same_but_place : (b : Bool) (v w : CursorView) → w ≡ cond b (record v { 
 same_but_place true v w e = (ap (λ (z : CursorView). z.bytes) e, ap (λ (z : CursorView). z.format) e, ap (λ (z : CursorView). z.digits) e, ap (λ (z : CursorView). z.turns) e, ap (λ (z : CursorView). z.identity) e)
 same_but_place false v w e = (ap (λ (z : CursorView). z.bytes) e, ap (λ (z : CursorView). z.format) e, ap (λ (z : CursorView). z.digits) e, ap (λ (z : CursorView). z.turns) e, ap (λ (z : CursorView). z.identity) e)
 
-pub is_read : (f : Format) (t : IntegerType) (text : List ℕ) (minus p o b : Bool) (v w x : CursorView) (value : ℤ) → IsAtHead f t text minus p o v → false ≡ (p && (v.position == length v.bytes)) → GoesOn v w → ReadsNumeral t minus (p || o) v w value
+pub is_read : (f : Format) (t : IntegerType) (text : List ℕ) (minus p o b : Bool) (v w x : CursorView) (value : ℤ) → IsAtHead f t text minus p o v → false ≡ (p && (v.position == length v.bytes)) → MovesOn v w → ReadsNumeral t minus (p || o) v w value
     → (w.position ≡ numeral_end w → x.position ≡ numeral_stop w.format w.is_prefixed w.radix w.bytes w.start) → x ≡ cond b (record w { position = w.position + 1; closed = true }) w → IsRead f t text value x
 is_read f t text minus p o b v w x value at goes g reads stops after =
     let all = reads.all in
@@ -350,11 +350,11 @@ pub over_head : (f : Format) (t : IntegerType) (text : List ℕ) (minus p o : Bo
 over_head f t text minus p o v at s = record { bytes = at.bytes; format = at.format; sound = s }
 
 -- a cursor that has gone on from there
-pub over_numeral : (f : Format) (t : IntegerType) (text : List ℕ) (minus p o : Bool) (v w : CursorView) → IsAtHead f t text minus p o v → GoesOn v w → IsOver text f w
+pub over_numeral : (f : Format) (t : IntegerType) (text : List ℕ) (minus p o : Bool) (v w : CursorView) → IsAtHead f t text minus p o v → MovesOn v w → IsOver text f w
 over_numeral f t text minus p o v w at g = record { bytes = g.bytes ∙ at.bytes; format = g.format ∙ at.format; sound = fact_of g.sound }
 
 -- a cursor from which the suffix was looked for
-pub over_suffix : (f : Format) (t : IntegerType) (text : List ℕ) (minus p o b : Bool) (v w x : CursorView) → IsAtHead f t text minus p o v → GoesOn v w → x ≡ cond b (record w { position = w.position + 1; closed = true }) w → IsSound x → IsOver text f x
+pub over_suffix : (f : Format) (t : IntegerType) (text : List ℕ) (minus p o b : Bool) (v w x : CursorView) → IsAtHead f t text minus p o v → MovesOn v w → x ≡ cond b (record w { position = w.position + 1; closed = true }) w → IsSound x → IsOver text f x
 over_suffix f t text minus p o b v w x at g after s =
     let kept = same_but_place b w x after in
     record { bytes = kept.0 ∙ g.bytes ∙ at.bytes; format = kept.1 ∙ g.format ∙ at.format; sound = s }

@@ -129,7 +129,7 @@ fn zero_before_digit(bytes: &[u8], format: &NumberFormat, head: Head) -> Option<
         (numeral_in format.now head.is_prefixed head.radix bytes.now head.start)
         ≡ Some (InvalidLeadingZeros place)) }
 {
-    if head.chooses_radix() || !format.no_integer_leading_zeros() {
+    if !format.no_integer_leading_zeros() || head.chooses_radix() {
         return None;
     }
     let Found::Digit(place, digit) = seek(bytes, format, head.radix, head.start, head.start) else {
