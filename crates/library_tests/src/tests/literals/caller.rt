@@ -1,7 +1,7 @@
 // Callers of the tokenizer by `for` and by the adapters of std's iterators, proved and run.
 
 ghost use Rattle.std.specs.Prelude.{◌≡◌, count_by};
-ghost use Rattle.lexical_literals.specs.TokenCallers.{first_fault, is_number};
+ghost use Rattle.lexical_literals.specs.TokenCallers.{first_fault_place, is_number_token};
 ghost use Rattle.lexical_literals.specs.Tokens.{tokens, tokens_if_valid};
 ghost use Rattle.lexical_parse_integer.specs.Answer.{view_of};
 
@@ -12,7 +12,7 @@ use lexical_util::format::JSON;
 
 /// How many of the tokens are numbers.
 fn number_count(source: &[u8]) -> usize
-    ensures { result ≡ count_by is_number (tokens source.now) }
+    ensures { result ≡ count_by is_number_token (tokens source.now) }
 {
     Tokens::new(source)
         .filter(|token| matches!(token.kind, Kind::Number(_)))
@@ -21,7 +21,7 @@ fn number_count(source: &[u8]) -> usize
 
 /// How many of the tokens under a format are numbers.
 fn number_count_under(source: &[u8], format: &NumberFormat) -> Parse<usize>
-    ensures { result ≡ view_of (count_by is_number) (tokens_if_valid format.now source.now) }
+    ensures { result ≡ view_of (count_by is_number_token) (tokens_if_valid format.now source.now) }
 {
     let tokens = Tokens::with_format(source, format)?;
     Ok(
@@ -33,7 +33,7 @@ fn number_count_under(source: &[u8], format: &NumberFormat) -> Parse<usize>
 
 /// Where the first fault starts.
 fn first_fault(source: &[u8]) -> Option<usize>
-    ensures { result ≡ first_fault (tokens source.now) }
+    ensures { result ≡ first_fault_place (tokens source.now) }
 {
     for token in Tokens::new(source) {
         if let Kind::Fault(_) = token.kind {
