@@ -1,4 +1,4 @@
-"""The lists of a format's fields in C, Rattle and Rust, written from tools/fields.txt."""
+"""The lists of a format's fields in C, Rattle, Rust and Python, written from tools/fields.txt."""
 from __future__ import annotations
 
 import os
@@ -6,6 +6,9 @@ import textwrap
 from typing import Callable, NamedTuple
 
 LIST = os.path.join("tools", "fields.txt")
+# The fields of the standard format that aren't 0.
+STANDARD = {"mantissa_radix": 10, "required_mantissa_digits": True}
+FORMAT_OF_PYTHON = "bindings/python/src/jadvolni/_format.py"
 
 
 class Field(NamedTuple):
@@ -91,6 +94,24 @@ def in_setters(kind: str, fields: list[Field]) -> str:
     return "\n".join(lines) + "\n"
 
 
+def in_help(fields: list[Field]) -> str:
+    """What the help of Python's Format says of each field."""
+    return "\n".join(textwrap.fill(f"{field.name}: {field.about}", 100, initial_indent="    ",
+                                   subsequent_indent="        ", break_on_hyphens=False)
+                     for field in fields) + "\n"
+
+
+def in_dataclass(fields: list[Field]) -> str:
+    """The fields of Python's Format, with their defaults."""
+    kinds = {"radix": ("int", 0), "mark": ("Punctuation", None), "flag": ("bool", False)}
+
+    def line(field: Field) -> str:
+        kind, unset = kinds[field.kind]
+        return f"    {field.name}: {kind} = {STANDARD.get(field.name, unset)}\n"
+
+    return "".join(map(line, fields))
+
+
 REGIONS = [
     Region("include/jadvolni.h", "typedef struct jadvolni_format {\n", "    /* Bits: ", in_c),
     Region("crates/jadvolni/src/format.rt", "pub struct FormatFields {\n",
@@ -105,6 +126,10 @@ REGIONS = [
            lambda fields: in_setters("mark", fields)),
     Region("bindings/rust/jadvolni/src/format.rs", "    flags! {\n", "    }\n",
            lambda fields: in_setters("flag", fields)),
+    Region(FORMAT_OF_PYTHON, "one that breaks a rule isn't made.\n\n", "\n    FormatError tells",
+           in_help),
+    Region(FORMAT_OF_PYTHON, "    # The fields, in the order of their bytes.\n",
+           "\n    def __post_init__", in_dataclass),
 ]
 
 
