@@ -363,8 +363,8 @@ impl<'a> Cursor<'a> {
         requires is_open { self.old.closed ≡ false }
         ensures answer { result ≡ closes self.old }
         ensures at_end { self.old.position ≡ numeral_end self.old
-            → self.new.position
-            ≡ numeral_stop self.old.format self.old.is_prefixed self.old.radix self.old.bytes self.old.start }
+            → self.new.position ≡ numeral_stop self.old.format self.old.is_prefixed
+            self.old.radix self.old.bytes self.old.start }
         ensures before_end { self.old.position < numeral_end self.old → self.new ≡ self.old }
         ensures sound { IsSound self.new }
         ensures after { self.new ≡ (if result

@@ -120,7 +120,8 @@ fn is_prefix_alone(bytes: &[u8], head: Head) -> bool
 // The place of a zero before another digit, where the format forbids it.
 #[inline(always)]
 fn zero_before_digit(bytes: &[u8], format: &NumberFormat, head: Head) -> Option<usize>
-    requires sound { IsSound (view_at format.now head.is_prefixed head.radix bytes.now head.start head.start 0) }
+    requires sound { IsSound
+        (view_at format.now head.is_prefixed head.radix bytes.now head.start head.start 0) }
     ensures none { IsNone result → zero_fault format.now
         (head.is_prefixed || head.is_octal)
         (numeral_in format.now head.is_prefixed head.radix bytes.now head.start) ≡ None }
@@ -176,7 +177,8 @@ fn join<T: Integer>(
 // All digits of a numeral, or the fault of the first with which their value leaves the type.
 #[inline(always)]
 fn read_digits<T: Integer>(bytes: &[u8], format: &NumberFormat, head: Head) -> Result<Digits<T>>
-    requires sound { IsSound (view_at format.now head.is_prefixed head.radix bytes.now head.start head.start 0) }
+    requires sound { IsSound
+        (view_at format.now head.is_prefixed head.radix bytes.now head.start head.start 0) }
     requires minus { head.is_negative ≡ true → T.TYPE.is_signed ≡ true }
     ensures all { IfOk result (λ found. ReadsAll T.TYPE head.is_negative
         (view_at format.now head.is_prefixed head.radix bytes.now head.start head.start 0)
@@ -204,7 +206,8 @@ fn read_digits<T: Integer>(bytes: &[u8], format: &NumberFormat, head: Head) -> R
 // A numeral: the rule on zeros is judged first, since its fault comes before that of the value.
 #[inline(always)]
 fn read_numeral<T: Integer>(bytes: &[u8], format: &NumberFormat, head: Head) -> Result<Digits<T>>
-    requires sound { IsSound (view_at format.now head.is_prefixed head.radix bytes.now head.start head.start 0) }
+    requires sound { IsSound
+        (view_at format.now head.is_prefixed head.radix bytes.now head.start head.start 0) }
     requires minus { head.is_negative ≡ true → T.TYPE.is_signed ≡ true }
     ensures all { IfOk result (λ found. ReadsNumeral T.TYPE head.is_negative
         (head.is_prefixed || head.is_octal)

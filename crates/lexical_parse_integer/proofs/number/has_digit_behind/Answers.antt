@@ -1,4 +1,4 @@
-use Rattle.lexical_parse_integer.proofs.reading.FrontDigits.{digit_first, none_first}
+use Rattle.lexical_parse_integer.proofs.reading.DigitBehindHead.{digit_first, none_first}
 use Rattle.lexical_parse_integer.proofs.number.has_digit_behind.Goals as goal
 
 pub returns-in-Digit : goal.returns-in-Digit
