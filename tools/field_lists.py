@@ -59,26 +59,15 @@ def quoted(text: str, most: int, between: str) -> str:
     return '"' + between.join([*(f"{line} " for line in lines[:-1]), lines[-1]]) + '"'
 
 
-def in_cases(statuses: list[Field], texts: dict[str, str]) -> str:
-    """The cases of a switch of C over all statuses but those that it doesn't know."""
+def in_cases(statuses: list[Field], literal: Callable[[Field], str]) -> str:
+    """The cases of a switch of C: what it returns for each status that it knows."""
     lines = []
     for status in statuses[:-1]:
         name = re.sub(r"(?<=[a-z])(?=[A-Z])", "_", status.name).upper()
-        said = f"return {texts[status.name]};"
+        said = f"return {literal(status)};"
         space = " " if len(name) + len(said) < 74 else "\n        "
         lines.append(f"    case JADVOLNI_{name}:{space}{said}\n")
     return "".join(lines)
-
-
-def in_names(statuses: list[Field]) -> str:
-    """The names of the statuses."""
-    return in_cases(statuses, {it.name: f'"{it.name}"' for it in statuses})
-
-
-def in_texts(statuses: list[Field]) -> str:
-    """The texts of the statuses."""
-    between = '"\n' + " " * 15 + '"'
-    return in_cases(statuses, {it.name: quoted(it.about, 76, between) for it in statuses})
 
 
 def in_display(statuses: list[Field]) -> str:
@@ -190,8 +179,10 @@ REGIONS = [
 
 HEADER, SWITCH = "include/jadvolni.h", "(uint32_t status)\n{\n    switch (status) {\n"
 OF_STATUSES = [
-    Region(HEADER, f"jadvolni_status_name{SWITCH}", "    default: return \"Unk", in_names),
-    Region(HEADER, f"jadvolni_status_text{SWITCH}", "    default: return \"a stat", in_texts),
+    Region(HEADER, f"jadvolni_status_name{SWITCH}", "    default: return \"Unknown",
+           lambda them: in_cases(them, lambda it: f'"{it.name}"')),
+    Region(HEADER, f"jadvolni_status_text{SWITCH}", "    default: return \"a status",
+           lambda them: in_cases(them, lambda it: quoted(it.about, 76, '"\n' + " " * 15 + '"'))),
     Region("bindings/rust/jadvolni/src/error.rs", "        f.write_str(match self {\n",
            "        })?;\n", in_display),
 ]
