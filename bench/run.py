@@ -69,7 +69,7 @@ def counted(driver: str, seed: int, peers: Sequence[str] = ()) -> report.Numbers
 
 
 def add_many(found: report.Numbers, many: report.Numbers) -> None:
-    """Puts what ours takes at many places beside the others: as many times std as in its own run."""
+    """Puts what ours takes at many places beside the others, as many times std as in its run."""
     for name, row in many.items():
         unit = found[name]["std"] / row["std"] if "std" in row else 1
         found[name][report.AT_MANY] = row["ours"] * unit
