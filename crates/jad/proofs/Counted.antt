@@ -1,5 +1,5 @@
 -- What arguments of a known count ask for.
-use Rattle.std.proofs.Common.{◌≡◌, ℕ, suc, ◌<◌, ◌≤◌, List, [], ◌∷◌, length, map, get_or, None, refl, arith}
+use Rattle.std.proofs.Common.{◌≡◌, ℕ, ◌<◌, ◌≤◌, List, [], ◌∷◌, length, map, get_or, None, refl, arith}
 use denote.Ref.{Bor}
 use Rattle.jad.specs.Question.{asked_by, format_told, if_dashes, question_about}
 
