@@ -8,11 +8,11 @@ use Rattle.lexical_util.specs.declared.error.Error.{Error}
 use Rattle.lexical_util.specs.Digit.{digit}
 use Rattle.lexical_util.specs.Format.{Format}
 use Rattle.lexical_util.specs.Number.{IntegerType}
-use Rattle.lexical_parse_integer.specs.Affixes.{bare_radix, marked_radix, numeral_stop, octal_zero_at, prefix_radix, suffix_at}
+use Rattle.lexical_parse_integer.specs.Affixes.{marked_radix, numeral_stop, octal_zero_at, prefix_radix, suffix_at}
 use Rattle.lexical_parse_integer.specs.Head.{head_after, head_behind, head_of, sign}
 use Rattle.lexical_parse_integer.specs.Numeral.{numeral_in}
 use Rattle.lexical_parse_integer.specs.Runs.{are_same, digit_at, digits_between, end_of, is_in_numeral, is_in_passing_run, places, run_passes, separator_at}
-use Rattle.lexical_parse_integer.proofs.ForCallers.{IsStop, IsStop-end_of, IsStop-unique, true_or_false}
+use Rattle.lexical_parse_integer.proofs.ForCallers.{IsStop-end_of, IsStop-unique, true_or_false}
 use Rattle.lexical_laws.proofs.Bodies.{first_value, with_digit}
 use Rattle.lexical_laws.proofs.Runs.{IsRun, run_at, run_of}
 

@@ -1,5 +1,5 @@
 -- What stands behind a byte that is no part of a number counts for nothing.
-use Rattle.std.proofs.Common.{◌≡◌, ℕ, zero, suc, ◌+◌, ◌-◌, ◌<◌, ◌≤◌, Bool, true, false, ◌&&◌, ◌||◌, cond, List, [], ◌∷◌, ◌++◌, length, filter, map, not, Option, Some, None, IsNone, IsSome, is_some, option_and_then, Ok, Err, Result, refl, sym, ap, subst, ◌∙◌, arith, ◌⊎◌, inl, inr, length-append}
+use Rattle.std.proofs.Common.{◌≡◌, ℕ, zero, suc, ◌+◌, ◌-◌, ◌<◌, ◌≤◌, Bool, true, false, ◌&&◌, ◌||◌, cond, List, [], ◌∷◌, ◌++◌, length, filter, map, not, Option, Some, None, IsNone, IsSome, is_some, Ok, Err, Result, refl, sym, ap, ◌∙◌, arith, inl, inr, length-append}
 use Rattle.std.proofs.Math.IntN.{ℤ}
 use Rattle.std.proofs.Math.Bool.{and-false}
 use Rattle.std.proofs.lemmas.Bool.{and_parts, cases_lt, false≢true, ne_eqb}
@@ -9,19 +9,18 @@ use Rattle.std.specs.List.{range_with_len}
 use Rattle.std.specs.Option.{option_map, unwrap_or}
 use Rattle.std.specs.Prelude.{◌==◌, ◌≢◌, find, nat_le, nat_lt, slice_get, slice_index}
 use Rattle.lexical_util.specs.declared.error.Error.{Error}
-use Rattle.lexical_util.specs.declared.error.Error.TheVariants.{Empty, InvalidLeadingZeros, MissingSign, Overflow, Underflow}
+use Rattle.lexical_util.specs.declared.error.Error.TheVariants.{Empty, InvalidLeadingZeros, MissingSign}
 use Rattle.lexical_util.specs.Digit.{digit}
 use Rattle.lexical_util.specs.Format.{Format}
 use Rattle.lexical_util.specs.Number.{IntegerType, is_number}
 use Rattle.lexical_util.specs.Validity.{fault}
 use Rattle.lexical_util.proofs.Valid.{digit_below}
 use Rattle.lexical_parse_integer.specs.Affixes.{bare_radix, is_affix, marked_radix, numeral_stop, octal_zero_at, prefix_radix, suffix_at}
-use Rattle.lexical_parse_integer.specs.Grammar.{after_head, common_faults, digits_required, fault_if, first_fault_or, first_outside, lacks_digits, partial, partial_faults, prefix_fault, range_error, range_fault, zero_fault}
+use Rattle.lexical_parse_integer.specs.Grammar.{common_faults, digits_required, fault_if, first_fault_or, first_outside, lacks_digits, partial, partial_faults, range_error, range_fault, zero_fault}
 use Rattle.lexical_parse_integer.specs.Head.{Head, head_after, head_behind, head_of, no_sign, sign, sign_by}
 use Rattle.lexical_parse_integer.specs.Numeral.{Numeral, digit_count, front_value, numeral_in, numeral_value}
 use Rattle.lexical_parse_integer.specs.Runs.{are_same, digit_at, digits_between, end_of, is_in_numeral, places, separator_at}
 use Rattle.lexical_parse_integer.proofs.ForCallers.{IsFit, IsStop-end_of, belongs_other, true_or_false}
-use Rattle.lexical_laws.specs.Integer.{is_separator}
 use Rattle.lexical_laws.specs.Keeping.{IsForeign}
 use Rattle.lexical_laws.proofs.Bodies.{digit_at-some}
 use Rattle.lexical_laws.proofs.Cuts.{AreMarkedAlike, IsCut, head_alike, numeral_same, places_same, same_end}

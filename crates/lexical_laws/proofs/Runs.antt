@@ -135,7 +135,7 @@ other_is_digit : (f : Format) (r : ℕ) (text : List ℕ) (start k : ℕ) → is
 unfolding is_in_numeral
 other_is_digit f r text start k here s = let told = rw s at here in sym (or-false (is_some (digit_at r text k))) ∙ told
 
-run_in_numeral : (f : Format) (r : ℕ) (text : List ℕ) (start k : ℕ) → is_in_numeral f r text start k ≡ true → digit_at r text k ≡ None → separator_at f text k ≡ true → is_in_passing_run f r text start k ≡ true
+pub run_in_numeral : (f : Format) (r : ℕ) (text : List ℕ) (start k : ℕ) → is_in_numeral f r text start k ≡ true → digit_at r text k ≡ None → separator_at f text k ≡ true → is_in_passing_run f r text start k ≡ true
 unfolding is_in_numeral
 run_in_numeral f r text start k here none s = rw (none, s) at here
 
