@@ -14,12 +14,12 @@ use Rattle.lexical_parse_integer.specs.Grammar.{digits_required, fault_if, first
 use Rattle.lexical_parse_integer.specs.Head.{Head, head_after, head_behind, head_of, sign}
 use Rattle.lexical_parse_integer.specs.Numeral.{Numeral, digit_count, numeral_in, numeral_value}
 use Rattle.lexical_parse_integer.specs.Reading.{GoesOn, IsRead, Reads, ReadsAll, ReadsNumeral, view_at}
-use Rattle.lexical_parse_integer.specs.Runs.{places}
+use Rattle.lexical_parse_integer.specs.Runs.{digit_at, places}
 use Rattle.lexical_parse_integer.specs.Seeking.{Finds}
 use Rattle.lexical_parse_integer.specs.declared.seek.Found.TheVariants.{Digit, End}
 use Rattle.lexical_parse_integer.proofs.Folds.{folded}
 use Rattle.lexical_parse_integer.proofs.grammar.DigitCounts.{digits_between_none}
-use Rattle.lexical_parse_integer.proofs.grammar.NumeralEnd.{IsStop-end_of}
+use Rattle.lexical_parse_integer.proofs.grammar.NumeralEnd.{IsStop-end_of, finds_here}
 use Rattle.lexical_parse_integer.proofs.marked.MarkedAnswers.{fits_head}
 use Rattle.lexical_parse_integer.proofs.reading.DigitLoop.{reads_end, reads_leaves, reads_next}
 use Rattle.lexical_parse_integer.proofs.reading.FirstDigit.{few_no_fault, leading_zeros, no_digit_no_zeros, other_first}
@@ -99,6 +99,10 @@ module _ (f : Format) (text : List ℕ) (r start : ℕ) where
 
   ends : (k n stop : ℕ) → Finds f r text start k (End stop) → ReachesEnd (at k n) (at stop n)
   ends k n stop found = reaches_found (at k n) stop found
+
+  -- the digit at the place to which reading has come is the next
+  pub found_here : (k n d : ℕ) → IsSound (at k n) → digit_at r text k ≡ Some d → Finds f r text start k (Digit k d)
+  found_here k n d s is = finds_here f r text start k s.after_start (s.while_open refl).before_end s.within d is
 
   pub next_sound : (k n place d : ℕ) → IsSound (at k n) → Finds f r text start k (Digit place d) → IsSound (at (place + 1) (n + 1))
   next_sound k n place d s found = IsSound-digit (at k n) (n + 1) place d s refl refl found
