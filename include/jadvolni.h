@@ -597,13 +597,14 @@ static inline const char *jadvolni_status_text(uint32_t status)
     case JADVOLNI_INVALID_BASE_SUFFIX:
         return "the suffix has to be ASCII, and no sign and no digit of the radix";
     case JADVOLNI_INVALID_PUNCTUATION:
-        return "separator, prefix and suffix have to be different bytes, and no letter in two "
-               "cases";
+        return "separator, prefix and suffix have to be different bytes, and no letter in "
+               "two cases";
     case JADVOLNI_INVALID_LITERAL_PREFIXES:
         return "literal prefixes and octal zeros need the radix 10, and literal prefixes no "
-               "prefix, and no separator or suffix that may be a part of 0x, 0o, 0b or of their "
-               "digits";
-    case JADVOLNI_UNKNOWN_FIELD: return "the reserved bytes and bits of the format have to be 0";
+               "prefix, and no separator or suffix that may be a part of 0x, 0o, 0b or of "
+               "their digits";
+    case JADVOLNI_UNKNOWN_FIELD:
+        return "the reserved bytes and bits of the format have to be 0";
     default: return "a status that only a later library has";
     }
 }

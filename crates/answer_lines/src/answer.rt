@@ -59,10 +59,12 @@ fn tell<W: Write>(
     match command {
         None => put(b"bad line", batch, out),
         Some(Command::Complete(name, text)) => {
-            put_complete(parse::complete(name, text, settings), batch, out)
+            let answer = parse::complete(name, text, &settings.format(), settings.options());
+            put_complete(answer, batch, out)
         }
         Some(Command::Partial(name, text)) => {
-            put_partial(parse::partial(name, text, settings), batch, out)
+            let answer = parse::partial(name, text, &settings.format(), settings.options());
+            put_partial(answer, batch, out)
         }
         Some(Command::Tokens(text)) => put_tokens(text, batch, out),
         Some(Command::Change(_)) | Some(Command::Reset) => put(b"ok", batch, out),

@@ -65,7 +65,7 @@ faultless f t text h x v read =
       value = w.5;
     }
 
-head_fit : (f : Format) (prefix more : List ℕ) (h : Head) → IsNone (fault f) → MarksHead f prefix more h → IsFit f h.radix
+pub head_fit : (f : Format) (prefix more : List ℕ) (h : Head) → IsNone (fault f) → MarksHead f prefix more h → IsFit f h.radix
 head_fit f prefix more h valid (inl w) = subst (IsFit f) (sym w.1) (bare_fit f more valid)
 head_fit f prefix more h valid (inr w) = fits_marked f (Some w.0) h.radix valid w.2
 
@@ -74,7 +74,7 @@ behind_head f prefix more h (inl w) = w.3 ∙ ap some_in (sym w.0)
 behind_head f prefix more h (inr w) = w.3 ∙ ap some_in (sym w.1)
 
 -- the byte of a suffix
-suffix_here : (f : Format) (text : List ℕ) (k : ℕ) → suffix_at f text k ≡ true → (c : ℕ) × (slice_get text k ≡ Some c) × (is_affix f.case_sensitive_base_suffix f.base_suffix (Some c) ≡ true)
+pub suffix_here : (f : Format) (text : List ℕ) (k : ℕ) → suffix_at f text k ≡ true → (c : ℕ) × (slice_get text k ≡ Some c) × (is_affix f.case_sensitive_base_suffix f.base_suffix (Some c) ≡ true)
 unfolding suffix_at
 suffix_here f text k t = by_byte (slice_get text k) refl t
   where

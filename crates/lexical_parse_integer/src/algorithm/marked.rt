@@ -23,17 +23,6 @@ use lexical_digits::nibbles::value_of_nibbles;
 use lexical_util::format::NumberFormat;
 use lexical_util::num::Integer;
 
-// The value of hexadecimal digits alone, behind a minus where that is negative. Out of line it keeps all that it needs in
-// registers.
-#[inline(never)]
-fn value_of_hexadecimal<T: Integer>(digits: &[u8], negative: bool) -> Option<T>
-    requires some { 1 ≤ length digits.now }
-    requires minus { IsTrue negative → IsTrue T.TYPE.is_signed }
-    ensures { IfSome result (λ value. StandsFor T.TYPE 16 negative digits.now (T.number value)) }
-{
-    value_of_nibbles::<T>(digits, negative)
-}
-
 // The value of digits of radix 10 or 16 alone.
 #[inline(always)]
 fn value_in_radix<T: Integer>(digits: &[u8], radix: u32, negative: bool) -> Option<T>
@@ -43,7 +32,7 @@ fn value_in_radix<T: Integer>(digits: &[u8], radix: u32, negative: bool) -> Opti
 {
     match radix {
         10 => value_of_digits::<T>(digits, negative),
-        16 => value_of_hexadecimal::<T>(digits, negative),
+        16 => value_of_nibbles::<T>(digits, negative),
         _ => None,
     }
 }
