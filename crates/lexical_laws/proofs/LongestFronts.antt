@@ -15,7 +15,7 @@ use Rattle.lexical_util.specs.Validity.{fault}
 use Rattle.lexical_parse_integer.specs.Affixes.{is_affix, marked_radix, numeral_stop, prefix_radix, suffix_at}
 use Rattle.lexical_parse_integer.specs.Fronts.{has_digit, has_digit_behind, if_digit, number_in_front}
 use Rattle.lexical_parse_integer.specs.Grammar.{complete, digits_required, first_fault_or, partial, range_fault, zero_fault}
-use Rattle.lexical_parse_integer.specs.Head.{Head, head_after, head_behind, head_of, sign, sign_by}
+use Rattle.lexical_parse_integer.specs.Head.{Head, chooses_radix, head_after, head_behind, head_of, sign, sign_by}
 use Rattle.lexical_parse_integer.specs.Laws.{IsLocal, SameFront, completion_of}
 use Rattle.lexical_parse_integer.specs.Numeral.{Numeral, digit_count, numeral_in, numeral_value}
 use Rattle.lexical_parse_integer.specs.Runs.{are_same, digit_at, digits_between, end_of, is_in_numeral, places, separator_at}
@@ -70,15 +70,15 @@ none_told : (o : Option ℕ) → is_some o ≡ false → o ≡ None
 none_told None e = refl
 none_told (Some x) e = absurd (false≢true (sym e))
 
-no_digit_told : (f : Format) (r : ℕ) (text : List ℕ) (start k : ℕ) → is_in_numeral f r text start k ≡ false → digit_at r text k ≡ None
+no_digit_told : (f : Format) (pre : Bool) (r : ℕ) (text : List ℕ) (start k : ℕ) → is_in_numeral f pre r text start k ≡ false → digit_at r text k ≡ None
 unfolding is_in_numeral
-no_digit_told f r text start k off = none_told (digit_at r text k) (or_parts (is_some (digit_at r text k)) _ off).0
+no_digit_told f pre r text start k off = none_told (digit_at r text k) (or_parts (is_some (digit_at r text k)) _ off).0
 
 -- a numeral ends at a cut
-end_is_cut : (f : Format) (r : ℕ) (text : List ℕ) (start : ℕ) → IsFit f r → start ≤ length text → IsCut f r text start (end_of f r text start)
-end_is_cut f r text start fit low = record {
+end_is_cut : (f : Format) (pre : Bool) (r : ℕ) (text : List ℕ) (start : ℕ) → IsFit f r → start ≤ length text → IsCut f pre r text start (end_of f pre r text start)
+end_is_cut f pre r text start fit low = record {
   within = stop.high;
-  digit = no_digit_told f r text start e over;
+  digit = no_digit_told f pre r text start e over;
   run = λ some last. elim (true_or_false (separator_at f text e)) [
     | inl on ↦
         let run = run_of f text start (e - 1) (omega arith) last in
@@ -88,48 +88,48 @@ end_is_cut f r text start fit low = record {
           | inl lt ↦ lt
           | inr ge ↦ (let same : run.1 ≡ e = omega arith in absurd (false≢true (sym (run.2).behind ∙ ap (separator_at f text) same ∙ on)))
         ] in
-        let here = run_in_numeral f r text start (e - 1) (stop.holds (e - 1) (omega arith) (omega arith)) (separator_no_digit f r text fit (e - 1) last) last in
-        let same = run_at f r text start run.0 run.1 (e - 1) run.2 run.3 run.4 in
-        let there = run_at f r text start run.0 run.1 e run.2 (omega arith) reach in
-        absurd (false≢true (sym over ∙ belongs_separator f r text start e on (separator_no_digit f r text fit e on) (there ∙ sym same ∙ here)))
+        let here = run_in_numeral f pre r text start (e - 1) (stop.holds (e - 1) (omega arith) (omega arith)) (separator_no_digit f r text fit (e - 1) last) last in
+        let same = run_at f pre r text start run.0 run.1 (e - 1) run.2 run.3 run.4 in
+        let there = run_at f pre r text start run.0 run.1 e run.2 (omega arith) reach in
+        absurd (false≢true (sym over ∙ belongs_separator f pre r text start e on (separator_no_digit f r text fit e on) (there ∙ sym same ∙ here)))
     | inr off ↦ off
   ];
   over = over;
 }
   where
     e : ℕ
-    e = end_of f r text start
+    e = end_of f pre r text start
 
-    stop : IsStop (is_in_numeral f r text start) start (length text) (end_of f r text start)
-    stop = IsStop-end_of f r text start low
+    stop : IsStop (is_in_numeral f pre r text start) start (length text) (end_of f pre r text start)
+    stop = IsStop-end_of f pre r text start low
 
-    over : is_in_numeral f r text start (end_of f r text start) ≡ false
-    over = elim (cases_lt (end_of f r text start) (length text)) [
+    over : is_in_numeral f pre r text start (end_of f pre r text start) ≡ false
+    over = elim (cases_lt (end_of f pre r text start) (length text)) [
       | inl lt ↦ stop.fails lt
-      | inr ge ↦ belongs_other f r text start (end_of f r text start) (separator_at_past f text (end_of f r text start) ge) (digit_at_past r text (end_of f r text start) ge)
+      | inr ge ↦ belongs_other f pre r text start (end_of f pre r text start) (separator_at_past f text (end_of f pre r text start) ge) (digit_at_past r text (end_of f pre r text start) ge)
     ]
 
-some_end : (f : Format) (r : ℕ) (text : List ℕ) (start : ℕ) → start ≤ length text → nat_lt 0 (length (places f r text start)) ≡ true → start < end_of f r text start
+some_end : (f : Format) (pre : Bool) (r : ℕ) (text : List ℕ) (start : ℕ) → start ≤ length text → nat_lt 0 (length (places f pre r text start)) ≡ true → start < end_of f pre r text start
 unfolding digits_between
-some_end f r text start low some = elim (cases_lt start (end_of f r text start)) [
+some_end f pre r text start low some = elim (cases_lt start (end_of f pre r text start)) [
   | inl lt ↦ lt
   | inr ge ↦
-      let none : end_of f r text start - start ≡ 0 = omega arith in
+      let none : end_of f pre r text start - start ≡ 0 = omega arith in
       let off = ap (λ n. nat_lt 0 (length (filter (λ place. is_some (digit_at r text place)) (range_with_len start n)))) none in
       absurd (false≢true (sym off ∙ some))
 ]
 
 -- without a fault the whole is its value
-answer_of : (f : Format) (t : IntegerType) (text : List ℕ) (h : Head) (x : Numeral) → (h.start == length text) ≡ false → zero_fault f h.is_marked x ≡ None → range_fault t h.is_minus x ≡ None → nat_lt x.stop (length text) ≡ false → (digit_count x == 0) ≡ false → complete_by f t text h x ≡ Ok (numeral_value h.is_minus x)
-answer_of f t text h x start zeros range over some = rw (start, and-false h.is_marked, zeros, range, over, some, and-false (digits_required f)) refl
+answer_of : (f : Format) (t : IntegerType) (text : List ℕ) (h : Head) (x : Numeral) → (h.start == length text) ≡ false → zero_fault f (chooses_radix h) x ≡ None → range_fault t h.is_negative x ≡ None → nat_lt x.stop (length text) ≡ false → (digit_count x == 0) ≡ false → complete_by f t text h x ≡ Ok (numeral_value h.is_negative x)
+answer_of f t text h x start zeros range over some = rw (start, and-false h.is_prefixed, zeros, range, over, some, and-false (digits_required f)) refl
 
 module _ (f : Format) (t : IntegerType) (text : List ℕ) (p : ℕ) (h : Head) (valid : IsNone (fault f)) (head : head_of f t text ≡ Ok h)
-    (some : nat_lt 0 (length (places f h.radix text h.start)) ≡ true) (low : p ≤ length text) where
+    (some : nat_lt 0 (length (places f h.is_prefixed h.radix text h.start)) ≡ true) (low : p ≤ length text) where
   abbrev front : List ℕ
   front = take p text
 
   abbrev end : ℕ
-  end = end_of f h.radix text h.start
+  end = end_of f h.is_prefixed h.radix text h.start
 
   size : length front ≡ p
   size = omega (arith, length-take p text)
@@ -146,40 +146,40 @@ module _ (f : Format) (t : IntegerType) (text : List ℕ) (p : ℕ) (h : Head) (
   fit = let w = head_split f t text h head in head_fit f w.prefix w.more h valid w.marks
 
   begins : h.start < end
-  begins = some_end f h.radix text h.start start_low some
+  begins = some_end f h.is_prefixed h.radix text h.start start_low some
 
-  front_cut : end ≤ p → separator_at f front end ≡ false → digit_at h.radix front end ≡ None → IsCut f h.radix front h.start end
+  front_cut : end ≤ p → separator_at f front end ≡ false → digit_at h.radix front end ≡ None → IsCut f h.is_prefixed h.radix front h.start end
   front_cut inside off none = record {
     within = omega (arith, size);
     digit = none;
     run = λ _ _. off;
-    over = belongs_other f h.radix front h.start end off none;
+    over = belongs_other f h.is_prefixed h.radix front h.start end off none;
   }
 
   -- the numeral is that of the front
-  same_numeral : (b : Bool) → (nat_lt 0 (length (places f h.radix text h.start)) && suffix_at f text end) ≡ b → p ≡ cond b (end + 1) end → numeral_in f front h.start h.radix ≡ numeral_in f text h.start h.radix
+  same_numeral : (b : Bool) → (nat_lt 0 (length (places f h.is_prefixed h.radix text h.start)) && suffix_at f text end) ≡ b → p ≡ cond b (end + 1) end → numeral_in f h.is_prefixed h.radix front h.start ≡ numeral_in f h.is_prefixed h.radix text h.start
   unfolding suffix_at
   same_numeral true on is =
       let here = suffix_here f text end (and_parts _ (is_affix f.case_sensitive_base_suffix f.base_suffix (slice_get text end)) on).1 in
       let byte : slice_get front end ≡ slice_get text end = bytes end (omega arith) in
       let stops = suffix_stops f h.radix front end here.0 fit (byte ∙ here.1) here.2 in
       let cut = front_cut (omega arith) stops.1 stops.0 in
-      let cut' = end_is_cut f h.radix text h.start fit start_low in
+      let cut' = end_is_cut f h.is_prefixed h.radix text h.start fit start_low in
       let same : (k : ℕ) → k < end → slice_get front k ≡ slice_get text k = λ k l. bytes k (omega arith) in
-      numeral_same f h.radix front text h.start end cut cut' same (omega (arith, begins))
-      (ap (λ ps. nat_lt 0 (length ps) && is_affix f.case_sensitive_base_suffix f.base_suffix (slice_get front (end_of f h.radix front h.start))) (places_same f h.radix front text h.start end cut cut' same (omega (arith, begins)))
-      ∙ ap (λ e. nat_lt 0 (length (places f h.radix text h.start)) && is_affix f.case_sensitive_base_suffix f.base_suffix (slice_get front e)) (same_end f h.radix front text h.start end cut cut' same (omega (arith, begins)))
-      ∙ ap (λ o. nat_lt 0 (length (places f h.radix text h.start)) && is_affix f.case_sensitive_base_suffix f.base_suffix o) byte)
+      numeral_same f h.is_prefixed h.radix front text h.start end cut cut' same (omega (arith, begins))
+      (ap (λ ps. nat_lt 0 (length ps) && is_affix f.case_sensitive_base_suffix f.base_suffix (slice_get front (end_of f h.is_prefixed h.radix front h.start))) (places_same f h.is_prefixed h.radix front text h.start end cut cut' same (omega (arith, begins)))
+      ∙ ap (λ e. nat_lt 0 (length (places f h.is_prefixed h.radix text h.start)) && is_affix f.case_sensitive_base_suffix f.base_suffix (slice_get front e)) (same_end f h.is_prefixed h.radix front text h.start end cut cut' same (omega (arith, begins)))
+      ∙ ap (λ o. nat_lt 0 (length (places f h.is_prefixed h.radix text h.start)) && is_affix f.case_sensitive_base_suffix f.base_suffix o) byte)
   same_numeral false off is =
       let none : slice_get front end ≡ None = slice_get_past front end (omega (arith, size)) in
       let cut = front_cut (omega arith) (separator_at-none f front end none) (digit_at-none h.radix front end none) in
-      let cut' = end_is_cut f h.radix text h.start fit start_low in
+      let cut' = end_is_cut f h.is_prefixed h.radix text h.start fit start_low in
       let same : (k : ℕ) → k < end → slice_get front k ≡ slice_get text k = λ k l. bytes k (omega arith) in
-      numeral_same f h.radix front text h.start end cut cut' same (omega (arith, begins))
-      (ap (λ e. nat_lt 0 (length (places f h.radix front h.start)) && is_affix f.case_sensitive_base_suffix f.base_suffix (slice_get front e)) (same_end f h.radix front text h.start end cut cut' same (omega (arith, begins)))
-      ∙ ap (λ o. nat_lt 0 (length (places f h.radix front h.start)) && is_affix f.case_sensitive_base_suffix f.base_suffix o) none
-      ∙ ap (λ b. nat_lt 0 (length (places f h.radix front h.start)) && b) (no_affix f.case_sensitive_base_suffix f.base_suffix)
-      ∙ and-false (nat_lt 0 (length (places f h.radix front h.start))) ∙ sym off)
+      numeral_same f h.is_prefixed h.radix front text h.start end cut cut' same (omega (arith, begins))
+      (ap (λ e. nat_lt 0 (length (places f h.is_prefixed h.radix front h.start)) && is_affix f.case_sensitive_base_suffix f.base_suffix (slice_get front e)) (same_end f h.is_prefixed h.radix front text h.start end cut cut' same (omega (arith, begins)))
+      ∙ ap (λ o. nat_lt 0 (length (places f h.is_prefixed h.radix front h.start)) && is_affix f.case_sensitive_base_suffix f.base_suffix o) none
+      ∙ ap (λ b. nat_lt 0 (length (places f h.is_prefixed h.radix front h.start)) && b) (no_affix f.case_sensitive_base_suffix f.base_suffix)
+      ∙ and-false (nat_lt 0 (length (places f h.is_prefixed h.radix front h.start))) ∙ sym off)
 
   -- so is the head
   start_behind : (s : Bool × ℕ) → sign f t text ≡ Ok s → (o : Option ℕ) → prefix_radix f text s.1 ≡ o → h.start ≡ cond (is_some o) (s.1 + 2) s.1
@@ -214,9 +214,9 @@ module _ (f : Format) (t : IntegerType) (text : List ℕ) (p : ℕ) (h : Head) (
       same_sign = sign_alike f t front text (bytes 0 (let b = begins in omega arith))
 
   abbrev x : Numeral
-  x = numeral_in f text h.start h.radix
+  x = numeral_in f h.is_prefixed h.radix text h.start
 
-  stop_is : x.stop ≡ cond (nat_lt 0 (length (places f h.radix text h.start)) && suffix_at f text end) (end + 1) end
+  stop_is : x.stop ≡ cond (nat_lt 0 (length (places f h.is_prefixed h.radix text h.start)) && suffix_at f text end) (end + 1) end
   unfolding numeral_in numeral_stop
   stop_is = refl
 
@@ -227,21 +227,21 @@ module _ (f : Format) (t : IntegerType) (text : List ℕ) (p : ℕ) (h : Head) (
   some_count : (digit_count x == 0) ≡ false
   unfolding numeral_in
   some_count =
-      let n = length-map (places f h.radix text h.start) (λ place. unwrap_or (digit_at h.radix text place) 0) in
-      let s = ltb-true 0 (length (places f h.radix text h.start)) some in
-      ne_eqb (length (map (λ place. unwrap_or (digit_at h.radix text place) 0) (places f h.radix text h.start))) 0 (λ e. omega arith)
+      let n = length-map (places f h.is_prefixed h.radix text h.start) (λ place. unwrap_or (digit_at h.radix text place) 0) in
+      let s = ltb-true 0 (length (places f h.is_prefixed h.radix text h.start)) some in
+      ne_eqb (length (map (λ place. unwrap_or (digit_at h.radix text place) 0) (places f h.is_prefixed h.radix text h.start))) 0 (λ e. omega arith)
 
   -- and what the whole front is
   pub whole_is : (v : ℤ) → partial f t text ≡ Ok (v, p) → complete f t front ≡ Ok v
   whole_is v read =
-      let told = four_none _ _ _ _ (numeral_value h.is_minus x, x.stop) (v, p) (sym (partial_is f t text h head) ∙ read) in
+      let told = four_none _ _ _ _ (numeral_value h.is_negative x, x.stop) (v, p) (sym (partial_is f t text h head) ∙ read) in
       let stop : x.stop ≡ p = ap (λ (w : ℤ × ℕ). w.1) told.3 in
-      let value : numeral_value h.is_minus x ≡ v = ap (λ (w : ℤ × ℕ). w.0) told.3 in
-      let zeros : zero_fault f h.is_marked x ≡ None = told.1 in
-      let range : range_fault t h.is_minus x ≡ None = told.2 in
+      let value : numeral_value h.is_negative x ≡ v = ap (λ (w : ℤ × ℕ). w.0) told.3 in
+      let zeros : zero_fault f (chooses_radix h) x ≡ None = told.1 in
+      let range : range_fault t h.is_negative x ≡ None = told.2 in
       let b = begins in
-      let inside = end_low (nat_lt 0 (length (places f h.radix text h.start)) && suffix_at f text end) (sym stop_is ∙ stop) in
-      let same = same_numeral (nat_lt 0 (length (places f h.radix text h.start)) && suffix_at f text end) refl (sym (sym stop_is ∙ stop)) in
+      let inside = end_low (nat_lt 0 (length (places f h.is_prefixed h.radix text h.start)) && suffix_at f text end) (sym stop_is ∙ stop) in
+      let same = same_numeral (nat_lt 0 (length (places f h.is_prefixed h.radix text h.start)) && suffix_at f text end) refl (sym (sym stop_is ∙ stop)) in
       let start_off : (h.start == length front) ≡ false = ne_eqb h.start (length front) (λ e. omega (arith, size)) in
       let over : nat_lt x.stop (length front) ≡ false = le-ltb x.stop (length front) (omega (arith, size)) in
       complete_is f t front h (same_head inside) ∙ ap (complete_by f t front h) same
@@ -257,8 +257,8 @@ front_is_whole f t text v p valid read low =
     by_head : (r : Result Head Error) → head_of f t text ≡ r → partial f t text ≡ Ok (v, p) → has_digit f t text ≡ true → complete f t (take p text) ≡ Ok v
     by_head (Err e) is front some = let faulty = partial_fault f t text e is in let both = sym faulty ∙ front in absurd (cc)
     by_head (Ok h) is front some =
-        let digits : nat_lt 0 (digit_count (numeral_in f text h.start h.radix)) ≡ true = sym (ap (has_digit_behind f text) is) ∙ some in
-        whole_is f t text p h valid is (sym (ap (λ n. nat_lt 0 n) (length-map (places f h.radix text h.start) (λ place. unwrap_or (digit_at h.radix text place) 0))) ∙ digits) low v front
+        let digits : nat_lt 0 (digit_count (numeral_in f h.is_prefixed h.radix text h.start)) ≡ true = sym (ap (has_digit_behind f text) is) ∙ some in
+        whole_is f t text p h valid is (sym (ap (λ n. nat_lt 0 n) (length-map (places f h.is_prefixed h.radix text h.start) (λ place. unwrap_or (digit_at h.radix text place) 0))) ∙ digits) low v front
 
 -- ---- the longest front
 
