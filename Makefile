@@ -16,7 +16,7 @@ help:
 
 # What needs the toolchain fails at once, and with a sentence, where there is none.
 toolchain:
-	@RT=$(RT) tools/build.py --toolchain
+	@RT=$(RT) tools/build.sh
 
 run: $(PROGRAM) ## proves and builds the program where needed, and gives it standard input
 	@./$(PROGRAM)
@@ -25,7 +25,7 @@ lexint: $(PROGRAM) ## proves and builds the program, as crates/lexint/out/lexint
 
 # What is said on the way goes to standard error: standard output is the program's alone.
 $(PROGRAM): $(SOURCES)
-	@RT=$(RT) tools/build.py lexint
+	@RT=$(RT) tools/build.sh lexint
 	@touch $@
 
 check: answers test-c ## proves and builds what one uses, and runs the worked rows and the callers of the library

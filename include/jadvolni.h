@@ -154,6 +154,7 @@ typedef struct jadvolni_result {
 #ifdef __has_attribute
 #if __has_attribute(nonnull) && __has_attribute(warn_unused_result)
 #define JADVOLNI_CHECKED_(...) __attribute__((warn_unused_result, nonnull(__VA_ARGS__)))
+#define JADVOLNI_PURE_ __attribute__((warn_unused_result, pure)) /* for the same bytes the same answer */
 #endif
 #if __has_attribute(access)
 #define JADVOLNI_TEXT_ __attribute__((access(read_only, 1, 2)))
@@ -166,6 +167,7 @@ typedef struct jadvolni_result {
 #endif
 #ifndef JADVOLNI_CHECKED_
 #define JADVOLNI_CHECKED_(...)
+#define JADVOLNI_PURE_
 #endif
 #ifndef JADVOLNI_TEXT_
 #define JADVOLNI_TEXT_
@@ -396,7 +398,7 @@ static inline jadvolni_format jadvolni_format_of_radix(int radix)
 
 /* JADVOLNI_UNKNOWN_FIELD where a reserved byte or bit isn't 0; else JADVOLNI_OK where the format breaks no
  * rule, and the status of the first that it breaks. */
-uint32_t jadvolni_format_error(const jadvolni_format *format) JADVOLNI_CHECKED_(1);
+uint32_t jadvolni_format_error(const jadvolni_format *format) JADVOLNI_PURE_ JADVOLNI_CHECKED_(1);
 
 /* ---- numbers of 128 bits ---- */
 
@@ -534,18 +536,21 @@ JADVOLNI_COLUMN_(i32, int32_t);
 JADVOLNI_COLUMN_(i64, int64_t);
 
 #undef JADVOLNI_COLUMN_
+
+/* Where the field starts that the first `len` bytes of a text end in: behind their last separator, or
+ * at 0. So with a fault's place as `len` it is where the wrong field starts, and of a block that more
+ * follows it is how many bytes are whole fields. */
+size_t jadvolni_field_start(const char *text, size_t len, uint8_t separator)
+    JADVOLNI_PURE_ JADVOLNI_TEXT_;
+
 #ifdef __clang__
 #pragma clang diagnostic pop
 #endif
 
 #undef JADVOLNI_CHECKED_
+#undef JADVOLNI_PURE_
 #undef JADVOLNI_TEXT_
 #undef JADVOLNI_WRITES_
-
-/* Where the field starts that the first `len` bytes of a text end in: behind their last separator, or
- * at 0. So with a fault's place as `len` it is where the wrong field starts, and of a block that more
- * follows it is how many bytes are whole fields. */
-size_t jadvolni_field_start(const char *text, size_t len, uint8_t separator);
 
 /* ---- helpers, written in C: they are tested, and nothing of them is proved ---- */
 
@@ -592,13 +597,14 @@ static inline const char *jadvolni_status_text(uint32_t status)
     case JADVOLNI_INVALID_BASE_SUFFIX:
         return "the suffix has to be ASCII, and no sign and no digit of the radix";
     case JADVOLNI_INVALID_PUNCTUATION:
-        return "separator, prefix and suffix have to be different bytes, and no letter in two "
-               "cases";
+        return "separator, prefix and suffix have to be different bytes, and no letter in "
+               "two cases";
     case JADVOLNI_INVALID_LITERAL_PREFIXES:
         return "literal prefixes and octal zeros need the radix 10, and literal prefixes no "
-               "prefix, and no separator or suffix that may be a part of 0x, 0o, 0b or of their "
-               "digits";
-    case JADVOLNI_UNKNOWN_FIELD: return "the reserved bytes and bits of the format have to be 0";
+               "prefix, and no separator or suffix that may be a part of 0x, 0o, 0b or of "
+               "their digits";
+    case JADVOLNI_UNKNOWN_FIELD:
+        return "the reserved bytes and bits of the format have to be 0";
     default: return "a status that only a later library has";
     }
 }

@@ -123,7 +123,7 @@ def fields_of_rust(text: str, name: str) -> List[str]:
 
 
 def layout() -> str:
-    """The header, the crate and jadvolni-sys have the same fields in the same order."""
+    """The header, the crate and jadvolni-sys have the same fields in the same order, and calls."""
     crate = "".join(text_of("crates", "jadvolni", "src", f"{name}.rt")
                     for name in ("outcome", "format", "halves"))
     bound = text_of("bindings", "rust", "jadvolni-sys", "src", "lib.rs")
@@ -133,7 +133,7 @@ def layout() -> str:
             found = fields_of_rust(text, other)
             if found != wanted or not found:
                 raise Failed(f"{other} has {found}, and jadvolni_{name} {wanted}")
-    return f"{len(STRUCTS)} structs"
+    return f"{len(STRUCTS)} structs, {exported(re.findall(r'pub fn (jadvolni_[a-z0-9_]+)', bound))}"
 
 
 # ---- callers that count their own checks
@@ -186,6 +186,10 @@ def install(place: Place) -> str:
     needs_shared(place)
     below = place.path("installed")
     run(["make", "-s", *BUILT, "install-lib", f"DESTDIR={below}", *INSTALLED], cwd=TOP)
+    pages = f"{below}/usr/share/man/man3"
+    missing = {f"{name}.3" for name in CALLS} - set(os.listdir(pages))
+    if missing:
+        raise Failed(f"no page: {sorted(missing)}")
     licences = {"LICENSE-APACHE", "LICENSE-MIT", "NOTICE"} & set(os.listdir(TOP))
     documents = set(os.listdir(f"{below}/usr/share/doc/jadvolni"))
     if documents != licences:
@@ -286,6 +290,8 @@ def cargo(place: Place) -> str:
     answer(run(["cargo", "run", *alone, "--example", "ten_lines"], where, crates),
            "err Overflow 19\n")
     passed = re.findall(r"(?m)^test result: ok. ([0-9]+) passed", said)
+    if shutil.which("cargo-clippy"):
+        run(["cargo", "clippy", *alone, "--all-targets", "--", "-D", "warnings"], where, crates)
     return f"{sum(map(int, passed))} tests"
 
 

@@ -12,16 +12,15 @@ from typing import Dict, Iterator
 from callers import OPTIMISED, Failed, Place, Step, needs, source
 
 SHORT_TEXT, SHORT_COLUMN, UNUSED, NULL_VALUE, NULL_FORMAT, NULL_COUNT = range(1, 7)
-SHORT_ARRAY, NARROW_VALUE, NULL_TEXT = range(7, 10)
+SHORT_ARRAY, NARROW_VALUE, NULL_TEXT, SHORT_START, UNUSED_START, UNUSED_ERROR = range(7, 13)
+SHORT = (SHORT_TEXT, SHORT_COLUMN, SHORT_START)
 # The warnings, by the words after -W. Room in arrays of numbers is checked by gcc alone.
-OF_BOTH = {UNUSED: "unused-result", NULL_VALUE: "nonnull", NULL_FORMAT: "nonnull",
-           NULL_COUNT: "nonnull"}
+OF_BOTH = {**dict.fromkeys((UNUSED, UNUSED_START, UNUSED_ERROR), "unused-result"),
+           **dict.fromkeys((NULL_VALUE, NULL_FORMAT, NULL_COUNT), "nonnull")}
 WARNINGS: Dict[str, Dict[int, str]] = {
-    "gcc": {**OF_BOTH, SHORT_TEXT: "stringop-overread", SHORT_COLUMN: "stringop-overread",
-            SHORT_ARRAY: "stringop-overflow", NARROW_VALUE: "stringop-overflow",
-            NULL_TEXT: "nonnull"},
-    "clang": {**OF_BOTH, SHORT_TEXT: "user-defined-warnings",
-              SHORT_COLUMN: "user-defined-warnings"},
+    "gcc": {**OF_BOTH, **dict.fromkeys(SHORT, "stringop-overread"), NULL_TEXT: "nonnull",
+            SHORT_ARRAY: "stringop-overflow", NARROW_VALUE: "stringop-overflow"},
+    "clang": {**OF_BOTH, **dict.fromkeys(SHORT, "user-defined-warnings")},
 }
 
 

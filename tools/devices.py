@@ -24,9 +24,9 @@ import termios
 import time
 from typing import IO, Callable, Dict, List, NamedTuple, Optional, Union
 
-TOP = os.path.dirname(os.path.dirname(os.path.abspath(__file__)))
+from row_data import BUILT, TOP
+
 CRATE = os.path.join(TOP, "crates", "lexint")
-BUILT = [os.path.join(CRATE, "out", name) for name in ("lexint", "lexint.by-rattle")]
 
 READ = b"lexint: read failed\n"
 WRITE = b"lexint: write failed\n"

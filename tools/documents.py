@@ -2,7 +2,7 @@
 """Writes the documents that are made from the source, or says where they aren't as written.
 
     tools/documents.py           writes docs/CONTRACTS.md, docs/FORMATS.md, the marked code blocks
-                                 of other documents, the lists of a format's fields, and the
+                                 of other documents, the lists of fields and statuses, and the
                                  formats of languages in C, C++, Rust and Python
     tools/documents.py --check   writes nothing, and ends with status 1 where one of them isn't as
                                  it would write it, or where check_pages.py finds something wrong

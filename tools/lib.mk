@@ -21,7 +21,7 @@ lib: build/libjadvolni.a $(SHARED) ## proves and builds the library for C, as bu
 
 build/libjadvolni.a: $(LIBRARY_SOURCES)
 	@mkdir -p build
-	@RT=$(RT) tools/build.py jadvolni
+	@RT=$(RT) tools/build.sh jadvolni
 	@cp crates/jadvolni/out/libjadvolni.a $@
 
 # It needs no other library, not even that of C: -nostdlib leaves it out, and -z defs fails if anything is missing.
@@ -29,6 +29,13 @@ build/libjadvolni.so: build/libjadvolni.a
 	@command -v $(CC) >/dev/null || { echo "there is no $(CC) to link build/libjadvolni.so with" >&2; exit 1; }
 	@$(CC) $(CFLAGS) $(LDFLAGS) -shared -nostdlib -o $@ -Wl,-soname,libjadvolni.so.$(SOVERSION) \
 	    -Wl,-z,defs,-z,relro,-z,now,-z,noexecstack -Wl,--whole-archive $< -Wl,--no-whole-archive
+
+# Each call has a page, which shows jadvolni(3): so `man jadvolni_parse_u64` finds what it looks for.
+PARSES := $(foreach sign,u i,$(addprefix jadvolni_parse_$(sign),8 16 32 64 128 size))
+FRONTS := $(PARSES) $(PARSES:=_front) $(PARSES:=_partial)
+CALLS := $(FRONTS) $(FRONTS:=_with_format) $(addsuffix _column,$(filter-out %128 %size,$(PARSES))) \
+    $(addprefix jadvolni_,parse version format_error format_of_radix field_start status_name status_text)
+PAGES := $(addprefix $(DESTDIR)$(MANDIR)/man3/,$(CALLS:=.3))
 
 # What the templates of pkg-config, CMake and man leave open.
 FILL = sed -e 's|@PREFIX@|$(PREFIX)|; s|@LIBDIR@|$(LIBDIR)|; s|@INCLUDEDIR@|$(INCLUDEDIR)|' \
@@ -46,13 +53,14 @@ install-lib: $(LIBRARIES) ## puts the library where compilers look: PREFIX, LIBD
 	$(FILL) packaging/jadvolniConfig.cmake.in > $(DESTDIR)$(LIBDIR)/cmake/jadvolni/jadvolniConfig.cmake
 	$(FILL) packaging/jadvolniConfigVersion.cmake.in > $(DESTDIR)$(LIBDIR)/cmake/jadvolni/jadvolniConfigVersion.cmake
 	$(FILL) packaging/jadvolni.3.in > $(DESTDIR)$(MANDIR)/man3/jadvolni.3
+	for page in $(PAGES); do echo .so man3/jadvolni.3 > $$page || exit 1; done
 	install -m 644 $(LICENCES) $(DESTDIR)$(DOCDIR)
 
 uninstall-lib: ## takes the library away
 	rm -f $(DESTDIR)$(INCLUDEDIR)/jadvolni.h $(DESTDIR)$(INCLUDEDIR)/jadvolni.hpp
 	rm -f $(DESTDIR)$(LIBDIR)/libjadvolni.a $(DESTDIR)$(LIBDIR)/libjadvolni.so
 	rm -f $(DESTDIR)$(LIBDIR)/libjadvolni.so.$(SOVERSION) $(DESTDIR)$(LIBDIR)/libjadvolni.so.$(VERSION)
-	rm -f $(DESTDIR)$(LIBDIR)/pkgconfig/jadvolni.pc $(DESTDIR)$(MANDIR)/man3/jadvolni.3
+	rm -f $(DESTDIR)$(LIBDIR)/pkgconfig/jadvolni.pc $(DESTDIR)$(MANDIR)/man3/jadvolni.3 $(PAGES)
 	rm -rf $(DESTDIR)$(LIBDIR)/cmake/jadvolni $(DESTDIR)$(DOCDIR)
 
 # Without a compiler of C there is no shared library; check_c.py says what it skips then.

@@ -4,8 +4,8 @@ from __future__ import annotations
 import os
 import textwrap
 
-from field_lists import Field, fields_of
-from row_data import Group, groups_of
+from field_lists import STANDARD, Field, fields_of
+from row_data import BYTES, Group, groups_of
 
 LANGUAGES = os.path.join("tools", "languages.txt")
 BEGIN_C = "/* The formats of languages and of data, by make docs from tools/languages.txt. */\n"
@@ -17,7 +17,7 @@ PYTHON = "bindings/python/src/jadvolni/formats.py"
 
 def values_of(group: Group) -> dict[str, int]:
     """The fields of a format that a language asks for."""
-    return {"mantissa_radix": 10, "required_mantissa_digits": 1, **dict(group.fields or ())}
+    return {**STANDARD, **dict(group.fields or ())}
 
 
 def in_c(groups: list[Group], fields: list[Field]) -> str:
@@ -60,32 +60,16 @@ def in_rust(groups: list[Group]) -> str:
     return "\n".join(lines) + "\n"
 
 
-def python_name(name: str) -> str:
-    """What Python calls a field."""
-    short = name if name != "mantissa_radix" else "radix"
-    for long, other in (("digit_separator", "separator"), ("base_", ""), ("integer_", ""),
-                        ("mantissa_", ""), ("literal_octal", "octal")):
-        short = short.replace(long, other)
-    return short
-
-
-def python_arguments(group: Group) -> str:
-    """The arguments of Python's Format."""
-    given = {python_name(name): value for name, value in group.fields or ()
-             if name not in ("required_integer_digits", "integer_internal_digit_separator")}
-    return ", ".join(f"{name}={bytes([value])!r}" if name in ("separator", "prefix", "suffix")
-                     else f"{name}={value}" for name, value in given.items())
-
-
 def in_python(groups: list[Group]) -> str:
     """The module of Python."""
     lines = ['"""The formats of languages and of data, by make docs from tools/languages.txt."""',
              "", "from ._format import Format", ""]
     for group in groups:
         call = f"{group.name.upper()} = Format("
-        arguments = f"{call}{python_arguments(group)})"
+        given = ", ".join(f"{name}={bytes([value]) if name in BYTES.values() else value!r}"
+                          for name, value in group.fields or ())
         lines += [f"# {group.shows}.",
-                  textwrap.fill(arguments, 99, subsequent_indent=" " * len(call))]
+                  textwrap.fill(f"{call}{given})", 99, subsequent_indent=" " * len(call))]
     return "\n".join(lines) + "\n"
 
 

@@ -10,6 +10,9 @@ from typing import List, NamedTuple, Optional, Tuple, Union
 TOP = os.path.dirname(os.path.dirname(os.path.abspath(__file__)))
 DATA = os.path.join(TOP, "tools", "rows.txt")
 LANGUAGES = os.path.join(TOP, "tools", "languages.txt")
+# The programs that a gate has built, by two compilers.
+BUILT = [os.path.join(TOP, "crates", "lexint", "out", name)
+         for name in ("lexint", "lexint.by-rattle")]
 
 FLAGS = {
     "internal": "integer_internal_digit_separator",
@@ -137,7 +140,7 @@ def unescaped(quoted: str) -> bytes:
 def unescape(escape: re.Match[str]) -> str:
     """The character of an escape."""
     what = escape[1]
-    known = {'"': '"', "\\": "\\", "0": "\0", "t": "\t", "r": "\r"}
+    known = {'"': '"', "\\": "\\", "0": "\0", "t": "\t", "r": "\r", "n": "\n"}
     if what not in known and len(what) == 1:
         raise Bad(f"no escape: \\{what}")
     return known[what] if what in known else chr(int(what[1:], 16))

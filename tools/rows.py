@@ -27,6 +27,7 @@ import re
 import sys
 from typing import Dict, Iterable, List
 
+import source
 from row_data import (DATA, LANGUAGES, OF_FORMATS, OF_TEXTS, TOP, TYPES, Answer, Bad, File, Format,
                       Group, Row, escaped, read_data, read_row)
 
@@ -205,14 +206,6 @@ def all_files(files: List[File]) -> dict[str, str]:
     }
 
 
-def is_as_written(path: str, text: str) -> bool:
-    """Whether a file stands as this would write it."""
-    if not os.path.isfile(path):
-        return False
-    with open(path, encoding="utf-8") as file:
-        return file.read() == text
-
-
 def main() -> None:
     """Writes or checks the files."""
     files = read_data(DATA) + read_data(LANGUAGES)
@@ -220,7 +213,8 @@ def main() -> None:
     check_examples(GRAMMAR, rows)
     check_answers(DIFFERENCES, rows)
     out = {os.path.join(CRATE, path): text for path, text in all_files(files).items()}
-    stale = [path for path, text in out.items() if not is_as_written(path, text)]
+    stale = [path for path, text in out.items()
+             if not os.path.isfile(path) or source.read(path) != text]
     if "--check" in sys.argv[1:]:
         if stale:
             names = ", ".join(os.path.relpath(path, TOP) for path in stale)

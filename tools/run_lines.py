@@ -9,17 +9,15 @@ runs there were; where one is wrong, the status is 1.
 """
 from __future__ import annotations
 
-import ast
 import os
 import re
 import subprocess
 import sys
 from typing import Iterator, NamedTuple
 
-TOP = os.path.dirname(os.path.dirname(os.path.abspath(__file__)))
+from row_data import BUILT, TOP, read_text
+
 DATA = os.path.join(TOP, "tools", "lines.txt")
-OUT = os.path.join(TOP, "crates", "lexint", "out")
-BUILT = [os.path.join(OUT, name) for name in ("lexint", "lexint.by-rattle")]
 SECONDS = 60
 
 PIECE = r'"(?:[^"\\]|\\.)*"(?:\*\d+)?'
@@ -37,12 +35,6 @@ class Run(NamedTuple):
     output: bytes
 
 
-def bytes_of(text: str) -> bytes:
-    """The bytes of a text: its quoted pieces, each repeated where *N follows it."""
-    pieces = re.findall(r'("(?:[^"\\]|\\.)*")(?:\*(\d+))?', text)
-    return b"".join(ast.literal_eval("b" + quoted) * int(times or 1) for quoted, times in pieces)
-
-
 def read_runs(path: str) -> list[Run]:
     """The runs of the data."""
     group, runs = "", list[Run]()
@@ -53,10 +45,10 @@ def read_runs(path: str) -> list[Run]:
                 group = heading[1]
             elif row and row[1] and runs:
                 above = runs.pop()
-                runs.append(above._replace(input=above.input + bytes_of(row[2]),
-                                           output=above.output + bytes_of(row[3])))
+                runs.append(above._replace(input=above.input + read_text(row[2]),
+                                           output=above.output + read_text(row[3])))
             elif row and not row[1]:
-                runs.append(Run(group, number, bytes_of(row[2]), bytes_of(row[3])))
+                runs.append(Run(group, number, read_text(row[2]), read_text(row[3])))
             elif line.strip() and not line.startswith("#"):
                 sys.exit(f"{path}:{number}: no row: {line.rstrip()}")
     return runs

@@ -15,10 +15,8 @@ import subprocess
 import sys
 from typing import Dict, Iterator, List, Tuple
 
-from row_data import BYTES, DATA, LANGUAGES, TOP, Fields, Group, Row, groups_of
+from row_data import BUILT, BYTES, DATA, LANGUAGES, Fields, Group, Row, groups_of
 
-OUT = os.path.join(TOP, "crates", "lexint", "out")
-BUILT = [os.path.join(OUT, name) for name in ("lexint", "lexint.by-rattle")]
 SECONDS = 60
 
 

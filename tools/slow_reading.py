@@ -9,12 +9,12 @@ the texts. Needs Python 3.8 and nothing else.
 """
 from __future__ import annotations
 
-import os
 import sys
 from dataclasses import replace
 from typing import Iterator, List, NamedTuple, Optional, Tuple
 
 import row_data
+import run_lines
 from slow_grammar import (BYTE_FIELDS, FLAG_FIELDS, JSON, STANDARD, TYPES, WORTH, Answer, Fault,
                           Format, Value, format_fault, parse)
 
@@ -149,38 +149,8 @@ def output_of(source: bytes) -> str:
 
 # ---- the slow reading itself against what is known
 
-RUNS = [
-    (b"f mantissa_radix 12\np u64 86A\nr\nf digit_separator _\n"
-     b"f integer_internal_digit_separator true\np i64 1_1__23\n"
-     b"f base_suffix hh\nf mantissa_radix 1\nc u8 0\n",
-     "ok\nok 1234 3\nok\nok\nok\nok 11 3\nbad line\nok\nerr InvalidMantissaRadix\n"),
-    (b"f literal_prefixes true\np u64 0x1F;\nf base_prefix d\nc u8 1\n",
-     "ok\nok 31 4\nok\nerr InvalidLiteralPrefixes\n"),
-    (b"p i32 +123.45", "ok 123 4\n"),
-    (b"f no_multi_digit false\nc u64 1234567812345678\np u64 12345678a\nf no_multi_digit no\n",
-     "ok\nok 1234567812345678\nok 12345678 8\nbad line\n"),
-    (b"\n\nr\r\nc u8 1\xff\nf digit_separator  \nf base_prefix no\nf mantissa_radix ",
-     "bad line\n" * 3 + "err InvalidDigit 1\nok\nbad line\nbad line\n"),
-    (b"", ""),
-    (b"t x1 = 0x1F + 12_3;",
-     "word 0 2\nbyte 3 4\nnumber 31 5 9\nbyte 10 11\nnumber 123 12 16\nbyte 16 17\nend\n"),
-    (b"t 0b102 0o8", "number 2 0 4\nnumber 2 4 5\nfault Empty 2 6 9\nend\n"),
-    (b"t ", "end\n"),
-    (b"t", "bad line\n"),
-    (b"t  \t ", "end\n"),
-    (b"t 007", "number 7 0 3\nend\n"),
-    (b"t 1_000", "number 1000 0 5\nend\n"),
-    (b"t _1", "word 0 2\nend\n"),
-    (b"t a_1 9", "word 0 3\nnumber 9 4 5\nend\n"),
-    (b"t 0x_1", "fault Empty 2 0 4\nend\n"),
-    (b"t +1", "byte 0 1\nnumber 1 1 2\nend\n"),
-    (b"t \xc3\xa9", "byte 0 1\nbyte 1 2\nend\n"),
-    (b"t 0xg", "fault Empty 2 0 3\nend\n"),
-    (b"t 1_", "number 1 0 1\nword 1 2\nend\n"),
-    (b"t 1__2", "number 12 0 4\nend\n"),
-    (b"t 12abc", "number 12 0 2\nword 2 5\nend\n"),
-    (b"t 340282366920938463463374607431768211456", "fault Overflow 38 0 39\nend\n"),
-]
+# Longer runs of tools/lines.txt would take it minutes.
+LONGEST = 10_000
 
 
 def form_of(row: row_data.Row) -> Format:
@@ -211,13 +181,9 @@ def judged_rows() -> Iterator[Judged]:
 
 
 def judged_runs() -> Iterator[Judged]:
-    """The runs above and the stored one, as their input, the output here and the output there."""
-    stored = os.path.join(row_data.TOP, "crates", "lexint")
-    with open(os.path.join(stored, "stdin"), "rb") as given:
-        source = given.read()
-    with open(os.path.join(stored, "stdout"), encoding="ascii") as kept:
-        wanted = kept.read()
-    return ((source, output_of(source), wanted) for source, wanted in [*RUNS, (source, wanted)])
+    """The runs of tools/lines.txt, as their input, the output here and the output there."""
+    runs = [run for run in run_lines.read_runs(run_lines.DATA) if len(run.input) <= LONGEST]
+    return ((run.input, output_of(run.input), run.output.decode("latin-1")) for run in runs)
 
 
 def check() -> int:

@@ -2,7 +2,7 @@
 """Tests of documents.py and of what it stands on, over a small repository that they write.
 
 Each break has to be seen: a document that is old, a marker that names nothing, a link that leads
-nowhere, a page that is too long.
+nowhere, a page that is too long. What is written well shows in the pages of the repository itself.
 """
 from __future__ import annotations
 
@@ -20,8 +20,6 @@ import field_lists  # noqa: E402
 SOURCE = """//! Halves of numbers.
 #![tactic(auto)]
 
-use crate::other::Other;
-
 /// Half of a number, rounded down.
 ///
 /// `3` gives 1.
@@ -29,38 +27,6 @@ pub fn half(x: u32) -> u32
     ensures { result ≡ x / 2 }
 {
     x / 2
-}
-
-// Nobody sees this.
-fn hidden(x: u32) -> u32
-    requires { x < 9 }
-    ensures value { result ≡ x + 1 }
-{
-    x + 1
-}
-
-/// What can be halved.
-pub trait Halved {
-    ghost whole: { Self → ℕ };
-
-    /// The half of it.
-    fn halved(&self) -> u32
-        ensures { result ≡ whole self.now / 2 };
-}
-
-impl Halved for u32 {
-    ghost whole = { λ x. x };
-
-    fn halved(&self) -> u32 {
-        *self / 2
-    }
-}
-
-#[test]
-fn shown(rt: HostRuntime) {
-    let one = half(3); // 1
-
-    assert_eq!(rt; one, 1);
 }
 """
 FILES = {
@@ -70,22 +36,12 @@ FILES = {
     "crates/small/src/inner.rt": "// Inside.\npub fn inner() {}\n",
     "crates/small/out/README.md": "made\n",
     "crates/small/must-fail/half_is_a_third.edit": "",
-    "crates/small/ten.c": "/* Ten. */\nint ten = 10;\n",
     "docs/GUIDE.md": """# Guide
 
 How to halve, 7,001 times.
 
 <!-- block: crates/small/src/lib.rt: half -->
 ```rust
-old
-```
-
-<!-- block: crates/small/src/lib.rt: imports and body of shown as small -->
-```rust
-```
-
-<!-- block: crates/small/ten.c: whole -->
-```c
 old
 ```
 """,
@@ -100,15 +56,6 @@ fields | tally | no-plus separator=' internal
 complete | tally | u8 | "1'2" | Ok(12)
 complete | tally | u8 | "1t"  | InvalidDigit(1) # unlike: 1
 """
-HALF = """/// Half of a number, rounded down.
-///
-/// `3` gives 1.
-pub fn half(x: u32) -> u32
-    ensures { result ≡ x / 2 }
-{
-    x / 2
-}"""
-
 CONTRACTS, GUIDE, FORMATS = "docs/CONTRACTS.md", "docs/GUIDE.md", "docs/FORMATS.md"
 GOOD_PAGE = """# A page, with `code`
 
@@ -138,10 +85,6 @@ def write(top: str, files: dict[str, str]) -> None:
             file.write(text)
 
 
-def section(text: str, title: str) -> str:
-    return text.partition(f"`{title}`\n")[2].partition("\n#")[0]
-
-
 class OverRepository(unittest.TestCase):
     """Tests over the small repository, in a folder of their own."""
 
@@ -161,38 +104,6 @@ class OverRepository(unittest.TestCase):
     def old(self) -> list[str]:
         return sorted(documents.old_ones(self.top, self.documents()))
 
-    def test_contracts(self) -> None:
-        page = self.documents()[CONTRACTS]
-        half = section(page, "half")
-        self.assertIn("pub fn half(x: u32) -> u32\n    ensures { result ≡ x / 2 }\n```", half)
-        self.assertIn("Half of a number, rounded down.\n", half)
-        self.assertNotIn("gives 1", half)
-        self.assertNotIn("x / 2\n}", page)
-        self.assertNotIn("hidden", page)
-        self.assertNotIn("inner", page)
-        self.assertIn("ghost whole: { Self → ℕ };", section(page, "trait Halved"))
-        self.assertIn("result ≡ whole self.now / 2", section(page, "Halved::halved"))
-
-    def test_blocks(self) -> None:
-        guide = self.documents()[GUIDE]
-        half = SOURCE[SOURCE.index("/// Half"):SOURCE.index("// Nobody")].strip()
-        self.assertIn(f"```rust\n{half}\n```", guide)
-        self.assertIn("```rust\nuse small::other::Other;\n\nlet one = half(3); // 1\n```", guide)
-        self.assertIn("```c\nint ten = 10;\n```", guide)
-
-    def test_definitions(self) -> None:
-        write(self.top, {
-            "crates/small/specs/Low.antt": "-- low\nuse Rattle.std.specs.Prelude.{ℕ}\n\na : ℕ\n",
-            "crates/small/specs/High.antt":
-                "pub use Rattle.small.specs.Low.{a}\n-- b\nb = a\n  c\n",
-            "crates/big/specs/Top.antt": "use Rattle.small.specs.High.{b}\n"
-                                         "use Rattle.small.specs.Low.{a}\nd = b\n",
-        })
-        self.assertEqual(
-            documents.block_text(self.top, "crates/big/specs/Top.antt", "what it stands on"),
-            "   1 crates/small/specs/Low.antt\n   2 crates/small/specs/High.antt\n"
-            "   1 crates/big/specs/Top.antt\n   4 lines in 3 files")
-
     def test_old_documents(self) -> None:
         self.assertEqual(self.old(), [CONTRACTS, GUIDE])
         write(self.top, self.documents())
@@ -211,13 +122,8 @@ class OverRepository(unittest.TestCase):
         self.assertNotIn(FORMATS, self.documents())
         write(self.top, {"tools/languages.txt": LANGUAGES})
         page = self.documents()[FORMATS]
-        self.assertIn("## Tally\n\n`lexical_formats::tally()`\n\nDigits alone.\n", page)
-        self.assertIn("Reference: The Book of Tally, 1.\n", page)
-        self.assertIn(".no_positive_mantissa_sign(true)\n", page)
-        self.assertIn(".digit_separator(Some(b'\\''))\n", page)
-        self.assertIn("| `\"1t\"` | u8 | `InvalidDigit(1)` | 1 |\n", page)
-        self.assertIn("- Reads less: An end such as `t`.\n", page)
-        self.assertNotIn("[tT]", page)
+        write(self.top, {FORMATS: page})
+        self.assertNotIn(FORMATS, self.old())
         write(self.top, {FORMATS: page.replace("12", "13")})
         self.assertIn(FORMATS, self.old())
 

@@ -1,7 +1,7 @@
 """Makes the wheel of the binding: compiles `src/*.c` over the library and packs the files.
 
-pip calls `build_wheel` and `build_sdist` as `pyproject.toml` says. What it needs is a C compiler,
-Python's headers, and the library, which `make lib` at the top of the repository makes:
+pip calls `build_wheel`, `build_editable` and `build_sdist` as `pyproject.toml` says. What they need
+is a C compiler, Python's headers, and the library, which `make lib` at the repository's top makes:
 
     JADVOLNI_INCLUDE   the folder of jadvolni.h, if not ../../include
     JADVOLNI_LIBRARY   the static library, if not ../../crates/jadvolni/out/libjadvolni.a
@@ -29,7 +29,8 @@ HERE = Path(__file__).resolve().parent
 TOP = HERE.parent.parent
 PROJECT = tomllib.loads((HERE / "pyproject.toml").read_text(encoding="utf-8"))["project"]
 NAME, VERSION = PROJECT["name"], PROJECT["version"]
-FLAGS = ["-std=c11", "-O2", "-Wall", "-Wextra", "-fPIC", "-shared", "-fvisibility=hidden"]
+FLAGS = ["-std=c11", "-O2", "-Wall", "-Wextra", "-fPIC", "-fno-plt", "-shared",
+         "-fvisibility=hidden"]
 # The extension exports nothing of the library: else the calls of another one of that name, loaded
 # before, would take the place of those that it was linked with.
 LINK_FLAGS = ["-Wl,--exclude-libs,ALL"]
@@ -55,6 +56,13 @@ def words(variable: str) -> list[str]:
     return shlex.split(os.environ.get(variable, ""))
 
 
+def compile_extension(folder: Path) -> Path:
+    """Makes the extension in a folder, and answers its path."""
+    target = folder / "_core.abi3.so"
+    subprocess.run(command(target), check=True)
+    return target
+
+
 def command(target: Path) -> list[str]:
     """The call of the compiler that makes the extension."""
     include = found("JADVOLNI_INCLUDE", TOP / "include")
@@ -69,8 +77,9 @@ def metadata() -> str:
     """The wheel's METADATA."""
     readme = (HERE / "README.md").read_text(encoding="utf-8")
     head = f"Metadata-Version: 2.1\nName: {NAME}\nVersion: {VERSION}\n"
+    about = f"Summary: {PROJECT['description']}\nLicense: {PROJECT['license']['text']}\n"
     needed = f"Requires-Python: {PROJECT['requires-python']}\n"
-    return f"{head}{needed}Description-Content-Type: text/markdown\n\n{readme}"
+    return f"{head}{about}{needed}Description-Content-Type: text/markdown\n\n{readme}"
 
 
 def line_of(name: str, content: bytes) -> str:
@@ -80,28 +89,27 @@ def line_of(name: str, content: bytes) -> str:
 
 
 def contents() -> dict[str, bytes]:
-    """The files of the wheel but its RECORD, by their names."""
-    info = f"{NAME}-{VERSION}.dist-info"
+    """The module's files, by their names in the wheel."""
     files = {f"{NAME}/{name}": (HERE / "src" / NAME / name).read_bytes() for name in MODULES}
     with tempfile.TemporaryDirectory() as folder:
-        target = Path(folder) / "_core.abi3.so"
-        subprocess.run(command(target), check=True)
-        files[f"{NAME}/{target.name}"] = target.read_bytes()
+        extension = compile_extension(Path(folder))
+        files[f"{NAME}/{extension.name}"] = extension.read_bytes()
+    return files
+
+
+def information() -> dict[str, bytes]:
+    """What the wheel says of itself, but its RECORD."""
+    info = f"{NAME}-{VERSION}.dist-info"
     wheel = f"Wheel-Version: 1.0\nGenerator: {NAME}\nRoot-Is-Purelib: false\nTag: {tag()}\n"
-    files[f"{info}/METADATA"] = metadata().encode()
-    files[f"{info}/WHEEL"] = wheel.encode()
+    files = {f"{info}/METADATA": metadata().encode(), f"{info}/WHEEL": wheel.encode()}
     for licence in sorted([*TOP.glob("LICENSE-*"), *TOP.glob("NOTICE*")]):
         files[f"{info}/{licence.name}"] = licence.read_bytes()
     return files
 
 
-def build_wheel(
-    wheel_directory: str,
-    config_settings: object = None,
-    metadata_directory: Optional[str] = None,
-) -> str:
-    """Writes the wheel, and answers its name."""
-    files = contents()
+def packed(wheel_directory: str, files: dict[str, bytes]) -> str:
+    """Writes a wheel with these files, and answers its name."""
+    files = {**files, **information()}
     record = f"{NAME}-{VERSION}.dist-info/RECORD"
     lines = "".join(line_of(name, content) for name, content in files.items())
     target = f"{NAME}-{VERSION}-{tag()}.whl"
@@ -110,6 +118,25 @@ def build_wheel(
             archive.writestr(name, content)
         archive.writestr(record, f"{lines}{record},,\n")
     return target
+
+
+def build_wheel(
+    wheel_directory: str,
+    config_settings: object = None,
+    metadata_directory: Optional[str] = None,
+) -> str:
+    """Writes the wheel, and answers its name."""
+    return packed(wheel_directory, contents())
+
+
+def build_editable(
+    wheel_directory: str,
+    config_settings: object = None,
+    metadata_directory: Optional[str] = None,
+) -> str:
+    """Makes the extension beside the sources, and writes a wheel that only leads to them."""
+    compile_extension(HERE / "src" / NAME)
+    return packed(wheel_directory, {f"{NAME}.pth": f"{HERE / 'src'}\n".encode()})
 
 
 def build_sdist(sdist_directory: str, config_settings: object = None) -> str:

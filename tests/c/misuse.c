@@ -23,7 +23,8 @@ uint64_t misuse(void)
     return used(jadvolni_parse_u64(text, 4, &value), value)
         + used(jadvolni_parse_u64_front_with_format(NULL, 0, FORMAT, &value), value)
         + used(jadvolni_parse_u64_column(text, 4, ',', FORMAT, values, 2, &count), values[0])
-        + used(jadvolni_parse_u64_column(text, 4, ',', FORMAT, NULL, 0, &count), count);
+        + used(jadvolni_parse_u64_column(text, 4, ',', FORMAT, NULL, 0, &count), count)
+        + jadvolni_field_start(text, 4, ',') + jadvolni_field_start(NULL, 0, ',');
 #elif MISUSE == 1
     return used(jadvolni_parse_u64(text, 40, &value), value);
 #elif MISUSE == 2
@@ -43,5 +44,13 @@ uint64_t misuse(void)
     return used(jadvolni_parse_u64(text, 4, (uint64_t *)(void *)&narrow), narrow);
 #elif MISUSE == 9
     return used(jadvolni_parse_u64(NULL, 4, &value), value);
+#elif MISUSE == 10
+    return jadvolni_field_start(text, 40, ',');
+#elif MISUSE == 11
+    jadvolni_field_start(text, 4, ',');
+    return value;
+#elif MISUSE == 12
+    jadvolni_format_error(FORMAT);
+    return value;
 #endif
 }

@@ -71,6 +71,15 @@ static void faults_of_formats()
     CHECK(says(status::unknown_field));
 }
 
+// The names and texts are those of C, which are compared with the list of all languages.
+static void texts_of_statuses()
+{
+    for (std::uint32_t k = 0; k <= JADVOLNI_UNKNOWN_FIELD + 1; ++k) {
+        CHECK(std::strcmp(jadvolni::name(status(k)), jadvolni_status_name(k)) == 0);
+        CHECK(std::strcmp(jadvolni::message(status(k)), jadvolni_status_text(k)) == 0);
+    }
+}
+
 static void numbers()
 {
     CHECK(parse<std::uint16_t>("8080") && *parse<std::uint16_t>("8080") == 8080);
@@ -241,6 +250,7 @@ int main()
 {
     faults_of_texts();
     faults_of_formats();
+    texts_of_statuses();
     numbers();
     fronts_under_a_format();
     fronts_without_a_digit();

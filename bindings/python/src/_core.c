@@ -13,15 +13,15 @@ typedef struct question {
 } question;
 
 /* What a call was asked, by its arguments. The text has to be given back where it is 0. */
-static int question_of(const char *call, PyObject *const *args, Py_ssize_t count,
-                       PyObject *keywords, question *asked)
+static int question_of(PyObject *module, const char *call, PyObject *const *args,
+                       Py_ssize_t count, PyObject *keywords, question *asked)
 {
     static const char *const names[] = {"text", "type", "format"};
     PyObject *found[3];
     if (arguments(call, args, count, keywords, names, 3, found) < 0)
         return -1;
     asked->type = type_of(found[1]);
-    if (!asked->type || format_of(found[2], &asked->format) < 0)
+    if (!asked->type || format_of(PyModule_GetState(module), found[2], &asked->format) < 0)
         return -1;
     return lend("text", found[0], &asked->text);
 }
@@ -32,7 +32,7 @@ static PyObject *parse(PyObject *module, PyObject *const *args, Py_ssize_t count
     question asked;
     number value;
     PyObject *result = NULL;
-    if (question_of("parse", args, count, keywords, &asked) < 0)
+    if (question_of(module, "parse", args, count, keywords, &asked) < 0)
         return NULL;
     const char *text = asked.text.bytes;
     jadvolni_result answer = asked.type->whole(text, asked.text.len, &asked.format, &value);
@@ -72,7 +72,7 @@ static PyObject *parse_front(PyObject *module, PyObject *const *args, Py_ssize_t
                              PyObject *keywords)
 {
     question asked;
-    if (question_of("parse_front", args, count, keywords, &asked) < 0)
+    if (question_of(module, "parse_front", args, count, keywords, &asked) < 0)
         return NULL;
     return answer_of(module, &asked, asked.type->front);
 }
@@ -81,7 +81,7 @@ static PyObject *parse_partial(PyObject *module, PyObject *const *args, Py_ssize
                                PyObject *keywords)
 {
     question asked;
-    if (question_of("parse_partial", args, count, keywords, &asked) < 0)
+    if (question_of(module, "parse_partial", args, count, keywords, &asked) < 0)
         return NULL;
     return answer_of(module, &asked, asked.type->partial);
 }
@@ -115,19 +115,12 @@ static void raise_column(const core_state *state, jadvolni_result answer, size_t
     raise_fault(state, answer, start, len, &field);
 }
 
-/* An array.array of so many zeros. */
-static PyObject *zeros(const char *code, size_t size, size_t count)
+/* An array.array of a type, of so many zeros. */
+static PyObject *zeros(const core_state *state, const number_type *type, size_t count)
 {
-    static const char zero[sizeof(uint64_t)] = {0};
     if (count > PY_SSIZE_T_MAX / sizeof(uint64_t))
         return PyErr_NoMemory();
-    PyObject *module = PyImport_ImportModule("array");
-    PyObject *one = module ? PyObject_CallMethod(module, "array", "sy#", code, zero,
-                                                 (Py_ssize_t)size) : NULL;
-    PyObject *all = one ? PySequence_Repeat(one, (Py_ssize_t)count) : NULL;
-    Py_XDECREF(module);
-    Py_XDECREF(one);
-    return all;
+    return PySequence_Repeat(state->zeros[type - types], (Py_ssize_t)count);
 }
 
 /* Reads a text into a new array. */
@@ -141,7 +134,7 @@ static PyObject *column_of(const core_state *state, const number_type *type, con
     Py_BEGIN_ALLOW_THREADS
     capacity = field_count(text->bytes, text->len, separator);
     Py_END_ALLOW_THREADS
-    PyObject *values = zeros(type->array_code, type->size, capacity);
+    PyObject *values = zeros(state, type, capacity);
     if (!values || PyObject_GetBuffer(values, &room, PyBUF_WRITABLE) < 0) {
         Py_XDECREF(values);
         return NULL;
@@ -173,12 +166,12 @@ static PyObject *column_behind(PyObject *module, PyObject *const *found, const f
                      type->name);
         return NULL;
     }
+    const core_state *state = PyModule_GetState(module);
     int separator = separator_of(found[2]);
-    if (separator < 0 || format_of(found[3], &format) < 0
+    if (separator < 0 || format_of(state, found[3], &format) < 0
         || lend("text", found[0], &text) < 0)
         return NULL;
-    PyObject *values = column_of(PyModule_GetState(module), type, &text, (uint8_t)separator,
-                                 &format, first);
+    PyObject *values = column_of(state, type, &text, (uint8_t)separator, &format, first);
     give_back(&text);
     return values;
 }
@@ -212,7 +205,7 @@ static PyObject *parse_part(PyObject *module, PyObject *const *args, Py_ssize_t 
 static PyObject *check_format(PyObject *module, PyObject *fields)
 {
     jadvolni_format format;
-    if (format_of(fields, &format) < 0)
+    if (format_of(PyModule_GetState(module), fields, &format) < 0)
         return NULL;
     uint32_t invalid = jadvolni_format_error(&format);
     if (invalid != JADVOLNI_OK) {
@@ -254,9 +247,27 @@ static PyMethodDef METHODS[] = {
     {NULL, NULL, 0, NULL},
 };
 
+/* Makes the arrays of one zero. -1 with an exception. */
+static int make_zeros(core_state *state)
+{
+    PyObject *module = PyImport_ImportModule("array");
+    if (!module)
+        return -1;
+    int made = 0;
+    for (int k = 0; k < TYPES && made == 0; k++)
+        if (types[k].array_code) {
+            state->zeros[k] = PyObject_CallMethod(module, "array", "s(i)", types[k].array_code, 0);
+            made = state->zeros[k] ? 0 : -1;
+        }
+    Py_DECREF(module);
+    return made;
+}
+
 static int execute(PyObject *module)
 {
-    if (make_exceptions(module, PyModule_GetState(module)) < 0)
+    core_state *state = PyModule_GetState(module);
+    state->fields_name = PyUnicode_InternFromString("_fields");
+    if (!state->fields_name || make_exceptions(module, state) < 0 || make_zeros(state) < 0)
         return -1;
     return PyModule_AddStringConstant(module, "__version__", JADVOLNI_VERSION_STRING);
 }
@@ -266,6 +277,9 @@ static int traverse(PyObject *module, visitproc visit, void *arg)
     core_state *state = PyModule_GetState(module);
     Py_VISIT(state->parse_error);
     Py_VISIT(state->format_error);
+    Py_VISIT(state->fields_name);
+    for (int k = 0; k < TYPES; k++)
+        Py_VISIT(state->zeros[k]);
     return 0;
 }
 
@@ -274,6 +288,9 @@ static int clear(PyObject *module)
     core_state *state = PyModule_GetState(module);
     Py_CLEAR(state->parse_error);
     Py_CLEAR(state->format_error);
+    Py_CLEAR(state->fields_name);
+    for (int k = 0; k < TYPES; k++)
+        Py_CLEAR(state->zeros[k]);
     return 0;
 }
 

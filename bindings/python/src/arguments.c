@@ -62,21 +62,25 @@ void raise_type(const char *name, const char *wanted, PyObject *given, const cha
     Py_XDECREF(type);
 }
 
-int format_of(PyObject *format, jadvolni_format *fields)
+int format_of(const core_state *state, PyObject *format, jadvolni_format *fields)
 {
-    *fields = STANDARD;
-    if (!format || format == Py_None)
+    char *bytes = NULL;
+    Py_ssize_t size;
+    if (!format || format == Py_None) {
+        *fields = STANDARD;
         return 0;
-    PyObject *bytes = PyObject_GetAttrString(format, "_fields");
-    if (!bytes && !PyErr_ExceptionMatches(PyExc_AttributeError))
+    }
+    PyObject *own = PyObject_GetAttr(format, state->fields_name);
+    if (!own && !PyErr_ExceptionMatches(PyExc_AttributeError))
         return -1;
-    PyErr_Clear();
-    int whole = bytes && PyBytes_Check(bytes) && (size_t)PyBytes_Size(bytes) == sizeof *fields;
-    if (whole)
-        memcpy(fields, PyBytes_AsString(bytes), sizeof *fields);
-    else
+    int whole = own && PyBytes_AsStringAndSize(own, &bytes, &size) == 0 && size == sizeof *fields;
+    if (whole) {
+        memcpy(fields, bytes, sizeof *fields);
+    } else {
+        PyErr_Clear();
         raise_type("format", "a jadvolni.Format or None", format, "");
-    Py_XDECREF(bytes);
+    }
+    Py_XDECREF(own);
     return whole ? 0 : -1;
 }
 

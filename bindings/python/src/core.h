@@ -42,11 +42,11 @@ typedef jadvolni_result column_call(const char *text, size_t len, uint8_t separa
                                     const jadvolni_format *format, void *values, size_t capacity,
                                     size_t *count);
 
-/* What a type is called, the code of its arrays (none for 128 bits), its size and its calls. */
+/* What a type is called, here and by NumPy, the code of its arrays (none for 128 bits) and its calls. */
 typedef struct number_type {
     const char *name;
+    const char *numpy_name;
     const char *array_code;
-    size_t size;
     parse_call *whole;
     parse_call *front;
     parse_call *partial;
@@ -54,15 +54,22 @@ typedef struct number_type {
     PyObject *(*number)(const number *value);
 } number_type;
 
-/* The type of a name, and i64 for NULL. NULL with an exception for what is the name of none. */
-const number_type *type_of(PyObject *name);
+enum { TYPES = 12 };
+extern const number_type types[TYPES];
+
+/* The type of a name or of a class with that name, and i64 for NULL. NULL with an exception for what
+ * is none. */
+const number_type *type_of(PyObject *type);
 
 /* ---- faults.c ---- */
 
-/* What a module keeps: each interpreter has its own. */
+/* What a module keeps: each interpreter has its own. Making these anew would cost a call more than
+ * all else that it does. */
 typedef struct core_state {
     PyObject *parse_error;
     PyObject *format_error;
+    PyObject *fields_name;  /* the name of the attribute of a Format that has its bytes */
+    PyObject *zeros[TYPES]; /* for each type that columns have an array of one zero */
 } core_state;
 
 /* A field of a column that has a fault: which one it is, and where it starts. */
@@ -102,7 +109,7 @@ int arguments(const char *call, PyObject *const *args, Py_ssize_t count, PyObjec
 void raise_type(const char *name, const char *wanted, PyObject *given, const char *detail);
 
 /* The fields of a format, and the standard ones for None and NULL. -1 with an exception. */
-int format_of(PyObject *format, jadvolni_format *fields);
+int format_of(const core_state *state, PyObject *format, jadvolni_format *fields);
 
 /* Lends the text that an argument of a name is, to be given back. -1 with an exception. */
 int lend(const char *name, PyObject *text, lent_text *lent);

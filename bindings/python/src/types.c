@@ -83,41 +83,59 @@ static PyObject *number_i128(const number *value)
     return joined(PyLong_FromLongLong(value->i128.high), value->i128.low);
 }
 
-#define TYPE(name, code, type) \
-    {#name, code, sizeof(type), whole_##name, front_##name, partial_##name, column_##name, \
-     number_##name}
-#define WIDE_TYPE(name, type) \
-    {#name, NULL, sizeof(type), whole_##name, front_##name, partial_##name, NULL, number_##name}
+#define TYPE(name, numpy_name, code) \
+    {#name, numpy_name, code, whole_##name, front_##name, partial_##name, column_##name, number_##name}
+#define WIDE_TYPE(name) \
+    {#name, NULL, NULL, whole_##name, front_##name, partial_##name, NULL, number_##name}
 
-static const number_type TYPES[] = {
-    TYPE(i64, "q", int64_t),
-    TYPE(u64, "Q", uint64_t),
-    TYPE(i32, "i", int32_t),
-    TYPE(u32, "I", uint32_t),
-    TYPE(i16, "h", int16_t),
-    TYPE(u16, "H", uint16_t),
-    TYPE(i8, "b", int8_t),
-    TYPE(u8, "B", uint8_t),
-    TYPE(isize, "q", ptrdiff_t),
-    TYPE(usize, "Q", size_t),
-    WIDE_TYPE(i128, jadvolni_int128),
-    WIDE_TYPE(u128, jadvolni_uint128),
+const number_type types[TYPES] = {
+    TYPE(i64, "int64", "q"),
+    TYPE(u64, "uint64", "Q"),
+    TYPE(i32, "int32", "i"),
+    TYPE(u32, "uint32", "I"),
+    TYPE(i16, "int16", "h"),
+    TYPE(u16, "uint16", "H"),
+    TYPE(i8, "int8", "b"),
+    TYPE(u8, "uint8", "B"),
+    TYPE(isize, NULL, "q"),
+    TYPE(usize, NULL, "Q"),
+    WIDE_TYPE(i128),
+    WIDE_TYPE(u128),
 };
 
-const number_type *type_of(PyObject *name)
+/* The type of a name, and NULL where it is that of none. */
+static const number_type *type_named(PyObject *name)
 {
-    if (!name)
-        return &TYPES[0];
-    if (!PyUnicode_Check(name)) {
-        raise_type("type", "a str such as 'u64'", name, "");
+    Py_ssize_t size;
+    const char *text = PyUnicode_AsUTF8AndSize(name, &size);
+    if (!text)
+        PyErr_Clear();
+    if (!text || strlen(text) != (size_t)size)
         return NULL;
-    }
-    for (size_t k = 0; k < sizeof TYPES / sizeof *TYPES; k++)
-        if (PyUnicode_CompareWithASCIIString(name, TYPES[k].name) == 0)
-            return &TYPES[k];
-    PyErr_Format(PyExc_ValueError,
-                 "type has to be u8, u16, u32, u64, u128, usize, i8, i16, i32, i64, i128 or isize, "
-                 "and not %R",
-                 name);
+    for (const number_type *type = types; type < types + TYPES; type++)
+        if (strcmp(text, type->name) == 0
+            || (type->numpy_name && strcmp(text, type->numpy_name) == 0))
+            return type;
     return NULL;
+}
+
+const number_type *type_of(PyObject *type)
+{
+    if (!type)
+        return &types[0];
+    PyObject *name = NULL;
+    if (PyType_Check(type))
+        name = PyType_GetName((PyTypeObject *)type);
+    else if (PyUnicode_Check(type))
+        name = Py_NewRef(type);
+    else
+        raise_type("type", "a str such as 'u64'", type, "");
+    const number_type *found = name ? type_named(name) : NULL;
+    if (name && !found)
+        PyErr_Format(PyExc_ValueError,
+                     "type has to be u8, u16, u32, u64, u128, usize, i8, i16, i32, i64, i128 or "
+                     "isize, and not %R",
+                     type);
+    Py_XDECREF(name);
+    return found;
 }

@@ -126,8 +126,22 @@ class Arguments(unittest.TestCase):
                 with self.subTest(call=call.__name__, type=name):
                     wanted = "^type has to be u8, u16, .* or isize, and not '"
                     self.assertRaisesRegex(ValueError, wanted, call, "1", name)
+        for other in (int, float, type("u7", (), {})):
+            with self.subTest(type=other):
+                wanted = "^type has to be u8, u16, .* or isize, and not <class '"
+                self.assertRaisesRegex(ValueError, wanted, parse, "1", other)
         wanted = "^type has to have 64 bits or fewer in a column, and not u128$"
         self.assertRaisesRegex(ValueError, wanted, parse_column, "1", "u128")
+
+    def test_types_by_other_names(self):
+        for bits in (8, 16, 32, 64):
+            for sign, least in (("u", 0), ("", -(2 ** (bits - 1)))):
+                name = f"{sign}int{bits}"
+                for kind in (name, type(name, (), {}), type("Text", (str,), {})(name)):
+                    with self.subTest(type=kind):
+                        self.assertEqual(parse(str(least), kind), least)
+                        self.assertRaises(ParseError, parse, str(least - 1), kind)
+                        self.assertEqual(list(parse_column(f"{least}\n1", kind)), [least, 1])
 
     def test_separators(self):
         for separator, size in ((b"", 0), (b"ab", 2), ("", 0), ("é", 2)):
@@ -161,7 +175,7 @@ class References(unittest.TestCase):
     def setUp(self):
         self.text, self.separator = bytearray(b"12,x"), bytearray(b",")
         self.wide = memoryview(b"1234").cast("H")
-        self.name, self.format = "".join(["u", "16"]), Format(radix=12)
+        self.name, self.format = "".join(["u", "16"]), Format(mantissa_radix=12)
 
     def calls(self):
         """Calls of every kind, right ones and wrong ones."""

@@ -59,7 +59,7 @@ class Symbols(unittest.TestCase):
     def test_another_library_of_the_name_changes_nothing(self):
         program = """
             import jadvolni
-            hexadecimal = jadvolni.Format(radix=16)
+            hexadecimal = jadvolni.Format(mantissa_radix=16)
             column = jadvolni.parse_column("7", "u64").tolist()
             print(jadvolni.parse("7", "u64"), column, jadvolni.parse("f", "u64", hexadecimal))
         """
@@ -114,6 +114,26 @@ class Interpreters(unittest.TestCase):
 
 class Build(unittest.TestCase):
     """How the wheel is built."""
+
+    @unittest.skipUnless(shutil.which("cc"), "there is no cc")
+    def test_an_editable_one_leads_to_the_sources(self):
+        with tempfile.TemporaryDirectory() as folder:
+            sources, site = pathlib.Path(folder, "sources"), pathlib.Path(folder, "site")
+            shutil.copytree(BINDING, sources)
+            site.mkdir()
+            where = {**os.environ, "JADVOLNI_INCLUDE": str(BINDING.parents[1] / "include")}
+            where.pop("PYTHONPATH", None)
+            build = f"import build_wheel; print(build_wheel.build_editable({str(site)!r}))"
+            run = subprocess.run([sys.executable, "-c", build], cwd=sources, env=where, timeout=60,
+                                 capture_output=True, text=True, check=True)
+            shutil.unpack_archive(site / run.stdout.strip(), site, "zip")
+            module = sources / "src" / "jadvolni" / "__init__.py"
+            with module.open("a", encoding="utf-8") as file:
+                file.write("parse = 7\n")
+            load = f"import site; site.addsitedir({str(site)!r}); import jadvolni as it; "
+            command = [sys.executable, "-c", load + "print(it.parse, it.parse_front('12px'))"]
+            run = subprocess.run(command, env=where, timeout=60, capture_output=True, text=True)
+        self.assertEqual((run.stdout, run.stderr), ("7 (12, 2)\n", ""))
 
     def test_the_version_is_that_of_the_project(self):
         project = tomllib.loads((BINDING / "pyproject.toml").read_text(encoding="utf-8"))["project"]

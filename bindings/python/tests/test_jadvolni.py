@@ -1,6 +1,7 @@
 """Tests of numbers, formats and columns, and of the examples that the documentation shows."""
 
 import array
+import dataclasses
 import doctest
 import pathlib
 import pickle
@@ -22,6 +23,11 @@ BOUNDS = {
     "usize": (0, 2**64 - 1),
     "isize": (-(2**63), 2**63 - 1),
 }
+
+
+# Formats of many tests.
+GROUPED = Format(digit_separator="_", integer_internal_digit_separator=True)
+HEXADECIMAL = Format(mantissa_radix=16, base_prefix="x")
 
 
 class Case(unittest.TestCase):
@@ -91,53 +97,69 @@ class Formats(Case):
     """Formats, and those that break a rule."""
 
     def test_radix_and_prefix(self):
-        self.assertEqual(parse("0xFF", "u8", Format(radix=16, prefix="x")), 255)
-        self.assertEqual(parse("zz", "u16", Format(radix=36)), 35 * 37)
-        self.assertEqual(parse("FFh", "u8", Format(radix=16, suffix=b"h")), 255)
-        self.fault("Overflow", 4, parse, "0x100", "u8", Format(radix=16, prefix="x"))
+        self.assertEqual(parse("0xFF", "u8", HEXADECIMAL), 255)
+        self.assertEqual(parse("zz", "u16", Format(mantissa_radix=36)), 35 * 37)
+        self.assertEqual(parse("FFh", "u8", Format(mantissa_radix=16, base_suffix=b"h")), 255)
+        self.fault("Overflow", 4, parse, "0x100", "u8", HEXADECIMAL)
 
     def test_separators(self):
-        self.assertEqual(parse("1_000", "u16", Format(separator="_")), 1000)
-        self.fault("InvalidDigit", 1, parse, "1__0", "u16", Format(separator="_"))
-        several = Format(separator="_", consecutive_separator=True)
+        self.assertEqual(parse("1_000", "u16", GROUPED), 1000)
+        self.fault("InvalidDigit", 1, parse, "1__0", "u16", GROUPED)
+        several = dataclasses.replace(GROUPED, integer_consecutive_digit_separator=True)
         self.assertEqual(parse("1__0", "u16", several), 10)
-        self.assertEqual(parse(b"1\x000", "u16", Format(separator=b"\0")), 10)
+        nuls = dataclasses.replace(GROUPED, digit_separator=b"\0")
+        self.assertEqual(parse(b"1\x000", "u16", nuls), 10)
 
     def test_flags(self):
-        self.fault("InvalidPositiveSign", 0, parse, "+1", "u8", Format(no_positive_sign=True))
-        self.fault("MissingSign", 0, parse, "1", "u8", Format(required_sign=True))
-        self.fault("InvalidLeadingZeros", 0, parse, "01", "u8", Format(no_leading_zeros=True))
-        self.assertEqual(parse("", "u8", Format(required_digits=False)), 0)
+        for kind, text, name in (
+            ("InvalidPositiveSign", "+1", "no_positive_mantissa_sign"),
+            ("MissingSign", "1", "required_mantissa_sign"),
+            ("InvalidLeadingZeros", "01", "no_integer_leading_zeros"),
+        ):
+            self.fault(kind, 0, parse, text, "u8", Format(**{name: True}))
+        self.assertEqual(parse("", "u8", Format(required_mantissa_digits=False)), 0)
         self.assertEqual(parse("0b101", "u8", Format(literal_prefixes=True)), 5)
 
     def test_formats_that_break_a_rule(self):
         for kind, given in (
-            ("InvalidMantissaRadix", {"radix": 1}),
-            ("InvalidMantissaRadix", {"radix": 37}),
-            ("InvalidMantissaRadix", {"radix": -246}),
-            ("InvalidMantissaRadix", {"radix": 266}),
-            ("InvalidDigitSeparator", {"separator": "5"}),
-            ("InvalidBasePrefix", {"prefix": "-"}),
-            ("InvalidBaseSuffix", {"suffix": b"\xff"}),
-            ("InvalidPunctuation", {"prefix": "x", "suffix": "X"}),
-            ("InvalidLiteralPrefixes", {"literal_prefixes": True, "radix": 16}),
+            ("InvalidMantissaRadix", {"mantissa_radix": 1}),
+            ("InvalidMantissaRadix", {"mantissa_radix": 37}),
+            ("InvalidMantissaRadix", {"mantissa_radix": -246}),
+            ("InvalidMantissaRadix", {"mantissa_radix": 266}),
+            ("InvalidDigitSeparator", {"digit_separator": "5"}),
+            ("InvalidBasePrefix", {"base_prefix": "-"}),
+            ("InvalidBaseSuffix", {"base_suffix": b"\xff"}),
+            ("InvalidPunctuation", {"base_prefix": "x", "base_suffix": "X"}),
+            ("InvalidLiteralPrefixes", {"literal_prefixes": True, "mantissa_radix": 16}),
         ):
             with self.subTest(given=given), self.assertRaises(FormatError) as caught:
                 Format(**given)
             self.assertEqual((caught.exception.kind, caught.exception.place), (kind, None))
 
+    def test_any_integer_is_a_radix(self):
+        class Sixteen:
+            def __index__(self):
+                return 16
+
+        format = Format(mantissa_radix=Sixteen())
+        self.assertEqual((format, repr(format)), (Format(mantissa_radix=16),
+                                                  "Format(mantissa_radix=16)"))
+        self.assertEqual(Format(mantissa_radix=10), Format())
+        for radix in (2**64, -(2**64)):
+            self.assertRaises(FormatError, Format, mantissa_radix=radix)
+
     def test_fields_of_another_kind(self):
         for error, given in (
-            (ValueError, {"separator": ""}),
-            (ValueError, {"prefix": "ab"}),
-            (ValueError, {"suffix": "é"}),
-            (TypeError, {"separator": 95}),
-            (TypeError, {"prefix": bytearray(b"x")}),
-            (TypeError, {"radix": "16"}),
-            (TypeError, {"radix": 16.0}),
-            (TypeError, {"required_sign": "no"}),
-            (TypeError, {"required_digits": 0}),
-            (TypeError, {"octal_zero": None}),
+            (ValueError, {"digit_separator": ""}),
+            (ValueError, {"base_prefix": "ab"}),
+            (ValueError, {"base_suffix": "é"}),
+            (TypeError, {"digit_separator": 95}),
+            (TypeError, {"base_prefix": bytearray(b"x")}),
+            (TypeError, {"mantissa_radix": "16"}),
+            (TypeError, {"mantissa_radix": 16.0}),
+            (TypeError, {"required_mantissa_sign": "no"}),
+            (TypeError, {"required_mantissa_digits": 0}),
+            (TypeError, {"literal_octal_zero": None}),
         ):
             (name,) = given
             with self.subTest(given=given), self.assertRaisesRegex(error, f"^{name} has to be "):
@@ -145,44 +167,46 @@ class Formats(Case):
 
     def test_fields_that_change_nothing(self):
         for name, given in (
-            ("leading_separator", {"leading_separator": True}),
-            ("internal_separator", {"internal_separator": False}),
-            ("trailing_separator", {"trailing_separator": True, "prefix": "x"}),
-            ("consecutive_separator", {"consecutive_separator": True}),
-            ("prefix_separator", {"prefix_separator": True, "prefix": "x"}),
-            ("prefix_separator", {"prefix_separator": True, "separator": "_"}),
-            ("separator", {"separator": "_", "internal_separator": False}),
-            ("case_sensitive_prefix", {"case_sensitive_prefix": True, "suffix": "h"}),
-            ("case_sensitive_suffix", {"case_sensitive_suffix": True, "prefix": "x"}),
+            ("integer_leading_digit_separator", {}),
+            ("integer_internal_digit_separator", {}),
+            ("integer_trailing_digit_separator", {"base_prefix": "x"}),
+            ("integer_consecutive_digit_separator", {}),
+            ("integer_prefix_digit_separator", {"base_prefix": "x"}),
+            ("integer_prefix_digit_separator", {"digit_separator": "_"}),
+            ("case_sensitive_base_prefix", {"base_suffix": "h"}),
+            ("case_sensitive_base_suffix", {"base_prefix": "x"}),
         ):
-            with self.subTest(given=given):
+            with self.subTest(name=name, given=given):
                 with self.assertRaisesRegex(ValueError, f"^{name} changes nothing without "):
-                    Format(**given)
+                    Format(**given, **{name: True})
+        with self.assertRaisesRegex(ValueError, "^digit_separator changes nothing without "):
+            Format(digit_separator="_")
 
     def test_fields_that_need_another(self):
-        places = ("leading_separator", "trailing_separator")
+        places = ("integer_leading_digit_separator", "integer_trailing_digit_separator")
         for name, text in zip(places, ("_1", "1_")):
-            given = Format(separator="_", internal_separator=False, **{name: True})
+            given = Format(digit_separator="_", **{name: True})
             self.assertEqual(parse(text, "u8", given), 1)
-            self.fault("InvalidDigit", text.index("_"), parse, text, "u8", Format(separator="_"))
-        behind = {"separator": "_", "prefix_separator": True, "internal_separator": False}
-        self.assertEqual(parse("0x_1", "u8", Format(prefix="x", **behind)), 1)
+            self.fault("InvalidDigit", text.index("_"), parse, text, "u8", GROUPED)
+        behind = {"digit_separator": "_", "integer_prefix_digit_separator": True}
+        self.assertEqual(parse("0x_1", "u8", Format(base_prefix="x", **behind)), 1)
         self.assertEqual(parse("0x_F", "u8", Format(literal_prefixes=True, **behind)), 15)
-        exact = Format(literal_prefixes=True, case_sensitive_prefix=True)
+        exact = Format(literal_prefixes=True, case_sensitive_base_prefix=True)
         self.fault("InvalidDigit", 1, parse, "0XF", "u8", exact)
-        exact = Format(suffix="h", case_sensitive_suffix=True)
+        exact = Format(base_suffix="h", case_sensitive_base_suffix=True)
         self.fault("InvalidDigit", 1, parse, "1H", "u8", exact)
 
     def test_a_format_is_a_value(self):
-        format = Format(radix=16, prefix="x")
-        self.assertEqual(repr(format), "Format(radix=16, prefix='x')")
-        self.assertEqual(format, Format(prefix=b"x", radix=16))
-        self.assertEqual(hash(format), hash(Format(prefix=b"x", radix=16)))
+        format = HEXADECIMAL
+        self.assertEqual(repr(format), "Format(mantissa_radix=16, base_prefix='x')")
+        self.assertEqual(format, Format(base_prefix=b"x", mantissa_radix=16))
+        self.assertEqual(hash(format), hash(Format(base_prefix=b"x", mantissa_radix=16)))
         self.assertNotEqual(format, Format())
-        self.assertEqual((format.radix, format.prefix, format.suffix), (16, "x", None))
+        fields = (format.mantissa_radix, format.base_prefix, format.base_suffix)
+        self.assertEqual(fields, (16, "x", None))
         self.assertEqual(pickle.loads(pickle.dumps(format)), format)
         with self.assertRaises(AttributeError):
-            format.radix = 10
+            format.mantissa_radix = 10
         with self.assertRaises(AttributeError):
             del format._fields
 
@@ -206,7 +230,7 @@ class Columns(Case):
     def test_any_byte_parts_fields(self):
         self.assertEqual(list(parse_column(b"1020", "u8", b"0")), [1, 2])
         self.assertEqual(list(parse_column("3+4", "u8", "+")), [3, 4])
-        self.assertEqual(list(parse_column(b"1_2", "u8", b"_", Format(separator="_"))), [1, 2])
+        self.assertEqual(list(parse_column(b"1_2", "u8", b"_", GROUPED)), [1, 2])
         self.assertEqual(list(parse_column(b"1\xff2", "u8", b"\xff")), [1, 2])
 
     def test_the_first_fault(self):
@@ -234,11 +258,10 @@ class Columns(Case):
         self.fault("Overflow", 19, parse_column, b"9" * 2**24, "u64")
 
     def test_the_format_of_each_field(self):
-        hexadecimal = Format(radix=16, prefix="x")
-        self.assertEqual(list(parse_column("0xF F", "u8", " ", hexadecimal)), [15, 15])
+        self.assertEqual(list(parse_column("0xF F", "u8", " ", HEXADECIMAL)), [15, 15])
 
     def test_fronts_without_a_digit(self):
-        json = Format(no_positive_sign=True, no_leading_zeros=True)
+        json = Format(no_positive_mantissa_sign=True, no_integer_leading_zeros=True)
         for text, place, format in (
             ("x", 0, None),
             ("+a", 1, None),
@@ -246,18 +269,19 @@ class Columns(Case):
             ("[- 5]", 0, json),
             ("- 5]", 1, json),
             ("0xg", 2, Format(literal_prefixes=True)),
-            ("0xg", 2, Format(radix=16, prefix="x")),
-            ("", 0, Format(required_digits=False)),
+            ("0xg", 2, HEXADECIMAL),
+            ("", 0, Format(required_mantissa_digits=False)),
         ):
             with self.subTest(text=text):
                 self.fault("Empty", place, parse_front, text, "i64", format)
 
     def test_hostile_columns(self):
         self.assertEqual(list(parse_column(b"7" * 3, "u16", b",")), [777])
-        no_digits = Format(required_digits=False)
+        no_digits = Format(required_mantissa_digits=False)
         self.assertEqual(list(parse_column(b"1", "u8", b"1", no_digits)), [0])
         self.assertEqual(list(parse_column(b",,,", "u8", b",", no_digits)), [0, 0, 0])
-        self.assertEqual(list(parse_column(b"0x10x1", "u8", b"x", Format(prefix="x"))), [0, 10, 1])
+        prefixed = Format(base_prefix="x")
+        self.assertEqual(list(parse_column(b"0x10x1", "u8", b"x", prefixed)), [0, 10, 1])
         self.fault("Empty", 2, parse_column, b"1--2", "i8", b"-")
         self.assertEqual(list(parse_column(b"2026-11-23", "u16", b"-")), [2026, 11, 23])
         text = b"1," * (2**23 - 1) + b"1x"

@@ -20,17 +20,17 @@ OF_TEXTS = {
     "Underflow": (3, "-129", {}),
     "InvalidDigit": (1, "1x", {}),
     "Empty": (1, "+", {}),
-    "MissingSign": (0, "1", {"required_sign": True}),
-    "InvalidPositiveSign": (0, "+1", {"no_positive_sign": True}),
-    "InvalidLeadingZeros": (1, "-01", {"no_leading_zeros": True}),
+    "MissingSign": (0, "1", {"required_mantissa_sign": True}),
+    "InvalidPositiveSign": (0, "+1", {"no_positive_mantissa_sign": True}),
+    "InvalidLeadingZeros": (1, "-01", {"no_integer_leading_zeros": True}),
 }
 OF_FORMATS = {
-    "InvalidMantissaRadix": {"radix": 37},
-    "InvalidDigitSeparator": {"separator": "7"},
-    "InvalidBasePrefix": {"prefix": "+"},
-    "InvalidBaseSuffix": {"suffix": b"\x80"},
-    "InvalidPunctuation": {"prefix": "x", "suffix": "X"},
-    "InvalidLiteralPrefixes": {"radix": 8, "octal_zero": True},
+    "InvalidMantissaRadix": {"mantissa_radix": 37},
+    "InvalidDigitSeparator": {"digit_separator": "7"},
+    "InvalidBasePrefix": {"base_prefix": "+"},
+    "InvalidBaseSuffix": {"base_suffix": b"\x80"},
+    "InvalidPunctuation": {"base_prefix": "x", "base_suffix": "X"},
+    "InvalidLiteralPrefixes": {"mantissa_radix": 8, "literal_octal_zero": True},
 }
 
 

@@ -24,6 +24,23 @@ class NumpyColumns(unittest.TestCase):
         self.assertEqual(str(numpy_column("1", "usize").dtype), "uint64")
         self.assertEqual(str(numpy_column("1", "isize").dtype), "int64")
 
+    def test_types_and_integers_of_numpy(self):
+        import numpy
+
+        for bits in (8, 16, 32, 64):
+            for sign in ("", "u"):
+                kind = getattr(numpy, f"{sign}int{bits}")
+                with self.subTest(type=kind):
+                    self.assertEqual(numpy_column("1;2", kind, ";").dtype, kind)
+                    self.assertEqual(jadvolni.parse("7", kind), 7)
+                    self.assertEqual(jadvolni.parse("7", numpy.dtype(kind).name), 7)
+                    format = jadvolni.Format(mantissa_radix=kind(16))
+                    self.assertEqual(repr(format), "Format(mantissa_radix=16)")
+        for kind in (numpy.float64, numpy.bool_, numpy.str_):
+            self.assertRaises(ValueError, jadvolni.parse, "1", kind)
+        for radix in (numpy.float64(16), numpy.array([16, 16])):
+            self.assertRaises(TypeError, jadvolni.Format, mantissa_radix=radix)
+
     def test_an_array_is_the_callers(self):
         column = numpy_column(b"1\n2\n3\n")
         self.assertEqual(column.shape, (3,))

@@ -12,7 +12,7 @@ use Rattle.lexical_util.specs.Faults.{place_of}
 use Rattle.answer_lines.specs.Command.{Command, command_in, parse_complete, parse_partial, list_tokens, change, reset, type_of}
 use Rattle.answer_lines.specs.Lines.{lines, onto_line}
 use Rattle.answer_lines.specs.Decimal.{decimal_text, signed_text}
-use Rattle.answer_lines.specs.Output.{answer_lines, answer_of, answers, command_answer, command_lines, complete_text, fault_name, fault_text, kind_text, output, partial_text, place_text, settings_after, token_text, tokens_text}
+use Rattle.answer_lines.specs.Output.{answer_lines, answer_to, answers_to, command_answer, command_lines, complete_text, fault_name, fault_text, kind_text, output, partial_text, place_text, settings_after, token_text, tokens_text}
 use Rattle.answer_lines.specs.Settings.{Settings, standard_settings}
 use Rattle.lexical_literals.specs.Tokens.{TokenView, tokens}
 use Rattle.lexical_literals.specs.declared.Kind.{Kind}
@@ -130,16 +130,16 @@ command_in_lines settings (Some (change asked)) more = first_line (codes "ok") m
 command_in_lines settings (Some reset) more = first_line (codes "ok") more refl
 
 answer_in_lines : (settings : Settings) (line more : List ℕ)
-    → lines (answer_of settings line ++ 10 ∷ [] ++ more) ≡ answer_lines settings line ++ lines more
-unfolding answer_of answer_lines
+    → lines (answer_to settings line ++ 10 ∷ [] ++ more) ≡ answer_lines settings line ++ lines more
+unfolding answer_to answer_lines
 answer_in_lines settings line more = command_in_lines settings (command_in line) more
 
 answers_in_lines : (settings : Settings) (ls : List (List ℕ))
-    → lines (answers settings ls) ≡ flat_map (λ answer. answer)
+    → lines (answers_to settings ls) ≡ flat_map (λ answer. answer)
     (scan settings_after answer_lines settings ls)
 answers_in_lines settings [] = refl
 answers_in_lines settings (line ∷ ls) =
-    answer_in_lines settings line (answers (settings_after settings line) ls)
+    answer_in_lines settings line (answers_to (settings_after settings line) ls)
     ∙ ap (λ more. answer_lines settings line ++ more) (answers_in_lines (settings_after settings line) ls)
 
 pub output_in_lines : (input : List ℕ)

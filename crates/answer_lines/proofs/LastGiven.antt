@@ -8,7 +8,7 @@ use Rattle.answer_lines.specs.Change.{with_change}
 use Rattle.answer_lines.specs.Command.{Command, command_in, command_of, change_named, parts, parse_complete, parse_partial, list_tokens, change, reset, type_and_text}
 use Rattle.answer_lines.proofs.FieldChanges.{flag_by, mark_by, no_multi_digit_by, radix_by}
 use Rattle.answer_lines.specs.Given.{change_made, flag_given, flag_value, is_reset, last_of, mark_given, mark_value, no_multi_digit_given, radix_given, settings_left, IsAnsweredInTurn, LeavesLastGiven}
-use Rattle.answer_lines.specs.Output.{answer_of, answers, command_effect, settings_after}
+use Rattle.answer_lines.specs.Output.{answer_to, answers_to, command_effect, settings_after}
 use Rattle.answer_lines.specs.Settings.{Settings, standard_settings}
 use Rattle.answer_lines.specs.declared.command.TypeName.{TypeName}
 use Rattle.answer_lines.specs.declared.field.Change.{Change}
@@ -164,12 +164,12 @@ module _ {A : Type 0} (value : Settings → A) (given : Change → Option A)
 -- ---- each line in turn
 
 answers-append : (s : Settings) (before after : List (List ℕ))
-    → answers s (before ++ after) ≡ answers s before ++ answers (fold settings_after s before) after
+    → answers_to s (before ++ after) ≡ answers_to s before ++ answers_to (fold settings_after s before) after
 answers-append s [] after = refl
 answers-append s (line ∷ before) after =
-    ap (λ l. answer_of s line ++ 10 ∷ [] ++ l) (answers-append (settings_after s line) before after)
-    ∙ sym (append_assoc (answer_of s line ++ 10 ∷ []) (answers (settings_after s line) before)
-    (answers (fold settings_after (settings_after s line) before) after))
+    ap (λ l. answer_to s line ++ 10 ∷ [] ++ l) (answers-append (settings_after s line) before after)
+    ∙ sym (append_assoc (answer_to s line ++ 10 ∷ []) (answers_to (settings_after s line) before)
+    (answers_to (fold settings_after (settings_after s line) before) after))
 
 fold-append : (s : Settings) (before : List (List ℕ)) (line : List ℕ)
     → fold settings_after s (before ++ line ∷ [])
@@ -180,8 +180,8 @@ fold-append s (first ∷ before) line = fold-append (settings_after s first) bef
 pub in_turn : (before : List (List ℕ)) (line : List ℕ) (after : List (List ℕ)) → IsAnsweredInTurn before line after
 in_turn before line after =
     answers-append standard_settings before (line ∷ after)
-    ∙ ap (λ s. answers standard_settings before
-    ++ (answer_of (settings_left before) line ++ 10 ∷ [] ++ answers s after))
+    ∙ ap (λ s. answers_to standard_settings before
+    ++ (answer_to (settings_left before) line ++ 10 ∷ [] ++ answers_to s after))
     (sym (fold-append standard_settings before line))
 
 -- ---- all fields

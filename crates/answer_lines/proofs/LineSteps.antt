@@ -2,7 +2,7 @@
 use Rattle.std.proofs.Common.{◌≡◌, ℕ, zero, suc, ◌+◌, ◌-◌, ◌<◌, ◌≤◌, List, [], ◌∷◌, ◌++◌, length, take, drop, get_or, Option, refl, ap, subst, sym, ◌∙◌, arith, add-one}
 use Rattle.answer_lines.specs.Settings.{Settings}
 use Rattle.answer_lines.specs.Lines.{lines, onto_line}
-use Rattle.answer_lines.specs.Output.{answers, answer_of, settings_after}
+use Rattle.answer_lines.specs.Output.{answers_to, answer_to, settings_after}
 use Rattle.answer_lines.specs.Gather.{GainsFront, Sends}
 use Rattle.answer_lines.proofs.Sending.{front_piece, sends_piece}
 use Rattle.std.proofs.lemmas.List.{append-nil, take_rest, drop_all}
@@ -30,13 +30,13 @@ lines_step (b ∷ c ∷ bs) (suc n) some within before found =
 pub Sends-line : (old now next : Option (List ℕ)) (s after : Settings)
     (bs whole waited waits : List ℕ) (n : ℕ) → 0 < length bs → n ≤ length bs
     → ((k : ℕ) → k < n → get_or bs k 0 ≡ 10 → ⊥) → (n < length bs → get_or bs n 0 ≡ 10)
-    → Sends old now whole (waited ++ answers s (lines bs))
-    → Sends now next (waited ++ (answer_of s (take n bs) ++ 10 ∷ [])) waits
+    → Sends old now whole (waited ++ answers_to s (lines bs))
+    → Sends now next (waited ++ (answer_to s (take n bs) ++ 10 ∷ [])) waits
     → after ≡ settings_after s (take n bs)
-    → Sends old next whole (waits ++ answers after (lines (drop (n + 1) bs)))
+    → Sends old next whole (waits ++ answers_to after (lines (drop (n + 1) bs)))
 Sends-line old now next s after bs whole waited waits n some within before found sent a e =
-    let P : List (List ℕ) → Type 0 = λ ls. Sends old now whole (waited ++ answers s ls) in
-    let Q : Settings → Type 0 = λ t. Sends old next whole (waits ++ answers t (lines (drop (n + 1) bs))) in
+    let P : List (List ℕ) → Type 0 = λ ls. Sends old now whole (waited ++ answers_to s ls) in
+    let Q : Settings → Type 0 = λ t. Sends old next whole (waits ++ answers_to t (lines (drop (n + 1) bs))) in
     subst Q (sym e) (rw add-one (sends_piece old now next whole waited waits _ _
     (subst P (lines_step bs n some within before found) sent) a))
 
@@ -44,10 +44,10 @@ Sends-line old now next s after bs whole waited waits n some within before found
 pub Sends-next : (old now next : Option (List ℕ)) (s after : Settings)
     (bs whole waited waits : List ℕ) (n : ℕ) → 0 < length bs → n ≤ length bs
     → ((k : ℕ) → k < n → get_or bs k 0 ≡ 10 → ⊥) → (n < length bs → get_or bs n 0 ≡ 10)
-    → Sends old now whole (waited ++ answers s (lines bs))
-    → Sends now next (waited ++ (answer_of s (take n bs) ++ 10 ∷ [])) waits
+    → Sends old now whole (waited ++ answers_to s (lines bs))
+    → Sends now next (waited ++ (answer_to s (take n bs) ++ 10 ∷ [])) waits
     → after ≡ settings_after s (take n bs)
-    → Sends old next whole (waits ++ answers after (lines (take (length bs - (n + 1)) (drop (n + 1) bs))))
+    → Sends old next whole (waits ++ answers_to after (lines (take (length bs - (n + 1)) (drop (n + 1) bs))))
 Sends-next old now next s after bs whole waited waits n some within before found sent a e =
     rw (take_rest bs (n + 1)) (Sends-line old now next s after bs whole waited waits n some within
     before found sent a e)
@@ -56,20 +56,20 @@ Sends-next old now next s after bs whole waited waits n some within before found
 pub Sends-last : (old now next : Option (List ℕ)) (s after : Settings)
     (bs whole waited waits : List ℕ) (n : ℕ) → 0 < length bs → n ≡ length bs
     → ((k : ℕ) → k < n → get_or bs k 0 ≡ 10 → ⊥)
-    → Sends old now whole (waited ++ answers s (lines bs))
-    → Sends now next (waited ++ (answer_of s (take n bs) ++ 10 ∷ [])) waits
+    → Sends old now whole (waited ++ answers_to s (lines bs))
+    → Sends now next (waited ++ (answer_to s (take n bs) ++ 10 ∷ [])) waits
     → after ≡ settings_after s (take n bs)
     → Sends old next whole waits
 Sends-last old now next s after bs whole waited waits n some all before sent a e =
     let none : drop (n + 1) bs ≡ [] = drop_all (n + 1) bs (omega arith) in
-    let P : List ℕ → Type 0 = λ l. Sends old next whole (waits ++ answers after (lines l)) in
+    let P : List ℕ → Type 0 = λ l. Sends old next whole (waits ++ answers_to after (lines l)) in
     rw append-nil at
     (subst P none (Sends-line old now next s after bs whole waited waits n some (omega arith) before
     (λ lt. absurd (omega arith)) sent a e))
 
 -- no line is left
 pub Sends-end : (old now : Option (List ℕ)) (s : Settings) (bs whole waited : List ℕ)
-    → length bs ≡ 0 → Sends old now whole (waited ++ answers s (lines bs))
+    → length bs ≡ 0 → Sends old now whole (waited ++ answers_to s (lines bs))
     → Sends old now whole waited
 Sends-end old now s [] whole waited none sent = rw append-nil at sent
 Sends-end old now s (b ∷ bs) whole waited none sent = absurd (omega arith)
@@ -78,9 +78,9 @@ Sends-end old now s (b ∷ bs) whole waited none sent = absurd (omega arith)
 pub Front-line : (old now next : Option (List ℕ)) (s : Settings) (bs whole waited : List ℕ) (n : ℕ)
     → 0 < length bs → n ≤ length bs
     → ((k : ℕ) → k < n → get_or bs k 0 ≡ 10 → ⊥) → (n < length bs → get_or bs n 0 ≡ 10)
-    → Sends old now whole (waited ++ answers s (lines bs))
-    → GainsFront now next (waited ++ (answer_of s (take n bs) ++ 10 ∷ []))
+    → Sends old now whole (waited ++ answers_to s (lines bs))
+    → GainsFront now next (waited ++ (answer_to s (take n bs) ++ 10 ∷ []))
     → GainsFront old next whole
 Front-line old now next s bs whole waited n some within before found sent g =
-    let P : List (List ℕ) → Type 0 = λ ls. Sends old now whole (waited ++ answers s ls) in
+    let P : List (List ℕ) → Type 0 = λ ls. Sends old now whole (waited ++ answers_to s ls) in
     front_piece old now next whole waited _ _ (subst P (lines_step bs n some within before found) sent) g

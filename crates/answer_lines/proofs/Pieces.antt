@@ -1,7 +1,9 @@
 -- The lines are the pieces between the line feeds.
 use Rattle.std.proofs.Common.{◌≡◌, ℕ, List, [], ◌∷◌, Bool, true, false, cond, eqb, refl, ap, sym, ◌∙◌}
 use Rattle.std.specs.List.{onto_first}
-use Rattle.answer_lines.specs.Lines.{lines, onto_line, pieces, without_empty_last}
+use Rattle.lexical_util.specs.Ascii.{line_feed}
+use Rattle.lexical_fields.specs.Fields.{pieces, without_empty_last}
+use Rattle.answer_lines.specs.Lines.{lines, onto_line}
 
 onto_pieces : (b : ℕ) (p : List ℕ) (ps : List (List ℕ))
     → onto_line b (without_empty_last (p ∷ ps)) ≡ without_empty_last ((b ∷ p) ∷ ps)
@@ -15,17 +17,17 @@ step : (t : Bool) (b : ℕ) (p : List ℕ) (ps ls : List (List ℕ)) → ls ≡ 
 step true b p ps ls e = ap (λ l. [] ∷ l) e
 step false b p ps ls e = ap (λ l. onto_line b l) e ∙ onto_pieces b p ps
 
-front : (bs : List ℕ) → (p : List ℕ) × (ps : List (List ℕ)) × (pieces bs ≡ p ∷ ps)
+front : (bs : List ℕ) → (p : List ℕ) × (ps : List (List ℕ)) × (pieces line_feed bs ≡ p ∷ ps)
 front [] = ([], [], refl)
 front (b ∷ bs) =
     let (p, ps, e) = front bs in
     elim (eqb b 10) as (λ t. (q : List ℕ) × (qs : List (List ℕ))
-    × (cond t ([] ∷ pieces bs) (onto_first b (pieces bs)) ≡ q ∷ qs)) [
-      | true ↦ ([], pieces bs, refl)
+    × (cond t ([] ∷ pieces line_feed bs) (onto_first b (pieces line_feed bs)) ≡ q ∷ qs)) [
+      | true ↦ ([], pieces line_feed bs, refl)
       | false ↦ (b ∷ p, ps, ap (λ l. onto_first b l) e)
     ]
 
-pub lines_are_pieces : (bs : List ℕ) → lines bs ≡ without_empty_last (pieces bs)
+pub lines_are_pieces : (bs : List ℕ) → lines bs ≡ without_empty_last (pieces line_feed bs)
 lines_are_pieces [] = refl
 lines_are_pieces (b ∷ bs) =
     let f = front bs in

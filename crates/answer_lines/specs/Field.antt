@@ -49,8 +49,8 @@ field_name field.RequiredDigits = codes "required_digits"
 field_name field.NoMultiDigit = codes "no_multi_digit"
 
 -- every field
-abbrev pub fields : List Field
-fields =
+abbrev pub all_fields : List Field
+all_fields =
     field.MantissaRadix
     ∷ field.Mark DigitSeparator ∷ field.Mark BasePrefix ∷ field.Mark BaseSuffix
     ∷ field.Flag CaseSensitiveBasePrefix ∷ field.Flag CaseSensitiveBaseSuffix
@@ -65,7 +65,7 @@ fields =
 
 -- the field of a name
 abbrev pub field_named : List ℕ → Option Field
-field_named name = find (λ field. bytes_eq name (field_name field)) fields
+field_named name = find (λ field. bytes_eq name (field_name field)) all_fields
 
 -- ---- values
 

@@ -7,7 +7,7 @@ use Rattle.lexical_util.specs.Ascii.{line_feed}
 use Rattle.lexical_util.specs.Format.{Format, standard}
 use Rattle.answer_lines.specs.Command.{Command, command_in, parse_complete, parse_partial, list_tokens, change, reset}
 use Rattle.answer_lines.specs.Field.{flag_name, mark_name}
-use Rattle.answer_lines.specs.Output.{answer_of, answers, settings_after}
+use Rattle.answer_lines.specs.Output.{answer_to, answers_to, settings_after}
 use Rattle.answer_lines.specs.Settings.{Settings, standard_settings}
 use Rattle.answer_lines.specs.declared.field.Mark.{Mark}
 use Rattle.answer_lines.specs.declared.field.Mark.TheVariants.{DigitSeparator, BasePrefix, BaseSuffix}
@@ -131,7 +131,7 @@ LeavesLastGiven lines = HoldsLastGiven (changes_since_reset lines) (settings_lef
 -- a line between others is answered under the settings that the lines before it leave
 abbrev pub IsAnsweredInTurn : List (List ℕ) → List ℕ → List (List ℕ) → Type 0
 IsAnsweredInTurn before line after =
-    answers standard_settings (before ++ line ∷ after)
-    ≡ answers standard_settings before
-    ++ (answer_of (settings_left before) line ++ line_feed ∷ []
-    ++ answers (settings_left (before ++ line ∷ [])) after)
+    answers_to standard_settings (before ++ line ∷ after)
+    ≡ answers_to standard_settings before
+    ++ (answer_to (settings_left before) line ++ line_feed ∷ []
+    ++ answers_to (settings_left (before ++ line ∷ [])) after)

@@ -94,8 +94,8 @@ command_effect settings (Some (change asked)) = with_change asked settings
 command_effect settings (Some reset) = standard_settings
 
 -- the answer to a line under the settings
-unfoldable pub answer_of : Settings → List ℕ → List ℕ
-answer_of settings line = command_answer settings (command_in line)
+unfoldable pub answer_to : Settings → List ℕ → List ℕ
+answer_to settings line = command_answer settings (command_in line)
 
 -- the settings after a line
 unfoldable pub settings_after : Settings → List ℕ → Settings
@@ -120,11 +120,11 @@ answer_lines settings line = command_lines settings (command_in line)
 
 -- for each line its answer and a line feed, in order, each under the settings that the lines
 -- before it leave
-abbrev pub answers : Settings → List (List ℕ) → List ℕ
-answers settings [] = []
-answers settings (line ∷ more) =
-    answer_of settings line ++ line_feed ∷ [] ++ answers (settings_after settings line) more
+abbrev pub answers_to : Settings → List (List ℕ) → List ℕ
+answers_to settings [] = []
+answers_to settings (line ∷ more) =
+    answer_to settings line ++ line_feed ∷ [] ++ answers_to (settings_after settings line) more
 
 -- what the program writes for an input
 abbrev pub output : List ℕ → List ℕ
-output input = answers standard_settings (lines input)
+output input = answers_to standard_settings (lines input)

@@ -6,7 +6,7 @@ ghost use Rattle.lexical_util.specs.Faults.{place_of};
 ghost use Rattle.answer_lines.specs.Command.{view_of_command};
 ghost use Rattle.answer_lines.specs.Gather.{GainsFront, Gathers};
 ghost use Rattle.answer_lines.specs.Decimal.{decimal_text, signed_text};
-ghost use Rattle.answer_lines.specs.Output.{answer_of, command_answer, command_effect, complete_text, fault_name, partial_text, place_text, settings_after};
+ghost use Rattle.answer_lines.specs.Output.{answer_to, command_answer, command_effect, complete_text, fault_name, partial_text, place_text, settings_after};
 
 mod tokens;
 
@@ -29,9 +29,9 @@ pub fn answer<W: Write>(
     out: &mut W,
 ) -> Result<(), RunError>
     ensures ok { OnOk result (Gathers (W.contents out.old) batch.old (W.contents out.new) batch.new
-        (answer_of settings.old line.now ++ line_feed ∷ [])) }
+        (answer_to settings.old line.now ++ line_feed ∷ [])) }
     ensures front { GainsFront (W.contents out.old) (W.contents out.new)
-        (batch.old ++ (answer_of settings.old line.now ++ line_feed ∷ [])) }
+        (batch.old ++ (answer_to settings.old line.now ++ line_feed ∷ [])) }
     ensures settings { OnOk result (settings.new ≡ settings_after settings.old line.now) }
     ensures kept { OnErr result (settings.new ≡ settings.old) }
     ensures fault { IsOkUnless result RunError.Write }
@@ -59,10 +59,12 @@ fn tell<W: Write>(
     match command {
         None => put(b"bad line", batch, out),
         Some(Command::Complete(name, text)) => {
-            put_complete(parse::complete(name, text, settings), batch, out)
+            let answer = parse::complete(name, text, &settings.format(), settings.options());
+            put_complete(answer, batch, out)
         }
         Some(Command::Partial(name, text)) => {
-            put_partial(parse::partial(name, text, settings), batch, out)
+            let answer = parse::partial(name, text, &settings.format(), settings.options());
+            put_partial(answer, batch, out)
         }
         Some(Command::Tokens(text)) => put_tokens(text, batch, out),
         Some(Command::Change(_)) | Some(Command::Reset) => put(b"ok", batch, out),

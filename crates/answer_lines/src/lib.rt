@@ -21,5 +21,8 @@ pub mod literals {
 }
 
 pub use buffer::Buffer;
+pub use command::TypeName;
 pub use fault::RunError;
+pub use number::Number;
+pub use parse::complete;
 pub use program::{output_in_memory, run, run_from, run_with};

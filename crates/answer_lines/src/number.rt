@@ -2,6 +2,7 @@
 
 ghost use Rattle.std.specs.Prelude.{◌≡◌, ◌↔◌, ◌<◌, ◌<ℤ◌, pos, IsTrue, unsigned_abs};
 
+use std::fmt;
 use std::marker::Model;
 
 /// An integer of any of the twelve types. Contracts see it as a whole number.
@@ -45,6 +46,21 @@ impl From<i128> for Number {
             is_negative: z < 0,
             size: z.unsigned_abs(),
         }
+    }
+}
+
+/// Its decimal digits, after a minus where it is below 0.
+impl fmt::Display for Number {
+    ghost use Rattle.std.specs.Prelude.{Some};
+    ghost use Rattle.std.specs.Fmt.{signed_decimal};
+
+    ghost output = { λ number. Some (signed_decimal number) };
+
+    fn fmt<W: fmt::Write>(&self, f: &mut fmt::Formatter<W>) -> fmt::Result {
+        if self.is_negative {
+            return write!(f, "-{}", self.size);
+        }
+        write!(f, "{}", self.size)
     }
 }
 

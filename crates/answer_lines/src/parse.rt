@@ -7,8 +7,7 @@ ghost use Rattle.answer_lines.specs.Number.{Widens};
 
 use crate::command::TypeName;
 use crate::number::Number;
-use crate::settings::Settings;
-use lexical_parse_integer::{FromLexicalWithOptions, Options, Result};
+use lexical_parse_integer::{FromLexicalWithOptions, NumberFormat, Options, Result};
 use lexical_util::num::Integer;
 
 // The value as a number, by way of the widest type of its sign.
@@ -24,73 +23,83 @@ fn number_of<T: Integer + Into<W>, W: Into<Number>>(value: T) -> Number
 // The number that the whole text stands for as one of type `T`, which `W` holds. Each type has one copy of
 // the parser in here, rather than one in each arm of a `match`.
 #[inline(never)]
-fn complete_as<T, W>(text: &[u8], settings: &Settings) -> Result<Number>
+fn complete_as<T, W>(text: &[u8], format: &NumberFormat, options: &Options) -> Result<Number>
 where
     T: FromLexicalWithOptions<Options = Options> + Into<W>,
     W: Into<Number>,
     requires widens { Widens T.number T.converts W.converts }
-    ensures { result ≡ complete_if_valid settings.now.format T.TYPE text.now }
+    ensures { result ≡ complete_if_valid format.now T.TYPE text.now }
 {
-    let value = T::from_lexical_with_options(text, &settings.format(), settings.options())?;
+    let value = T::from_lexical_with_options(text, format, options)?;
     Ok(number_of::<T, W>(value))
 }
 
 // The number that the front of the text stands for as one of type `T`, which `W` holds, and the place at
 // which reading stopped.
 #[inline(never)]
-fn partial_as<T, W>(text: &[u8], settings: &Settings) -> Result<(Number, usize)>
+fn partial_as<T, W>(
+    text: &[u8],
+    format: &NumberFormat,
+    options: &Options,
+) -> Result<(Number, usize)>
 where
     T: FromLexicalWithOptions<Options = Options> + Into<W>,
     W: Into<Number>,
     requires widens { Widens T.number T.converts W.converts }
-    ensures { result ≡ partial_if_valid settings.now.format T.TYPE text.now }
+    ensures { result ≡ partial_if_valid format.now T.TYPE text.now }
 {
-    let (value, stop) = T::from_lexical_partial_with_options(
-        text,
-        &settings.format(),
-        settings.options(),
-    )?;
+    let (value, stop) = T::from_lexical_partial_with_options(text, format, options)?;
     Ok((number_of::<T, W>(value), stop))
 }
 
 /// The number that the whole text stands for as one of the named type. `usize` and `isize` are 64 bits wide, and read as
 /// `u64` and `i64`.
-pub fn complete(name: TypeName, text: &[u8], settings: &Settings) -> Result<Number>
-    ensures { result ≡ complete_if_valid settings.now.format (type_of name) text.now }
+pub fn complete(
+    name: TypeName,
+    text: &[u8],
+    format: &NumberFormat,
+    options: &Options,
+) -> Result<Number>
+    ensures { result ≡ complete_if_valid format.now (type_of name) text.now }
 {
     match name {
-        TypeName::U8 => complete_as::<u8, u128>(text, settings),
-        TypeName::U16 => complete_as::<u16, u128>(text, settings),
-        TypeName::U32 => complete_as::<u32, u128>(text, settings),
-        TypeName::U64 => complete_as::<u64, u128>(text, settings),
-        TypeName::U128 => complete_as::<u128, u128>(text, settings),
-        TypeName::Usize => complete_as::<u64, u128>(text, settings),
-        TypeName::I8 => complete_as::<i8, i128>(text, settings),
-        TypeName::I16 => complete_as::<i16, i128>(text, settings),
-        TypeName::I32 => complete_as::<i32, i128>(text, settings),
-        TypeName::I64 => complete_as::<i64, i128>(text, settings),
-        TypeName::I128 => complete_as::<i128, i128>(text, settings),
-        TypeName::Isize => complete_as::<i64, i128>(text, settings),
+        TypeName::U8 => complete_as::<u8, u128>(text, format, options),
+        TypeName::U16 => complete_as::<u16, u128>(text, format, options),
+        TypeName::U32 => complete_as::<u32, u128>(text, format, options),
+        TypeName::U64 => complete_as::<u64, u128>(text, format, options),
+        TypeName::U128 => complete_as::<u128, u128>(text, format, options),
+        TypeName::Usize => complete_as::<u64, u128>(text, format, options),
+        TypeName::I8 => complete_as::<i8, i128>(text, format, options),
+        TypeName::I16 => complete_as::<i16, i128>(text, format, options),
+        TypeName::I32 => complete_as::<i32, i128>(text, format, options),
+        TypeName::I64 => complete_as::<i64, i128>(text, format, options),
+        TypeName::I128 => complete_as::<i128, i128>(text, format, options),
+        TypeName::Isize => complete_as::<i64, i128>(text, format, options),
     }
 }
 
 /// The number that the front of the text stands for as one of the named type, and the place at
 /// which reading stopped.
-pub fn partial(name: TypeName, text: &[u8], settings: &Settings) -> Result<(Number, usize)>
-    ensures { result ≡ partial_if_valid settings.now.format (type_of name) text.now }
+pub fn partial(
+    name: TypeName,
+    text: &[u8],
+    format: &NumberFormat,
+    options: &Options,
+) -> Result<(Number, usize)>
+    ensures { result ≡ partial_if_valid format.now (type_of name) text.now }
 {
     match name {
-        TypeName::U8 => partial_as::<u8, u128>(text, settings),
-        TypeName::U16 => partial_as::<u16, u128>(text, settings),
-        TypeName::U32 => partial_as::<u32, u128>(text, settings),
-        TypeName::U64 => partial_as::<u64, u128>(text, settings),
-        TypeName::U128 => partial_as::<u128, u128>(text, settings),
-        TypeName::Usize => partial_as::<u64, u128>(text, settings),
-        TypeName::I8 => partial_as::<i8, i128>(text, settings),
-        TypeName::I16 => partial_as::<i16, i128>(text, settings),
-        TypeName::I32 => partial_as::<i32, i128>(text, settings),
-        TypeName::I64 => partial_as::<i64, i128>(text, settings),
-        TypeName::I128 => partial_as::<i128, i128>(text, settings),
-        TypeName::Isize => partial_as::<i64, i128>(text, settings),
+        TypeName::U8 => partial_as::<u8, u128>(text, format, options),
+        TypeName::U16 => partial_as::<u16, u128>(text, format, options),
+        TypeName::U32 => partial_as::<u32, u128>(text, format, options),
+        TypeName::U64 => partial_as::<u64, u128>(text, format, options),
+        TypeName::U128 => partial_as::<u128, u128>(text, format, options),
+        TypeName::Usize => partial_as::<u64, u128>(text, format, options),
+        TypeName::I8 => partial_as::<i8, i128>(text, format, options),
+        TypeName::I16 => partial_as::<i16, i128>(text, format, options),
+        TypeName::I32 => partial_as::<i32, i128>(text, format, options),
+        TypeName::I64 => partial_as::<i64, i128>(text, format, options),
+        TypeName::I128 => partial_as::<i128, i128>(text, format, options),
+        TypeName::Isize => partial_as::<i64, i128>(text, format, options),
     }
 }

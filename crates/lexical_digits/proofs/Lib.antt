@@ -1,5 +1,6 @@
 -- The lemmas on words, lanes and rows of digits, which the crates above may cite.
 pub mod AsciiDigits
+pub mod BlockValues
 pub mod DigitLanes
 pub mod DigitStops
 pub mod DigitTest

@@ -2,6 +2,7 @@
 use Rattle.std.proofs.Common.{◌≡◌, ℕ, ◌+◌, ◌*◌, ◌^◌, ◌<◌, ◌≤◌, Bool, true, false, refl, ap, ◌∙◌, arith, pos, Option, Some, None, List, sym, subst, rules, zero, suc, ◌-◌, take, drop, length, map, is_some, [], ◌∷◌, ◌++◌}
 use Rattle.std.specs.Prelude.{ℤ, ◌+ℤ◌, ◌*ℤ◌, ◌≤ℤ◌, neg_ℤ, if◌then◌else◌, slice_range, IfSome}
 use Rattle.std.specs.Int.Signed.{≤ℤ_refl}
+use Rattle.std.specs.Option.{option_map}
 use Rattle.std.proofs.Math.Seq.{take-add, take-length}
 use Rattle.std.proofs.lemmas.List.{length-drop, length-take-le}
 use Rattle.std.proofs.lemmas.Bool.{lt-ltb}
@@ -194,6 +195,15 @@ few_fit t k m text value rest width long few s is_rest small =
     length-take-most (suc k) m [] few = omega arith
     length-take-most (suc k) zero (b ∷ bs) few = absurd (omega arith)
     length-take-most (suc k) (suc m) (b ∷ bs) few = let rest = length-take-most k m bs (omega arith) in omega arith
+
+-- sixteen digits more, where a test found that the type has them
+pub sixteen_found : {V : Type 0} (number_of : V → ℤ) (t : IntegerType) (k m : ℕ) (text : List ℕ) (value rest scale : ℤ) (found : Option V) → k + 16 ≤ length text → StandsFor t 10 false (take k text) value →
+    WritesDecimal 0 (slice_range text k (k + 16)) m → rest ≡ pos m → scale ≡ pos 10000000000000000 → option_map number_of found ≡ number_if_fits t (mul_add false value scale rest) →
+    IfSome found (λ v. StandsFor t 10 false (take (k + 16) text) (number_of v))
+sixteen_found number_of t k m text value rest scale None within s v is_rest is_scale step = tt
+sixteen_found number_of t k m text value rest scale (Some next) within s v is_rest is_scale step =
+    sixteen_more t k m text value (number_of next) rest within s v is_rest (sum_found t (number_of next) _ step ∙ ap (λ (z : ℤ). mul_add false value z rest) is_scale)
+    (sum_fits t (number_of next) _ step)
 
 pub at_least_zero : (t : IntegerType) (text : List ℕ) (value : ℤ) → StandsFor t 10 false text value → pos 0 ≤ℤ value
 at_least_zero t text value s = from_zero value (positional_value 10 s.writes.values) (s.worth ∙ s.writes.worth)

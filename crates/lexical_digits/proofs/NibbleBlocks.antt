@@ -159,17 +159,3 @@ blocks_shifted size first last text many few w v =
     let back : slice_range text k (length text) ≡ drop k text = ap (λ (n : ℕ). take n (drop k text)) left ∙ take-length (drop k text) in
     subst (λ (n : ℕ). WritesFront 16 text (length text) (pos (first / n * 16 ^ size + last))) (sym (shift_is (2 * size - length text)))
     (blocks_write 16 size first last text (take size text) (slice_range text k (length text)) many few refl back w v)
-
--- the digits of a text write a number below that power of the radix
-pub written_small : (n k : ℕ) (text : List ℕ) → length text ≤ k → WritesFront 16 text (length text) (pos n) → n < 16 ^ k
-written_small n k text few w =
-    let worth : n ≡ positional_value 16 w.values = pos-injective n (positional_value 16 w.values) w.worth in
-    let below : positional_value 16 w.values < 16 ^ length text = w.below in
-    let most : 16 ^ length text ≤ 16 ^ k = pow-le-pow_right {n = 16} (omega arith) few in
-    omega arith
-
-pub blocks_fit : (high low size scale : ℕ) (text : List ℕ) → size ≤ 4 → length text ≤ 2 * size → scale ≡ 16 ^ size → WritesFront 16 text (length text) (pos (high * 16 ^ size + low)) → high * scale + low < 4294967296
-blocks_fit high low size scale text few all is w =
-    let small = written_small (high * 16 ^ size + low) 8 text (omega arith) w in
-    let same : high * scale + low ≡ high * 16 ^ size + low = ap (λ n. high * n + low) is in
-    omega arith

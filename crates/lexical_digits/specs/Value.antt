@@ -9,4 +9,4 @@ positional_value radix (digit ∷ digits) =
 
 -- n, or -n behind a minus
 abbrev pub with_sign : Bool → ℕ → ℤ
-with_sign is_minus n = if is_minus then neg_ℤ (pos n) else pos n
+with_sign is_negative n = if is_negative then neg_ℤ (pos n) else pos n

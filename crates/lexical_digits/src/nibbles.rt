@@ -2,14 +2,14 @@
 //! has the value of each byte, and for what is no digit one so large that the sum shows it.
 ghost use Rattle.std.specs.Prelude.{◌≡◌, ◌+◌, ◌*◌, ◌^◌, ◌<◌, ◌≤◌, ◌≤ℤ◌, IfSome, IsTrue, length, pos, unwrap_or};
 ghost use Rattle.lexical_util.specs.Digit.{digit};
-ghost use Rattle.lexical_util.specs.Number.{HasRoom};
+ghost use Rattle.lexical_util.specs.Number.{number_limit};
 ghost use Rattle.lexical_digits.specs.WrittenNumbers.{StandsFor, WritesFront};
 
 mod table;
 
 use crate::nibbles::table::VALUES;
 use crate::table::value_by_table;
-use crate::values::{joined, signed_value};
+use crate::values::signed_value;
 use lexical_util::num::Integer;
 
 // No eight digits write this number, or a greater one.
@@ -58,79 +58,47 @@ fn numbers_of_blocks(text: &[u8], size: usize) -> Option<(u32, u32)>
     }
 }
 
-// The number of digits that two such blocks of up to four make up.
+// The value of the digits that two such blocks make up, behind a minus where that is negative.
 #[inline(always)]
-fn number_of_blocks(text: &[u8], size: usize, scale: u32) -> Option<u32>
-    requires small { size ≤ 4 }
-    requires many { size ≤ length text.now }
-    requires few { length text.now ≤ 2 * size }
-    requires scale { scale ≡ 16 ^ size }
-    ensures { IfSome result
-        (λ number. WritesFront 16 text.now (length text.now) (pos number)) }
+fn value_of_blocks<T: Integer>(digits: &[u8], size: usize, negative: bool) -> Option<T>
+    requires small { size ≤ 8 }
+    requires many { size ≤ length digits.now }
+    requires few { length digits.now ≤ 2 * size }
+    requires scale { 16 ^ size < number_limit T.TYPE }
+    requires room { 16 ^ length digits.now ≤ number_limit T.TYPE }
+    requires minus { IsTrue negative → IsTrue T.TYPE.is_signed }
+    ensures { IfSome result (λ value. StandsFor T.TYPE 16 negative digits.now (T.number value)) }
 {
-    match numbers_of_blocks(text, size) {
-        Some((high, low)) => Some(high * scale + low),
-        None => None,
-    }
+    let (high, low) = numbers_of_blocks(digits, size)?;
+    let root = T::from_u32(1 << (2 * size) as u32);
+    let scale = root.mul_add(root, T::ZERO, false);
+    let value = T::from_u32(high).mul_add(scale, T::from_u32(low), false);
+    Some(signed_value::<T>(value, negative))
 }
 
-// The number of one to eight digits.
-#[inline(always)]
-fn number_to_8(text: &[u8]) -> Option<u32>
-    requires some { 1 ≤ length text.now }
-    requires few { length text.now ≤ 8 }
-    ensures { IfSome result
-        (λ number. WritesFront 16 text.now (length text.now) (pos number)) }
-{
-    if text.len() == 1 {
-        return number_of_blocks(text, 1, 0x10);
-    }
-    if text.len() <= 4 {
-        return number_of_blocks(text, 2, 0x100);
-    }
-    number_of_blocks(text, 4, 0x1_0000)
-}
-
-// The number of nine to sixteen digits, where the type has room for them.
-#[inline(always)]
-fn number_to_16<T: Integer>(text: &[u8], most: usize) -> Option<T>
-    requires some { 8 < length text.now }
-    requires few { length text.now ≤ 16 }
-    requires fits { length text.now ≤ most }
-    requires room { HasRoom T.TYPE 16 most }
-    ensures { IfSome result
-        (λ value. WritesFront 16 text.now (length text.now) (T.number value)) }
-{
-    if T::BITS < 64 {
-        return None;
-    }
-    let scale = joined::<T>(0x1_0000, 0x1_0000, 0);
-    match numbers_of_blocks(text, 8) {
-        Some((high, low)) => Some(T::from_u32(high).mul_add(scale, T::from_u32(low), false)),
-        None => None,
-    }
-}
-
-/// The value of hexadecimal digits, behind a minus where that is negative.
-#[inline(always)]
+/// The value of hexadecimal digits, behind a minus where that is negative. Each range of lengths ends on its own, so that
+/// no text pays for what another one needs. It stays out of line, where it keeps all that it needs in registers.
+#[inline(never)]
 pub fn value_of_nibbles<T: Integer>(digits: &[u8], negative: bool) -> Option<T>
     requires some { 1 ≤ length digits.now }
     requires minus { IsTrue negative → IsTrue T.TYPE.is_signed }
     ensures { IfSome result (λ value. StandsFor T.TYPE 16 negative digits.now (T.number value)) }
 {
-    if digits.len() > 16 {
-        return value_by_table::<T>(digits, 16, negative);
-    }
-    let most = T::overflow_digits(16);
-    if digits.len() > most {
+    let n = digits.len();
+    if n > T::overflow_digits(16) {
         return None;
     }
-    if digits.len() <= 8 {
-        let number = number_to_8(digits)?;
-        return Some(signed_value::<T>(T::from_u32(number), negative));
+    if n <= 2 {
+        return value_of_blocks::<T>(digits, 1, negative);
     }
-    match number_to_16::<T>(digits, most) {
-        Some(value) => Some(signed_value::<T>(value, negative)),
-        None => None,
+    if n <= 4 {
+        return value_of_blocks::<T>(digits, 2, negative);
     }
+    if n <= 8 {
+        return value_of_blocks::<T>(digits, 4, negative);
+    }
+    if n <= 16 {
+        return value_of_blocks::<T>(digits, 8, negative);
+    }
+    value_by_table::<T>(digits, 16, negative)
 }

@@ -1,5 +1,5 @@
 //! The values of decimal digits, where the type has them.
-ghost use Rattle.std.specs.Prelude.{◌≤ℤ◌, ◌∷◌, [], neg_ℤ, if◌then◌else◌, false, ◌≡◌, ◌+◌, ◌*◌, ◌<◌, ◌≤◌, true, IfSome, IsTrue, get_or, length, pos};
+ghost use Rattle.std.specs.Prelude.{◌≤ℤ◌, ◌∷◌, [], neg_ℤ, if◌then◌else◌, false, ◌≡◌, ◌+◌, ◌*◌, ◌<◌, ◌≤◌, true, IfSome, IsTrue, get_or, length, pos, take};
 ghost use Rattle.lexical_util.specs.Ascii.{minus};
 ghost use Rattle.lexical_util.specs.Number.{IsNumber, mul_add, number_limit};
 ghost use Rattle.lexical_digits.specs.WrittenNumbers.{StandsFor};
@@ -109,27 +109,27 @@ pub fn value_of<T: Integer>(digits: &[u8], negative: bool) -> Option<T>
     value_of_two::<T>(high, low, 100_000_000, negative)
 }
 
-// The number that sixteen digits more make, where the type has it. Behind so few digits no type of 128 bits needs a test.
+// The value with sixteen digits more, from a place on, where the type has it. Behind so few digits no type of 128 bits
+// needs a test.
 #[inline(always)]
-fn with_sixteen<T: Integer>(value: T, rest: T, is_few: bool) -> Option<T>
+fn with_sixteen<T: Integer>(digits: &[u8], place: usize, value: T) -> Option<T>
     requires bits { 32 < T.TYPE.bits }
-    requires value { pos 0 ≤ℤ T.number value }
-    requires rest { pos 0 ≤ℤ T.number rest }
-    requires few { is_few ≡ true → 64 < T.TYPE.bits → IsNumber T.TYPE
-        (mul_add false (T.number value) (pos 10000000000000000) (T.number rest)) }
-    ensures value { IfSome result (λ next. T.number next
-        ≡ mul_add false (T.number value) (pos 10000000000000000) (T.number rest)) }
-    ensures fits { IfSome result (λ next. IsNumber T.TYPE (T.number next)) }
+    requires within { place + 16 ≤ length digits.now }
+    requires before { StandsFor T.TYPE 10 false (take place digits.now) (T.number value) }
+    ensures { IfSome result
+        (λ next. StandsFor T.TYPE 10 false (take (place + 16) digits.now) (T.number next)) }
 {
+    let (high, low) = numbers_to_16(&digits[place..place + 16])?;
+    let rest = joined::<T>(high, 100_000_000, low);
     let scale = joined::<T>(100_000_000, 100_000_000, 0);
-    if T::BITS > 64 && is_few {
+    if T::BITS > 64 && place <= 16 {
         return Some(value.mul_add(scale, rest, false));
     }
     value.checked_mul_add(scale, rest, false)
 }
 
-/// The value of any number of digits, behind a minus where that is negative: sixteen by sixteen, and those that are left
-/// over before. It stays out of line, so that the parser of shorter texts is small enough to be held in place.
+/// The value of seventeen digits and more, behind a minus where that is negative: a few digits, and then sixteen by sixteen.
+/// It stays out of line, so that the parser of shorter texts is small enough to be held in place.
 #[inline(never)]
 pub fn value_of_long<T: Integer>(digits: &[u8], negative: bool) -> Option<T>
     requires bits { 32 < T.TYPE.bits }
@@ -137,13 +137,17 @@ pub fn value_of_long<T: Integer>(digits: &[u8], negative: bool) -> Option<T>
     requires minus { IsTrue negative → IsTrue T.TYPE.is_signed }
     ensures { IfSome result (λ value. StandsFor T.TYPE 10 negative digits.now (T.number value)) }
 {
-    let mut place = (digits.len() - 1) % 16 + 1;
-    let mut value = value_of::<T>(&digits[..place], false)?;
-    while place < digits.len() {
-        let (high, low) = numbers_to_16(&digits[place..place + 16])?;
-        let rest = joined::<T>(high, 100_000_000, low);
-        value = with_sixteen::<T>(value, rest, place <= 16)?;
-        place += 16;
+    let n = digits.len();
+    let most = if T::BITS > 64 { 48 } else { 20 };
+    if n <= 16 || n > most {
+        return None;
     }
-    Some(signed_value::<T>(value, negative))
+    let place = if n <= 32 { n - 16 } else { n - 32 };
+    let few = value_of::<T>(&digits[..place], false)?;
+    let value = with_sixteen::<T>(digits, place, few)?;
+    if n <= 32 {
+        return Some(signed_value::<T>(value, negative));
+    }
+    let longer = with_sixteen::<T>(digits, place + 16, value)?;
+    Some(signed_value::<T>(longer, negative))
 }

@@ -1,2 +1,3 @@
 -- The definitions that contracts name.
 pub mod Languages
+pub mod Names

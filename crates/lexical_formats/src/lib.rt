@@ -15,6 +15,7 @@ mod c_like;
 mod compiled;
 mod data;
 mod functional;
+mod names;
 mod scripting;
 
 pub use c_like::{c, c_decimal, c_hexadecimal, c_octal, c23, cpp14, csharp, java, kotlin};
@@ -22,6 +23,7 @@ pub use compiled::{ada, assembler_hexadecimal, go, rust, swift, vhdl};
 pub use data::{json, json5, sql, sql_2023, toml, yaml};
 pub use functional::{haskell, ocaml};
 use lexical_util::format::NumberFormatBuilder;
+pub use names::named;
 pub use scripting::{javascript, julia, python, ruby};
 
 // Literals without a plus.

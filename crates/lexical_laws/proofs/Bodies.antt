@@ -48,7 +48,7 @@ digit_at-some r text k b e = rw e refl
 abbrev value_at : ℕ → List ℕ → ℕ → ℕ
 value_at r text place = unwrap_or (digit_at r text place) 0
 
-first_value : (r : ℕ) (text : List ℕ) (start : ℕ) (places : List ℕ) (o : Option ℕ) → digit_at r text start ≡ o →
+pub first_value : (r : ℕ) (text : List ℕ) (start : ℕ) (places : List ℕ) (o : Option ℕ) → digit_at r text start ≡ o →
     map (value_at r text) (cond (is_some (digit_at r text start)) (start ∷ places) places) ≡ with_digit o (map (value_at r text) places)
 first_value r text start places None e = rw e refl
 first_value r text start places (Some d) e = rw e (ap (λ o. unwrap_or o 0 ∷ map (value_at r text) places) e)

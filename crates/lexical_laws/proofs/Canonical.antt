@@ -147,16 +147,16 @@ is_json t text v i =
     let prefix = json_prefix i.body i.prefix i.radix i.prefix_may in
     let suffix = json_suffix i.digits i.suffix i.suffix_may in
     record {
-      m = i.is_minus;
+      m = i.is_negative;
       body = i.body;
       ds = i.digits;
       front = i.sign;
       parts = i.parts ∙ ap (λ xs. i.sign ++ (xs ++ (i.body ++ i.suffix))) prefix.0 ∙ ap (λ xs. i.sign ++ (i.body ++ xs)) suffix ∙ ap (λ xs. i.sign ++ xs) (append-nil i.body);
-      sign = json_sign t i.sign i.is_minus i.sign_may;
+      sign = json_sign t i.sign i.is_negative i.sign_may;
       all = sym (ap (map (λ byte. digit byte 10)) (json_others i.body)) ∙ sym (ap (λ r. map (λ byte. digit byte r) (filter (λ byte. not (is_separator json byte)) i.body)) prefix.1) ∙ i.body_may.bytes;
       some = i.enough refl;
       keeps = i.zeros refl prefix.0 refl;
-      worth = i.worth ∙ ap (λ r. with_sign i.is_minus (positional_value r i.digits)) prefix.1;
+      worth = i.worth ∙ ap (λ r. with_sign i.is_negative (positional_value r i.digits)) prefix.1;
       fits = i.fits;
     }
 

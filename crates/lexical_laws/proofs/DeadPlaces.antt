@@ -11,9 +11,9 @@ use Rattle.lexical_util.specs.Faults.{place_of}
 use Rattle.lexical_util.specs.Format.{Format}
 use Rattle.lexical_util.specs.Number.{IntegerType}
 use Rattle.lexical_parse_integer.specs.Grammar.{after_head, common_faults, complete, fault_if, first_fault_or, first_outside, lacks_digits, partial, partial_faults, range_error, range_fault}
-use Rattle.lexical_parse_integer.specs.Head.{Head, head_after, head_of, sign, sign_by}
+use Rattle.lexical_parse_integer.specs.Head.{Head, head_after, head_of, sign, sign_by, chooses_radix}
 use Rattle.lexical_parse_integer.specs.Laws.{IsLocal, IsSettledAt, SameFront, completion_of}
-use Rattle.lexical_parse_integer.specs.Numeral.{Numeral, digit_count, numeral_in, numeral_value}
+use Rattle.lexical_parse_integer.specs.Numeral.{Numeral, digit_count, numeral_value, numeral_behind}
 
 -- ---- the faults of the partial parser, without separators and zero rule
 
@@ -45,12 +45,12 @@ fault_comes : (f : Format) (t : IntegerType) (text : List ℕ) (e : Error) → f
 unfolding partial head_of range_fault
 fault_comes f t text e none off faulty = by_sign (sign f t text) refl faulty
   where
-    by_head : (h : Head) → (let x = numeral_in f text h.start h.radix in first_fault_or {A = ℤ × ℕ} (common_faults f t text h x ++ partial_faults f text x) (numeral_value h.is_minus x, x.stop)) ≡ Err e → Comes f t text e
+    by_head : (h : Head) → (let x = numeral_behind f text h in first_fault_or {A = ℤ × ℕ} (common_faults f t text h x ++ partial_faults f text x) (numeral_value h.is_negative x, x.stop)) ≡ Err e → Comes f t text e
     by_head h told =
-        let x : Numeral = numeral_in f text h.start h.radix in
-        inr (rule_cases (length text) x.stop (slice_index x.places 0) (h.is_marked && (h.start == length text)) f.no_integer_leading_zeros (is_some f.digit_separator) (not h.is_marked) (nat_le 2 (digit_count x)) (slice_index x.digits 0 == 0) (lacks_digits f x) h.is_minus (first_outside t h.is_minus x) (λ k. slice_index x.places k) (numeral_value h.is_minus x, x.stop) e off (ap is_some none) told)
+        let x : Numeral = numeral_behind f text h in
+        inr (rule_cases (length text) x.stop (slice_index x.places 0) (h.is_prefixed && (h.start == length text)) f.no_integer_leading_zeros (is_some f.digit_separator) (not (chooses_radix h)) (nat_le 2 (digit_count x)) (slice_index x.digits 0 == 0) (lacks_digits f x) h.is_negative (first_outside t h.is_negative x) (λ k. slice_index x.places k) (numeral_value h.is_negative x, x.stop) e off (ap is_some none) told)
 
-    by_sign : (s : Result (Bool × ℕ) Error) → sign f t text ≡ s → after_head {A = ℤ × ℕ} (head_after f text s) (λ h. let x = numeral_in f text h.start h.radix in first_fault_or (common_faults f t text h x ++ partial_faults f text x) (numeral_value h.is_minus x, x.stop)) ≡ Err e → Comes f t text e
+    by_sign : (s : Result (Bool × ℕ) Error) → sign f t text ≡ s → after_head {A = ℤ × ℕ} (head_after f text s) (λ h. let x = numeral_behind f text h in first_fault_or (common_faults f t text h x ++ partial_faults f text x) (numeral_value h.is_negative x, x.stop)) ≡ Err e → Comes f t text e
     by_sign (Err d) is told = let same : d ≡ e = cc in inl (is ∙ ap (λ z. Err z) same)
     by_sign (Ok s) is told = by_head _ told
 

@@ -125,7 +125,7 @@ prefix_told f (b ∷ c ∷ more) r e = by_zero (b == 48) refl e
 -- ---- the head
 
 pub head_marked : (f : Format) (t : IntegerType) (front more : List ℕ) (minus : Bool) (byte r : ℕ) → IsSign f t front minus → marked_radix f (Some byte) ≡ Some r →
-    head_of f t (front ++ 48 ∷ byte ∷ more) ≡ Ok (record { is_minus = minus; is_marked = true; start = length front + 2; radix = r })
+    head_of f t (front ++ 48 ∷ byte ∷ more) ≡ Ok (record { is_negative = minus; is_prefixed = true; is_octal = false; start = length front + 2; radix = r })
 unfolding head_of prefix_radix are_same
 head_marked f t front more minus byte r may marked =
     let sign' = sign_is f t front (48 ∷ byte ∷ more) minus may (λ b e. (λ is. absurd (let first : 48 ≡ b = cc in omega arith), λ is. absurd (let first : 48 ≡ b = cc in omega arith))) in
@@ -133,7 +133,7 @@ head_marked f t front more minus byte r may marked =
     rw (sign', prefix) refl
 
 pub head_bare : (f : Format) (t : IntegerType) (front rest : List ℕ) (minus : Bool) → IsSign f t front minus → BeginsUnsigned rest → prefix_radix f rest 0 ≡ None →
-    head_of f t (front ++ rest) ≡ Ok (record { is_minus = minus; is_marked = octal_zero_at f rest 0; start = length front; radix = bare_radix f rest 0 })
+    head_of f t (front ++ rest) ≡ Ok (record { is_negative = minus; is_prefixed = false; is_octal = octal_zero_at f rest 0; start = length front; radix = bare_radix f rest 0 })
 unfolding head_of
 head_bare f t front rest minus may unsigned none_here =
     let sign' = sign_is f t front rest minus may unsigned in
@@ -143,8 +143,8 @@ head_bare f t front rest minus may unsigned none_here =
 -- What a prefix, or none, says of a head.
 abbrev pub MarksHead : Format → List ℕ → List ℕ → Head → Type 0
 MarksHead f prefix more h =
-    ((prefix ≡ []) × (h.radix ≡ bare_radix f more 0) × (h.is_marked ≡ octal_zero_at f more 0))
-    ⊎ ((byte : ℕ) × (prefix ≡ 48 ∷ byte ∷ []) × (marked_radix f (Some byte) ≡ Some h.radix) × (h.is_marked ≡ true))
+    ((prefix ≡ []) × (h.radix ≡ bare_radix f more 0) × (h.is_octal ≡ octal_zero_at f more 0) × (h.is_prefixed ≡ false))
+    ⊎ ((byte : ℕ) × (prefix ≡ 48 ∷ byte ∷ []) × (marked_radix f (Some byte) ≡ Some h.radix) × (h.is_prefixed ≡ true))
 
 -- A text is a sign, a prefix and more, as its head says.
 pub record HeadSplit (f : Format) (t : IntegerType) (text : List ℕ) (h : Head) : Type 0 where
@@ -152,7 +152,7 @@ pub record HeadSplit (f : Format) (t : IntegerType) (text : List ℕ) (h : Head)
   pub prefix : List ℕ
   pub more : List ℕ
   pub parts : text ≡ front ++ (prefix ++ more)
-  pub may : IsSign f t front h.is_minus
+  pub may : IsSign f t front h.is_negative
   pub start : h.start ≡ length front + length prefix
   pub short : length front ≤ 1
   pub marks : MarksHead f prefix more h
@@ -185,7 +185,7 @@ head_split f t text h e = by_sign (sign f t text) refl e
               may = w.may;
               start = w.size ∙ omega arith;
               short = w.short;
-              marks = inl (refl, ap (λ o. cond o 8 f.mantissa_radix) same_octal, same_octal);
+              marks = inl (refl, ap (λ o. cond o 8 f.mantissa_radix) same_octal, same_octal, refl);
             })
         by_prefix (Some r) some =
             let told = prefix_told f w.rest r some in

@@ -233,11 +233,11 @@ module _ (f : Format) (case : IgnoresCase f) where
         prefix = b.0;
         body = c.0;
         suffix = c.1;
-        is_minus = i.is_minus;
+        is_negative = i.is_negative;
         radix = i.radix;
         digits = i.digits;
         parts = a.2 ∙ ap (λ zs. a.0 ++ zs) (b.2 ∙ ap (λ zs. b.0 ++ zs) c.2);
-        sign_may = other_sign t i.sign a.0 i.is_minus a.3 i.sign_may;
+        sign_may = other_sign t i.sign a.0 i.is_negative a.3 i.sign_may;
         prefix_may = other_prefix i.body i.prefix c.0 b.0 i.radix c.3 b.3 i.prefix_may;
         body_may = record {
           bytes = other_bytes i.body c.0 i.digits i.radix c.3 i.body_may.bytes;

@@ -14,4 +14,6 @@ pub mod LooserFormats
 pub mod DeadPlaces
 pub mod WithoutSeparators
 pub mod Canonical
+pub mod Cuts
+pub mod ForeignBytes
 pub mod LetterCase

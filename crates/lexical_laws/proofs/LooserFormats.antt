@@ -182,11 +182,11 @@ module _ (f g : Format) (valid_f : IsNone (fault f)) (valid : IsNone (fault g)) 
     prefix = i.prefix;
     body = i.body;
     suffix = i.suffix;
-    is_minus = i.is_minus;
+    is_negative = i.is_negative;
     radix = i.radix;
     digits = i.digits;
     parts = i.parts;
-    sign_may = loose_sign t i.sign i.is_minus i.sign_may;
+    sign_may = loose_sign t i.sign i.is_negative i.sign_may;
     prefix_may = loose_prefix i.body i.prefix i.radix i.prefix_may;
     body_may = record {
       bytes = loose_bytes i.prefix i.body i.digits i.radix i.prefix_may i.body_may.bytes;

@@ -1,9 +1,8 @@
 -- A text that the grammar makes is read.
-use Rattle.std.proofs.Common.{◌≡◌, ℕ, zero, suc, ◌+◌, ◌-◌, ◌≤◌, Bool, true, false, ◌&&◌, cond, List, [], ◌∷◌, ◌++◌, length, get_or, map, filter, Option, Some, None, IsNone, is_some, Ok, refl, sym, ap, subst, ◌∙◌, arith, ◌⊎◌, inl, inr, length-append}
+use Rattle.std.proofs.Common.{◌||◌, ◌≡◌, ℕ, zero, suc, ◌+◌, ◌-◌, ◌≤◌, Bool, true, false, ◌&&◌, cond, List, [], ◌∷◌, ◌++◌, length, get_or, map, filter, Option, Some, None, IsNone, is_some, Ok, refl, sym, ap, subst, ◌∙◌, arith, ◌⊎◌, inl, inr, length-append}
 use Rattle.std.proofs.Math.IntN.{ℤ}
 use Rattle.std.proofs.Math.Bool.{and-false}
 use Rattle.std.proofs.lemmas.Bool.{and_parts, cases_lt, false≢true, lt-ltb, ne_eqb}
-use Rattle.std.proofs.lemmas.Bool.Decides.{nat_tests}
 use Rattle.std.proofs.lemmas.List.{length-map}
 use Rattle.std.proofs.lemmas.Option.{slice_get-get_or}
 use Rattle.std.specs.List.{range_with_len}
@@ -17,13 +16,12 @@ use Rattle.lexical_util.proofs.Valid.{digit_below, octal_zero_radix}
 use Rattle.lexical_parse_integer.specs.Affixes.{bare_radix, is_affix, numeral_stop, octal_zero_at, suffix_at}
 use Rattle.lexical_parse_integer.specs.Grammar.{complete, digits_required}
 use Rattle.lexical_parse_integer.specs.Head.{Head, head_of}
-use Rattle.lexical_parse_integer.specs.Numeral.{numeral_in}
-use Rattle.lexical_parse_integer.specs.Runs.{are_same, digit_at, digits_between, end_of, is_behind_prefix, places, separator_at}
+use Rattle.lexical_parse_integer.specs.Numeral.{numeral_in, numeral_behind}
+use Rattle.lexical_parse_integer.specs.Runs.{digit_at, digits_between, end_of, places, separator_at}
 use Rattle.lexical_parse_integer.specs.Value.{positional_value, with_sign}
 use Rattle.lexical_parse_integer.proofs.ForCallers.{IsFit, complete_by, true_or_false}
 use Rattle.lexical_laws.specs.Integer.{IsBody, IsInteger, IsPrefix, IsSign, IsSuffix, is_separator}
 use Rattle.lexical_laws.specs.Integer.IsPrefix.{no_prefix, a_prefix}
-use Rattle.lexical_laws.specs.Integer.IsSign.{no_sign as none, a_plus, a_minus}
 use Rattle.lexical_laws.specs.Integer.IsSuffix.{no_suffix, a_suffix}
 use Rattle.lexical_laws.specs.Keeping.{IsRangeFault}
 use Rattle.lexical_laws.proofs.Bodies.{BytesAre, StandsAt, bytes_fit, bytes_values, digit_at-some, values_at}
@@ -59,10 +57,6 @@ octal_asked : (f : Format) (body : List ℕ) → octal_zero_at f body 0 ≡ true
 unfolding octal_zero_at
 octal_asked f body e = (and_parts f.literal_octal_zero _ e).0
 
-octal_some : (f : Format) (body : List ℕ) → octal_zero_at f body 0 ≡ true → body ≢ []
-unfolding octal_zero_at are_same
-octal_some f body e is = let none = rw is at e in false≢true (sym (and-false f.literal_octal_zero) ∙ none)
-
 -- a digit of the radix in force without a prefix is one of the format's
 own_digit : (f : Format) (body : List ℕ) (c : ℕ) → fault f ≡ None → is_some (digit c (bare_radix f body 0)) ≡ true → is_some (digit c f.mantissa_radix) ≡ true
 own_digit f body c valid d = by_zero (octal_zero_at f body 0) refl d
@@ -79,10 +73,10 @@ own_digit f body c valid d = by_zero (octal_zero_at f body 0) refl d
 
 -- A text that is made so has this head.
 record HeadMade (f : Format) (t : IntegerType) (text prefix body : List ℕ) (m : Bool) (start r : ℕ) : Type 0 where
-  marked : Bool
-  head : head_of f t text ≡ Ok (record { is_minus = m; is_marked = marked; start = start; radix = r })
-  some : marked ≡ true → body ≢ []
-  unmarked : marked ≡ false → (prefix ≡ []) × (octal_zero_at f body 0 ≡ false)
+  octal : Bool
+  head : head_of f t text ≡ Ok (record { is_negative = m; is_prefixed = some_in prefix; is_octal = octal; start = start; radix = r })
+  some : some_in prefix ≡ true → body ≢ []
+  unmarked : (some_in prefix || octal) ≡ false → (prefix ≡ []) × (octal_zero_at f body 0 ≡ false)
 
 module _ (f : Format) (t : IntegerType) (body suffix ds : List ℕ) (valid : IsNone (fault f)) (may_close : IsSuffix f ds suffix) where
   suffix_byte : (sfx : List ℕ) → IsSuffix f ds sfx → (k c : ℕ) → slice_get sfx k ≡ Some c → is_affix f.case_sensitive_base_suffix f.base_suffix (Some c) ≡ true
@@ -117,14 +111,14 @@ module _ (f : Format) (t : IntegerType) (body suffix ds : List ℕ) (valid : IsN
       let octal = octal_of_body f (bare_radix f body 0) body ds suffix bytes may_close in
       let place : length front + 0 ≡ length front = omega arith in
       record {
-        marked = octal_zero_at f body 0;
-        head = bare ∙ ap (λ o. Ok (record { is_minus = m; is_marked = o; start = length front; radix = cond o 8 f.mantissa_radix })) octal
-            ∙ ap (λ n. Ok (record { is_minus = m; is_marked = octal_zero_at f body 0; start = n; radix = bare_radix f body 0 })) (sym place);
-        some = octal_some f body;
+        octal = octal_zero_at f body 0;
+        head = bare ∙ ap (λ o. Ok (record { is_negative = m; is_prefixed = false; is_octal = o; start = length front; radix = cond o 8 f.mantissa_radix })) octal
+            ∙ ap (λ n. Ok (record { is_negative = m; is_prefixed = false; is_octal = octal_zero_at f body 0; start = n; radix = bare_radix f body 0 })) (sym place);
+        some = λ e. absurd (false≢true e);
         unmarked = λ e. (refl, e);
       }
   head_made front _ m _ may bytes (a_prefix byte r marked some) = record {
-    marked = true;
+    octal = false;
     head = head_marked f t front (body ++ suffix) m byte r may marked;
     some = λ _. some;
     unmarked = λ e. absurd (false≢true (sym e));
@@ -132,18 +126,9 @@ module _ (f : Format) (t : IntegerType) (body suffix ds : List ℕ) (valid : IsN
 
 -- ---- the whole text
 
-pub complete_is : (f : Format) (t : IntegerType) (text : List ℕ) (h : Head) → head_of f t text ≡ Ok h → complete f t text ≡ complete_by f t text h (numeral_in f text h.start h.radix)
+pub complete_is : (f : Format) (t : IntegerType) (text : List ℕ) (h : Head) → head_of f t text ≡ Ok h → complete f t text ≡ complete_by f t text h (numeral_behind f text h)
 unfolding complete
 complete_is f t text h head = rw head refl
-
-pub short_sign : (f : Format) (t : IntegerType) (front : List ℕ) (m : Bool) → IsSign f t front m → length front ≤ 1
-short_sign f t _ _ (none off) = omega arith
-short_sign f t _ _ (a_plus off) = omega arith
-short_sign f t _ _ (a_minus on) = omega arith
-
-pub behind_prefix : (f : Format) (body prefix : List ℕ) (n r : ℕ) → n ≤ 1 → IsPrefix f body prefix r → is_behind_prefix (n + length prefix) ≡ some_in prefix
-behind_prefix f body _ n _ low no_prefix = grind (arith, nat_tests)
-behind_prefix f body _ n _ low (a_prefix byte r marked some) = grind (arith, nat_tests)
 
 pub no_affix : (sensitive : Bool) (o : Option ℕ) → is_affix sensitive o None ≡ false
 unfolding is_affix
@@ -154,13 +139,13 @@ pub some_length : (xs : List ℕ) → xs ≢ [] → 1 ≤ length xs
 some_length [] some = absurd (some refl)
 some_length (x ∷ xs) some = omega arith
 
-pub radix_is : (f : Format) (text : List ℕ) (start r : ℕ) → (numeral_in f text start r).radix ≡ r
+pub radix_is : (f : Format) (pre : Bool) (text : List ℕ) (start r : ℕ) → (numeral_in f pre r text start).radix ≡ r
 unfolding numeral_in
-radix_is f text start r = refl
+radix_is f pre text start r = refl
 
-radix_kept : (f : Format) (text : List ℕ) (start r : ℕ) → 1 ≤ r → 1 ≤ (numeral_in f text start r).radix
+radix_kept : (f : Format) (pre : Bool) (text : List ℕ) (start r : ℕ) → 1 ≤ r → 1 ≤ (numeral_in f pre r text start).radix
 unfolding numeral_in
-radix_kept f text start r low = low
+radix_kept f pre text start r low = low
 
 module _ (f : Format) (t : IntegerType) (front prefix body suffix ds : List ℕ) (m : Bool) (r : ℕ) (valid : IsNone (fault f))
     (may : IsSign f t front m) (marks : IsPrefix f body prefix r) (made : IsBody f prefix r body ds) (close : IsSuffix f ds suffix) where
@@ -169,6 +154,9 @@ module _ (f : Format) (t : IntegerType) (front prefix body suffix ds : List ℕ)
 
   abbrev start : ℕ
   start = length front + length prefix
+
+  abbrev pre : Bool
+  pre = some_in prefix
 
   abbrev end : ℕ
   end = start + length body
@@ -215,41 +203,41 @@ module _ (f : Format) (t : IntegerType) (front prefix body suffix ds : List ℕ)
     stop_separator = stops.1;
   }
 
-  ends : end_of f r text start ≡ end
-  ends = region_end f r text start end region (runs_pass f r text body start end region refl at prefix (behind_prefix f body prefix (length front) r (short_sign f t front m may) marks) made.runs made.single)
+  ends : end_of f pre r text start ≡ end
+  ends = region_end f pre r text start end region (runs_pass f pre r text body start end region refl at prefix refl made.runs made.single)
 
-  digits_are : (numeral_in f text start r).digits ≡ ds
+  digits_are : (numeral_in f pre r text start).digits ≡ ds
   unfolding numeral_in digits_between
   digits_are =
-      let count : end_of f r text start - start ≡ length body = omega (arith, ends) in
+      let count : end_of f pre r text start - start ≡ length body = omega (arith, ends) in
       ap (λ n. map (λ place. unwrap_or (digit_at r text place) 0) (filter (λ place. is_some (digit_at r text place)) (range_with_len start n))) count
       ∙ values_at r text start body at ∙ bytes_values f r body ds (no_digit f r fit) made.bytes
 
-  places_count : length (places f r text start) ≡ length ds
+  places_count : length (places f pre r text start) ≡ length ds
   unfolding numeral_in
-  places_count = sym (length-map (places f r text start) (λ place. unwrap_or (digit_at r text place) 0)) ∙ ap length digits_are
+  places_count = sym (length-map (places f pre r text start) (λ place. unwrap_or (digit_at r text place) 0)) ∙ ap length digits_are
 
-  stop_is : (numeral_in f text start r).stop ≡ length text
+  stop_is : (numeral_in f pre r text start).stop ≡ length text
   unfolding numeral_in numeral_stop suffix_at
   stop_is = by_suffix suffix close at_end size
     where
       by_suffix : (sfx : List ℕ) → IsSuffix f ds sfx → slice_get text end ≡ slice_get sfx 0 → length text ≡ end + length sfx →
-          cond (nat_lt 0 (length (places f r text start)) && is_affix f.case_sensitive_base_suffix f.base_suffix (slice_get text (end_of f r text start))) (end_of f r text start + 1) (end_of f r text start) ≡ length text
+          cond (nat_lt 0 (length (places f pre r text start)) && is_affix f.case_sensitive_base_suffix f.base_suffix (slice_get text (end_of f pre r text start))) (end_of f pre r text start + 1) (end_of f pre r text start) ≡ length text
       by_suffix _ no_suffix e n =
-          let none' : is_affix f.case_sensitive_base_suffix f.base_suffix (slice_get text (end_of f r text start)) ≡ false = ap (is_affix f.case_sensitive_base_suffix f.base_suffix) (ap (slice_get text) ends ∙ e) ∙ no_affix f.case_sensitive_base_suffix f.base_suffix in
+          let none' : is_affix f.case_sensitive_base_suffix f.base_suffix (slice_get text (end_of f pre r text start)) ≡ false = ap (is_affix f.case_sensitive_base_suffix f.base_suffix) (ap (slice_get text) ends ∙ e) ∙ no_affix f.case_sensitive_base_suffix f.base_suffix in
           rw (none', and-false) (omega (arith, ends))
       by_suffix _ (a_suffix c some t) e n =
-          let here : is_affix f.case_sensitive_base_suffix f.base_suffix (slice_get text (end_of f r text start)) ≡ true = ap (is_affix f.case_sensitive_base_suffix f.base_suffix) (ap (slice_get text) ends ∙ e) ∙ t in
+          let here : is_affix f.case_sensitive_base_suffix f.base_suffix (slice_get text (end_of f pre r text start)) ≡ true = ap (is_affix f.case_sensitive_base_suffix f.base_suffix) (ap (slice_get text) ends ∙ e) ∙ t in
           let count = places_count in
-          let there : nat_lt 0 (length (places f r text start)) ≡ true = lt-ltb 0 (length (places f r text start)) (let n = some_length ds some in omega arith) in
+          let there : nat_lt 0 (length (places f pre r text start)) ≡ true = lt-ltb 0 (length (places f pre r text start)) (let n = some_length ds some in omega arith) in
           rw (here, there) (omega (arith, ends))
 
   head : HeadMade f t text prefix body m start r
   head = head_made f t body suffix ds valid close front prefix m r may made.bytes marks
 
-  prefixed : (head.marked && (start == length text)) ≡ false
-  prefixed = elim (true_or_false head.marked) [
-    | inl on ↦ (let some = some_length body (head.some on) in let apart : (start == length text) ≡ false = ne_eqb start (length text) (λ e. omega (arith, size)) in rw apart (and-false head.marked))
+  prefixed : (some_in prefix && (start == length text)) ≡ false
+  prefixed = elim (true_or_false (some_in prefix)) [
+    | inl on ↦ (let some = some_length body (head.some on) in let apart : (start == length text) ≡ false = ne_eqb start (length text) (λ e. omega (arith, size)) in rw apart (and-false (some_in prefix)))
     | inr off ↦ rw off refl
   ]
 
@@ -257,26 +245,26 @@ module _ (f : Format) (t : IntegerType) (front prefix body suffix ds : List ℕ)
   abbrev KeepsZeros : Type 0
   KeepsZeros = f.no_integer_leading_zeros ≡ true → prefix ≡ [] → octal_zero_at f body 0 ≡ false → (d : ℕ) (rest : List ℕ) → ds ≢ 0 ∷ d ∷ rest
 
-  zeros_kept : KeepsZeros → f.no_integer_leading_zeros ≡ true → head.marked ≡ false → (d : ℕ) (rest : List ℕ) → ds ≢ 0 ∷ d ∷ rest
+  zeros_kept : KeepsZeros → f.no_integer_leading_zeros ≡ true → (some_in prefix || head.octal) ≡ false → (d : ℕ) (rest : List ℕ) → ds ≢ 0 ∷ d ∷ rest
   zeros_kept zeros on off = let bare = head.unmarked off in zeros on bare.0 bare.1
 
   pub made_is_read : (v : ℤ) → (digits_required f ≡ true → ds ≢ []) → KeepsZeros → v ≡ with_sign m (positional_value r ds) → is_number t v ≡ true → complete f t text ≡ Ok v
   made_is_read v enough zeros worth fits =
-      let h : Head = record { is_minus = m; is_marked = head.marked; start = start; radix = r } in
+      let h : Head = record { is_negative = m; is_prefixed = some_in prefix; is_octal = head.octal; start = start; radix = r } in
       let least = fit.is_radix.low in
       complete_is f t text h head.head
-      ∙ answer_by f t text h (numeral_in f text start r) ds digits_are stop_is (radix_kept f text start r (omega arith)) prefixed (zeros_kept zeros) enough
-      (ap (λ k. is_number t (with_sign m (positional_value k ds))) (radix_is f text start r) ∙ ap (is_number t) (sym worth) ∙ fits)
-      ∙ ap (λ k. Ok (with_sign m (positional_value k ds))) (radix_is f text start r) ∙ ap (λ z. Ok z) (sym worth)
+      ∙ answer_by f t text h (numeral_in f pre r text start) ds digits_are stop_is (radix_kept f pre text start r (omega arith)) prefixed (zeros_kept zeros) enough
+      (ap (λ k. is_number t (with_sign m (positional_value k ds))) (radix_is f pre text start r) ∙ ap (is_number t) (sym worth) ∙ fits)
+      ∙ ap (λ k. Ok (with_sign m (positional_value k ds))) (radix_is f pre text start r) ∙ ap (λ z. Ok z) (sym worth)
 
   pub made_leaves : (v : ℤ) → KeepsZeros → v ≡ with_sign m (positional_value r ds) → is_number t v ≡ false → IsRangeFault (complete f t text)
   made_leaves v zeros worth leaves =
-      let h : Head = record { is_minus = m; is_marked = head.marked; start = start; radix = r } in
+      let h : Head = record { is_negative = m; is_prefixed = some_in prefix; is_octal = head.octal; start = start; radix = r } in
       subst IsRangeFault (sym (complete_is f t text h head.head))
-      (leaves_by f t text h (numeral_in f text start r) ds digits_are prefixed (zeros_kept zeros)
-      (ap (λ k. is_number t (with_sign m (positional_value k ds))) (radix_is f text start r) ∙ ap (is_number t) (sym worth) ∙ leaves))
+      (leaves_by f t text h (numeral_in f pre r text start) ds digits_are prefixed (zeros_kept zeros)
+      (ap (λ k. is_number t (with_sign m (positional_value k ds))) (radix_is f pre text start r) ∙ ap (is_number t) (sym worth) ∙ leaves))
 
 -- a text that the grammar makes is read
 pub integer_is_read : (f : Format) (t : IntegerType) (text : List ℕ) (v : ℤ) → IsNone (fault f) → IsInteger f t text v → complete f t text ≡ Ok v
 integer_is_read f t whole v valid i =
-    ap (complete f t) i.parts ∙ made_is_read f t i.sign i.prefix i.body i.suffix i.digits i.is_minus i.radix valid i.sign_may i.prefix_may i.body_may i.suffix_may v i.enough i.zeros i.worth i.fits
+    ap (complete f t) i.parts ∙ made_is_read f t i.sign i.prefix i.body i.suffix i.digits i.is_negative i.radix valid i.sign_may i.prefix_may i.body_may i.suffix_may v i.enough i.zeros i.worth i.fits

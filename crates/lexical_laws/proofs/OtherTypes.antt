@@ -19,10 +19,10 @@ other_sign f t u _ _ signed (a_minus on) = a_minus (signed on)
 pub types_agree : (f : Format) (t u : IntegerType) (text : List ℕ) (v : ℤ) → IsNone (fault f) → Implies t.is_signed u.is_signed → complete f t text ≡ Ok v → is_number u v ≡ true → complete f u text ≡ Ok v
 types_agree f t u text v valid signed read fits =
     let i = read_is_integer f t text v valid read in
-    ap (complete f u) i.parts ∙ made_is_read f u i.sign i.prefix i.body i.suffix i.digits i.is_minus i.radix valid (other_sign f t u i.sign i.is_minus signed i.sign_may) i.prefix_may i.body_may i.suffix_may v i.enough i.zeros i.worth fits
+    ap (complete f u) i.parts ∙ made_is_read f u i.sign i.prefix i.body i.suffix i.digits i.is_negative i.radix valid (other_sign f t u i.sign i.is_negative signed i.sign_may) i.prefix_may i.body_may i.suffix_may v i.enough i.zeros i.worth fits
 
 pub types_leave : (f : Format) (t u : IntegerType) (text : List ℕ) (v : ℤ) → IsNone (fault f) → Implies t.is_signed u.is_signed → complete f t text ≡ Ok v → is_number u v ≡ false → IsRangeFault (complete f u text)
 types_leave f t u text v valid signed read leaves =
     let i = read_is_integer f t text v valid read in
     subst (λ x. IsRangeFault (complete f u x)) (sym i.parts)
-    (made_leaves f u i.sign i.prefix i.body i.suffix i.digits i.is_minus i.radix valid (other_sign f t u i.sign i.is_minus signed i.sign_may) i.prefix_may i.body_may i.suffix_may v i.zeros i.worth leaves)
+    (made_leaves f u i.sign i.prefix i.body i.suffix i.digits i.is_negative i.radix valid (other_sign f t u i.sign i.is_negative signed i.sign_may) i.prefix_may i.body_may i.suffix_may v i.zeros i.worth leaves)

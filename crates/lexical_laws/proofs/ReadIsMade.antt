@@ -2,7 +2,6 @@
 use Rattle.std.proofs.Common.{◌≡◌, ℕ, ◌+◌, ◌-◌, ◌≤◌, Bool, true, false, not, ◌&&◌, cond, List, [], ◌∷◌, ◌++◌, length, map, filter, take, drop, Option, Some, None, IsNone, is_some, Ok, Err, Result, refl, sym, ap, subst, ◌∙◌, arith, ◌⊎◌, inl, inr, length-append, length-take, length-drop}
 use Rattle.std.proofs.Math.IntN.{ℤ}
 use Rattle.std.proofs.lemmas.Bool.{cases_lt, eq-eqb, false≢true, ltb-false, ltb-true}
-use Rattle.std.proofs.lemmas.Bool.Decides.{nat_tests}
 use Rattle.std.proofs.lemmas.List.{length-map, take-append-drop, take_all}
 use Rattle.std.proofs.lemmas.Option.{slice_get_past, slice_get_within}
 use Rattle.std.specs.List.{range_with_len}
@@ -15,9 +14,9 @@ use Rattle.lexical_util.specs.Number.{IntegerType, is_number}
 use Rattle.lexical_util.specs.Validity.{fault}
 use Rattle.lexical_parse_integer.specs.Affixes.{is_affix, numeral_stop, octal_zero_at, suffix_at}
 use Rattle.lexical_parse_integer.specs.Grammar.{complete, digits_required, fault_if, first_fault_or, lacks_digits, range_fault}
-use Rattle.lexical_parse_integer.specs.Head.{Head, head_of}
-use Rattle.lexical_parse_integer.specs.Numeral.{Numeral, digit_count, numeral_in, numeral_value}
-use Rattle.lexical_parse_integer.specs.Runs.{digit_at, digits_between, end_of, is_behind_prefix, is_in_numeral, places, separator_at}
+use Rattle.lexical_parse_integer.specs.Head.{Head, head_of, chooses_radix}
+use Rattle.lexical_parse_integer.specs.Numeral.{Numeral, digit_count, numeral_in, numeral_value, numeral_behind}
+use Rattle.lexical_parse_integer.specs.Runs.{digit_at, digits_between, end_of, is_in_numeral, places, separator_at}
 use Rattle.lexical_parse_integer.specs.Value.{positional_value, with_sign}
 use Rattle.lexical_parse_integer.proofs.ForCallers.{IsFit, IsStop, IsStop-end_of, complete_by, fits_marked, fits_told, zero_is_number}
 use Rattle.lexical_laws.specs.Integer.{IsBody, IsInteger, IsPrefix, IsSuffix}
@@ -47,12 +46,12 @@ no_fault false e h = refl
 
 -- What it means that a numeral has no fault.
 record IsFaultless (f : Format) (t : IntegerType) (text : List ℕ) (h : Head) (x : Numeral) (v : ℤ) : Type 0 where
-  prefix : (h.is_marked && (h.start == length text)) ≡ false
-  zeros : (((f.no_integer_leading_zeros && not h.is_marked) && nat_le 2 (digit_count x)) && (slice_index x.digits 0 == 0)) ≡ false
-  range : range_fault t h.is_minus x ≡ None
+  prefix : (h.is_prefixed && (h.start == length text)) ≡ false
+  zeros : (((f.no_integer_leading_zeros && not (chooses_radix h)) && nat_le 2 (digit_count x)) && (slice_index x.digits 0 == 0)) ≡ false
+  range : range_fault t h.is_negative x ≡ None
   over : length text ≤ x.stop
   enough : lacks_digits f x ≡ false
-  value : numeral_value h.is_minus x ≡ v
+  value : numeral_value h.is_negative x ≡ v
 
 faultless : (f : Format) (t : IntegerType) (text : List ℕ) (h : Head) (x : Numeral) (v : ℤ) → complete_by f t text h x ≡ Ok v → IsFaultless f t text h x v
 faultless f t text h x v read =
@@ -66,16 +65,16 @@ faultless f t text h x v read =
       value = w.5;
     }
 
-head_fit : (f : Format) (prefix more : List ℕ) (h : Head) → IsNone (fault f) → MarksHead f prefix more h → IsFit f h.radix
+pub head_fit : (f : Format) (prefix more : List ℕ) (h : Head) → IsNone (fault f) → MarksHead f prefix more h → IsFit f h.radix
 head_fit f prefix more h valid (inl w) = subst (IsFit f) (sym w.1) (bare_fit f more valid)
 head_fit f prefix more h valid (inr w) = fits_marked f (Some w.0) h.radix valid w.2
 
-behind_head : (f : Format) (prefix more : List ℕ) (h : Head) (n : ℕ) → n ≤ 1 → MarksHead f prefix more h → is_behind_prefix (n + length prefix) ≡ some_in prefix
-behind_head f prefix more h n low (inl w) = let is = w.0 in rw is (grind (arith, nat_tests))
-behind_head f prefix more h n low (inr w) = let is = w.1 in rw is (grind (arith, nat_tests))
+behind_head : (f : Format) (prefix more : List ℕ) (h : Head) → MarksHead f prefix more h → h.is_prefixed ≡ some_in prefix
+behind_head f prefix more h (inl w) = w.3 ∙ ap some_in (sym w.0)
+behind_head f prefix more h (inr w) = w.3 ∙ ap some_in (sym w.1)
 
 -- the byte of a suffix
-suffix_here : (f : Format) (text : List ℕ) (k : ℕ) → suffix_at f text k ≡ true → (c : ℕ) × (slice_get text k ≡ Some c) × (is_affix f.case_sensitive_base_suffix f.base_suffix (Some c) ≡ true)
+pub suffix_here : (f : Format) (text : List ℕ) (k : ℕ) → suffix_at f text k ≡ true → (c : ℕ) × (slice_get text k ≡ Some c) × (is_affix f.case_sensitive_base_suffix f.base_suffix (Some c) ≡ true)
 unfolding suffix_at
 suffix_here f text k t = by_byte (slice_get text k) refl t
   where
@@ -96,15 +95,18 @@ head_fault : (f : Format) (t : IntegerType) (text : List ℕ) (e : Error) → he
 unfolding complete
 head_fault f t text e is = rw is refl
 
-module _ (f : Format) (t : IntegerType) (text : List ℕ) (h : Head) (v : ℤ) (valid : IsNone (fault f)) (w : HeadSplit f t text h) (ok : IsFaultless f t text h (numeral_in f text h.start h.radix) v) where
+module _ (f : Format) (t : IntegerType) (text : List ℕ) (h : Head) (v : ℤ) (valid : IsNone (fault f)) (w : HeadSplit f t text h) (ok : IsFaultless f t text h (numeral_behind f text h) v) where
   abbrev r : ℕ
   r = h.radix
 
   abbrev start : ℕ
   start = h.start
 
+  abbrev pre : Bool
+  pre = h.is_prefixed
+
   abbrev end : ℕ
-  end = end_of f r text start
+  end = end_of f pre r text start
 
   abbrev body : List ℕ
   body = take (end - start) w.more
@@ -118,8 +120,8 @@ module _ (f : Format) (t : IntegerType) (text : List ℕ) (h : Head) (v : ℤ) (
   size : length text ≡ start + length w.more
   size = omega (arith, ap length w.parts, length-append w.front (w.prefix ++ w.more), length-append w.prefix w.more, w.start)
 
-  stop : IsStop (is_in_numeral f r text start) start (length text) end
-  stop = IsStop-end_of f r text start (omega (arith, size))
+  stop : IsStop (is_in_numeral f pre r text start) start (length text) end
+  stop = IsStop-end_of f pre r text start (omega (arith, size))
 
   body_size : length body ≡ end - start
   body_size = omega (arith, length-take (end - start) w.more, size, stop.low, stop.high)
@@ -132,7 +134,7 @@ module _ (f : Format) (t : IntegerType) (text : List ℕ) (h : Head) (v : ℤ) (
   at : StandsAt text start body
   at k l = at_more k ∙ ap (λ x. slice_get x k) (sym (take-append-drop (end - start) w.more)) ∙ get_within body suffix k l
 
-  digits_are : (numeral_in f text start r).digits ≡ values r body
+  digits_are : (numeral_in f pre r text start).digits ≡ values r body
   unfolding numeral_in digits_between
   digits_are =
       ap (λ n. map (λ place. unwrap_or (digit_at r text place) 0) (filter (λ place. is_some (digit_at r text place)) (range_with_len start n))) (sym body_size)
@@ -141,14 +143,14 @@ module _ (f : Format) (t : IntegerType) (text : List ℕ) (h : Head) (v : ℤ) (
   -- how the text ends
   stops : (end ≡ length text) ⊎ ((end + 1 ≡ length text) × (1 ≤ length (values r body)) × (suffix_at f text end ≡ true))
   unfolding numeral_in numeral_stop
-  stops = by_tests (nat_lt 0 (length (places f r text start))) (suffix_at f text end) refl refl ok.over
+  stops = by_tests (nat_lt 0 (length (places f pre r text start))) (suffix_at f text end) refl refl ok.over
     where
-      by_tests : (a b : Bool) → nat_lt 0 (length (places f r text start)) ≡ a → suffix_at f text end ≡ b → length text ≤ cond (a && b) (end + 1) end → (end ≡ length text) ⊎ ((end + 1 ≡ length text) × (1 ≤ length (values r body)) × (suffix_at f text end ≡ true))
+      by_tests : (a b : Bool) → nat_lt 0 (length (places f pre r text start)) ≡ a → suffix_at f text end ≡ b → length text ≤ cond (a && b) (end + 1) end → (end ≡ length text) ⊎ ((end + 1 ≡ length text) × (1 ≤ length (values r body)) × (suffix_at f text end ≡ true))
       by_tests true true a b over =
           let here = suffix_here f text end b in
           let inside = slice_get_within text end here.0 here.1 in
-          let some = ltb-true 0 (length (places f r text start)) a in
-          let count = length-map (places f r text start) (λ place. unwrap_or (digit_at r text place) 0) in
+          let some = ltb-true 0 (length (places f pre r text start)) a in
+          let count = length-map (places f pre r text start) (λ place. unwrap_or (digit_at r text place) 0) in
           let same = ap length digits_are in
           inr (omega arith, omega arith, b)
       by_tests true false a b over = inl (omega (arith, stop.high))
@@ -177,7 +179,7 @@ module _ (f : Format) (t : IntegerType) (text : List ℕ) (h : Head) (v : ℤ) (
   region = record {
     low = stop.low;
     high = stop.high;
-    each = λ k low high s. numeral_each f r text start k (omega (arith, size)) low high s;
+    each = λ k low high s. numeral_each f pre r text start k (omega (arith, size)) low high s;
     none = separator_no_digit f r text fit;
     stop_digit = ends.0;
     stop_separator = ends.1;
@@ -189,13 +191,13 @@ module _ (f : Format) (t : IntegerType) (text : List ℕ) (h : Head) (v : ℤ) (
       let there : slice_get text (start + k) ≡ Some b = at k inside ∙ here in
       let apart : separator_at f text (start + k) ≡ false = separator_at-some f text (start + k) b there ∙ other in
       let n = body_size in
-      ap is_some (sym (digit_at-some r text (start + k) b there)) ∙ numeral_each f r text start (start + k) (omega (arith, size)) (omega arith) (omega arith) apart
+      ap is_some (sym (digit_at-some r text (start + k) b there)) ∙ numeral_each f pre r text start (start + k) (omega (arith, size)) (omega arith) (omega arith) apart
 
   body_may : IsBody f w.prefix r body (values r body)
   body_may =
-      let passes = numeral_runs f r text start (omega (arith, size)) (separator_no_digit f r text fit) in
-      let behind : is_behind_prefix start ≡ some_in w.prefix = ap is_behind_prefix w.start ∙ behind_head f w.prefix w.more h (length w.front) w.short w.marks in
-      let each_run = runs_may f r text body start end region (omega (arith, body_size, stop.low)) at w.prefix behind passes in
+      let passes = numeral_runs f pre r text start (omega (arith, size)) (separator_no_digit f r text fit) in
+      let behind : pre ≡ some_in w.prefix = behind_head f w.prefix w.more h w.marks in
+      let each_run = runs_may f pre r text body start end region (omega (arith, body_size, stop.low)) at w.prefix behind passes in
       record {
         bytes = fitting_bytes f r body (no_digit f r fit) each;
         runs = λ before behind count run. (each_run before behind count run).0;
@@ -205,7 +207,7 @@ module _ (f : Format) (t : IntegerType) (text : List ℕ) (h : Head) (v : ℤ) (
   same_octal : octal_zero_at f w.more 0 ≡ octal_zero_at f body 0
   same_octal = ap (λ x. octal_zero_at f x 0) (sym (take-append-drop (end - start) w.more)) ∙ octal_of_body f r body (values r body) suffix body_may.bytes suffix_may
 
-  some_body : h.is_marked ≡ true → body ≢ []
+  some_body : h.is_prefixed ≡ true → body ≢ []
   some_body on is = elim stops [
     | inl e ↦
         let n = ap length is in
@@ -224,12 +226,12 @@ module _ (f : Format) (t : IntegerType) (text : List ℕ) (h : Head) (v : ℤ) (
 
   zeros : f.no_integer_leading_zeros ≡ true → w.prefix ≡ [] → octal_zero_at f body 0 ≡ false → (d : ℕ) (rest : List ℕ) → values r body ≢ 0 ∷ d ∷ rest
   zeros on none octal d rest is =
-      let digits : (numeral_in f text start r).digits ≡ 0 ∷ d ∷ rest = digits_are ∙ is in
-      let off : h.is_marked ≡ false = elim w.marks [
-        | inl m ↦ m.2 ∙ same_octal ∙ octal
+      let digits : (numeral_in f pre r text start).digits ≡ 0 ∷ d ∷ rest = digits_are ∙ is in
+      let off : chooses_radix h ≡ false = elim w.marks [
+        | inl m ↦ (let bare = m.3 in let plain = m.2 ∙ same_octal ∙ octal in rw (bare, plain) refl)
         | inr m ↦ (let both = sym none ∙ m.1 in cc)
       ] in
-      zeros_told f.no_integer_leading_zeros h.is_marked d rest (sym (ap (λ y. ((f.no_integer_leading_zeros && not h.is_marked) && nat_le 2 (length y)) && (slice_index y 0 == 0)) digits) ∙ ok.zeros) on off
+      zeros_told f.no_integer_leading_zeros (chooses_radix h) d rest (sym (ap (λ y. ((f.no_integer_leading_zeros && not (chooses_radix h)) && nat_le 2 (length y)) && (slice_index y 0 == 0)) digits) ∙ ok.zeros) on off
 
   enough : digits_required f ≡ true → values r body ≢ []
   enough on is =
@@ -237,17 +239,17 @@ module _ (f : Format) (t : IntegerType) (text : List ℕ) (h : Head) (v : ℤ) (
       let test = rw (on, is) at lacks in
       false≢true (sym test)
 
-  worth : numeral_value h.is_minus (numeral_in f text start r) ≡ with_sign h.is_minus (positional_value r (values r body))
+  worth : numeral_value h.is_negative (numeral_in f pre r text start) ≡ with_sign h.is_negative (positional_value r (values r body))
   worth =
-      ap (λ y. with_sign h.is_minus (positional_value (numeral_in f text start r).radix y)) (take_all (length (numeral_in f text start r).digits) (numeral_in f text start r).digits (omega arith) ∙ digits_are)
-      ∙ ap (λ k. with_sign h.is_minus (positional_value k (values r body))) (radix_is f text start r)
+      ap (λ y. with_sign h.is_negative (positional_value (numeral_in f pre r text start).radix y)) (take_all (length (numeral_in f pre r text start).digits) (numeral_in f pre r text start).digits (omega arith) ∙ digits_are)
+      ∙ ap (λ k. with_sign h.is_negative (positional_value k (values r body))) (radix_is f pre text start r)
 
   fits : is_number t v ≡ true
-  fits = elim (cases_lt 0 (digit_count (numeral_in f text start r))) [
-    | inl lt ↦ ap (is_number t) (sym ok.value) ∙ fits_told t h.is_minus (numeral_in f text start r) lt ok.range
+  fits = elim (cases_lt 0 (digit_count (numeral_in f pre r text start))) [
+    | inl lt ↦ ap (is_number t) (sym ok.value) ∙ fits_told t h.is_negative (numeral_in f pre r text start) lt ok.range
     | inr ge ↦
         let none : values r body ≡ [] = no_byte (values r body) (omega (arith, ap length digits_are)) in
-        ap (is_number t) (sym ok.value ∙ worth ∙ ap (λ y. with_sign h.is_minus (positional_value r y)) none) ∙ zero_is_number t h.is_minus
+        ap (is_number t) (sym ok.value ∙ worth ∙ ap (λ y. with_sign h.is_negative (positional_value r y)) none) ∙ zero_is_number t h.is_negative
   ]
 
   is_made : IsInteger f t text v
@@ -256,7 +258,7 @@ module _ (f : Format) (t : IntegerType) (text : List ℕ) (h : Head) (v : ℤ) (
     prefix = w.prefix;
     body = body;
     suffix = suffix;
-    is_minus = h.is_minus;
+    is_negative = h.is_negative;
     radix = r;
     digits = values r body;
     parts = w.parts ∙ ap (λ x. w.front ++ (w.prefix ++ x)) (sym (take-append-drop (end - start) w.more));
@@ -276,4 +278,4 @@ read_is_integer f t whole v valid read = by_head (head_of f t whole) refl
   where
     by_head : (o : Result Head Error) → head_of f t whole ≡ o → IsInteger f t whole v
     by_head (Err e) is = let faulty = head_fault f t whole e is in absurd (cc)
-    by_head (Ok h) is = is_made f t whole h v valid (head_split f t whole h is) (faultless f t whole h (numeral_in f whole h.start h.radix) v (sym (complete_is f t whole h is) ∙ read))
+    by_head (Ok h) is = is_made f t whole h v valid (head_split f t whole h is) (faultless f t whole h (numeral_behind f whole h) v (sym (complete_is f t whole h is) ∙ read))

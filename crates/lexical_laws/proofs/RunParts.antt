@@ -7,7 +7,7 @@ use Rattle.std.proofs.lemmas.Bool.Decides.{nat_tests}
 use Rattle.std.proofs.lemmas.List.{length-replicate, take-append-drop}
 use Rattle.std.specs.Prelude.{◌==◌, nat_lt, slice_get, replicate}
 use Rattle.lexical_util.specs.Format.{Format}
-use Rattle.lexical_parse_integer.specs.Runs.{flag_for, is_behind_prefix, leading_in_force, run_passes, separator_at}
+use Rattle.lexical_parse_integer.specs.Runs.{flag_for, leading_in_force, run_passes, separator_at}
 use Rattle.lexical_parse_integer.proofs.ForCallers.{true_or_false}
 use Rattle.lexical_laws.specs.Integer.{HasRun, may_lead, may_part}
 use Rattle.lexical_laws.proofs.Bodies.{StandsAt}
@@ -21,16 +21,16 @@ abbrev pub some_in : List ℕ → Bool
 some_in [] = false
 some_in (b ∷ bs) = true
 
-leading_flag : (f : Format) (start : ℕ) (prefix : List ℕ) → is_behind_prefix start ≡ some_in prefix → leading_in_force f start ≡ may_lead f prefix
-leading_flag f start [] e = rw e (ap (λ b. f.integer_leading_digit_separator || b) (and-false f.integer_prefix_digit_separator) ∙ or-false f.integer_leading_digit_separator)
-leading_flag f start (b ∷ prefix) e = rw e (ap (λ b. f.integer_leading_digit_separator || b) (and-true f.integer_prefix_digit_separator))
+leading_flag : (f : Format) (pre : Bool) (prefix : List ℕ) → pre ≡ some_in prefix → leading_in_force f pre ≡ may_lead f prefix
+leading_flag f pre [] e = rw e (ap (λ b. f.integer_leading_digit_separator || b) (and-false f.integer_prefix_digit_separator) ∙ or-false f.integer_leading_digit_separator)
+leading_flag f pre (b ∷ prefix) e = rw e (ap (λ b. f.integer_leading_digit_separator || b) (and-true f.integer_prefix_digit_separator))
 
-flag_of_parts : (f : Format) (start : ℕ) (prefix before behind : List ℕ) → is_behind_prefix start ≡ some_in prefix → flag_for f start (some_in before) (some_in behind) ≡ may_part f prefix before behind
+flag_of_parts : (f : Format) (pre : Bool) (prefix before behind : List ℕ) → pre ≡ some_in prefix → flag_for f pre (some_in before) (some_in behind) ≡ may_part f prefix before behind
 unfolding flag_for
-flag_of_parts f start prefix [] [] e = ap (λ b. b || f.integer_trailing_digit_separator) (leading_flag f start prefix e)
-flag_of_parts f start prefix [] (c ∷ behind) e = leading_flag f start prefix e
-flag_of_parts f start prefix (b ∷ before) [] e = refl
-flag_of_parts f start prefix (b ∷ before) (c ∷ behind) e = refl
+flag_of_parts f pre prefix [] [] e = ap (λ b. b || f.integer_trailing_digit_separator) (leading_flag f pre prefix e)
+flag_of_parts f pre prefix [] (c ∷ behind) e = leading_flag f pre prefix e
+flag_of_parts f pre prefix (b ∷ before) [] e = refl
+flag_of_parts f pre prefix (b ∷ before) (c ∷ behind) e = refl
 
 some_between : (from to : ℕ) (part : List ℕ) → from + length part ≡ to → nat_lt from to ≡ some_in part
 some_between from to [] e = le-ltb from to (omega arith)
@@ -53,7 +53,7 @@ part_byte text start body before rest i k at parts place within =
     let here = at (length before + i) (omega arith) in
     ap (slice_get text) (sym e) ∙ here ∙ ap (λ xs. slice_get xs (length before + i)) parts ∙ get_behind before rest i
 
-module _ (f : Format) (r : ℕ) (text body : List ℕ) (start e : ℕ) (g : IsRegion f r text start e) (size : start + length body ≡ e) (at : StandsAt text start body) where
+module _ (f : Format) (pre : Bool) (r : ℕ) (text body : List ℕ) (start e : ℕ) (g : IsRegion f r text start e) (size : start + length body ≡ e) (at : StandsAt text start body) where
   -- a run between two parts is one of the text
   pub run_of_parts : (before behind : List ℕ) (count : ℕ) → HasRun f body before count behind → IsRun f text start (start + length before) (start + length before + count)
   run_of_parts before behind count h = record {
@@ -144,21 +144,21 @@ module _ (f : Format) (r : ℕ) (text body : List ℕ) (start e : ℕ) (g : IsRe
             false≢true (sym run.behind ∙ separator_byte f text q s first.1 here);
       }
 
-  module _ (prefix : List ℕ) (behind_prefix : is_behind_prefix start ≡ some_in prefix) where
+  module _ (prefix : List ℕ) (behind_prefix : pre ≡ some_in prefix) where
     -- what a run needs, by the parts beside it
     run_passes_is : (before behind : List ℕ) (count : ℕ) → HasRun f body before count behind → (p q : ℕ) → start + length before ≡ p → p + count ≡ q → IsRun f text start p q →
-        run_passes f r text start p q ≡ ((f.integer_consecutive_digit_separator || (q == p + 1)) && may_part f prefix before behind)
+        run_passes f pre r text start p q ≡ ((f.integer_consecutive_digit_separator || (q == p + 1)) && may_part f prefix before behind)
     run_passes_is before behind count h p q from to run =
         let within = length_of_parts f body before behind count h in
         let left = some_between start p before from in
         let right = some_between q e behind (omega arith) in
-        passes_by_flag f r text start e p q g run (omega arith)
-        ∙ ap (λ b. (f.integer_consecutive_digit_separator || (q == p + 1)) && flag_for f start b (nat_lt q e)) left
-        ∙ ap (λ b. (f.integer_consecutive_digit_separator || (q == p + 1)) && flag_for f start (some_in before) b) right
-        ∙ ap (λ b. (f.integer_consecutive_digit_separator || (q == p + 1)) && b) (flag_of_parts f start prefix before behind behind_prefix)
+        passes_by_flag f pre r text start e p q g run (omega arith)
+        ∙ ap (λ b. (f.integer_consecutive_digit_separator || (q == p + 1)) && flag_for f pre b (nat_lt q e)) left
+        ∙ ap (λ b. (f.integer_consecutive_digit_separator || (q == p + 1)) && flag_for f pre (some_in before) b) right
+        ∙ ap (λ b. (f.integer_consecutive_digit_separator || (q == p + 1)) && b) (flag_of_parts f pre prefix before behind behind_prefix)
 
     -- where all runs pass, each may stand
-    pub runs_may : RunsPass f r text start e → (before behind : List ℕ) (count : ℕ) → HasRun f body before count behind →
+    pub runs_may : RunsPass f pre r text start e → (before behind : List ℕ) (count : ℕ) → HasRun f body before count behind →
         (may_part f prefix before behind ≡ true) × (f.integer_consecutive_digit_separator ≡ false → count ≡ 1)
     runs_may pass before behind count h =
         let within = length_of_parts f body before behind count h in
@@ -170,7 +170,7 @@ module _ (f : Format) (r : ℕ) (text body : List ℕ) (start e : ℕ) (g : IsRe
 
     -- where each may stand, all runs pass
     pub runs_pass : ((before behind : List ℕ) (count : ℕ) → HasRun f body before count behind → may_part f prefix before behind ≡ true) →
-        ((before behind : List ℕ) (count : ℕ) → HasRun f body before count behind → f.integer_consecutive_digit_separator ≡ false → count ≡ 1) → RunsPass f r text start e
+        ((before behind : List ℕ) (count : ℕ) → HasRun f body before count behind → f.integer_consecutive_digit_separator ≡ false → count ≡ 1) → RunsPass f pre r text start e
     runs_pass may single p q run inside =
         let n : ℕ = p - start in
         let before : List ℕ = take n body in

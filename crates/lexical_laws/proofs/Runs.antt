@@ -42,8 +42,8 @@ run_within f text start p q run =
     omega (arith, run.some)
 
 -- each of its places is in it
-pub run_at : (f : Format) (r : ℕ) (text : List ℕ) (start p q k : ℕ) → IsRun f text start p q → p ≤ k → k < q → is_in_passing_run f r text start k ≡ run_passes f r text start p q
-run_at f r text start p q k run low high =
+pub run_at : (f : Format) (pre : Bool) (r : ℕ) (text : List ℕ) (start p q k : ℕ) → IsRun f text start p q → p ≤ k → k < q → is_in_passing_run f pre r text start k ≡ run_passes f pre r text start p q
+run_at f pre r text start p q k run low high =
     let begin : run_begin f text start k ≡ p = begin_of_is (separator_at f text) start p k run.low low (λ j l h. run.holds j l (omega arith)) run.before in
     let within = run_within f text start p q run in
     let stop : run_stop f text k ≡ q = stop_of_is (separator_at f text) k (length text) q (omega arith) (record { low = omega arith; high = within; holds = λ j l h. run.holds j (omega arith) h; fails = λ _. run.behind }) in
@@ -87,17 +87,17 @@ pub record IsRegion (f : Format) (r : ℕ) (text : List ℕ) (start e : ℕ) : T
   pub stop_separator : separator_at f text e ≡ false
 
 -- each run of the region passes
-abbrev pub RunsPass : Format → ℕ → List ℕ → ℕ → ℕ → Type 0
-RunsPass f r text start e = (p q : ℕ) → IsRun f text start p q → q ≤ e → run_passes f r text start p q ≡ true
+abbrev pub RunsPass : Format → Bool → ℕ → List ℕ → ℕ → ℕ → Type 0
+RunsPass f pre r text start e = (p q : ℕ) → IsRun f text start p q → q ≤ e → run_passes f pre r text start p q ≡ true
 
 run_ends : (f : Format) (text : List ℕ) (start e p q : ℕ) → IsRun f text start p q → separator_at f text e ≡ false → p ≤ e → q ≤ e
 run_ends f text start e p q run stop low = elim (cases_lt e q) [ inl lt ↦ absurd (false≢true (sym stop ∙ run.holds e low lt)) | inr ge ↦ ge ]
 
 -- a run passes by the flag for what stands beside it
-pub passes_by_flag : (f : Format) (r : ℕ) (text : List ℕ) (start e p q : ℕ) → IsRegion f r text start e → IsRun f text start p q → q ≤ e →
-    run_passes f r text start p q ≡ ((f.integer_consecutive_digit_separator || (q == p + 1)) && flag_for f start (nat_lt start p) (nat_lt q e))
+pub passes_by_flag : (f : Format) (pre : Bool) (r : ℕ) (text : List ℕ) (start e p q : ℕ) → IsRegion f r text start e → IsRun f text start p q → q ≤ e →
+    run_passes f pre r text start p q ≡ ((f.integer_consecutive_digit_separator || (q == p + 1)) && flag_for f pre (nat_lt start p) (nat_lt q e))
 unfolding run_passes
-passes_by_flag f r text start e p q g run inside = rw (before, behind) refl
+passes_by_flag f pre r text start e p q g run inside = rw (before, behind) refl
   where
     before : (nat_lt start p && is_some (digit_at r text (p - 1))) ≡ nat_lt start p
     before = elim (cases_lt start p) [
@@ -111,42 +111,42 @@ passes_by_flag f r text start e p q g run inside = rw (before, behind) refl
       | inr ge ↦ (let e' : q ≡ e = omega arith in ap (λ k. is_some (digit_at r text k)) e' ∙ ap is_some g.stop_digit ∙ sym (le-ltb q e ge))
     ]
 
-belongs_some : (f : Format) (r : ℕ) (text : List ℕ) (start k : ℕ) → is_some (digit_at r text k) ≡ true → is_in_numeral f r text start k ≡ true
+belongs_some : (f : Format) (pre : Bool) (r : ℕ) (text : List ℕ) (start k : ℕ) → is_some (digit_at r text k) ≡ true → is_in_numeral f pre r text start k ≡ true
 unfolding is_in_numeral
-belongs_some f r text start k e = rw e refl
+belongs_some f pre r text start k e = rw e refl
 
 -- where all runs pass, the numeral's end is the region's
-pub region_end : (f : Format) (r : ℕ) (text : List ℕ) (start e : ℕ) → IsRegion f r text start e → RunsPass f r text start e → end_of f r text start ≡ e
-region_end f r text start e g pass =
-    IsStop-unique (is_in_numeral f r text start) start (length text) (end_of f r text start) e (IsStop-end_of f r text start (omega (arith, g.low, g.high))) (record {
+pub region_end : (f : Format) (pre : Bool) (r : ℕ) (text : List ℕ) (start e : ℕ) → IsRegion f r text start e → RunsPass f pre r text start e → end_of f pre r text start ≡ e
+region_end f pre r text start e g pass =
+    IsStop-unique (is_in_numeral f pre r text start) start (length text) (end_of f pre r text start) e (IsStop-end_of f pre r text start (omega (arith, g.low, g.high))) (record {
       low = g.low;
       high = g.high;
       holds = λ k low high. elim (true_or_false (separator_at f text k)) [
         | inl t ↦
             let run = run_of f text start k low t in
             let ends = run_ends f text start e run.0 run.1 run.2 g.stop_separator (omega (arith, run.3)) in
-            belongs_separator f r text start k t (g.none k t) (run_at f r text start run.0 run.1 k run.2 run.3 run.4 ∙ pass run.0 run.1 run.2 ends)
-        | inr t ↦ belongs_some f r text start k (g.each k low high t)
+            belongs_separator f pre r text start k t (g.none k t) (run_at f pre r text start run.0 run.1 k run.2 run.3 run.4 ∙ pass run.0 run.1 run.2 ends)
+        | inr t ↦ belongs_some f pre r text start k (g.each k low high t)
       ];
-      fails = λ _. belongs_other f r text start e g.stop_separator g.stop_digit;
+      fails = λ _. belongs_other f pre r text start e g.stop_separator g.stop_digit;
     })
 
-other_is_digit : (f : Format) (r : ℕ) (text : List ℕ) (start k : ℕ) → is_in_numeral f r text start k ≡ true → separator_at f text k ≡ false → is_some (digit_at r text k) ≡ true
+other_is_digit : (f : Format) (pre : Bool) (r : ℕ) (text : List ℕ) (start k : ℕ) → is_in_numeral f pre r text start k ≡ true → separator_at f text k ≡ false → is_some (digit_at r text k) ≡ true
 unfolding is_in_numeral
-other_is_digit f r text start k here s = let told = rw s at here in sym (or-false (is_some (digit_at r text k))) ∙ told
+other_is_digit f pre r text start k here s = let told = rw s at here in sym (or-false (is_some (digit_at r text k))) ∙ told
 
-run_in_numeral : (f : Format) (r : ℕ) (text : List ℕ) (start k : ℕ) → is_in_numeral f r text start k ≡ true → digit_at r text k ≡ None → separator_at f text k ≡ true → is_in_passing_run f r text start k ≡ true
+run_in_numeral : (f : Format) (pre : Bool) (r : ℕ) (text : List ℕ) (start k : ℕ) → is_in_numeral f pre r text start k ≡ true → digit_at r text k ≡ None → separator_at f text k ≡ true → is_in_passing_run f pre r text start k ≡ true
 unfolding is_in_numeral
-run_in_numeral f r text start k here none s = rw (none, s) at here
+run_in_numeral f pre r text start k here none s = rw (none, s) at here
 
 -- where the numeral ends, each place before holds a digit or a separator
-pub numeral_each : (f : Format) (r : ℕ) (text : List ℕ) (start k : ℕ) → start ≤ length text → start ≤ k → k < end_of f r text start → separator_at f text k ≡ false → is_some (digit_at r text k) ≡ true
-numeral_each f r text start k within low high s =
-    other_is_digit f r text start k ((IsStop-end_of f r text start within).holds k low high) s
+pub numeral_each : (f : Format) (pre : Bool) (r : ℕ) (text : List ℕ) (start k : ℕ) → start ≤ length text → start ≤ k → k < end_of f pre r text start → separator_at f text k ≡ false → is_some (digit_at r text k) ≡ true
+numeral_each f pre r text start k within low high s =
+    other_is_digit f pre r text start k ((IsStop-end_of f pre r text start within).holds k low high) s
 
 -- and each run passes
-pub numeral_runs : (f : Format) (r : ℕ) (text : List ℕ) (start : ℕ) → start ≤ length text → ((k : ℕ) → separator_at f text k ≡ true → digit_at r text k ≡ None) → RunsPass f r text start (end_of f r text start)
-numeral_runs f r text start within none p q run ends =
+pub numeral_runs : (f : Format) (pre : Bool) (r : ℕ) (text : List ℕ) (start : ℕ) → start ≤ length text → ((k : ℕ) → separator_at f text k ≡ true → digit_at r text k ≡ None) → RunsPass f pre r text start (end_of f pre r text start)
+numeral_runs f pre r text start within none p q run ends =
     let first = run.holds p (omega arith) run.some in
-    let here = (IsStop-end_of f r text start within).holds p run.low (omega (arith, run.some)) in
-    sym (run_at f r text start p q p run (omega arith) run.some) ∙ run_in_numeral f r text start p here (none p first) first
+    let here = (IsStop-end_of f pre r text start within).holds p run.low (omega (arith, run.some)) in
+    sym (run_at f pre r text start p q p run (omega arith) run.some) ∙ run_in_numeral f pre r text start p here (none p first) first

@@ -10,7 +10,7 @@ use Rattle.lexical_util.specs.Number.{IntegerType, is_number}
 use Rattle.lexical_util.specs.Validity.{fault}
 use Rattle.lexical_parse_integer.specs.Affixes.{bare_radix, is_affix, octal_zero_at}
 use Rattle.lexical_parse_integer.specs.Grammar.{digits_required, first_outside, lacks_digits, range_error, range_fault}
-use Rattle.lexical_parse_integer.specs.Head.{Head}
+use Rattle.lexical_parse_integer.specs.Head.{Head, chooses_radix}
 use Rattle.lexical_parse_integer.specs.Numeral.{Numeral, digit_count, numeral_value}
 use Rattle.lexical_parse_integer.specs.Runs.{are_same, digit_at, separator_at}
 use Rattle.lexical_parse_integer.specs.Value.{positional_value, with_sign}
@@ -98,15 +98,15 @@ lacks_none f [] enough = by_flag (digits_required f) refl
 lacks_none f (d ∷ ds) enough = let some : (length (d ∷ ds) == 0) ≡ false = ne_eqb (length (d ∷ ds)) 0 (λ e. omega arith) in rw some (and-false (digits_required f))
 
 pub answer_by : (f : Format) (t : IntegerType) (text : List ℕ) (h : Head) (x : Numeral) (ds : List ℕ) → x.digits ≡ ds → x.stop ≡ length text → 1 ≤ x.radix →
-    (h.is_marked && (h.start == length text)) ≡ false → (f.no_integer_leading_zeros ≡ true → h.is_marked ≡ false → (d : ℕ) (rest : List ℕ) → ds ≢ 0 ∷ d ∷ rest) → (digits_required f ≡ true → ds ≢ []) →
-    is_number t (with_sign h.is_minus (positional_value x.radix ds)) ≡ true → complete_by f t text h x ≡ Ok (with_sign h.is_minus (positional_value x.radix ds))
+    (h.is_prefixed && (h.start == length text)) ≡ false → (f.no_integer_leading_zeros ≡ true → (chooses_radix h) ≡ false → (d : ℕ) (rest : List ℕ) → ds ≢ 0 ∷ d ∷ rest) → (digits_required f ≡ true → ds ≢ []) →
+    is_number t (with_sign h.is_negative (positional_value x.radix ds)) ≡ true → complete_by f t text h x ≡ Ok (with_sign h.is_negative (positional_value x.radix ds))
 answer_by f t text h x ds digits stop positive prefix zeros enough fit =
-    let m : Bool = h.is_minus in
+    let m : Bool = h.is_negative in
     let size : length x.digits ≡ length ds = ap length digits in
     let value : numeral_value m x ≡ with_sign m (positional_value x.radix ds) = ap (λ y. with_sign m (positional_value x.radix y)) (take_all (length x.digits) x.digits (omega arith) ∙ digits) in
     let no_range : range_fault t m x ≡ None = fitting_fault t m x (shorter_fronts_fit t m x (digit_count x) positive (ap (is_number t) value ∙ fit)) in
-    let no_zeros : (((f.no_integer_leading_zeros && not h.is_marked) && nat_le 2 (digit_count x)) && (slice_index x.digits 0 == 0)) ≡ false =
-    ap (λ y. ((f.no_integer_leading_zeros && not h.is_marked) && nat_le 2 (length y)) && (slice_index y 0 == 0)) digits ∙ zeros_pass f.no_integer_leading_zeros h.is_marked ds zeros in
+    let no_zeros : (((f.no_integer_leading_zeros && not (chooses_radix h)) && nat_le 2 (digit_count x)) && (slice_index x.digits 0 == 0)) ≡ false =
+    ap (λ y. ((f.no_integer_leading_zeros && not (chooses_radix h)) && nat_le 2 (length y)) && (slice_index y 0 == 0)) digits ∙ zeros_pass f.no_integer_leading_zeros (chooses_radix h) ds zeros in
     let ended : nat_lt x.stop (length text) ≡ false = le-ltb x.stop (length text) (omega arith) in
     let some : lacks_digits f x ≡ false = ap (λ y. digits_required f && (length y == 0)) digits ∙ lacks_none f ds enough in
     let answer : complete_by f t text h x ≡ Ok (numeral_value m x) = rw (prefix, no_zeros, no_range, ended, some) refl in
@@ -114,30 +114,30 @@ answer_by f t text h x ds digits stop positive prefix zeros enough fit =
 
 -- where the value leaves the type, the answer is a range fault
 pub leaves_by : (f : Format) (t : IntegerType) (text : List ℕ) (h : Head) (x : Numeral) (ds : List ℕ) → x.digits ≡ ds →
-    (h.is_marked && (h.start == length text)) ≡ false → (f.no_integer_leading_zeros ≡ true → h.is_marked ≡ false → (d : ℕ) (rest : List ℕ) → ds ≢ 0 ∷ d ∷ rest) →
-    is_number t (with_sign h.is_minus (positional_value x.radix ds)) ≡ false → IsRangeFault (complete_by f t text h x)
+    (h.is_prefixed && (h.start == length text)) ≡ false → (f.no_integer_leading_zeros ≡ true → (chooses_radix h) ≡ false → (d : ℕ) (rest : List ℕ) → ds ≢ 0 ∷ d ∷ rest) →
+    is_number t (with_sign h.is_negative (positional_value x.radix ds)) ≡ false → IsRangeFault (complete_by f t text h x)
 unfolding range_fault
-leaves_by f t text h x ds digits prefix zeros leaves = by_place (first_outside t h.is_minus x) refl
+leaves_by f t text h x ds digits prefix zeros leaves = by_place (first_outside t h.is_negative x) refl
   where
-    value : numeral_value h.is_minus x ≡ with_sign h.is_minus (positional_value x.radix ds)
-    value = ap (λ y. with_sign h.is_minus (positional_value x.radix y)) (take_all (length x.digits) x.digits (omega arith) ∙ digits)
+    value : numeral_value h.is_negative x ≡ with_sign h.is_negative (positional_value x.radix ds)
+    value = ap (λ y. with_sign h.is_negative (positional_value x.radix y)) (take_all (length x.digits) x.digits (omega arith) ∙ digits)
 
-    no_zeros : (((f.no_integer_leading_zeros && not h.is_marked) && nat_le 2 (digit_count x)) && (slice_index x.digits 0 == 0)) ≡ false
-    no_zeros = ap (λ y. ((f.no_integer_leading_zeros && not h.is_marked) && nat_le 2 (length y)) && (slice_index y 0 == 0)) digits ∙ zeros_pass f.no_integer_leading_zeros h.is_marked ds zeros
+    no_zeros : (((f.no_integer_leading_zeros && not (chooses_radix h)) && nat_le 2 (digit_count x)) && (slice_index x.digits 0 == 0)) ≡ false
+    no_zeros = ap (λ y. ((f.no_integer_leading_zeros && not (chooses_radix h)) && nat_le 2 (length y)) && (slice_index y 0 == 0)) digits ∙ zeros_pass f.no_integer_leading_zeros (chooses_radix h) ds zeros
 
-    none_is_zero : (ds : List ℕ) → length ds ≡ 0 → is_number t (with_sign h.is_minus (positional_value x.radix ds)) ≡ true
-    none_is_zero [] e = zero_is_number t h.is_minus
+    none_is_zero : (ds : List ℕ) → length ds ≡ 0 → is_number t (with_sign h.is_negative (positional_value x.radix ds)) ≡ true
+    none_is_zero [] e = zero_is_number t h.is_negative
     none_is_zero (d ∷ ds) e = absurd (omega arith)
 
     by_sign : (m : Bool) (place : ℕ) → IsRangeFault (Err (range_error m place))
     by_sign true place = tt
     by_sign false place = tt
 
-    by_place : (o : Option ℕ) → first_outside t h.is_minus x ≡ o → IsRangeFault (complete_by f t text h x)
+    by_place : (o : Option ℕ) → first_outside t h.is_negative x ≡ o → IsRangeFault (complete_by f t text h x)
     by_place None none = absurd (elim (cases_lt 0 (digit_count x)) [
-      | inl lt ↦ false≢true (sym leaves ∙ ap (is_number t) (sym value) ∙ fits_told t h.is_minus x lt (rw none refl))
+      | inl lt ↦ false≢true (sym leaves ∙ ap (is_number t) (sym value) ∙ fits_told t h.is_negative x lt (rw none refl))
       | inr ge ↦ false≢true (sym leaves ∙ none_is_zero ds (let n = ap length digits in omega arith))
     ])
     by_place (Some k) some =
-        let answer : complete_by f t text h x ≡ Err (range_error h.is_minus (slice_index x.places k)) = rw (prefix, no_zeros, some) refl in
-        subst IsRangeFault (sym answer) (by_sign h.is_minus (slice_index x.places k))
+        let answer : complete_by f t text h x ≡ Err (range_error h.is_negative (slice_index x.places k)) = rw (prefix, no_zeros, some) refl in
+        subst IsRangeFault (sym answer) (by_sign h.is_negative (slice_index x.places k))

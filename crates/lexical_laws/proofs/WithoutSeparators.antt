@@ -112,11 +112,11 @@ module _ (f : Format) (valid : IsNone (fault f)) where
         prefix = i.prefix;
         body = without_separators f i.body;
         suffix = i.suffix;
-        is_minus = i.is_minus;
+        is_negative = i.is_negative;
         radix = i.radix;
         digits = i.digits;
         parts = ap (without_separators f) i.parts ∙ filter-append keep i.sign (i.prefix ++ (i.body ++ i.suffix))
-            ∙ ap (λ xs. xs ++ without_separators f (i.prefix ++ (i.body ++ i.suffix))) (sign_stays t i.sign i.is_minus i.sign_may)
+            ∙ ap (λ xs. xs ++ without_separators f (i.prefix ++ (i.body ++ i.suffix))) (sign_stays t i.sign i.is_negative i.sign_may)
             ∙ ap (λ xs. i.sign ++ xs) (filter-append keep i.prefix (i.body ++ i.suffix)
             ∙ ap (λ xs. xs ++ without_separators f (i.body ++ i.suffix)) (prefix_stays i.body i.prefix i.radix i.prefix_may)
             ∙ ap (λ xs. i.prefix ++ xs) (filter-append keep i.body i.suffix

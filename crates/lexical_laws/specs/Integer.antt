@@ -74,11 +74,11 @@ pub record IsInteger (format : Format) (type : IntegerType) (text : List ℕ) (v
     pub prefix : List ℕ
     pub body : List ℕ
     pub suffix : List ℕ
-    pub is_minus : Bool
+    pub is_negative : Bool
     pub radix : ℕ
     pub digits : List ℕ
     pub parts : text ≡ sign ++ (prefix ++ (body ++ suffix))
-    pub sign_may : IsSign format type sign is_minus
+    pub sign_may : IsSign format type sign is_negative
     pub prefix_may : IsPrefix format body prefix radix
     pub body_may : IsBody format prefix radix body digits
     pub suffix_may : IsSuffix format digits suffix
@@ -89,5 +89,5 @@ pub record IsInteger (format : Format) (type : IntegerType) (text : List ℕ) (v
     pub zeros : format.no_integer_leading_zeros ≡ true → prefix ≡ []
         → octal_zero_at format body 0 ≡ false → (digit : ℕ) (rest : List ℕ)
         → digits ≢ 0 ∷ digit ∷ rest
-    pub worth : value ≡ with_sign is_minus (positional_value radix digits)
+    pub worth : value ≡ with_sign is_negative (positional_value radix digits)
     pub fits : IsNumber type value

@@ -2,11 +2,14 @@
 use Rattle.std.specs.Char.{is_ascii_alphabetic}
 use Rattle.std.specs.Prelude.{false, map, Some, ◌≡◌, ◌≢◌, ◌⊎◌, ◌+◌, ℕ, Bool, true, not, List, filter, None, ℤ, Result, Ok, Err}
 use Rattle.std.specs.Bool.{⊤}
+use Rattle.lexical_util.specs.Ascii.{minus, plus}
 use Rattle.lexical_util.specs.declared.error.Error.{Error}
 use Rattle.lexical_util.specs.declared.error.Error.TheVariants.{Overflow, Underflow}
+use Rattle.lexical_util.specs.Digit.{digit}
 use Rattle.lexical_util.specs.Format.{Format}
 use Rattle.lexical_util.specs.Number.{IntegerType}
 use Rattle.lexical_util.specs.Validity.{lower_case}
+use Rattle.lexical_parse_integer.specs.Affixes.{is_affix, marked_radix}
 use Rattle.lexical_parse_integer.specs.Grammar.{complete}
 use Rattle.lexical_parse_integer.specs.Laws.{SameFront}
 use Rattle.lexical_laws.specs.Integer.{is_separator}
@@ -61,6 +64,17 @@ abbrev pub IsDead : Format → IntegerType → List ℕ → ℕ → Type 0
 IsDead format type text place =
     (other : List ℕ) (value : ℤ) → SameFront (place + 1) text other
     → complete format type other ≢ Ok value
+
+-- ---- later bytes
+
+-- A byte is no part of a number: no digit of any radix, no sign, and none of the format's marks.
+pub record IsForeign (format : Format) (byte : ℕ) : Type 0 where
+  pub digit : digit byte 36 ≡ None
+  pub plus : byte ≢ plus
+  pub minus : byte ≢ minus
+  pub separator : is_separator format byte ≡ false
+  pub prefix : marked_radix format (Some byte) ≡ None
+  pub suffix : is_affix format.case_sensitive_base_suffix format.base_suffix (Some byte) ≡ false
 
 -- ---- separators
 

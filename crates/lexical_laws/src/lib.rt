@@ -3,13 +3,15 @@
 //! A law is a call whose contract says what always holds. A proof that needs one calls it and has its clauses.
 #![tactic(auto)]
 
-ghost use Rattle.std.specs.Prelude.{◌≡◌, ◌↔◌, ◌<◌, ◌≤◌, ◌⊎◌, codes, Err, false, IsNone, length, List, Ok, Some, true, ℕ, ℤ};
+ghost use Rattle.std.specs.Prelude.{◌≡◌, ◌≢◌, ◌↔◌, ◌<◌, ◌≤◌, ◌⊎◌, ◌++◌, ◌∷◌, codes, Err, false, IsNone, IsSome, length, List, Ok, Some, true, ℕ, ℤ};
 ghost use Rattle.std.specs.Fmt.{signed_decimal};
 ghost use Rattle.lexical_laws.specs.Integer.{IsInteger};
-ghost use Rattle.lexical_laws.specs.Keeping.{AdmitsMore, AreAlike, IgnoresCase, Implies, IsDead, IsRangeFault, without_separators};
+ghost use Rattle.lexical_laws.specs.Keeping.{AdmitsMore, AreAlike, IgnoresCase, Implies, IsDead, IsForeign, IsRangeFault, without_separators};
 ghost use Rattle.lexical_util.specs.Faults.{place_of};
 ghost use Rattle.lexical_util.specs.declared.error.Error.{Error};
-ghost use Rattle.lexical_parse_integer.specs.Grammar.{complete, digits_required};
+ghost use Rattle.lexical_util.specs.declared.error.Error.TheVariants.{Empty};
+ghost use Rattle.lexical_parse_integer.specs.Grammar.{complete, digits_required, partial};
+ghost use Rattle.lexical_parse_integer.specs.Runs.{digit_at};
 ghost use Rattle.lexical_util.specs.Format.{Format, json};
 ghost use Rattle.lexical_util.specs.Number.{IntegerType, is_number};
 ghost use Rattle.lexical_util.specs.Validity.{fault};
@@ -65,6 +67,28 @@ pub fn dead_places()
     locality();
     complete_by_partial();
 }
+
+/// What stands behind a byte that is no part of a number counts for nothing: the front is read as if the text ended
+/// before the byte.
+///
+/// `12;3` is read as `12` is. A text of which the end is missing may be read otherwise: with the prefix `x` and no
+/// separator `0x` is `Empty(2)`, and of `0x;` the front `0x` is 0. So the text isn't one (`read`), or the format asks for
+/// a digit and has a separator (`asked`), or it has no prefix and the text begins with a digit (`digit`).
+pub fn foreign_bytes()
+    ensures read { (format : Format) (type : IntegerType) (text rest : List ℕ) (byte : ℕ)
+        → IsNone (fault format) → IsForeign format byte
+        → partial format type text ≢ Err (Empty (length text))
+        → partial format type (text ++ byte ∷ rest) ≡ partial format type text }
+    ensures asked { (format : Format) (type : IntegerType) (text rest : List ℕ) (byte : ℕ)
+        → IsNone (fault format) → IsForeign format byte
+        → digits_required format ≡ true → IsSome format.digit_separator
+        → partial format type (text ++ byte ∷ rest) ≡ partial format type text }
+    ensures digit { (format : Format) (type : IntegerType) (text rest : List ℕ) (byte : ℕ)
+        → IsNone (fault format) → IsForeign format byte
+        → IsNone format.base_prefix → format.literal_prefixes ≡ false
+        → IsSome (digit_at format.mantissa_radix text 0)
+        → partial format type (text ++ byte ∷ rest) ≡ partial format type text }
+{}
 
 /// Separators count for nothing: a text has the same value without them, under a valid format that asks for a digit and
 /// has no octal zeros.

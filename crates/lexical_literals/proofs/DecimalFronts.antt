@@ -26,7 +26,7 @@ use Rattle.lexical_literals.specs.Tokens.{is_word_byte}
 
 -- a head without sign and prefix
 abbrev bare : Head
-bare = record { is_minus = false; is_marked = false; start = 0; radix = 10 }
+bare = record { is_negative = false; is_prefixed = false; is_octal = false; start = 0; radix = 10 }
 
 -- no literal prefix goes on with this byte
 abbrev NoLetter : Format → Option ℕ → Type 0
@@ -66,19 +66,19 @@ head_is_bare f t c d cs decimal first letter =
 
 -- ---- the numeral
 
-stands_in : (f : Format) (text : List ℕ) (k : ℕ) → has_digit 10 text k ≡ true → is_in_numeral f 10 text 0 k ≡ true
+stands_in : (f : Format) (text : List ℕ) (k : ℕ) → has_digit 10 text k ≡ true → is_in_numeral f false 10 text 0 k ≡ true
 unfolding is_in_numeral
 stands_in f text k is = rw is refl
 
 stands_not : (f : Format) (text : List ℕ) (k : ℕ) → has_digit 10 text k ≡ false
-    → separator_at f text k ≡ false → is_in_numeral f 10 text 0 k ≡ false
+    → separator_at f text k ≡ false → is_in_numeral f false 10 text 0 k ≡ false
 unfolding is_in_numeral
 stands_not f text k none apart = rw (none, apart) refl
 
 end_is : (f : Format) (text : List ℕ) (n : ℕ) → EndsRow 10 text 0 n
-    → (n < length text → separator_at f text n ≡ false) → end_of f 10 text 0 ≡ n
+    → (n < length text → separator_at f text n ≡ false) → end_of f false 10 text 0 ≡ n
 end_is f text n s apart =
-    IsStop-unique (is_in_numeral f 10 text 0) 0 (length text) _ _ (IsStop-end_of f 10 text 0 (omega arith))
+    IsStop-unique (is_in_numeral f false 10 text 0) 0 (length text) _ _ (IsStop-end_of f false 10 text 0 (omega arith))
     (record {
       low = s.low;
       high = s.high;
@@ -87,8 +87,8 @@ end_is f text n s apart =
     })
 
 same_numeral : (f : Format) (text : List ℕ) → f.base_suffix ≡ None
-    → end_of f 10 text 0 ≡ end_of standard 10 text 0
-    → numeral_in f text 0 10 ≡ numeral_in standard text 0 10
+    → end_of f false 10 text 0 ≡ end_of standard false 10 text 0
+    → numeral_in f false 10 text 0 ≡ numeral_in standard false 10 text 0
 unfolding numeral_in numeral_stop suffix_at is_affix
 same_numeral f text none same = rw (same, none) refl
 
@@ -133,17 +133,17 @@ ok_parts (Some x) b w z e = cc
 -- the type
 record IsStandard (text : List ℕ) (v : ℤ) (n : ℕ) : Type 0 where
   row : EndsRow 10 text 0 n
-  end : end_of standard 10 text 0 ≡ n
-  fits : range_fault (integer_type 64 false) false (numeral_in standard text 0 10) ≡ None
-  value : numeral_value false (numeral_in standard text 0 10) ≡ v
-  stop : (numeral_in standard text 0 10).stop ≡ n
+  end : end_of standard false 10 text 0 ≡ n
+  fits : range_fault (integer_type 64 false) false (numeral_in standard false 10 text 0) ≡ None
+  value : numeral_value false (numeral_in standard false 10 text 0) ≡ v
+  stop : (numeral_in standard false 10 text 0).stop ≡ n
 
 standard_head : (t : IntegerType) (c d : ℕ) (cs : List ℕ) → digit c 10 ≡ Some d → head_of standard t (c ∷ cs) ≡ Ok bare
 standard_head t c d cs first =
     head_is standard t (c ∷ cs) (false, 0) refl refl refl
     (sign_of_digit_under standard t 10 c d cs refl first)
 
-stop_is : (text : List ℕ) → (numeral_in standard text 0 10).stop ≡ end_of standard 10 text 0
+stop_is : (text : List ℕ) → (numeral_in standard false 10 text 0).stop ≡ end_of standard false 10 text 0
 unfolding numeral_in numeral_stop suffix_at is_affix
 stop_is text = rw and-false refl
 
@@ -152,14 +152,14 @@ standard_told : (c d : ℕ) (cs : List ℕ) (v : ℤ) (n : ℕ) → digit c 10 �
 unfolding partial
 standard_told c d cs v n first read =
     let text : List ℕ = c ∷ cs in
-    let x : Numeral = numeral_in standard text 0 10 in
+    let x : Numeral = numeral_in standard false 10 text 0 in
     let head = standard_head (integer_type 64 false) c d cs first in
     let parts = ok_parts (range_fault (integer_type 64 false) false x) _
     (numeral_value false x, x.stop) (v, n) (rw head at read) in
     let stop : x.stop ≡ n = ap (λ (w : ℤ × ℕ). w.1) parts.1 in
-    let end : end_of standard 10 text 0 ≡ n = sym (stop_is text) ∙ stop in
+    let end : end_of standard false 10 text 0 ≡ n = sym (stop_is text) ∙ stop in
     record {
-      row = subst (λ (k : ℕ). EndsRow 10 text 0 k) end (end_of_row standard 10 text 0 refl (omega arith));
+      row = subst (λ (k : ℕ). EndsRow 10 text 0 k) end (end_of_row standard false 10 text 0 refl (omega arith));
       end = end;
       fits = parts.0;
       value = ap (λ (w : ℤ × ℕ). w.0) parts.1;
@@ -185,14 +185,14 @@ letter_told f c (b ∷ bs) (suc (suc n)) some s other =
     no_digit_letter f.case_sensitive_base_prefix b (s.holds 1 (omega arith) (omega arith))
 
 count_told : (text : List ℕ) (n : ℕ) → EndsRow 10 text 0 n → 0 < n
-    → (digit_count (numeral_in standard text 0 10) == 0) ≡ false
+    → (digit_count (numeral_in standard false 10 text 0) == 0) ≡ false
 count_told text n s some =
     let size : digit_count (row_numeral standard text 0 10 n) ≡ n =
     length-map-range_with_len (λ place. unwrap_or (digit_at 10 text place) 0) 0 n in
     let there : (digit_count (row_numeral standard text 0 10 n) == 0) ≡ false = ne_eqb _ 0 (λ e. omega arith) in
     let at_zero : n ≡ 0 + n = omega arith in
     ap (λ (x : Numeral). digit_count x == 0)
-    (numeral_in_a_row standard text 0 10 n refl (omega arith)
+    (numeral_in_a_row standard false text 0 10 n refl (omega arith)
     (subst (λ (k : ℕ). EndsRow 10 text 0 k) at_zero s)) ∙ there
 
 -- a text that the standard format reads as `u64`, and whose digits end at a byte that is neither a separator nor one of
@@ -208,7 +208,7 @@ decimal_digits f c d cs v n decimal first read other apart =
     let s = standard_told c d cs v n first read in
     let some = some_digits c d cs n first s.row in
     let same = same_numeral f text decimal.no_suffix (end_is f text n s.row apart ∙ sym s.end) in
-    let range = no_range (numeral_in standard text 0 10) s.fits in
+    let range = no_range (numeral_in standard false 10 text 0) s.fits in
     let there = count_told text n s.row some in
     rw (
       head_is_bare f (integer_type 128 false) c d cs decimal first

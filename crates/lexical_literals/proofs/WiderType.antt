@@ -1,13 +1,13 @@
 -- What is read as `u64` is read as `u128` alike.
-use Rattle.std.proofs.Common.{◌≡◌, ℕ, Bool, true, false, List, ◌∷◌, ◌++◌, refl, sym, ap, ◌∙◌, Option, Some, None, Ok, Err, Result}
+use Rattle.std.proofs.Common.{◌≡◌, ℕ, Bool, true, false, List, ◌∷◌, ◌++◌, refl, sym, ap, Option, Some, None, Ok, Err, Result}
 use Rattle.std.specs.Prelude.{slice_get, ℤ}
 use Rattle.std.proofs.lemmas.Bool.{false≢true}
 use Rattle.lexical_util.specs.declared.error.Error.{Error}
 use Rattle.lexical_util.specs.Format.{Format}
 use Rattle.lexical_util.specs.Number.{IntegerType, integer_type}
 use Rattle.lexical_parse_integer.specs.Grammar.{after_head, common_faults, first_fault_or, partial, partial_faults, prefix_fault, range_fault, zero_fault}
-use Rattle.lexical_parse_integer.specs.Head.{Head, head_after, head_of, sign, sign_by}
-use Rattle.lexical_parse_integer.specs.Numeral.{Numeral, numeral_in, numeral_value}
+use Rattle.lexical_parse_integer.specs.Head.{Head, head_after, head_of, sign, sign_by, chooses_radix}
+use Rattle.lexical_parse_integer.specs.Numeral.{Numeral, numeral_value, numeral_behind}
 use Rattle.lexical_parse_integer.proofs.ForCallers.{head_signed}
 use Rattle.lexical_literals.proofs.DecimalFronts.{no_range}
 
@@ -39,7 +39,7 @@ without_third None (Some e) c d rest w z both read = cc
 without_third (Some e) b c d rest w z both read = cc
 
 no_minus : (f : Format) (text : List ℕ) (h : Head) (b : Bool) → head_of f narrow text ≡ Ok h
-    → h.is_minus ≡ b → b ≡ false
+    → h.is_negative ≡ b → b ≡ false
 no_minus f text h false is minus = refl
 no_minus f text h true is minus = absurd (false≢true (head_signed f narrow text h is minus))
 
@@ -50,10 +50,10 @@ no_wide_range x true is none = absurd (false≢true (sym is))
 -- what stands behind a head
 abbrev behind : Format → List ℕ → IntegerType → Head → Result (ℤ × ℕ) Error
 behind f text type head =
-    let numeral = numeral_in f text head.start head.radix in
+    let numeral = numeral_behind f text head in
     first_fault_or
     (common_faults f type text head numeral ++ partial_faults f text numeral)
-    (numeral_value head.is_minus numeral, numeral.stop)
+    (numeral_value head.is_negative numeral, numeral.stop)
 
 -- the answer as `u64`, where it is a number
 pub wider_read : (f : Format) (text : List ℕ) (v : ℤ) (n : ℕ) → Ok (v, n) ≡ partial f narrow text
@@ -66,6 +66,6 @@ wider_read f text v n read = sym (rw (sym (same_head f text)) (by_head (head_of 
         → after_head h (behind f text wide) ≡ Ok (v, n)
     by_head (Err e) is told = cc
     by_head (Ok h) is told =
-        let x : Numeral = numeral_in f text h.start h.radix in
-        without_third (prefix_fault text h) (zero_fault f h.is_marked x) _ _ (partial_faults f text x) _ _
-        (no_wide_range x h.is_minus (no_minus f text h h.is_minus is refl)) told
+        let x : Numeral = numeral_behind f text h in
+        without_third (prefix_fault text h) (zero_fault f (chooses_radix h) x) _ _ (partial_faults f text x) _ _
+        (no_wide_range x h.is_negative (no_minus f text h h.is_negative is refl)) told

@@ -12,8 +12,8 @@ is_number_kind Byte = false
 is_number_kind (Fault fault) = false
 
 -- whether a token is a number
-abbrev pub is_number : TokenView → Bool
-is_number token = is_number_kind token.kind
+abbrev pub is_number_token : TokenView → Bool
+is_number_token token = is_number_kind token.kind
 
 -- whether a kind is a fault
 abbrev pub is_fault_kind : Kind → Bool
@@ -23,6 +23,6 @@ is_fault_kind Byte = false
 is_fault_kind (Fault fault) = true
 
 -- the place of the first token that is a fault
-abbrev pub first_fault : List TokenView → Option ℕ
-first_fault tokens =
+abbrev pub first_fault_place : List TokenView → Option ℕ
+first_fault_place tokens =
     option_map (λ token. token.start) (find (λ token. is_fault_kind token.kind) tokens)

@@ -23,7 +23,7 @@ use Rattle.lexical_util.specs.Number.{IntegerType}
 use Rattle.lexical_parse_integer.specs.Affixes.{prefix_radix}
 use Rattle.lexical_parse_integer.specs.Grammar.{after_head, common_faults, first_fault_or, partial, partial_faults}
 use Rattle.lexical_parse_integer.specs.Head.{Head, head_after, head_behind, head_of, sign}
-use Rattle.lexical_parse_integer.specs.Numeral.{Numeral, numeral_in, numeral_value}
+use Rattle.lexical_parse_integer.specs.Numeral.{Numeral, numeral_value, numeral_behind}
 use Rattle.lexical_parse_integer.proofs.theorems.CompleteByPartial.{head_within, numeral_within, sign_within, ok_told}
 
 -- the front is within the text
@@ -32,13 +32,13 @@ unfolding partial head_of
 partial_within f t text v k = behind (sign f t text) refl
   where
     behind : (r : Result (Bool × ℕ) Error) → sign f t text ≡ r →
-        after_head {A = ℤ × ℕ} (head_after f text r) (λ h. let x = numeral_in f text h.start h.radix in first_fault_or (common_faults f t text h x ++ partial_faults f text x) (numeral_value h.is_minus x, x.stop)) ≡ Ok (v, k) → k ≤ length text
+        after_head {A = ℤ × ℕ} (head_after f text r) (λ h. let x = numeral_behind f text h in first_fault_or (common_faults f t text h x ++ partial_faults f text x) (numeral_value h.is_negative x, x.stop)) ≡ Ok (v, k) → k ≤ length text
     behind (Ok s) e told =
         let h : Head = head_behind f text s (prefix_radix f text s.1) in
-        let x : Numeral = numeral_in f text h.start h.radix in
+        let x : Numeral = numeral_behind f text h in
         let low : h.start ≤ length text = head_within f text s _ (sign_within f t text s e) refl in
-        let within : x.stop ≤ length text = numeral_within f text h.start h.radix low in
-        let same = ok_told (common_faults f t text h x ++ partial_faults f text x) (numeral_value h.is_minus x, x.stop) (v, k) told in
+        let within : x.stop ≤ length text = numeral_within f h.is_prefixed text h.start h.radix low in
+        let same = ok_told (common_faults f t text h x ++ partial_faults f text x) (numeral_value h.is_negative x, x.stop) (v, k) told in
         let at : x.stop ≡ k = ap (λ (w : ℤ × ℕ). w.1) same in
         omega arith
     behind (Err e) h told = cc

@@ -5,7 +5,7 @@ pub mod DigitsRead
 pub mod FirstDigit
 pub mod FormatBytes
 pub mod FrontAnswers
-pub mod FrontDigits
+pub mod DigitBehindHead
 pub mod FrontNumbers
 pub mod NumeralSteps
 pub mod OctalZeros

@@ -1,5 +1,4 @@
 -- What the laws of the answers follow from: for the answers of `laws`, and for callers.
-pub mod BehindPrefix
 pub mod CompleteByPartial
 pub mod DigitTexts
 pub mod EndsAndRuns

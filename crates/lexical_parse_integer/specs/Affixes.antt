@@ -54,9 +54,9 @@ suffix_at format text place =
     is_affix format.case_sensitive_base_suffix format.base_suffix (slice_get text place)
 
 -- where reading stops: at the numeral's end, or behind the suffix there where the numeral has a digit
-unfoldable pub numeral_stop : Format → ℕ → List ℕ → ℕ → ℕ
-numeral_stop format radix text start =
-    if nat_lt 0 (length (places format radix text start))
-    && suffix_at format text (end_of format radix text start)
-    then end_of format radix text start + 1
-    else end_of format radix text start
+unfoldable pub numeral_stop : Format → Bool → ℕ → List ℕ → ℕ → ℕ
+numeral_stop format is_prefixed radix text start =
+    if nat_lt 0 (length (places format is_prefixed radix text start))
+    && suffix_at format text (end_of format is_prefixed radix text start)
+    then end_of format is_prefixed radix text start + 1
+    else end_of format is_prefixed radix text start

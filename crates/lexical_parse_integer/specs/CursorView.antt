@@ -6,13 +6,14 @@ use Rattle.lexical_util.specs.Validity.{fault}
 use Rattle.lexical_parse_integer.specs.Affixes.{bare_radix, suffix_at, numeral_stop}
 use Rattle.lexical_parse_integer.specs.Numeral.{Numeral, numeral_in}
 use Rattle.lexical_parse_integer.specs.Runs.{digit_at, separator_at, end_of, places, digits_between}
-use Rattle.lexical_parse_integer.specs.Seeking.{IsSeparatorNoDigit, IsAtRunStart, HasNoDigit}
+use Rattle.lexical_parse_integer.specs.Seeking.{IsSeparatorNoDigit, IsAtRunStart, HasNoDigit, starts_behind_prefix}
 
 -- A cursor in a text.
 pub record CursorView : Type 0 where
   pub bytes : List ℕ
   pub format : Format
-  -- the radix in force, and where the numeral's region starts
+  -- whether a prefix was read, the radix in force, and where the numeral's region starts
+  pub is_prefixed : Bool
   pub radix : ℕ
   pub start : ℕ
   pub position : ℕ
@@ -26,11 +27,13 @@ pub record CursorView : Type 0 where
 
 -- the numeral in the cursor's region
 abbrev pub numeral_of : CursorView → Numeral
-numeral_of cursor = numeral_in cursor.format cursor.bytes cursor.start cursor.radix
+numeral_of cursor =
+    numeral_in cursor.format cursor.is_prefixed cursor.radix cursor.bytes cursor.start
 
 -- where the numeral in the cursor's region ends
 abbrev pub numeral_end : CursorView → ℕ
-numeral_end cursor = end_of cursor.format cursor.radix cursor.bytes cursor.start
+numeral_end cursor =
+    end_of cursor.format cursor.is_prefixed cursor.radix cursor.bytes cursor.start
 
 -- ---- what is true of each cursor
 
@@ -54,9 +57,11 @@ pub record IsOpen (cursor : CursorView) : Type 0 where
 -- behind the suffix all digits are counted
 pub record IsClosed (cursor : CursorView) : Type 0 where
   pub behind_end : cursor.position ≡ numeral_end cursor + 1
-  pub digits : cursor.digits ≡ length (places cursor.format cursor.radix cursor.bytes cursor.start)
+  pub digits : cursor.digits
+      ≡ length (places cursor.format cursor.is_prefixed cursor.radix cursor.bytes cursor.start)
   pub some_digit : 0 < cursor.digits
-  pub at_stop : cursor.position ≡ numeral_stop cursor.format cursor.radix cursor.bytes cursor.start
+  pub at_stop : cursor.position
+      ≡ numeral_stop cursor.format cursor.is_prefixed cursor.radix cursor.bytes cursor.start
 
 -- what is true of each cursor
 pub record IsSound (cursor : CursorView) : Type 0 where
@@ -66,12 +71,13 @@ pub record IsSound (cursor : CursorView) : Type 0 where
   pub suffix_digit : IsSuffixNoDigit cursor.format cursor.radix cursor.bytes
   pub suffix_separator : IsSuffixNoSeparator cursor.format cursor.bytes
   -- no prefix has changed the radix, but an octal zero at the start may have
-  pub in_force : cursor.start ≤ 1
+  pub in_force : cursor.is_prefixed ≡ false
       → (cursor.radix ≡ cursor.format.mantissa_radix)
       ⊎ (cursor.radix ≡ bare_radix cursor.format cursor.bytes cursor.start)
   -- and where the format has neither literal prefixes nor octal zeros, nothing changes it
   pub own : cursor.format.literal_prefixes ≡ false → cursor.format.literal_octal_zero ≡ false
       → cursor.radix ≡ cursor.format.mantissa_radix
+  pub prefixed : cursor.is_prefixed ≡ starts_behind_prefix cursor.start
   pub after_start : cursor.start ≤ cursor.position
   pub within : cursor.position ≤ length cursor.bytes
   pub turns : cursor.turns ≤ cursor.digits
@@ -84,7 +90,12 @@ pub record IsSound (cursor : CursorView) : Type 0 where
 abbrev pub behind_prefix : CursorView → Option ℕ → CursorView
 behind_prefix cursor None = cursor
 behind_prefix cursor (Some radix) =
-    record cursor { radix = radix; start = cursor.position + 2; position = cursor.position + 2 }
+    record cursor {
+      is_prefixed = true;
+      radix = radix;
+      start = cursor.position + 2;
+      position = cursor.position + 2;
+    }
 
 -- the next digit is taken, with its value
 pub record TakesDigit (old new : CursorView) (value : ℕ) : Type 0 where

@@ -7,12 +7,12 @@ use Rattle.lexical_util.specs.Number.{IntegerType}
 use Rattle.lexical_util.specs.Validity.{fault}
 use Rattle.lexical_parse_integer.specs.Grammar.{if_valid, partial}
 use Rattle.lexical_parse_integer.specs.Head.{Head, head_of}
-use Rattle.lexical_parse_integer.specs.Numeral.{digit_count, numeral_in}
+use Rattle.lexical_parse_integer.specs.Numeral.{digit_count, numeral_behind}
 
 -- whether a digit stands behind a head
 abbrev pub has_digit_behind : Format → List ℕ → Result Head Error → Bool
 has_digit_behind format text (Ok head) =
-    nat_lt 0 (digit_count (numeral_in format text head.start head.radix))
+    nat_lt 0 (digit_count (numeral_behind format text head))
 has_digit_behind format text (Err error) = false
 
 -- whether the numeral of a text has a digit

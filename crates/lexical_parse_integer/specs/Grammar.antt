@@ -8,8 +8,8 @@ use Rattle.lexical_util.specs.declared.error.Error.TheVariants.{Overflow, Underf
 use Rattle.lexical_util.specs.Format.{Format}
 use Rattle.lexical_util.specs.Number.{IntegerType, is_number}
 use Rattle.lexical_util.specs.Validity.{fault}
-use Rattle.lexical_parse_integer.specs.Head.{Head, head_of}
-use Rattle.lexical_parse_integer.specs.Numeral.{Numeral, numeral_in, digit_count, front_value, numeral_value}
+use Rattle.lexical_parse_integer.specs.Head.{Head, chooses_radix, head_of}
+use Rattle.lexical_parse_integer.specs.Numeral.{Numeral, numeral_behind, digit_count, front_value, numeral_value}
 
 -- ---- faults
 
@@ -17,33 +17,34 @@ use Rattle.lexical_parse_integer.specs.Numeral.{Numeral, numeral_in, digit_count
 abbrev pub fault_if : Bool → Error → Option Error
 fault_if is_wrong error = if is_wrong then Some error else None
 
--- the text ends behind its prefix (behind the place of an octal zero it goes on)
+-- the text ends behind its prefix
 abbrev pub prefix_fault : List ℕ → Head → Option Error
 prefix_fault text head =
-    fault_if (head.is_marked && (head.start == length text)) (Empty (length text))
+    fault_if (head.is_prefixed && (head.start == length text)) (Empty (length text))
 
--- the numeral has two digits or more, of which the first is 0, and nothing marks its radix, and the format forbids that
+-- the numeral has two digits or more, of which the first is 0, the text hasn't chosen its radix, and the format forbids
+-- that
 abbrev pub zero_fault : Format → Bool → Numeral → Option Error
-zero_fault format is_marked numeral =
-    fault_if (((format.no_integer_leading_zeros && not is_marked) && nat_le 2 (digit_count numeral))
+zero_fault format radix_chosen numeral =
+    fault_if (((format.no_integer_leading_zeros && not radix_chosen) && nat_le 2 (digit_count numeral))
     && (slice_index numeral.digits 0 == 0))
     (InvalidLeadingZeros (slice_index numeral.places 0))
 
 -- the fault of a value that leaves the type at a place
 abbrev pub range_error : Bool → ℕ → Error
-range_error is_minus place = if is_minus then Underflow place else Overflow place
+range_error is_negative place = if is_negative then Underflow place else Overflow place
 
 -- the first digit, by its index, such that the digits up to and with it have a value outside the type
 abbrev pub first_outside : IntegerType → Bool → Numeral → Option ℕ
-first_outside type is_minus numeral =
-    find (λ index. not (is_number type (front_value is_minus numeral (index + 1))))
+first_outside type is_negative numeral =
+    find (λ index. not (is_number type (front_value is_negative numeral (index + 1))))
     (range_with_len 0 (digit_count numeral))
 
 -- the value leaves the type: the fault stands at that digit's place
 unfoldable pub range_fault : IntegerType → Bool → Numeral → Option Error
-range_fault type is_minus numeral =
-    option_map (λ index. range_error is_minus (slice_index numeral.places index))
-    (first_outside type is_minus numeral)
+range_fault type is_negative numeral =
+    option_map (λ index. range_error is_negative (slice_index numeral.places index))
+    (first_outside type is_negative numeral)
 
 -- whether the format asks for a digit
 abbrev pub digits_required : Format → Bool
@@ -64,8 +65,8 @@ first_fault_or (Some error ∷ faults) value = Err error
 -- the faults that both parsers have, in their order
 abbrev pub common_faults : Format → IntegerType → List ℕ → Head → Numeral → List (Option Error)
 common_faults format type text head numeral =
-    prefix_fault text head ∷ zero_fault format head.is_marked numeral
-    ∷ range_fault type head.is_minus numeral ∷ []
+    prefix_fault text head ∷ zero_fault format (chooses_radix head) numeral
+    ∷ range_fault type head.is_negative numeral ∷ []
 
 -- those that the complete parser has after them
 abbrev pub complete_faults : Format → List ℕ → Numeral → List (Option Error)
@@ -87,18 +88,18 @@ after_head (Err error) answer = Err error
 -- what the whole text stands for
 unfoldable pub complete : Format → IntegerType → List ℕ → Result ℤ Error
 complete format type text = after_head (head_of format type text) (λ head.
-    let numeral = numeral_in format text head.start head.radix in
+    let numeral = numeral_behind format text head in
     first_fault_or
     (common_faults format type text head numeral ++ complete_faults format text numeral)
-    (numeral_value head.is_minus numeral))
+    (numeral_value head.is_negative numeral))
 
 -- what the front of the text stands for, and the place at which reading stops
 unfoldable pub partial : Format → IntegerType → List ℕ → Result (ℤ × ℕ) Error
 partial format type text = after_head (head_of format type text) (λ head.
-    let numeral = numeral_in format text head.start head.radix in
+    let numeral = numeral_behind format text head in
     first_fault_or
     (common_faults format type text head numeral ++ partial_faults format text numeral)
-    (numeral_value head.is_minus numeral, numeral.stop))
+    (numeral_value head.is_negative numeral, numeral.stop))
 
 -- ---- formats that may be invalid
 

@@ -1,5 +1,5 @@
 -- What stands before a numeral: its sign and its prefix.
-use Rattle.std.specs.Prelude.{ℕ, ◌+◌, Bool, true, false, ◌&&◌, if◌then◌else◌, ◌==◌, List, slice_get, Option, Some, None, Result, Ok, Err}
+use Rattle.std.specs.Prelude.{ℕ, ◌+◌, Bool, true, false, ◌&&◌, ◌||◌, if◌then◌else◌, ◌==◌, List, slice_get, Option, Some, None, Result, Ok, Err}
 use Rattle.lexical_util.specs.Ascii.{minus, plus}
 use Rattle.lexical_util.specs.declared.error.Error.{Error}
 use Rattle.lexical_util.specs.declared.error.Error.TheVariants.{MissingSign, InvalidPositiveSign}
@@ -23,25 +23,32 @@ sign_by format type (Some byte) =
 unfoldable pub sign : Format → IntegerType → List ℕ → Result (Bool × ℕ) Error
 sign format type text = sign_by format type (slice_get text 0)
 
--- Whether a text has a minus, whether a prefix or an octal zero marks its radix, where the region of its numeral
+-- Whether a text has a minus, whether a prefix or an octal zero stands behind its sign, where the region of its numeral
 -- starts, and the radix in force there.
 pub record Head : Type 0 where
-  pub is_minus : Bool
-  pub is_marked : Bool
+  pub is_negative : Bool
+  pub is_prefixed : Bool
+  pub is_octal : Bool
   pub start : ℕ
   pub radix : ℕ
+
+-- whether the text chooses its radix: by a prefix, or by an octal zero
+abbrev pub chooses_radix : Head → Bool
+chooses_radix head = head.is_prefixed || head.is_octal
 
 -- the head of a text with this sign, and with a prefix that puts a radix in force, or none
 abbrev pub head_behind : Format → List ℕ → Bool × ℕ → Option ℕ → Head
 head_behind format text sign_read None = record {
-  is_minus = sign_read.0;
-  is_marked = octal_zero_at format text sign_read.1;
+  is_negative = sign_read.0;
+  is_prefixed = false;
+  is_octal = octal_zero_at format text sign_read.1;
   start = sign_read.1;
   radix = bare_radix format text sign_read.1;
 }
 head_behind format text sign_read (Some radix) = record {
-  is_minus = sign_read.0;
-  is_marked = true;
+  is_negative = sign_read.0;
+  is_prefixed = true;
+  is_octal = false;
   start = sign_read.1 + 2;
   radix = radix;
 }

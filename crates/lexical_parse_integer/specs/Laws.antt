@@ -9,8 +9,8 @@ use Rattle.lexical_util.specs.Faults.{place_of}
 use Rattle.lexical_util.specs.Format.{Format, standard}
 use Rattle.lexical_util.specs.Number.{IntegerType, IsNumber}
 use Rattle.lexical_parse_integer.specs.Grammar.{complete, partial}
-use Rattle.lexical_parse_integer.specs.Head.{Head, head_of}
-use Rattle.lexical_parse_integer.specs.Numeral.{digit_count, numeral_in}
+use Rattle.lexical_parse_integer.specs.Head.{Head, chooses_radix, head_of}
+use Rattle.lexical_parse_integer.specs.Numeral.{digit_count, numeral_behind}
 use Rattle.lexical_parse_integer.specs.Runs.{digit_at, separator_at, is_in_numeral, end_of, run_begin, run_stop}
 use Rattle.lexical_parse_integer.specs.Seeking.{HasNoDigit}
 use Rattle.lexical_parse_integer.specs.Stops.{stops_after_digit}
@@ -19,14 +19,16 @@ use Rattle.lexical_digits.specs.Value.{positional_value}
 -- ---- ends and runs
 
 -- the end is the greatest place such that each place from start to before it belongs to the numeral
-pub record IsGreatestEnd (format : Format) (radix : ℕ) (text : List ℕ) (start : ℕ) : Type 0 where
-  pub from : start ≤ end_of format radix text start
-  pub within : end_of format radix text start ≤ length text
-  pub belong : (place : ℕ) → start ≤ place → place < end_of format radix text start
-      → is_in_numeral format radix text start place ≡ true
+pub record IsGreatestEnd (format : Format) (is_prefixed : Bool) (radix : ℕ) (text : List ℕ)
+    (start : ℕ) : Type 0 where
+  pub from : start ≤ end_of format is_prefixed radix text start
+  pub within : end_of format is_prefixed radix text start ≤ length text
+  pub belong : (place : ℕ) → start ≤ place → place < end_of format is_prefixed radix text start
+      → is_in_numeral format is_prefixed radix text start place ≡ true
   pub greatest : (end : ℕ) → end ≤ length text
       → ((place : ℕ) → start ≤ place → place < end
-      → is_in_numeral format radix text start place ≡ true) → end ≤ end_of format radix text start
+      → is_in_numeral format is_prefixed radix text start place ≡ true)
+      → end ≤ end_of format is_prefixed radix text start
 
 -- the run of a separator holds its place and separators alone, and no longer stretch of the region that holds the
 -- place does
@@ -50,24 +52,10 @@ pub record IsLongestRun (format : Format) (text : List ℕ) (start place : ℕ) 
 -- where the numeral has one
 abbrev pub TellsDigits : Format → IntegerType → List ℕ → Type 0
 TellsDigits format type text = (head : Head) (value : ℤ) (place : ℕ)
-    → head_of format type text ≡ Ok head → head.is_marked ≡ false
+    → head_of format type text ≡ Ok head → chooses_radix head ≡ false
     → partial format type text ≡ Ok (value, place)
     → stops_after_digit format.mantissa_radix text place
-    ≡ nat_lt 0 (digit_count (numeral_in format text head.start head.radix))
-
--- ---- separators behind a prefix
-
--- a format with its flag for separators behind a prefix made one for leading separators
-abbrev pub with_leading_behind_prefix : Format → Format
-with_leading_behind_prefix format = record format {
-  integer_leading_digit_separator = format.integer_leading_digit_separator
-      || format.integer_prefix_digit_separator;
-  integer_prefix_digit_separator = false;
-}
-
--- a format without that flag
-abbrev pub without_prefix_flag : Format → Format
-without_prefix_flag format = record format { integer_prefix_digit_separator = false }
+    ≡ nat_lt 0 (digit_count (numeral_behind format text head))
 
 -- ---- complete and partial
 

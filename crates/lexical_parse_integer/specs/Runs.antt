@@ -1,6 +1,7 @@
 -- Digits and separators in a text: which separators pass, where the numeral ends, and where its digits stand.
--- The radix is the one in force, and the numeral's region goes from start to the text's end.
-use Rattle.std.specs.Prelude.{ℕ, ◌+◌, ◌-◌, Bool, true, false, ◌&&◌, ◌||◌, ◌==◌, nat_lt, nat_le, List, length, filter, Option, Some, None, option_and_then, is_some, slice_get}
+-- The radix is the one in force. The numeral's region goes from start to the text's end, and `is_prefixed` says whether
+-- it lies behind a prefix.
+use Rattle.std.specs.Prelude.{ℕ, ◌+◌, ◌-◌, Bool, true, false, ◌&&◌, ◌||◌, ◌==◌, nat_lt, List, length, filter, Option, Some, None, option_and_then, is_some, slice_get}
 use Rattle.std.specs.List.{range_with_len, prefix_len, suffix_len}
 use Rattle.lexical_util.specs.Format.{Format}
 use Rattle.lexical_util.specs.Digit.{digit}
@@ -42,49 +43,46 @@ run_begin format text start place = begin_of (separator_at format text) start pl
 abbrev pub run_stop : Format → List ℕ → ℕ → ℕ
 run_stop format text place = stop_of (separator_at format text) place (length text)
 
--- whether a region starts behind a prefix, which has two bytes: before a region without one stands a sign at most
-abbrev pub is_behind_prefix : ℕ → Bool
-is_behind_prefix start = nat_le 2 start
-
 -- whether leading runs may stand in a region: everywhere by the one flag, and behind a prefix by the other too
-abbrev pub leading_in_force : Format → ℕ → Bool
-leading_in_force format start =
-    format.integer_leading_digit_separator
-    || (format.integer_prefix_digit_separator && is_behind_prefix start)
+abbrev pub leading_in_force : Format → Bool → Bool
+leading_in_force format is_prefixed =
+    format.integer_leading_digit_separator || (format.integer_prefix_digit_separator && is_prefixed)
 
 -- the flag that a run needs, by whether a digit stands before it in the region, and whether one stands behind it
-unfoldable pub flag_for : Format → ℕ → Bool → Bool → Bool
-flag_for format start true true = format.integer_internal_digit_separator
-flag_for format start false true = leading_in_force format start
-flag_for format start true false = format.integer_trailing_digit_separator
-flag_for format start false false =
-    leading_in_force format start || format.integer_trailing_digit_separator
+unfoldable pub flag_for : Format → Bool → Bool → Bool → Bool
+flag_for format is_prefixed true true = format.integer_internal_digit_separator
+flag_for format is_prefixed false true = leading_in_force format is_prefixed
+flag_for format is_prefixed true false = format.integer_trailing_digit_separator
+flag_for format is_prefixed false false =
+    leading_in_force format is_prefixed || format.integer_trailing_digit_separator
 
 -- whether the run from one place to before another passes: it is one separator long or more are allowed, and the
 -- flag that its neighbours ask for is set
-unfoldable pub run_passes : Format → ℕ → List ℕ → ℕ → ℕ → ℕ → Bool
-run_passes format radix text start from to =
+unfoldable pub run_passes : Format → Bool → ℕ → List ℕ → ℕ → ℕ → ℕ → Bool
+run_passes format is_prefixed radix text start from to =
     (format.integer_consecutive_digit_separator || (to == from + 1))
-    && flag_for format start (nat_lt start from && is_some (digit_at radix text (from - 1)))
+    && flag_for format is_prefixed (nat_lt start from && is_some (digit_at radix text (from - 1)))
     (is_some (digit_at radix text to))
 
 -- whether the run of the separator at a place passes
-abbrev pub is_in_passing_run : Format → ℕ → List ℕ → ℕ → ℕ → Bool
-is_in_passing_run format radix text start place =
-    run_passes format radix text start (run_begin format text start place)
+abbrev pub is_in_passing_run : Format → Bool → ℕ → List ℕ → ℕ → ℕ → Bool
+is_in_passing_run format is_prefixed radix text start place =
+    run_passes format is_prefixed radix text start (run_begin format text start place)
     (run_stop format text place)
 
 -- ---- the numeral's end, and its digits
 
 -- whether a place holds a digit, or a separator whose run passes
-unfoldable pub is_in_numeral : Format → ℕ → List ℕ → ℕ → ℕ → Bool
-is_in_numeral format radix text start place =
+unfoldable pub is_in_numeral : Format → Bool → ℕ → List ℕ → ℕ → ℕ → Bool
+is_in_numeral format is_prefixed radix text start place =
     is_some (digit_at radix text place)
-    || (separator_at format text place && is_in_passing_run format radix text start place)
+    || (separator_at format text place
+    && is_in_passing_run format is_prefixed radix text start place)
 
 -- the numeral's end: the greatest place such that each place from start to before it belongs
-unfoldable pub end_of : Format → ℕ → List ℕ → ℕ → ℕ
-end_of format radix text start = stop_of (is_in_numeral format radix text start) start (length text)
+unfoldable pub end_of : Format → Bool → ℕ → List ℕ → ℕ → ℕ
+end_of format is_prefixed radix text start =
+    stop_of (is_in_numeral format is_prefixed radix text start) start (length text)
 
 -- the places of digits from one place to before another, in rising order
 unfoldable pub digits_between : ℕ → List ℕ → ℕ → ℕ → List ℕ
@@ -92,5 +90,6 @@ digits_between radix text from to =
     filter (λ place. is_some (digit_at radix text place)) (range_with_len from (to - from))
 
 -- the places of the numeral's digits
-abbrev pub places : Format → ℕ → List ℕ → ℕ → List ℕ
-places format radix text start = digits_between radix text start (end_of format radix text start)
+abbrev pub places : Format → Bool → ℕ → List ℕ → ℕ → List ℕ
+places format is_prefixed radix text start =
+    digits_between radix text start (end_of format is_prefixed radix text start)

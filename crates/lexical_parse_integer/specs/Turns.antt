@@ -3,7 +3,7 @@ use Rattle.std.specs.Prelude.{◌≡◌, ℕ, ◌+◌, ◌-◌, ◌/◌, ◌%◌
 use Rattle.lexical_util.specs.Format.{Format}
 use Rattle.lexical_util.specs.Number.{IntegerType, overflow_digits}
 use Rattle.lexical_parse_integer.specs.Head.{head_of}
-use Rattle.lexical_parse_integer.specs.Numeral.{numeral_in, digit_count}
+use Rattle.lexical_parse_integer.specs.Numeral.{numeral_behind, digit_count}
 
 -- how many digits a word has for a type of this width: eight from 64 bits on, and four for 32 bits
 unfoldable pub digits_per_word : ℕ → ℕ
@@ -20,7 +20,7 @@ abbrev pub HasFewTurns : Format → IntegerType → List ℕ → ℕ → Type 0
 HasFewTurns format type text turns = MatchResult (head_of format type text)
     (λ head. head.radix ≤ 10
     → turns ≤ turns_bound (digits_per_word type.bits) (overflow_digits type head.radix)
-    (digit_count (numeral_in format text head.start head.radix)))
+    (digit_count (numeral_behind format text head)))
     (λ e. turns ≡ 0)
 
 -- words are asked for: options and format admit them, and the type is wide enough

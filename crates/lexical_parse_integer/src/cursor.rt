@@ -38,12 +38,14 @@ pub struct Cursor<'a> {
 
 impl<'a> Model for Cursor<'a> {
     ghost use Rattle.lexical_parse_integer.specs.CursorView.{CursorView, IsSound};
+    ghost use Rattle.lexical_parse_integer.specs.Seeking.{starts_behind_prefix};
 
     ghost Value = { CursorView };
 
     ghost view = { λ c. record {
       bytes = c.bytes.now;
       format = c.format;
+      is_prefixed = starts_behind_prefix c.start;
       radix = c.radix;
       start = c.start;
       position = c.position;
@@ -57,6 +59,7 @@ impl<'a> Model for Cursor<'a> {
         (record {
           bytes = c.bytes.now;
           format = c.format;
+          is_prefixed = starts_behind_prefix c.start;
           radix = c.radix;
           start = c.start;
           position = c.position;
@@ -77,6 +80,7 @@ impl<'a> Cursor<'a> {
         ensures { result ≡ record {
           bytes = bytes.now;
           format = format.now;
+          is_prefixed = false;
           radix = format.now.mantissa_radix;
           start = 0;
           position = 0;
@@ -359,8 +363,8 @@ impl<'a> Cursor<'a> {
         requires is_open { self.old.closed ≡ false }
         ensures answer { result ≡ closes self.old }
         ensures at_end { self.old.position ≡ numeral_end self.old
-            → self.new.position
-            ≡ numeral_stop self.old.format self.old.radix self.old.bytes self.old.start }
+            → self.new.position ≡ numeral_stop self.old.format self.old.is_prefixed
+            self.old.radix self.old.bytes self.old.start }
         ensures before_end { self.old.position < numeral_end self.old → self.new ≡ self.old }
         ensures sound { IsSound self.new }
         ensures after { self.new ≡ (if result

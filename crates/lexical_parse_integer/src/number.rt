@@ -19,9 +19,10 @@ use lexical_util::result::Result;
 // Whether a digit stands behind the head.
 #[inline(always)]
 fn has_digit_behind(bytes: &[u8], format: &NumberFormat, head: Head) -> bool
-    requires sound { IsSound (view_at format.now bytes.now head.radix head.start head.start 0) }
-    ensures { result
-        ≡ nat_lt 0 (digit_count (numeral_in format.now bytes.now head.start head.radix)) }
+    requires sound { IsSound
+        (view_at format.now head.is_prefixed head.radix bytes.now head.start head.start 0) }
+    ensures { result ≡ nat_lt 0 (digit_count
+        (numeral_in format.now head.is_prefixed head.radix bytes.now head.start)) }
 {
     match seek(bytes, format, head.radix, head.start, head.start) {
         Found::Digit(_, _) => true,

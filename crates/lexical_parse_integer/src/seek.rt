@@ -3,7 +3,7 @@
 ghost use Rattle.std.specs.Prelude.{◌≡◌, ◌≤◌, ◌<◌, None, length};
 ghost use Rattle.lexical_util.specs.Digit.{IsRadix};
 ghost use Rattle.lexical_parse_integer.specs.Runs.{digit_at, end_of, flag_for, leading_in_force, run_passes, run_stop, separator_at};
-ghost use Rattle.lexical_parse_integer.specs.Seeking.{Finds, IsAtRunStart, IsSeparatorNoDigit};
+ghost use Rattle.lexical_parse_integer.specs.Seeking.{Finds, IsAtRunStart, IsSeparatorNoDigit, starts_behind_prefix};
 
 use lexical_util::digit::char_to_digit;
 use lexical_util::format::NumberFormat;
@@ -55,7 +55,7 @@ fn run_stop(bytes: &[u8], format: &NumberFormat, place: usize) -> usize
 // Whether leading runs may stand in the region: a region that starts at 2 or later starts behind a prefix.
 #[inline(always)]
 fn leading_in_force(format: &NumberFormat, start: usize) -> bool
-    ensures { result ≡ leading_in_force format.now start }
+    ensures { result ≡ leading_in_force format.now (starts_behind_prefix start) }
 {
     format.integer_leading_digit_separator()
         || (format.integer_prefix_digit_separator() && start >= 2)
@@ -64,7 +64,7 @@ fn leading_in_force(format: &NumberFormat, start: usize) -> bool
 #[inline(always)]
 #[tactic(auto, unfolding(crate::specs::Runs::flag_for))]
 fn flag_for(format: &NumberFormat, start: usize, before: bool, after: bool) -> bool
-    ensures { result ≡ flag_for format.now start before after }
+    ensures { result ≡ flag_for format.now (starts_behind_prefix start) before after }
 {
     match (before, after) {
         (true, true) => format.integer_internal_digit_separator(),
@@ -89,7 +89,8 @@ fn run_passes(
 ) -> bool
     requires order { from < to }
     requires radix { IsRadix radix }
-    ensures { result ≡ run_passes format.now radix bytes.now start from to }
+    ensures { result
+        ≡ run_passes format.now (starts_behind_prefix start) radix bytes.now start from to }
 {
     let before = start < from && digit_at(bytes, radix, from - 1).is_some();
     let after = digit_at(bytes, radix, to).is_some();
@@ -113,10 +114,11 @@ fn seek_behind_run(
     requires separator { IsSeparatorNoDigit format radix bytes.now }
     requires within { position ≤ length bytes.now }
     requires after_start { start ≤ position }
-    requires before_end { position ≤ end_of format radix bytes.now start }
+    requires before_end { position
+        ≤ end_of format (starts_behind_prefix start) radix bytes.now start }
     requires at_run_start { IsAtRunStart format bytes.now start position }
     requires no_digit { digit_at radix bytes.now position ≡ None }
-    ensures { Finds format radix bytes.now start position result }
+    ensures { Finds format (starts_behind_prefix start) radix bytes.now start position result }
 {
     if !separator_at(bytes, &format, position) {
         return Found::End(position);
@@ -145,10 +147,11 @@ fn seek_behind_separator(
     requires separator { IsSeparatorNoDigit format.now radix bytes.now }
     requires within { position ≤ length bytes.now }
     requires after_start { start ≤ position }
-    requires before_end { position ≤ end_of format.now radix bytes.now start }
+    requires before_end { position
+        ≤ end_of format.now (starts_behind_prefix start) radix bytes.now start }
     requires at_run_start { IsAtRunStart format.now bytes.now start position }
     requires no_digit { digit_at radix bytes.now position ≡ None }
-    ensures { Finds format.now radix bytes.now start position result }
+    ensures { Finds format.now (starts_behind_prefix start) radix bytes.now start position result }
 {
     if format.digit_separator().is_none() {
         return Found::End(position);
@@ -169,9 +172,10 @@ pub(crate) fn seek(
     requires separator { IsSeparatorNoDigit format.now radix bytes.now }
     requires within { position ≤ length bytes.now }
     requires after_start { start ≤ position }
-    requires before_end { position ≤ end_of format.now radix bytes.now start }
+    requires before_end { position
+        ≤ end_of format.now (starts_behind_prefix start) radix bytes.now start }
     requires at_run_start { IsAtRunStart format.now bytes.now start position }
-    ensures { Finds format.now radix bytes.now start position result }
+    ensures { Finds format.now (starts_behind_prefix start) radix bytes.now start position result }
 {
     if let Some(value) = digit_at(bytes, radix, position) {
         return Found::Digit(position, value);

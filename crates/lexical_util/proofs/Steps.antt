@@ -76,7 +76,7 @@ pub difference_fits : {w : Width} {negative : Bool} {value scale add : ℤ} → 
     → pos 1 ≤ℤ scale → pos 0 ≤ℤ add → HasSign negative value
     → IsNumber (integer_type (bits w) true) (mul_add negative value scale add)
     → SFits w (machine_value w (machine_value w value *ℤ machine_value w scale) -ℤ machine_value w add)
-difference_fits {w} {negative} {value} {scale} {add} is_minus value_fits scale_fits add_fits one none sign number =
+difference_fits {w} {negative} {value} {scale} {add} is_negative value_fits scale_fits add_fits one none sign number =
     let product = number_product w negative value scale add one none sign number in
     let fits = number_fits w (mul_add negative value scale add) number in
     rw (
@@ -85,7 +85,7 @@ difference_fits {w} {negative} {value} {scale} {add} is_minus value_fits scale_f
       to_z-of_z w add add_fits,
       to_z-of_z w (value *ℤ scale) product,
     )
-    (rw is_minus at fits)
+    (rw is_negative at fits)
 
 pub difference_is : {w : Width} {negative : Bool} {value scale add : ℤ} → negative ≡ true
     → SFits w value → SFits w scale → SFits w add
@@ -93,17 +93,17 @@ pub difference_is : {w : Width} {negative : Bool} {value scale add : ℤ} → ne
     → IsNumber (integer_type (bits w) true) (mul_add negative value scale add)
     → machine_value w (machine_value w (machine_value w value *ℤ machine_value w scale) -ℤ
     machine_value w add) ≡ mul_add negative value scale add
-difference_is {w} {negative} {value} {scale} {add} is_minus value_fits scale_fits add_fits one none sign number =
+difference_is {w} {negative} {value} {scale} {add} is_negative value_fits scale_fits add_fits one none sign number =
     let product = number_product w negative value scale add one none sign number in
     let whole = number_fits w (mul_add negative value scale add) number in
-    let fits = rw is_minus at whole in
+    let fits = rw is_negative at whole in
     rw (
       to_z-of_z w value value_fits,
       to_z-of_z w scale scale_fits,
       to_z-of_z w add add_fits,
       to_z-of_z w (value *ℤ scale) product,
       to_z-of_z w ((value *ℤ scale) -ℤ add) fits,
-      is_minus,
+      is_negative,
     )
     refl
 
@@ -185,7 +185,7 @@ pub checked_difference : {w : Width} {negative : Bool} {value scale add product 
     → SomeIff found (SFits w (machine_value w product -ℤ machine_value w add))
     (machine_value w product -ℤ machine_value w add)
     → option_map (λ z. z) found ≡ number_if_fits (integer_type (bits w) true) (mul_add negative value scale add)
-checked_difference {w} {negative} {value} {scale} {add} {product} found is_minus value_fits
+checked_difference {w} {negative} {value} {scale} {add} {product} found is_negative value_fits
     scale_fits add_fits (fits, is) kept =
     let whole = rw (to_z-of_z w value value_fits, to_z-of_z w scale scale_fits) at fits in
     kept_if_fits w found (machine_value w product -ℤ machine_value w add) (mul_add negative value scale add) kept
@@ -195,7 +195,7 @@ checked_difference {w} {negative} {value} {scale} {add} {product} found is_minus
       to_z-of_z w scale scale_fits,
       to_z-of_z w add add_fits,
       to_z-of_z w (value *ℤ scale) whole,
-      is_minus,
+      is_negative,
     ) refl)
 
 pub checked_sum : {w : Width} {negative : Bool} {value scale add product : ℤ} (found : Option ℤ) → negative ≡ false

@@ -135,8 +135,7 @@ sixteen_one_by_one-digits : (cursor : CursorView)
 unfolding grammar
 sixteen_one_by_one-digits cursor stop =
     stop.all_digits ∙ MatchResult-at_ok
-    (λ (head : Head). digit_count (numeral_in standard (codes "1234567812345678") head.start
-    head.radix) ≡ 16) (λ e. e ≡ e) stop.head stop.head_is refl
+    (λ (head : Head). digit_count (numeral_in standard head.is_prefixed head.radix (codes "1234567812345678") head.start) ≡ 16) (λ e. e ≡ e) stop.head stop.head_is refl
 
 pub sixteen_one_by_one : {T E : Type 0} (answer : Result T E) (cursor : CursorView)
     → OnOk answer (StandsAtStop standard (integer_type 64 false) (codes "1234567812345678") cursor)
@@ -149,7 +148,7 @@ three_one_by_one-digits : (cursor : CursorView)
 unfolding grammar
 three_one_by_one-digits cursor stop =
     stop.all_digits ∙ MatchResult-at_ok
-    (λ (head : Head). digit_count (numeral_in standard (codes "255.5") head.start head.radix) ≡ 3)
+    (λ (head : Head). digit_count (numeral_in standard head.is_prefixed head.radix (codes "255.5") head.start) ≡ 3)
     (λ e. e ≡ e) stop.head stop.head_is refl
 
 pub three_one_by_one : {T E : Type 0} (answer : Result T E) (cursor : CursorView)

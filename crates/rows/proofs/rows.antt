@@ -10,6 +10,7 @@ pub mod Flags
 pub mod Formats
 pub mod Functional
 pub mod Literals
+pub mod Notations
 pub mod Octal
 pub mod Radixes
 pub mod Scripting

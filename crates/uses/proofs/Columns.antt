@@ -10,7 +10,7 @@ use Rattle.std.specs.Prelude.{option_map, slice_get}
 use Rattle.std.specs.List.{range_with_len}
 use Rattle.lexical_util.specs.declared.error.Error.{Error}
 use Rattle.uses.specs.Each.{each}
-use Rattle.uses.specs.FixedWidth.{number_in, numbers_in, values_or_fault, start_of}
+use Rattle.uses.specs.FixedWidth.{column_number, numbers_in, values_or_fault, start_of}
 use Rattle.uses.specs.declared.fixed_width.RowError.TheVariants.{Column}
 use Rattle.uses.proofs.EachLemmas.{each_fault, each_more}
 
@@ -24,18 +24,18 @@ pub start_more : (widths : List ℕ) (column : ℕ) → column < length widths
 start_more widths column inside = sum_by_more (λ x. x) widths column 0 inside
 
 number_at : (widths row : List ℕ) (column : ℕ) → column < length widths
-    → slice_get (numbers_in widths row) column ≡ Some (number_in widths row column)
+    → slice_get (numbers_in widths row) column ≡ Some (column_number widths row column)
 number_at widths row column inside =
     let size = length-range_with_len 0 (length widths) in
     let there : slice_get (range_with_len 0 (length widths)) column ≡ Some column =
     slice_get-get_or (range_with_len 0 (length widths)) column 0 (omega arith)
     ∙ ap Some (get_or-range_with_len 0 (length widths) column 0 inside ∙ zero-add column) in
-    slice_get-map (number_in widths row) (range_with_len 0 (length widths)) column
-    ∙ ap (option_map (number_in widths row)) there
+    slice_get-map (column_number widths row) (range_with_len 0 (length widths)) column
+    ∙ ap (option_map (column_number widths row)) there
 
 pub read_more : (widths row : List ℕ) (column : ℕ) (values : List ℤ) (value put : ℤ)
     → AreRead widths row column values → column < length widths → column < length values
-    → number_in widths row column ≡ Ok value → put ≡ value
+    → column_number widths row column ≡ Ok value → put ≡ value
     → AreRead widths row (column + 1) (set values column put)
 read_more widths row column values value put read inside room e same =
     let more = each_more (numbers_in widths row) column (take column values) value read
@@ -45,7 +45,7 @@ read_more widths row column values value put read inside room e same =
 
 pub read_fault : (widths row : List ℕ) (column start : ℕ) (values : List ℤ) (e : Error)
     → AreRead widths row column values → column < length widths → start ≡ start_of widths column
-    → number_in widths row column ≡ Err e
+    → column_number widths row column ≡ Err e
     → values_or_fault widths (each (numbers_in widths row)) ≡ Err (Column column start e)
 read_fault widths row column start values e read inside at fault =
     let first = each_fault (numbers_in widths row) column (take column values) e read
@@ -56,7 +56,7 @@ pub read_all : (widths row : List ℕ) (column : ℕ) (values : List ℤ)
     → AreRead widths row column values → column ≡ length widths → length values ≡ length widths
     → values_or_fault widths (each (numbers_in widths row)) ≡ Ok values
 read_all widths row column values read last size =
-    let numbers = length-map-range_with_len (number_in widths row) 0 (length widths) in
+    let numbers = length-map-range_with_len (column_number widths row) 0 (length widths) in
     let whole : take column (numbers_in widths row) ≡ numbers_in widths row = take_all _ _ (omega arith) in
     let all : take column values ≡ values = take_all _ values (omega arith) in
     let found : each (numbers_in widths row) ≡ Ok values = sym (ap each whole) ∙ read ∙ ap Ok all in

@@ -15,14 +15,14 @@ abbrev pub start_of : List ℕ → ℕ → ℕ
 start_of widths column = sum (take column widths)
 
 -- what a column of a row stands for
-abbrev pub number_in : List ℕ → List ℕ → ℕ → Result ℤ Error
-number_in widths row column =
+abbrev pub column_number : List ℕ → List ℕ → ℕ → Result ℤ Error
+column_number widths row column =
     complete standard (integer_type 64 true)
     (slice_range row (start_of widths column) (start_of widths (column + 1)))
 
 -- what the columns of a row stand for
 abbrev pub numbers_in : List ℕ → List ℕ → List (Result ℤ Error)
-numbers_in widths row = map (number_in widths row) (range_with_len 0 (length widths))
+numbers_in widths row = map (column_number widths row) (range_with_len 0 (length widths))
 
 -- the numbers of all columns, or the first column that isn't read, with where it starts
 abbrev pub values_or_fault : List ℕ → Result (List ℤ) (ℕ × Error) → Result (List ℤ) RowError

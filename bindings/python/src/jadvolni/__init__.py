@@ -3,7 +3,7 @@
     >>> import jadvolni
     >>> jadvolni.parse(b"-12", "i8")
     -12
-    >>> jadvolni.parse("FF", "u8", jadvolni.Format(radix=16))
+    >>> jadvolni.parse("FF", "u8", jadvolni.Format(mantissa_radix=16))
     255
     >>> jadvolni.parse_front(b"12px", "u16")
     (12, 2)

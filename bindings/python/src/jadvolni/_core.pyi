@@ -8,7 +8,12 @@ from _typeshed import ReadableBuffer
 from ._format import Format
 
 Text = Union[str, ReadableBuffer]
-ColumnType = Literal["u8", "u16", "u32", "u64", "usize", "i8", "i16", "i32", "i64", "isize"]
+# A class is one with the name of a type, as numpy.int64.
+ColumnType = Union[
+    Literal["u8", "u16", "u32", "u64", "usize", "i8", "i16", "i32", "i64", "isize"],
+    Literal["uint8", "uint16", "uint32", "uint64", "int8", "int16", "int32", "int64"],
+    type,
+]
 NumberType = Union[ColumnType, Literal["u128", "i128"]]
 
 __version__: str

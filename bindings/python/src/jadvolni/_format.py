@@ -3,7 +3,7 @@
 from __future__ import annotations
 
 import dataclasses
-import functools
+import operator
 from typing import Optional, Union
 
 from ._core import _check_format
@@ -11,20 +11,19 @@ from ._core import _check_format
 # A byte of punctuation, as `b"_"` or `"_"`.
 Punctuation = Union[bytes, str, None]
 
+_MARKS = ("digit_separator", "base_prefix", "base_suffix")
+_PREFIXES = ("base_prefix", "literal_prefixes")
+_PLACES = tuple(f"integer_{place}_digit_separator" for place in ("leading", "internal", "trailing"))
+_BEHIND_PREFIX = "integer_prefix_digit_separator"
 # What changes nothing unless one of other fields is set.
 _NEEDED = (
-    (
-        "separator",
-        ("leading_separator", "internal_separator", "trailing_separator", "prefix_separator"),
-    ),
-    ("leading_separator", ("separator",)),
-    ("internal_separator", ("separator",)),
-    ("trailing_separator", ("separator",)),
-    ("consecutive_separator", ("separator",)),
-    ("prefix_separator", ("separator",)),
-    ("prefix_separator", ("prefix", "literal_prefixes")),
-    ("case_sensitive_prefix", ("prefix", "literal_prefixes")),
-    ("case_sensitive_suffix", ("suffix",)),
+    ("digit_separator", (*_PLACES, _BEHIND_PREFIX)),
+    *((name, ("digit_separator",)) for name in _PLACES),
+    ("integer_consecutive_digit_separator", ("digit_separator",)),
+    (_BEHIND_PREFIX, ("digit_separator",)),
+    (_BEHIND_PREFIX, _PREFIXES),
+    ("case_sensitive_base_prefix", _PREFIXES),
+    ("case_sensitive_base_suffix", ("base_suffix",)),
 )
 
 
@@ -32,54 +31,71 @@ _NEEDED = (
 class Format:
     """What a text may look like. A format can't be changed, and one that breaks a rule isn't made.
 
-    radix: from 2 to 36; digits above 9 are letters, in either case.
-    separator: a byte that counts for nothing among the digits, as "_" in "1_000".
-    prefix: a byte that may follow a 0 in front of the digits, as "x" in "0xFF"; the radix stays.
-    suffix: a byte that may follow the digits, as "h" in "FFh".
-    case_sensitive_prefix, case_sensitive_suffix: they are matched exactly, and else in either case.
-    required_digits: a digit has to be there. Else a text without digits is 0.
-    no_positive_sign: a "+" is refused.
-    required_sign: a text without a sign is refused.
-    no_leading_zeros: a zero in front of another digit is refused.
-    leading_separator, internal_separator, trailing_separator: where separators may stand.
-    consecutive_separator: where one separator may stand, more may.
-    prefix_separator: separators may stand directly after a prefix, as in "0x_1F".
-    literal_prefixes: "0x", "0o" and "0b" choose the radix; `radix` has to be 10.
-    octal_zero: a 0 in front makes the number octal, as in "0777"; `radix` has to be 10.
+    mantissa_radix: The radix, from 2 to 36. Digits above 9 are letters, in either case.
+    digit_separator: A byte that counts for nothing among the digits: "_" in "1_000". Where it may
+        be, the flags on separators say; with none of the first three it is no part of a number.
+    base_prefix: A byte that may follow a 0 before the digits: with "x", "0x1F" is read as "1F" is.
+        The radix stays.
+    base_suffix: A byte that may follow the digits: with "h", "1Fh" is read as "1F" is.
+    case_sensitive_base_prefix: The prefix is matched exactly. Else a letter is matched in either
+        case.
+    case_sensitive_base_suffix: The suffix is matched exactly. Else a letter is matched in either
+        case.
+    required_integer_digits: A digit is required, as by required_mantissa_digits: one of the two is
+        enough.
+    required_mantissa_digits: A digit is required. With neither field a text without digits is 0.
+    no_positive_mantissa_sign: A "+" is refused.
+    required_mantissa_sign: A text without a sign is refused.
+    no_integer_leading_zeros: A zero before another digit is refused, as in "01". After a prefix it
+        is not.
+    integer_leading_digit_separator: Separators may come before all digits: "_12".
+    integer_internal_digit_separator: Separators may come between two digits: "1_2".
+    integer_trailing_digit_separator: Separators may come after all digits: "12_".
+    integer_consecutive_digit_separator: Where one separator may be, more may: "1__2".
+    integer_prefix_digit_separator: Separators may come directly after a prefix, as in "0x_1F", as
+        if they might come before all digits there. Elsewhere it changes nothing.
+    literal_prefixes: "0x", "0o" and "0b" choose the radix 16, 8 or 2 for the digits after them; so
+        do "0X", "0O" and "0B", unless the prefix is matched exactly. The radix of the format has to
+        be 10, and is that of a text without one of them.
+    literal_octal_zero: A number is octal if its first byte, behind a sign, is 0: "0777" is 511, and
+        "08" ends after its zero. "1007" and "_017" are decimal, and a prefix comes first. The radix
+        of the format has to be 10.
 
     FormatError tells which rule a format breaks. A field that changes nothing without another, as
-    `leading_separator` without `separator`, is a ValueError.
+    `integer_leading_digit_separator` without `digit_separator`, is a ValueError.
 
-    >>> Format(radix=16, prefix="x")
-    Format(radix=16, prefix='x')
+    >>> Format(mantissa_radix=16, base_prefix="x")
+    Format(mantissa_radix=16, base_prefix='x')
     """
 
-    radix: int = 10
-    separator: Punctuation = None
-    prefix: Punctuation = None
-    suffix: Punctuation = None
-    case_sensitive_prefix: bool = False
-    case_sensitive_suffix: bool = False
-    required_digits: bool = True
-    no_positive_sign: bool = False
-    required_sign: bool = False
-    no_leading_zeros: bool = False
-    leading_separator: bool = False
-    internal_separator: bool = True
-    trailing_separator: bool = False
-    consecutive_separator: bool = False
-    prefix_separator: bool = False
+    # The fields, in the order of their bytes.
+    mantissa_radix: int = 10
+    digit_separator: Punctuation = None
+    base_prefix: Punctuation = None
+    base_suffix: Punctuation = None
+    case_sensitive_base_prefix: bool = False
+    case_sensitive_base_suffix: bool = False
+    required_integer_digits: bool = False
+    required_mantissa_digits: bool = True
+    no_positive_mantissa_sign: bool = False
+    required_mantissa_sign: bool = False
+    no_integer_leading_zeros: bool = False
+    integer_leading_digit_separator: bool = False
+    integer_internal_digit_separator: bool = False
+    integer_trailing_digit_separator: bool = False
+    integer_consecutive_digit_separator: bool = False
+    integer_prefix_digit_separator: bool = False
     literal_prefixes: bool = False
-    octal_zero: bool = False
+    literal_octal_zero: bool = False
 
     def __post_init__(self) -> None:
-        if not isinstance(self.radix, int):
-            raise TypeError(f"radix has to be an int, and not {type(self.radix).__name__}")
+        object.__setattr__(self, "mantissa_radix", _integer("mantissa_radix", self.mantissa_radix))
         given = self._given()
         for name, value in given.items():
             if isinstance(_DEFAULTS[name], bool) and not isinstance(value, bool):
                 kind = type(value).__name__
                 raise TypeError(f"{name} has to be True or False, and not {kind}")
+        object.__setattr__(self, "_fields", self._bytes())
         _check_format(self)
         for name, needed in _NEEDED:
             if name in given and not any(getattr(self, other) for other in needed):
@@ -102,33 +118,15 @@ class Format:
             raise ValueError(f"{name} has to be one byte or None, and {value!r} has {len(encoded)}")
         return encoded[0]
 
-    @functools.cached_property
-    def _fields(self) -> bytes:
+    def _bytes(self) -> bytes:
         """The format as the library has it: the bytes of a `jadvolni_format`."""
-        marks = [self._byte(name) for name in ("separator", "prefix", "suffix")]
-        parted = self.separator is not None
-        fields = [
-            # A radix that is no byte is refused as 0 is.
-            self.radix if 0 <= self.radix <= 255 else 0,
-            *(mark or 0 for mark in marks),
-            self.case_sensitive_prefix,
-            self.case_sensitive_suffix,
-            False,
-            self.required_digits,
-            self.no_positive_sign,
-            self.required_sign,
-            self.no_leading_zeros,
-            self.leading_separator,
-            self.internal_separator and parted,
-            self.trailing_separator,
-            self.consecutive_separator,
-            self.prefix_separator,
-            self.literal_prefixes,
-            self.octal_zero,
-            sum(1 << bit for bit, mark in enumerate(marks) if mark == 0),
-            *bytes(13),
-        ]
-        return bytes(fields)
+        numbers = {name: getattr(self, name) for name in _DEFAULTS}
+        marks = {name: self._byte(name) for name in _MARKS}
+        # A radix that is no byte is refused as 0 is.
+        radix = self.mantissa_radix if 0 <= self.mantissa_radix <= 255 else 0
+        values = {**numbers, **marks, "mantissa_radix": radix}.values()
+        nul_is_punctuation = sum(1 << bit for bit, mark in enumerate(marks.values()) if mark == 0)
+        return bytes([*(value or 0 for value in values), nul_is_punctuation, *bytes(13)])
 
     def __repr__(self) -> str:
         given = ", ".join(f"{name}={value!r}" for name, value in self._given().items())
@@ -141,6 +139,15 @@ class Format:
 
     def __hash__(self) -> int:
         return hash(self._fields)
+
+
+def _integer(name: str, value: object) -> int:
+    """An integer of any type, as one of NumPy, as an int."""
+    try:
+        return operator.index(value)
+    except TypeError:
+        kind = type(value).__name__
+        raise TypeError(f"{name} has to be an integer, and not {kind}") from None
 
 
 _DEFAULTS = {field.name: field.default for field in dataclasses.fields(Format)}

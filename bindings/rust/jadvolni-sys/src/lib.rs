@@ -165,4 +165,14 @@ extern "C" {
     pub fn jadvolni_parse_isize_with_format(text: *const c_char, len: usize, format: *const jadvolni_format, value: *mut isize) -> jadvolni_result;
     pub fn jadvolni_parse_isize_front_with_format(text: *const c_char, len: usize, format: *const jadvolni_format, value: *mut isize) -> jadvolni_result;
     pub fn jadvolni_parse_isize_partial_with_format(text: *const c_char, len: usize, format: *const jadvolni_format, value: *mut isize) -> jadvolni_result;
+
+    pub fn jadvolni_parse_u8_column(text: *const c_char, len: usize, separator: u8, format: *const jadvolni_format, values: *mut u8, capacity: usize, count: *mut usize) -> jadvolni_result;
+    pub fn jadvolni_parse_u16_column(text: *const c_char, len: usize, separator: u8, format: *const jadvolni_format, values: *mut u16, capacity: usize, count: *mut usize) -> jadvolni_result;
+    pub fn jadvolni_parse_u32_column(text: *const c_char, len: usize, separator: u8, format: *const jadvolni_format, values: *mut u32, capacity: usize, count: *mut usize) -> jadvolni_result;
+    pub fn jadvolni_parse_u64_column(text: *const c_char, len: usize, separator: u8, format: *const jadvolni_format, values: *mut u64, capacity: usize, count: *mut usize) -> jadvolni_result;
+    pub fn jadvolni_parse_i8_column(text: *const c_char, len: usize, separator: u8, format: *const jadvolni_format, values: *mut i8, capacity: usize, count: *mut usize) -> jadvolni_result;
+    pub fn jadvolni_parse_i16_column(text: *const c_char, len: usize, separator: u8, format: *const jadvolni_format, values: *mut i16, capacity: usize, count: *mut usize) -> jadvolni_result;
+    pub fn jadvolni_parse_i32_column(text: *const c_char, len: usize, separator: u8, format: *const jadvolni_format, values: *mut i32, capacity: usize, count: *mut usize) -> jadvolni_result;
+    pub fn jadvolni_parse_i64_column(text: *const c_char, len: usize, separator: u8, format: *const jadvolni_format, values: *mut i64, capacity: usize, count: *mut usize) -> jadvolni_result;
+    pub fn jadvolni_field_start(text: *const c_char, len: usize, separator: u8) -> usize;
 }

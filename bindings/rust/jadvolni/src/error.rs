@@ -81,6 +81,7 @@ impl Error {
 
 impl fmt::Display for Error {
     /// A text of `bindings/errors.txt`, and the place of a fault of the text: `overflow at byte 19`.
+    #[rustfmt::skip]
     fn fmt(&self, f: &mut fmt::Formatter<'_>) -> fmt::Result {
         f.write_str(match self {
             Error::Overflow(_) => "overflow",
@@ -91,24 +92,19 @@ impl fmt::Display for Error {
             Error::InvalidPositiveSign(_) => "forbidden plus sign",
             Error::InvalidLeadingZeros(_) => "forbidden leading zero",
             Error::InvalidMantissaRadix => "the radix has to be 2 to 36",
-            Error::InvalidDigitSeparator => {
-                "the separator has to be ASCII, and no sign and no digit of the radix"
-            }
-            Error::InvalidBasePrefix => {
-                "the prefix has to be ASCII, and no sign and no digit of the radix"
-            }
-            Error::InvalidBaseSuffix => {
-                "the suffix has to be ASCII, and no sign and no digit of the radix"
-            }
-            Error::InvalidPunctuation => {
+            Error::InvalidDigitSeparator =>
+                "the separator has to be ASCII, and no sign and no digit of the radix",
+            Error::InvalidBasePrefix =>
+                "the prefix has to be ASCII, and no sign and no digit of the radix",
+            Error::InvalidBaseSuffix =>
+                "the suffix has to be ASCII, and no sign and no digit of the radix",
+            Error::InvalidPunctuation =>
                 "separator, prefix and suffix have to be different bytes, and no letter \
-                 in two cases"
-            }
-            Error::InvalidLiteralPrefixes => {
+                in two cases",
+            Error::InvalidLiteralPrefixes =>
                 "literal prefixes and octal zeros need the radix 10, and literal prefixes \
-                 no prefix, and no separator or suffix that may be a part of 0x, 0o, 0b \
-                 or of their digits"
-            }
+                no prefix, and no separator or suffix that may be a part of 0x, 0o, 0b \
+                or of their digits",
             Error::Unknown(_) => "a status that only a later library has",
         })?;
         match self.place() {

@@ -18,11 +18,15 @@
 #[doc = include_str!("../../README.md")]
 struct Readme;
 
+mod column;
 mod error;
 mod format;
 mod integer;
 mod languages;
 
+pub use column::{
+    field_start, parse_column, parse_column_with_format, Column, ColumnError, ColumnInteger,
+};
 pub use error::Error;
 pub use format::Format;
 pub use integer::Integer;

@@ -8,8 +8,8 @@ use Rattle.lexical_util.specs.Number.{IntegerType, overflow_digits}
 use Rattle.lexical_parse_integer.specs.CursorView.{CursorView, numeral_of}
 use Rattle.lexical_parse_integer.specs.Folded.{Folded}
 use Rattle.lexical_parse_integer.specs.Head.{Head, head_of}
-use Rattle.lexical_parse_integer.specs.Numeral.{digit_count, numeral_in}
-use Rattle.lexical_parse_integer.specs.Reading.{GoesOn, IsAtHead, IsAtNumeral, KeepsTurns, LeavesFewTurns, LeavesTurns, LooksAhead, ReadsWords}
+use Rattle.lexical_parse_integer.specs.Numeral.{digit_count, numeral_in, numeral_behind}
+use Rattle.lexical_parse_integer.specs.Reading.{MovesOn, IsAtHead, IsAtNumeral, KeepsTurns, LeavesFewTurns, LeavesTurns, LooksAhead, ReadsWords}
 use Rattle.lexical_parse_integer.specs.Turns.{AsksWords, HasFewTurns, turns_bound, digits_per_word}
 use Rattle.lexical_parse_integer.proofs.Folds.{fact_of, folded}
 use Rattle.lexical_parse_integer.proofs.bound.TurnBound.{TakesWords, few_turns, one_within, still_few}
@@ -49,7 +49,7 @@ turns_where_digits bits t n u w none one = folded (record { each = λ _. one; fe
 -- ---- all digits
 
 -- a turn for each digit that is left
-pub turns_of_rest : (bits : ℕ) (t : IntegerType) (n : Bool) (u v w : CursorView) → GoesOn u v → v.digits ≤ digit_count (numeral_of u) → w.digits ≤ digit_count (numeral_of v) → Folded (LeavesTurns bits t n u v) → w.turns + v.digits ≡ v.turns + w.digits → Folded (KeepsTurns bits t n u w)
+pub turns_of_rest : (bits : ℕ) (t : IntegerType) (n : Bool) (u v w : CursorView) → MovesOn u v → v.digits ≤ digit_count (numeral_of u) → w.digits ≤ digit_count (numeral_of v) → Folded (LeavesTurns bits t n u v) → w.turns + v.digits ≡ v.turns + w.digits → Folded (KeepsTurns bits t n u w)
 turns_of_rest bits t n u v w g some all left rest =
     let same : digit_count (numeral_of v) ≡ digit_count (numeral_of u) = ap digit_count (same_numeral u v g) in
     folded (record {
@@ -98,24 +98,24 @@ turns_behind_first bits t n u v w front ahead lone kept =
 pub no_turn_is_few : (f : Format) (t : IntegerType) (text : List ℕ) (turns : ℕ) → turns ≡ 0 → HasFewTurns f t text turns
 no_turn_is_few f t text turns none = by_head (head_of f t text)
   where
-    by_head : (r : Result Head Error) → MatchResult r (λ head. head.radix ≤ 10 → turns ≤ turns_bound (digits_per_word t.bits) (overflow_digits t head.radix) (digit_count (numeral_in f text head.start head.radix))) (λ e. turns ≡ 0)
+    by_head : (r : Result Head Error) → MatchResult r (λ head. head.radix ≤ 10 → turns ≤ turns_bound (digits_per_word t.bits) (overflow_digits t head.radix) (digit_count (numeral_behind f text head))) (λ e. turns ≡ 0)
     by_head (Ok head) = λ ten. omega arith
     by_head (Err e) = none
 
-pub few_behind_head : (bits : ℕ) (n : Bool) (f : Format) (t : IntegerType) (text : List ℕ) (minus p : Bool) (v w : CursorView) (turns : ℕ) → bits ≡ t.bits → IsAtHead f t text minus p v → Folded (KeepsTurns bits t n v w) → turns ≡ w.turns → AsksWords bits n f → HasFewTurns f t text turns
-few_behind_head bits n f t text minus p v w turns width at kept is asks =
+pub few_behind_head : (bits : ℕ) (n : Bool) (f : Format) (t : IntegerType) (text : List ℕ) (minus p o : Bool) (v w : CursorView) (turns : ℕ) → bits ≡ t.bits → IsAtHead f t text minus p o v → Folded (KeepsTurns bits t n v w) → turns ≡ w.turns → AsksWords bits n f → HasFewTurns f t text turns
+few_behind_head bits n f t text minus p o v w turns width at kept is asks =
     let here : AsksWords bits n v.format = subst (AsksWords bits n) (sym at.format) asks in
     let fresh : v.turns ≡ v.digits = at.no_turn ∙ sym at.no_digit in
-    let count : digit_count (numeral_of v) ≡ digit_count (numeral_in f text v.start v.radix) = ap digit_count (sym (same_text f t text minus p v at)) in
+    let count : digit_count (numeral_of v) ≡ digit_count (numeral_in f p v.radix text v.start) = ap digit_count (sym (same_text f t text minus p o v at)) in
     let few = λ (ten : v.radix ≤ 10). (fact_of kept).few here ten fresh (inl at.no_digit) in
-    let bound : v.radix ≤ 10 → turns ≤ turns_bound (digits_per_word t.bits) (overflow_digits t v.radix) (digit_count (numeral_in f text v.start v.radix)) =
-    λ ten. subst (λ (m : ℕ). m ≤ turns_bound (digits_per_word t.bits) (overflow_digits t v.radix) (digit_count (numeral_in f text v.start v.radix))) (sym is)
-    (subst (λ (m : ℕ). w.turns ≤ turns_bound (digits_per_word m) (overflow_digits t v.radix) (digit_count (numeral_in f text v.start v.radix))) width
+    let bound : v.radix ≤ 10 → turns ≤ turns_bound (digits_per_word t.bits) (overflow_digits t v.radix) (digit_count (numeral_in f p v.radix text v.start)) =
+    λ ten. subst (λ (m : ℕ). m ≤ turns_bound (digits_per_word t.bits) (overflow_digits t v.radix) (digit_count (numeral_in f p v.radix text v.start))) (sym is)
+    (subst (λ (m : ℕ). w.turns ≤ turns_bound (digits_per_word m) (overflow_digits t v.radix) (digit_count (numeral_in f p v.radix text v.start))) width
     (subst (λ (m : ℕ). w.turns ≤ turns_bound (digits_per_word bits) (overflow_digits t v.radix) m) count (few ten))) in
     rw at.head_is bound
 
-pub each_behind_head : (bits : ℕ) (n : Bool) (f : Format) (t : IntegerType) (text : List ℕ) (minus p : Bool) (v w : CursorView) → IsAtHead f t text minus p v → Folded (KeepsTurns bits t n v w) → IsTrue n → w.turns ≡ w.digits
-each_behind_head bits n f t text minus p v w at kept single =
+pub each_behind_head : (bits : ℕ) (n : Bool) (f : Format) (t : IntegerType) (text : List ℕ) (minus p o : Bool) (v w : CursorView) → IsAtHead f t text minus p o v → Folded (KeepsTurns bits t n v w) → IsTrue n → w.turns ≡ w.digits
+each_behind_head bits n f t text minus p o v w at kept single =
     let each = (fact_of kept).each single in
     let no_digit = at.no_digit in
     let no_turn = at.no_turn in

@@ -7,7 +7,7 @@ use Rattle.std.proofs.lemmas.Bool.{cases_lt, false≢true}
 use Rattle.std.proofs.lemmas.List.{take_more, get_or-map, length-map}
 use Rattle.lexical_parse_integer.specs.CursorView.{AreDigitsAhead, CursorView, IsSound, numeral_end, numeral_of}
 use Rattle.lexical_parse_integer.specs.Numeral.{Numeral, digit_count, front_value, numeral_in}
-use Rattle.lexical_parse_integer.specs.Reading.{FrontsFit, GoesOn, Reads}
+use Rattle.lexical_parse_integer.specs.Reading.{FrontsFit, MovesOn, Reads}
 use Rattle.lexical_parse_integer.specs.Runs.{is_in_numeral, digit_at, digits_between, places, separator_at}
 use Rattle.lexical_digits.specs.Value.{positional_value, with_sign}
 use Rattle.lexical_digits.specs.Words.{word_value}
@@ -27,9 +27,9 @@ use Rattle.lexical_digits.proofs.RadixFronts.{few_fit}
 
 -- ---- without a separator, digits alone
 
-digit_alone : (f : Format) (r : ℕ) (b : List ℕ) (j k : ℕ) → f.digit_separator ≡ None → is_in_numeral f r b j k ≡ true → is_some (digit_at r b k) ≡ true
+digit_alone : (f : Format) (pre : Bool) (r : ℕ) (b : List ℕ) (j k : ℕ) → f.digit_separator ≡ None → is_in_numeral f pre r b j k ≡ true → is_some (digit_at r b k) ≡ true
 unfolding is_in_numeral
-digit_alone f r b j k none t = by_tests (is_some (digit_at r b k)) (separator_at f b k) _ (no_separator f b k none) t
+digit_alone f pre r b j k none t = by_tests (is_some (digit_at r b k)) (separator_at f b k) _ (no_separator f b k none) t
   where
     by_tests : (a s p : Bool) → s ≡ false → (a || (s && p)) ≡ true → a ≡ true
     by_tests true s p e h = refl
@@ -38,7 +38,7 @@ digit_alone f r b j k none t = by_tests (is_some (digit_at r b k)) (separator_at
 
 every_digit : (v : CursorView) → IsSound v → v.format.digit_separator ≡ None → (k : ℕ) → v.start ≤ k → k < numeral_end v → is_some (digit_at v.radix v.bytes k) ≡ true
 every_digit v s none k low high =
-    digit_alone v.format v.radix v.bytes v.start k none ((IsStop-end_of v.format v.radix v.bytes v.start (omega (arith, s.after_start, s.within))).holds k low high)
+    digit_alone v.format v.is_prefixed v.radix v.bytes v.start k none ((IsStop-end_of v.format v.is_prefixed v.radix v.bytes v.start (omega (arith, s.after_start, s.within))).holds k low high)
 
 end_count : (v : CursorView) → IsSound v → v.closed ≡ false → v.format.digit_separator ≡ None → numeral_end v + v.digits ≡ v.position + digit_count (numeral_of v)
 unfolding numeral_in
@@ -46,8 +46,8 @@ end_count v s open_now none =
     let o = s.while_open open_now in
     let whole : v.position + (numeral_end v - v.position) ≡ numeral_end v = omega (arith, o.before_end) in
     let rest = length-digits_between_all v.radix v.bytes v.start v.position (numeral_end v - v.position) s.after_start (λ k low high. every_digit v s none k (omega (arith, s.after_start)) (omega arith)) in
-    let all : length (places v.format v.radix v.bytes v.start) ≡ length (digits_between v.radix v.bytes v.start v.position) + (numeral_end v - v.position) = ap (λ e. length (digits_between v.radix v.bytes v.start e)) (sym whole) ∙ rest in
-    let count = length-map (places v.format v.radix v.bytes v.start) (λ k. unwrap_or (digit_at v.radix v.bytes k) 0) in
+    let all : length (places v.format v.is_prefixed v.radix v.bytes v.start) ≡ length (digits_between v.radix v.bytes v.start v.position) + (numeral_end v - v.position) = ap (λ e. length (digits_between v.radix v.bytes v.start e)) (sym whole) ∙ rest in
+    let count = length-map (places v.format v.is_prefixed v.radix v.bytes v.start) (λ k. unwrap_or (digit_at v.radix v.bytes k) 0) in
     omega (arith, o.digits, o.before_end)
 
 -- where the next bytes, so many, aren't all digits, fewer digits are left
@@ -69,7 +69,7 @@ unfolding numeral_in
 is_part v bs s open_now ten stands digits all inside =
     let o = s.while_open open_now in
     let h : ℕ → ℕ = λ k. unwrap_or (digit_at v.radix v.bytes k) 0 in
-    let ps : List ℕ = places v.format v.radix v.bytes v.start in
+    let ps : List ℕ = places v.format v.is_prefixed v.radix v.bytes v.start in
     let size = length-map ps h in
     let here = λ (i : ℕ) (l : i < length bs). word_digit v.radix v.bytes bs v.position ten stands digits i (v.position + i) (omega arith) l in
     let count = λ (i : ℕ) (l : i < length bs). length-digits_between_all v.radix v.bytes v.start v.position i s.after_start (λ k low high. all k low (omega arith)) in
@@ -118,7 +118,7 @@ digits_below : (v : CursorView) → 1 ≤ v.radix → (k : ℕ) → k < digit_co
 unfolding numeral_in
 digits_below v one k l =
     let h : ℕ → ℕ = λ k. unwrap_or (digit_at v.radix v.bytes k) 0 in
-    let ps : List ℕ = places v.format v.radix v.bytes v.start in
+    let ps : List ℕ = places v.format v.is_prefixed v.radix v.bytes v.start in
     let size = length-map ps h in
     let e : get_or (map h ps) k 0 ≡ h (get_or ps k 0) = get_or-map h ps k 0 0 (omega arith) in
     let low : h (get_or ps k 0) < v.radix = value_below v.radix (digit_at v.radix v.bytes (get_or ps k 0)) one (digit_at_below v.radix v.bytes (get_or ps k 0)) in
@@ -132,7 +132,7 @@ room_fits bits s b v o n sound room may le count k l =
 
 -- ---- a word is read
 
-belongs_some : (v : CursorView) (k : ℕ) → is_some (digit_at v.radix v.bytes k) ≡ true → is_in_numeral v.format v.radix v.bytes v.start k ≡ true
+belongs_some : (v : CursorView) (k : ℕ) → is_some (digit_at v.radix v.bytes k) ≡ true → is_in_numeral v.format v.is_prefixed v.radix v.bytes v.start k ≡ true
 unfolding is_in_numeral
 belongs_some v k e = rw e refl
 
@@ -140,7 +140,7 @@ pub record ReadsWord (bits : ℕ) (s b : Bool) (u v : CursorView) (w : ℕ) (nex
   pub fits : IsNumber (integer_type bits s) next
   pub reads : Reads (integer_type bits s) b (numeral_of u) (v.digits + w) next
 
-pub reads_word : (bits : ℕ) (s b : Bool) (u v : CursorView) (w o : ℕ) (value scale word : ℤ) → 1 ≤ w → GoesOn u v → v.radix ≤ 10 → v.format.digit_separator ≡ None → HasRoom (integer_type bits s) v.radix o → (b ≡ true → s ≡ true) → v.digits + w ≤ o → AreDigitsAhead v w → Reads (integer_type bits s) b (numeral_of u) v.digits value
+pub reads_word : (bits : ℕ) (s b : Bool) (u v : CursorView) (w o : ℕ) (value scale word : ℤ) → 1 ≤ w → MovesOn u v → v.radix ≤ 10 → v.format.digit_separator ≡ None → HasRoom (integer_type bits s) v.radix o → (b ≡ true → s ≡ true) → v.digits + w ≤ o → AreDigitsAhead v w → Reads (integer_type bits s) b (numeral_of u) v.digits value
     → scale ≡ pos (v.radix ^ w) → word ≡ pos (word_value v.radix (slice_range v.bytes v.position (v.position + w))) → ReadsWord bits s b u v w (mul_add b value scale word)
 reads_word bits s b u v w o value scale word some g ten none room may le ahead reads is_scale is_word =
     let sound = fact_of g.sound in
@@ -151,7 +151,7 @@ reads_word bits s b u v w o value scale word some g ten none room may le ahead r
     let stands = stands_ahead v.bytes v.position w within in
     let all = λ (k : ℕ) (low : v.position ≤ k) (high : k < v.position + length bs). ahead k low (omega arith) in
     let digits : AreAsciiDigits v.radix bs = are_digits v.radix v.bytes bs v.position ten stands all in
-    let inside : v.position + w ≤ numeral_end v = reaches v.format v.radix v.bytes v.start v.position (v.position + w) sound.after_start state.before_end within sound.within (λ k low high. belongs_some v k (ahead k low high)) in
+    let inside : v.position + w ≤ numeral_end v = reaches v.format v.is_prefixed v.radix v.bytes v.start v.position (v.position + w) sound.after_start state.before_end within sound.within (λ k low high. belongs_some v k (ahead k low high)) in
     let part = is_part v bs sound g.closed ten stands digits all (omega arith) in
     let same = same_numeral u v g in
     let last = part.more (w - 1) (omega arith) in
@@ -175,10 +175,11 @@ reads_word bits s b u v w o value scale word some g ten none room may le ahead r
       reads = subst (λ (x : Numeral). Reads (integer_type bits s) b x (v.digits + w) (mul_add b value scale word)) same there;
     }
 
-pub goes_on_word : (u v next : CursorView) (w : ℕ) → GoesOn u v → Folded (IsSound next) → next ≡ record v { position = v.position + w; digits = v.digits + w; turns = v.turns + 1 } → GoesOn u next
+pub goes_on_word : (u v next : CursorView) (w : ℕ) → MovesOn u v → Folded (IsSound next) → next ≡ record v { position = v.position + w; digits = v.digits + w; turns = v.turns + 1 } → MovesOn u next
 goes_on_word u v next w g s e = record {
   bytes = ap (λ (z : CursorView). z.bytes) e ∙ g.bytes;
   format = ap (λ (z : CursorView). z.format) e ∙ g.format;
+  prefixed = ap (λ (z : CursorView). z.is_prefixed) e ∙ g.prefixed;
   radix = ap (λ (z : CursorView). z.radix) e ∙ g.radix;
   start = ap (λ (z : CursorView). z.start) e ∙ g.start;
   identity = ap (λ (z : CursorView). z.identity) e ∙ g.identity;
@@ -186,7 +187,7 @@ goes_on_word u v next w g s e = record {
   sound = s;
 }
 
-pub few_left_from : (u v : CursorView) (w : ℕ) → GoesOn u v → v.format.digit_separator ≡ None → (AreDigitsAhead v w → ⊥) → digit_count (numeral_of u) < v.digits + w
+pub few_left_from : (u v : CursorView) (w : ℕ) → MovesOn u v → v.format.digit_separator ≡ None → (AreDigitsAhead v w → ⊥) → digit_count (numeral_of u) < v.digits + w
 few_left_from u v w g none no_word =
     let low = few_left v w (fact_of g.sound) g.closed none no_word in
     let same : digit_count (numeral_of v) ≡ digit_count (numeral_of u) = ap digit_count (same_numeral u v g) in

@@ -40,18 +40,18 @@ row_numeral f text start r count = record {
 }
 
 -- without a separator only digits belong
-belongs_plain : (f : Format) (r : ℕ) (text : List ℕ) (start k : ℕ) → f.digit_separator ≡ None → is_in_numeral f r text start k ≡ has_digit r text k
+belongs_plain : (f : Format) (pre : Bool) (r : ℕ) (text : List ℕ) (start k : ℕ) → f.digit_separator ≡ None → is_in_numeral f pre r text start k ≡ has_digit r text k
 unfolding is_in_numeral separator_at are_same
-belongs_plain f r text start k none = rw none (or-false (has_digit r text k))
+belongs_plain f pre r text start k none = rw none (or-false (has_digit r text k))
 
-pub end_of_row : (f : Format) (r : ℕ) (text : List ℕ) (start : ℕ) → f.digit_separator ≡ None → start ≤ length text → EndsRow r text start (end_of f r text start)
-end_of_row f r text start none low =
-    let s = IsStop-end_of f r text start low in
+pub end_of_row : (f : Format) (pre : Bool) (r : ℕ) (text : List ℕ) (start : ℕ) → f.digit_separator ≡ None → start ≤ length text → EndsRow r text start (end_of f pre r text start)
+end_of_row f pre r text start none low =
+    let s = IsStop-end_of f pre r text start low in
     record {
       low = s.low;
       high = s.high;
-      holds = λ k l h. sym (belongs_plain f r text start k none) ∙ s.holds k l h;
-      fails = λ h. sym (belongs_plain f r text start (end_of f r text start) none) ∙ s.fails h;
+      holds = λ k l h. sym (belongs_plain f pre r text start k none) ∙ s.holds k l h;
+      fails = λ h. sym (belongs_plain f pre r text start (end_of f pre r text start) none) ∙ s.fails h;
     }
 
 -- all of them pass
@@ -67,20 +67,20 @@ digits_between_row r text start count all =
     let back : start + count - start ≡ count = omega arith in
     rw back (filter_all (has_digit r text) start count all)
 
-pub numeral_in_a_row : (f : Format) (text : List ℕ) (start r count : ℕ) → f.digit_separator ≡ None → start ≤ length text → EndsRow r text start (start + count) → numeral_in f text start r ≡ row_numeral f text start r count
+pub numeral_in_a_row : (f : Format) (pre : Bool) (text : List ℕ) (start r count : ℕ) → f.digit_separator ≡ None → start ≤ length text → EndsRow r text start (start + count) → numeral_in f pre r text start ≡ row_numeral f text start r count
 unfolding numeral_in numeral_stop
-numeral_in_a_row f text start r count none low s =
-    let end : end_of f r text start ≡ start + count = IsStop-unique (has_digit r text) start (length text) _ _ (end_of_row f r text start none low) s in
+numeral_in_a_row f pre text start r count none low s =
+    let end : end_of f pre r text start ≡ start + count = IsStop-unique (has_digit r text) start (length text) _ _ (end_of_row f pre r text start none low) s in
     let places = digits_between_row r text start count s.holds in
     let size = length-range_with_len start count in
     rw (end, places, size) refl
 
 -- how many digits stand in a row from start on
-abbrev pub row_count : Format → ℕ → List ℕ → ℕ → ℕ
-row_count f r text start = end_of f r text start - start
+abbrev pub row_count : Format → Bool → ℕ → List ℕ → ℕ → ℕ
+row_count f pre r text start = end_of f pre r text start - start
 
-pub row_ends : (f : Format) (r : ℕ) (text : List ℕ) (start : ℕ) → f.digit_separator ≡ None → start ≤ length text → EndsRow r text start (start + row_count f r text start)
-row_ends f r text start none low =
-    let s = end_of_row f r text start none low in
-    let same : start + (end_of f r text start - start) ≡ end_of f r text start = omega (arith, s.low) in
+pub row_ends : (f : Format) (pre : Bool) (r : ℕ) (text : List ℕ) (start : ℕ) → f.digit_separator ≡ None → start ≤ length text → EndsRow r text start (start + row_count f pre r text start)
+row_ends f pre r text start none low =
+    let s = end_of_row f pre r text start none low in
+    let same : start + (end_of f pre r text start - start) ≡ end_of f pre r text start = omega (arith, s.low) in
     rw same s

@@ -19,9 +19,9 @@ same_byte : (byte : ℕ) → are_same (Some byte) (Some byte) ≡ true
 unfolding are_same
 same_byte byte = same_number byte
 
-digit_belongs : (f : Format) (r : ℕ) (text : List ℕ) (start k : ℕ) → is_some (digit_at r text k) ≡ true → is_in_numeral f r text start k ≡ true
+digit_belongs : (f : Format) (pre : Bool) (r : ℕ) (text : List ℕ) (start k : ℕ) → is_some (digit_at r text k) ≡ true → is_in_numeral f pre r text start k ≡ true
 unfolding is_in_numeral
-digit_belongs f r text start k t = rw t refl
+digit_belongs f pre r text start k t = rw t refl
 
 -- the front of the run of separators that holds a place
 record RunFront (p : ℕ → Bool) (start k : ℕ) : Type 0 where
@@ -32,7 +32,7 @@ record RunFront (p : ℕ → Bool) (start k : ℕ) : Type 0 where
   edge : p (from - 1) ≡ false
 
 -- digits with separators between them, that stand in a text from start on
-module _ (f : Format) (r : ℕ) (text bytes : List ℕ) (start : ℕ) (plain : IsSeparatorNoDigit f r text) (s : StandsAt text bytes start) (g : AreGrouped f r bytes) where
+module _ (f : Format) (pre : Bool) (r : ℕ) (text bytes : List ℕ) (start : ℕ) (plain : IsSeparatorNoDigit f r text) (s : StandsAt text bytes start) (g : AreGrouped f r bytes) where
   abbrev sep : ℕ → Bool
   sep = separator_at f text
 
@@ -109,7 +109,7 @@ module _ (f : Format) (r : ℕ) (text bytes : List ℕ) (start : ℕ) (plain : I
       ]
 
   -- a run between digits passes
-  passes : (from to : ℕ) → start < from → from < to → to < stop → HoldsBetween sep from to → sep (from - 1) ≡ false → sep to ≡ false → run_passes f r text start from to ≡ true
+  passes : (from to : ℕ) → start < from → from < to → to < stop → HoldsBetween sep from to → sep (from - 1) ≡ false → sep to ≡ false → run_passes f pre r text start from to ≡ true
   unfolding run_passes flag_for
   passes from to later some high holds before behind =
       let low : nat_lt start from ≡ true = lt-ltb start from later in
@@ -145,10 +145,10 @@ module _ (f : Format) (r : ℕ) (text bytes : List ℕ) (start : ℕ) (plain : I
             absurd (false≢true (sym (run.fails (omega arith)) ∙ ap sep e ∙ here))
       ]
 
-  belongs : HoldsBetween (is_in_numeral f r text start) start stop
+  belongs : HoldsBetween (is_in_numeral f pre r text start) start stop
   belongs k low high =
       elim (true_or_false (sep k)) [
-        | inr other ↦ digit_belongs f r text start k (digit_if k low high other)
+        | inr other ↦ digit_belongs f pre r text start k (digit_if k low high other)
         | inl here ↦
             let front = run_front k low here in
             let run = IsStop-stop_of sep k (length text) (let w = s.within in omega arith) in
@@ -161,14 +161,14 @@ module _ (f : Format) (r : ℕ) (text bytes : List ℕ) (start : ℕ) (plain : I
             let behind : sep to ≡ false = run.fails (let w = s.within in omega arith) in
             let whole : IsStop sep front.from (length text) to = record { low = omega arith; high = run.high; holds = all; fails = run.fails } in
             let edge : IsAtRunStart f text start front.from = λ l t. front.edge in
-            belongs_separator f r text start k here (plain k here)
-            (passes_is f r text start front.from to k (omega arith) (let w = s.within in omega arith) edge whole below more
+            belongs_separator f pre r text start k here (plain k here)
+            (passes_is f pre r text start front.from to k (omega arith) (let w = s.within in omega arith) edge whole below more
             ∙ passes front.from to later (omega arith) ends all front.edge behind)
       ]
 
   -- so the numeral ends behind them, where nothing that belongs follows
-  pub grouped_end : (stop < length text → is_in_numeral f r text start stop ≡ false) → end_of f r text start ≡ stop
+  pub grouped_end : (stop < length text → is_in_numeral f pre r text start stop ≡ false) → end_of f pre r text start ≡ stop
   grouped_end fails =
       let w = s.within in
-      IsStop-unique (is_in_numeral f r text start) start (length text) _ _ (IsStop-end_of f r text start (omega arith))
+      IsStop-unique (is_in_numeral f pre r text start) start (length text) _ _ (IsStop-end_of f pre r text start (omega arith))
       (record { low = omega arith; high = omega arith; holds = belongs; fails = fails })

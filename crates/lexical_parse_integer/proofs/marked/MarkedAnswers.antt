@@ -14,9 +14,9 @@ use Rattle.lexical_util.specs.Number.{IntegerType, is_number}
 use Rattle.lexical_util.specs.Validity.{fault}
 use Rattle.lexical_parse_integer.specs.Affixes.{is_affix, marked_radix, numeral_stop, octal_zero_at, prefix_radix, suffix_at}
 use Rattle.lexical_parse_integer.specs.Grammar.{common_faults, complete, complete_faults, fault_if, first_fault_or, prefix_fault, range_fault, zero_fault}
-use Rattle.lexical_parse_integer.specs.Head.{Head, head_after, head_behind, head_of, sign}
+use Rattle.lexical_parse_integer.specs.Head.{Head, head_after, head_behind, head_of, sign, chooses_radix}
 use Rattle.lexical_parse_integer.specs.Marked.{AreGrouped, AreWorth, digits_among, is_digit_in, stop_after}
-use Rattle.lexical_parse_integer.specs.Numeral.{Numeral, digit_count, numeral_in, numeral_value}
+use Rattle.lexical_parse_integer.specs.Numeral.{Numeral, digit_count, numeral_in, numeral_value, numeral_behind}
 use Rattle.lexical_parse_integer.specs.Plain.{keeps_zero_rule}
 use Rattle.lexical_parse_integer.specs.Runs.{are_same, digits_between, end_of, is_in_numeral, places}
 use Rattle.lexical_digits.specs.Value.{positional_value, with_sign}
@@ -53,11 +53,11 @@ fits_head f t text h valid is = by_sign (sign f t text) is
         subst (λ (g : Head). IsFit f g.radix) same (by_prefix s (prefix_radix f text s.1) refl)
 
 -- a minus is read for signed types alone
-pub head_signed : (f : Format) (t : IntegerType) (text : List ℕ) (h : Head) → head_of f t text ≡ Ok h → h.is_minus ≡ true → t.is_signed ≡ true
+pub head_signed : (f : Format) (t : IntegerType) (text : List ℕ) (h : Head) → head_of f t text ≡ Ok h → h.is_negative ≡ true → t.is_signed ≡ true
 unfolding head_of
 head_signed f t text h is minus = by_sign (sign f t text) refl is
   where
-    by_prefix : (s : Bool × ℕ) (found : Option ℕ) → (head_behind f text s found).is_minus ≡ s.0
+    by_prefix : (s : Bool × ℕ) (found : Option ℕ) → (head_behind f text s found).is_negative ≡ s.0
     by_prefix s (Some r) = refl
     by_prefix s None = refl
 
@@ -65,7 +65,7 @@ head_signed f t text h is minus = by_sign (sign f t text) refl is
     by_sign (Err e) here told = cc
     by_sign (Ok s) here told =
         let same : head_behind f text s (prefix_radix f text s.1) ≡ h = cc in
-        let negative : s.0 ≡ true = sym (by_prefix s (prefix_radix f text s.1)) ∙ ap (λ (g : Head). g.is_minus) same ∙ minus in
+        let negative : s.0 ≡ true = sym (by_prefix s (prefix_radix f text s.1)) ∙ ap (λ (g : Head). g.is_negative) same ∙ minus in
         sign_minus f t text s.1 (here ∙ ap (λ (b : Bool). Ok (b, s.1)) negative)
 
 -- the same of the sign
@@ -73,18 +73,18 @@ pub signed_minus : (f : Format) (t : IntegerType) (text : List ℕ) (s : Bool ×
 signed_minus f t text s signed minus = sign_minus f t text s.1 (signed ∙ ap (λ (b : Bool). Ok (b, s.1)) minus)
 
 -- the head by its parts
-pub head_marked : (f : Format) (t : IntegerType) (text : List ℕ) (s : Bool × ℕ) (r : ℕ) → sign f t text ≡ Ok s → Some r ≡ prefix_radix f text s.1 → head_of f t text ≡ Ok (record { is_minus = s.0; is_marked = true; start = s.1 + 2; radix = r })
+pub head_marked : (f : Format) (t : IntegerType) (text : List ℕ) (s : Bool × ℕ) (r : ℕ) → sign f t text ≡ Ok s → Some r ≡ prefix_radix f text s.1 → head_of f t text ≡ Ok (record { is_negative = s.0; is_prefixed = true; is_octal = false; start = s.1 + 2; radix = r })
 unfolding head_of
 head_marked f t text s r signed here = let here' : prefix_radix f text s.1 ≡ Some r = sym here in rw (signed, here') refl
 
 pub head_bare : (f : Format) (t : IntegerType) (text : List ℕ) (s : Bool × ℕ) (octal : Bool) (r : ℕ) → sign f t text ≡ Ok s → None ≡ prefix_radix f text s.1 → octal ≡ octal_zero_at f text s.1 → r ≡ cond octal 8 f.mantissa_radix →
-    head_of f t text ≡ Ok (record { is_minus = s.0; is_marked = octal; start = s.1; radix = r })
+    head_of f t text ≡ Ok (record { is_negative = s.0; is_prefixed = false; is_octal = octal; start = s.1; radix = r })
 unfolding head_of
 head_bare f t text s octal r signed none octal_is radix_is =
     let none' : prefix_radix f text s.1 ≡ None = sym none in
-    let told : head_of f t text ≡ Ok (record { is_minus = s.0; is_marked = octal_zero_at f text s.1; start = s.1; radix = cond (octal_zero_at f text s.1) 8 f.mantissa_radix }) = rw (signed, none') refl in
-    told ∙ ap (λ (b : Bool). Ok (record { is_minus = s.0; is_marked = b; start = s.1; radix = cond b 8 f.mantissa_radix })) (sym octal_is)
-    ∙ ap (λ (n : ℕ). Ok (record { is_minus = s.0; is_marked = octal; start = s.1; radix = n })) (sym radix_is)
+    let told : head_of f t text ≡ Ok (record { is_negative = s.0; is_prefixed = false; is_octal = octal_zero_at f text s.1; start = s.1; radix = cond (octal_zero_at f text s.1) 8 f.mantissa_radix }) = rw (signed, none') refl in
+    told ∙ ap (λ (b : Bool). Ok (record { is_negative = s.0; is_prefixed = false; is_octal = b; start = s.1; radix = cond b 8 f.mantissa_radix })) (sym octal_is)
+    ∙ ap (λ (n : ℕ). Ok (record { is_negative = s.0; is_prefixed = false; is_octal = octal; start = s.1; radix = n })) (sym radix_is)
 
 -- ---- the numeral
 
@@ -104,16 +104,16 @@ few_among r (c ∷ cs) = by_digit (digit c r) refl (few_among r cs)
     by_digit None e low = rw e (omega arith)
     by_digit (Some d) e low = rw e (omega arith)
 
-numeral_digits : (f : Format) (r : ℕ) (text bytes : List ℕ) (start : ℕ) → StandsAt text bytes start → end_of f r text start ≡ start + length bytes → (numeral_in f text start r).digits ≡ digits_among r bytes
+numeral_digits : (f : Format) (pre : Bool) (r : ℕ) (text bytes : List ℕ) (start : ℕ) → StandsAt text bytes start → end_of f pre r text start ≡ start + length bytes → (numeral_in f pre r text start).digits ≡ digits_among r bytes
 unfolding numeral_in digits_between
-numeral_digits f r text bytes start s end =
-    let back : end_of f r text start - start ≡ length bytes = omega arith in
+numeral_digits f pre r text bytes start s end =
+    let back : end_of f pre r text start - start ≡ length bytes = omega arith in
     rw back (values_between r text bytes start s)
 
-numeral_stops : (f : Format) (r : ℕ) (text : List ℕ) (start end : ℕ) → end_of f r text start ≡ end → 0 < length (places f r text start) → (numeral_in f text start r).stop ≡ stop_after f text end
+numeral_stops : (f : Format) (pre : Bool) (r : ℕ) (text : List ℕ) (start end : ℕ) → end_of f pre r text start ≡ end → 0 < length (places f pre r text start) → (numeral_in f pre r text start).stop ≡ stop_after f text end
 unfolding numeral_in numeral_stop
-numeral_stops f r text start end is some =
-    let more : nat_lt 0 (length (places f r text start)) ≡ true = lt-ltb 0 (length (places f r text start)) some in
+numeral_stops f pre r text start end is some =
+    let more : nat_lt 0 (length (places f pre r text start)) ≡ true = lt-ltb 0 (length (places f pre r text start)) some in
     rw (more, is) refl
 
 -- ---- no fault
@@ -169,9 +169,9 @@ zero_rule f r bytes is_marked x digits some first rule = told is_marked rule
 -- ---- the answers
 
 complete_by : Format → IntegerType → List ℕ → Head → Numeral → Result ℤ Error
-complete_by f t text h x = first_fault_or (common_faults f t text h x ++ complete_faults f text x) (numeral_value h.is_minus x)
+complete_by f t text h x = first_fault_or (common_faults f t text h x ++ complete_faults f text x) (numeral_value h.is_negative x)
 
-complete_is : (f : Format) (t : IntegerType) (text : List ℕ) (h : Head) → head_of f t text ≡ Ok h → complete f t text ≡ complete_by f t text h (numeral_in f text h.start h.radix)
+complete_is : (f : Format) (t : IntegerType) (text : List ℕ) (h : Head) → head_of f t text ≡ Ok h → complete f t text ≡ complete_by f t text h (numeral_behind f text h)
 unfolding complete complete_by
 complete_is f t text h head = rw head refl
 
@@ -181,12 +181,12 @@ pub record IsMarked (f : Format) (t : IntegerType) (text : List ℕ) (h : Head) 
   pub fit : IsFit f h.radix
   pub stands : StandsAt text bytes h.start
   pub grouped : AreGrouped f h.radix bytes
-  pub rule : (h.is_marked || keeps_zero_rule f bytes) ≡ true
-  pub worth : AreWorth t h.radix h.is_minus bytes value
+  pub rule : (chooses_radix h || keeps_zero_rule f bytes) ≡ true
+  pub worth : AreWorth t h.radix h.is_negative bytes value
 
 module _ (f : Format) (t : IntegerType) (text : List ℕ) (h : Head) (bytes : List ℕ) (value : ℤ) (m : IsMarked f t text h bytes value) where
   abbrev x : Numeral
-  x = numeral_in f text h.start h.radix
+  x = numeral_behind f text h
 
   abbrev end : ℕ
   end = h.start + length bytes
@@ -196,10 +196,10 @@ module _ (f : Format) (t : IntegerType) (text : List ℕ) (h : Head) (bytes : Li
 
   -- nothing that belongs follows
   abbrev IsOver : Type 0
-  IsOver = end < length text → is_in_numeral f h.radix text h.start end ≡ false
+  IsOver = end < length text → is_in_numeral f h.is_prefixed h.radix text h.start end ≡ false
 
   digits_are : IsOver → x.digits ≡ digits_among h.radix bytes
-  digits_are over = numeral_digits f h.radix text bytes h.start m.stands (grouped_end f h.radix text bytes h.start (separator_no_digit f h.radix text m.fit.separator) m.stands m.grouped over)
+  digits_are over = numeral_digits f h.is_prefixed h.radix text bytes h.start m.stands (grouped_end f h.is_prefixed h.radix text bytes h.start (separator_no_digit f h.radix text m.fit.separator) m.stands m.grouped over)
 
   some_digits : IsOver → 0 < digit_count x
   some_digits over = let some = some_among h.radix bytes m.grouped.some m.grouped.first in rw (digits_are over) some
@@ -207,17 +207,17 @@ module _ (f : Format) (t : IntegerType) (text : List ℕ) (h : Head) (bytes : Li
   stop_is : IsOver → x.stop ≡ stop_after f text end
   stop_is over =
       let some = some_digits over in
-      let count = places_count f h.radix text h.start in
-      numeral_stops f h.radix text h.start end (grouped_end f h.radix text bytes h.start (separator_no_digit f h.radix text m.fit.separator) m.stands m.grouped over) (omega arith)
+      let count = places_count f h.is_prefixed h.radix text h.start in
+      numeral_stops f h.is_prefixed h.radix text h.start end (grouped_end f h.is_prefixed h.radix text bytes h.start (separator_no_digit f h.radix text m.fit.separator) m.stands m.grouped over) (omega arith)
 
   radix_is : x.radix ≡ h.radix
   unfolding numeral_in
   radix_is = refl
 
-  value_is : IsOver → numeral_value h.is_minus x ≡ value
+  value_is : IsOver → numeral_value h.is_negative x ≡ value
   value_is over =
-      let all : numeral_value h.is_minus x ≡ with_sign h.is_minus (positional_value x.radix x.digits) = ap (λ (ds : List ℕ). with_sign h.is_minus (positional_value x.radix ds)) (take_all (digit_count x) x.digits (omega arith)) in
-      all ∙ ap (λ (r : ℕ). with_sign h.is_minus (positional_value r x.digits)) radix_is ∙ ap (λ (ds : List ℕ). with_sign h.is_minus (positional_value h.radix ds)) (digits_are over) ∙ sym m.worth.worth
+      let all : numeral_value h.is_negative x ≡ with_sign h.is_negative (positional_value x.radix x.digits) = ap (λ (ds : List ℕ). with_sign h.is_negative (positional_value x.radix ds)) (take_all (digit_count x) x.digits (omega arith)) in
+      all ∙ ap (λ (r : ℕ). with_sign h.is_negative (positional_value r x.digits)) radix_is ∙ ap (λ (ds : List ℕ). with_sign h.is_negative (positional_value h.radix ds)) (digits_are over) ∙ sym m.worth.worth
 
   no_prefix_fault : prefix_fault text h ≡ None
   no_prefix_fault =
@@ -226,31 +226,31 @@ module _ (f : Format) (t : IntegerType) (text : List ℕ) (h : Head) (bytes : Li
       let more : (h.start == length text) ≡ false = ne_eqb h.start (length text) (λ e. omega arith) in
       rw (more, and-false) refl
 
-  no_range_fault : IsOver → range_fault t h.is_minus x ≡ None
+  no_range_fault : IsOver → range_fault t h.is_negative x ≡ None
   no_range_fault over =
       let radix = m.fit.is_radix.low in
       let positive : 1 ≤ x.radix = let e = radix_is in omega arith in
-      fitting_fault t h.is_minus x (shorter_fronts_fit t h.is_minus x (digit_count x) positive (ap (is_number t) (value_is over) ∙ m.worth.fits))
+      fitting_fault t h.is_negative x (shorter_fronts_fit t h.is_negative x (digit_count x) positive (ap (is_number t) (value_is over) ∙ m.worth.fits))
 
   -- the whole text
   whole_with : IsOver → stop_after f text end ≡ length text → complete f t text ≡ Ok value
   unfolding complete_by
   whole_with over reached =
-      let zeros : zero_fault f h.is_marked x ≡ None = zero_rule f h.radix bytes h.is_marked x (digits_are over) m.grouped.some m.grouped.first m.rule in
+      let zeros : zero_fault f (chooses_radix h) x ≡ None = zero_rule f h.radix bytes (chooses_radix h) x (digits_are over) m.grouped.some m.grouped.first m.rule in
       let some = some_digits over in
       let stop : x.stop ≡ length text = stop_is over ∙ reached in
       let ended : nat_lt x.stop (length text) ≡ false = le-ltb x.stop (length text) (omega arith) in
       let there : (digit_count x == 0) ≡ false = ne_eqb (digit_count x) 0 (λ e. omega arith) in
-      let answer : complete_by f t text h x ≡ Ok (numeral_value h.is_minus x) = rw (no_prefix_fault, zeros, no_range_fault over, ended, there, and-false) refl in
+      let answer : complete_by f t text h x ≡ Ok (numeral_value h.is_negative x) = rw (no_prefix_fault, zeros, no_range_fault over, ended, there, and-false) refl in
       complete_is f t text h m.head ∙ answer ∙ ap (λ (z : ℤ). Ok z) (value_is over)
 
   -- before the text's end only a suffix stands
   over_at_suffix : stop_after f text end ≡ length text → IsOver
   over_at_suffix reached more = by_suffix (suffix_at f text end) refl reached
     where
-      by_suffix : (b : Bool) → suffix_at f text end ≡ b → cond b (end + 1) end ≡ length text → is_in_numeral f h.radix text h.start end ≡ false
+      by_suffix : (b : Bool) → suffix_at f text end ≡ b → cond b (end + 1) end ≡ length text → is_in_numeral f h.is_prefixed h.radix text h.start end ≡ false
       by_suffix false e at = absurd (omega arith)
-      by_suffix true e at = belongs_other f h.radix text h.start end (suffix_no_separator f text m.fit.suffix_separator end e) (suffix_no_digit f h.radix text m.fit.suffix_digit end e)
+      by_suffix true e at = belongs_other f h.is_prefixed h.radix text h.start end (suffix_no_separator f text m.fit.suffix_separator end e) (suffix_no_digit f h.radix text m.fit.suffix_digit end e)
 
   pub whole_marked : stop_after f text end ≡ length text → complete f t text ≡ Ok value
   whole_marked reached = whole_with (over_at_suffix reached) reached
@@ -290,7 +290,7 @@ valid_from o e = rw e refl
 
 -- groups of digits
 pub groups_read : (f : Format) (t : IntegerType) (text : List ℕ) (h : Head) (value : ℤ) (r : ℕ) → IsNone (fault f) → head_of f t text ≡ Ok h → h.radix ≡ r → h.start < length text →
-    (h.is_marked || keeps_zero_rule f (slice_range text h.start (length text))) ≡ true → AreGrouped f r (slice_range text h.start (length text)) → AreWorth t r h.is_minus (slice_range text h.start (length text)) value → complete f t text ≡ Ok value
+    (chooses_radix h || keeps_zero_rule f (slice_range text h.start (length text))) ≡ true → AreGrouped f r (slice_range text h.start (length text)) → AreWorth t r h.is_negative (slice_range text h.start (length text)) value → complete f t text ≡ Ok value
 groups_read f t text h value r valid head radix some rule grouped worth =
     let bytes : List ℕ = slice_range text h.start (length text) in
     let size : h.start + (length text - h.start) ≡ length text = omega arith in
@@ -303,15 +303,15 @@ groups_read f t text h value r valid head radix some rule grouped worth =
       stands = stands;
       grouped = subst (λ (n : ℕ). AreGrouped f n bytes) (sym radix) grouped;
       rule = rule;
-      worth = subst (λ (n : ℕ). AreWorth t n h.is_minus bytes value) (sym radix) worth;
+      worth = subst (λ (n : ℕ). AreWorth t n h.is_negative bytes value) (sym radix) worth;
     } in
     whole_marked f t text h bytes value m (ap (stop_after f text) place ∙ no_suffix_past f text)
 
 -- digits alone
 pub digits_read : (f : Format) (t : IntegerType) (text : List ℕ) (h : Head) (value : ℤ) → IsNone (fault f) → head_of f t text ≡ Ok h → h.start < length text →
-    (h.is_marked || keeps_zero_rule f (slice_range text h.start (length text))) ≡ true → StandsFor t h.radix h.is_minus (slice_range text h.start (length text)) value → complete f t text ≡ Ok value
+    (chooses_radix h || keeps_zero_rule f (slice_range text h.start (length text))) ≡ true → StandsFor t h.radix h.is_negative (slice_range text h.start (length text)) value → complete f t text ≡ Ok value
 digits_read f t text h value valid head some rule stands =
     let bytes : List ℕ = slice_range text h.start (length text) in
     let size : h.start + (length text - h.start) ≡ length text = omega arith in
     let count : length bytes ≡ length text - h.start = subst (λ (k : ℕ). length (slice_range text h.start k) ≡ length text - h.start) size (length-ahead text h.start (length text - h.start) (omega arith)) in
-    groups_read f t text h value h.radix valid head refl some rule (row_grouped f h.radix bytes (omega arith) (digits_alone t h.radix h.is_minus bytes value stands)) (digits_worth t h.radix h.is_minus bytes value stands)
+    groups_read f t text h value h.radix valid head refl some rule (row_grouped f h.radix bytes (omega arith) (digits_alone t h.radix h.is_negative bytes value stands)) (digits_worth t h.radix h.is_negative bytes value stands)

@@ -46,7 +46,7 @@ pub front_read_under : (f : Format) (t : IntegerType) (text : List ℕ) (s : Boo
     partial f t text ≡ Ok (with_sign s.0 (positional_value f.mantissa_radix (row f.mantissa_radix text s.1 n)), s.1 + n)
 front_read_under f t text s n plain positive sign_is some within all stops no_zeros fits =
     let r : ℕ = f.mantissa_radix in
-    let h : Head = record { is_minus = s.0; is_marked = false; start = s.1; radix = r } in
+    let h : Head = record { is_negative = s.0; is_prefixed = false; is_octal = false; start = s.1; radix = r } in
     let x : Numeral = row_numeral f text s.1 r n in
     let ends : EndsRow r text s.1 (s.1 + n) = record { low = omega arith; high = within; holds = all; fails = stops } in
     let count : digit_count x ≡ n = length-map-range_with_len (λ place. unwrap_or (digit_at r text place) 0) s.1 n in

@@ -98,12 +98,12 @@ values_at text digits start m on within all =
 pub leaving_read : (t : IntegerType) (text digits : List ℕ) (s : Bool × ℕ) (count : ℕ) → sign standard t text ≡ Ok s → StandsFrom s.1 text digits → length text ≡ s.1 + length digits → LeavesAfter t s.0 digits count → complete standard t text ≡ Err (range_error s.0 (s.1 + count))
 leaving_read t text digits s count sign_is on size l =
     let f : Format = standard in
-    let n : ℕ = row_count f 10 text s.1 in
-    let h : Head = record { is_minus = s.0; is_marked = false; start = s.1; radix = 10 } in
+    let n : ℕ = row_count f false 10 text s.1 in
+    let h : Head = record { is_negative = s.0; is_prefixed = false; is_octal = false; start = s.1; radix = 10 } in
     let x : Numeral = row_numeral f text s.1 10 n in
     let within = l.within in
     let low : s.1 ≤ length text = omega arith in
-    let ends : EndsRow 10 text s.1 (s.1 + n) = row_ends f 10 text s.1 refl low in
+    let ends : EndsRow 10 text s.1 (s.1 + n) = row_ends f false 10 text s.1 refl low in
     let ds : List ℕ = map (λ byte. byte - 48) (take (count + 1) digits) in
     let have : HaveDigits 10 (take (count + 1) digits) ds = have_digits 10 (take (count + 1) digits) (omega arith) (ascii_from_digits 10 (take (count + 1) digits) (omega arith) l.digits) in
     let taken = length-take-le (count + 1) digits (omega arith) in

@@ -11,7 +11,7 @@ use Rattle.lexical_parse_integer.specs.CursorView.{CursorView, IsSound, ReachesE
 use Rattle.lexical_parse_integer.specs.Folded.{Folded}
 use Rattle.lexical_parse_integer.specs.Grammar.{range_error, range_fault, zero_fault}
 use Rattle.lexical_parse_integer.specs.Numeral.{Numeral, digit_count}
-use Rattle.lexical_parse_integer.specs.Reading.{GoesOn, IsAtNumeral, LooksAhead, Reads, ReadsFirst}
+use Rattle.lexical_parse_integer.specs.Reading.{MovesOn, IsAtNumeral, LooksAhead, Reads, ReadsFirst}
 use Rattle.lexical_parse_integer.specs.Runs.{are_same, digit_at, separator_at}
 use Rattle.lexical_util.specs.Digit.{value_if_below, digit, digit_value}
 use Rattle.lexical_util.specs.Format.{Format}
@@ -30,7 +30,7 @@ no_separator f b k e = rw e refl
 pub look_some : (v : CursorView) (d : ℕ) → IsSound v → v.closed ≡ false → digit_at v.radix v.bytes v.position ≡ Some d → IsDigitOf (numeral_of v) v.digits d v.position
 look_some v d s open_now e =
     let o = s.while_open open_now in
-    let found = finds_here v.format v.radix v.bytes v.start v.position s.after_start o.before_end s.within d e in
+    let found = finds_here v.format v.is_prefixed v.radix v.bytes v.start v.position s.after_start o.before_end s.within d e in
     digit_found v (record v { position = v.position + 1; digits = v.digits + 1; turns = v.turns + 1 }) d s open_now
     (record { place = v.position; from = found.0; least = found.2; before_end = found.1; value_is = e; after = refl })
 
@@ -38,7 +38,7 @@ look_some v d s open_now e =
 pub look_none : (v : CursorView) → IsSound v → v.closed ≡ false → v.format.digit_separator ≡ None → digit_at v.radix v.bytes v.position ≡ None → v.digits ≡ digit_count (numeral_of v)
 look_none v s open_now none e =
     let o = s.while_open open_now in
-    let found = ends_here v.format v.radix v.bytes v.start v.position s.after_start o.before_end s.within e (no_separator v.format v.bytes v.position none) in
+    let found = ends_here v.format v.is_prefixed v.radix v.bytes v.start v.position s.after_start o.before_end s.within e (no_separator v.format v.bytes v.position none) in
     let at_end : v.position ≡ numeral_end v = found.0 in
     all_found v s open_now (record v { position = numeral_end v }) (record { none_left = λ k low high. absurd (omega arith); after = refl })
 
@@ -133,7 +133,7 @@ join : (a b c d : Bool) (e : Error) → a ≡ true → b ≡ false → c ≡ tru
 join a b c d e x y z w = rw (x, y, z, w) refl
 
 module _ (v w : CursorView) (d : ℕ) (s : IsSound v) (open_now : v.closed ≡ false) (none : v.digits ≡ 0) (k : TakesDigit v w d) (sw : Folded (IsSound w)) where
-  go : GoesOn v w
+  go : MovesOn v w
   go = goes_on_digit v v w d (goes_on_none v (folded s) open_now) k sw
 
   pub leading_zeros : (p : Bool) (place : ℕ) → d ≡ 0 → v.format.no_integer_leading_zeros ≡ true → p ≡ false → place + 1 ≡ w.position → true ≡ nat_lt w.digits (digit_count (numeral_of w)) → zero_fault v.format p (numeral_of v) ≡ Some (InvalidLeadingZeros place)
@@ -212,7 +212,7 @@ pub step_count : (o : Option ℕ) (v w : CursorView) → IsSound v → v.closed 
 step_count None v w s open_now m = ended_count v w s open_now m
 step_count (Some d) v w s open_now m = taken_count v w d s open_now m
 
-pub taken_count_from : (u v w : CursorView) (d : ℕ) → GoesOn u v → TakesDigit v w d → w.digits ≤ digit_count (numeral_of u)
+pub taken_count_from : (u v w : CursorView) (d : ℕ) → MovesOn u v → TakesDigit v w d → w.digits ≤ digit_count (numeral_of u)
 taken_count_from u v w d g k =
     let same : digit_count (numeral_of v) ≡ digit_count (numeral_of u) = ap digit_count (same_numeral u v g) in
     let t = taken_count v w d (fact_of g.sound) g.closed k in
@@ -266,7 +266,7 @@ looks_at_digit v w d front k s =
     }
 
 -- and no other digit behind it
-pub looks_further : (v w x : CursorView) → LooksAhead v w → GoesOn w x → x.digits ≡ w.digits → x.turns + w.digits ≡ w.turns + x.digits → LooksAhead v x
+pub looks_further : (v w x : CursorView) → LooksAhead v w → MovesOn w x → x.digits ≡ w.digits → x.turns + w.digits ≡ w.turns + x.digits → LooksAhead v x
 looks_further v w x ahead goes same turn =
     let before = ahead.turns in
     let count = ahead.count in

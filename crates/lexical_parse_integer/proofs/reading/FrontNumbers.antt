@@ -11,7 +11,7 @@ use Rattle.lexical_util.specs.Validity.{fault}
 use Rattle.lexical_parse_integer.specs.Fronts.{has_digit, has_digit_behind, if_digit, number_in_front, number_in_front_if_valid}
 use Rattle.lexical_parse_integer.specs.Grammar.{after_head, common_faults, first_fault_or, if_valid, partial, partial_faults, partial_if_valid}
 use Rattle.lexical_parse_integer.specs.Head.{Head, head_of}
-use Rattle.lexical_parse_integer.specs.Numeral.{Numeral, numeral_in, numeral_value}
+use Rattle.lexical_parse_integer.specs.Numeral.{Numeral, numeral_value, numeral_behind}
 use Rattle.lexical_digits.specs.Value.{positional_value, with_sign}
 use Rattle.lexical_parse_integer.proofs.theorems.CompleteByPartial.{ok_told}
 
@@ -32,12 +32,12 @@ module _ (f : Format) (t : IntegerType) (text : List ℕ) where
   unfolding partial
   zero_without_digit v place told none = by_head (head_of f t text) told none
     where
-      by_head : (h : Result Head Error) → after_head {A = ℤ × ℕ} h (λ head. let numeral = numeral_in f text head.start head.radix in first_fault_or (common_faults f t text head numeral ++ partial_faults f text numeral) (numeral_value head.is_minus numeral, numeral.stop)) ≡ Ok (v, place) → has_digit_behind f text h ≡ false → v ≡ pos 0
+      by_head : (h : Result Head Error) → after_head {A = ℤ × ℕ} h (λ head. let numeral = numeral_behind f text head in first_fault_or (common_faults f t text head numeral ++ partial_faults f text numeral) (numeral_value head.is_negative numeral, numeral.stop)) ≡ Ok (v, place) → has_digit_behind f text h ≡ false → v ≡ pos 0
       by_head (Err e) told none = cc
       by_head (Ok h) told none =
-          let x : Numeral = numeral_in f text h.start h.radix in
-          let same : (numeral_value h.is_minus x, x.stop) ≡ (v, place) = ok_told (common_faults f t text h x ++ partial_faults f text x) (numeral_value h.is_minus x, x.stop) (v, place) told in
-          sym (ap (λ (w : ℤ × ℕ). w.0) same) ∙ worth_nothing h.is_minus x.radix x.digits none
+          let x : Numeral = numeral_behind f text h in
+          let same : (numeral_value h.is_negative x, x.stop) ≡ (v, place) = ok_told (common_faults f t text h x ++ partial_faults f text x) (numeral_value h.is_negative x, x.stop) (v, place) told in
+          sym (ap (λ (w : ℤ × ℕ). w.0) same) ∙ worth_nothing h.is_negative x.radix x.digits none
 
   -- a front is read under a valid format alone
   no_fault : (found : ℤ × ℕ) → Ok found ≡ partial_if_valid f t text → fault f ≡ None

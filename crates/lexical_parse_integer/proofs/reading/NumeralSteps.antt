@@ -9,7 +9,7 @@ use Rattle.lexical_parse_integer.specs.CursorView.{CursorView, IsSound, ReachesE
 use Rattle.lexical_parse_integer.specs.Folded.{Folded}
 use Rattle.lexical_parse_integer.specs.Grammar.{range_fault}
 use Rattle.lexical_parse_integer.specs.Numeral.{Numeral, digit_count, numeral_in, numeral_value}
-use Rattle.lexical_parse_integer.specs.Reading.{GoesOn, IsReading, Reads, ReadsAll, ReadsOn}
+use Rattle.lexical_parse_integer.specs.Reading.{MovesOn, IsReading, Reads, ReadsAll, ReadsOn}
 use Rattle.lexical_parse_integer.specs.Runs.{digit_at, digits_between, places}
 use Rattle.lexical_util.specs.declared.error.Error.{Error}
 use Rattle.lexical_util.specs.Digit.{value_if_below, digit, digit_value}
@@ -56,7 +56,7 @@ digit_found v w value s open_now t =
     let skipped = ap length (digits_between_to v.radix v.bytes v.start v.position t.place s.after_start t.from t.least) in
     let found = place_found v.radix v.bytes v.start t.place (numeral_end v) v.digits value (omega (arith, s.after_start, t.from)) t.before_end t.value_is (o.digits ∙ sym skipped) in
     let h : ℕ → ℕ = λ k. unwrap_or (digit_at v.radix v.bytes k) 0 in
-    let all : List ℕ = places v.format v.radix v.bytes v.start in
+    let all : List ℕ = places v.format v.is_prefixed v.radix v.bytes v.start in
     let size = length-map all h in
     record {
       more = omega (arith, found.0);
@@ -69,23 +69,24 @@ unfolding numeral_in
 all_found v s open_now w t =
     let o = s.while_open open_now in
     let skipped = ap length (digits_between_to v.radix v.bytes v.start v.position (numeral_end v) s.after_start o.before_end t.none_left) in
-    o.digits ∙ sym skipped ∙ sym (length-map (places v.format v.radix v.bytes v.start) (λ k. unwrap_or (digit_at v.radix v.bytes k) 0))
+    o.digits ∙ sym skipped ∙ sym (length-map (places v.format v.is_prefixed v.radix v.bytes v.start) (λ k. unwrap_or (digit_at v.radix v.bytes k) 0))
 
 -- as many values as places
-pub places_count : (f : Format) (r : ℕ) (text : List ℕ) (start : ℕ) → length (numeral_in f text start r).digits ≡ length (places f r text start)
+pub places_count : (f : Format) (pre : Bool) (r : ℕ) (text : List ℕ) (start : ℕ) → length (numeral_in f pre r text start).digits ≡ length (places f pre r text start)
 unfolding numeral_in
-places_count f r text start = length-map (places f r text start) (λ place. unwrap_or (digit_at r text place) 0)
+places_count f pre r text start = length-map (places f pre r text start) (λ place. unwrap_or (digit_at r text place) 0)
 
 -- ---- going on
 
-pub goes_on_none : (v : CursorView) → Folded (IsSound v) → v.closed ≡ false → GoesOn v v
-goes_on_none v s open_now = record { bytes = refl; format = refl; radix = refl; start = refl; identity = refl; closed = open_now; sound = s }
+pub goes_on_none : (v : CursorView) → Folded (IsSound v) → v.closed ≡ false → MovesOn v v
+goes_on_none v s open_now = record { bytes = refl; format = refl; prefixed = refl; radix = refl; start = refl; identity = refl; closed = open_now; sound = s }
 
-pub goes_on_digit : (u v w : CursorView) (value : ℕ) → GoesOn u v → TakesDigit v w value → Folded (IsSound w) → GoesOn u w
+pub goes_on_digit : (u v w : CursorView) (value : ℕ) → MovesOn u v → TakesDigit v w value → Folded (IsSound w) → MovesOn u w
 goes_on_digit u v w value g t s =
     record {
       bytes = ap (λ (z : CursorView). z.bytes) t.after ∙ g.bytes;
       format = ap (λ (z : CursorView). z.format) t.after ∙ g.format;
+      prefixed = ap (λ (z : CursorView). z.is_prefixed) t.after ∙ g.prefixed;
       radix = ap (λ (z : CursorView). z.radix) t.after ∙ g.radix;
       start = ap (λ (z : CursorView). z.start) t.after ∙ g.start;
       identity = ap (λ (z : CursorView). z.identity) t.after ∙ g.identity;
@@ -93,11 +94,12 @@ goes_on_digit u v w value g t s =
       sound = s;
     }
 
-pub goes_on_end : (u v w : CursorView) → GoesOn u v → ReachesEnd v w → Folded (IsSound w) → GoesOn u w
+pub goes_on_end : (u v w : CursorView) → MovesOn u v → ReachesEnd v w → Folded (IsSound w) → MovesOn u w
 goes_on_end u v w g t s =
     record {
       bytes = ap (λ (z : CursorView). z.bytes) t.after ∙ g.bytes;
       format = ap (λ (z : CursorView). z.format) t.after ∙ g.format;
+      prefixed = ap (λ (z : CursorView). z.is_prefixed) t.after ∙ g.prefixed;
       radix = ap (λ (z : CursorView). z.radix) t.after ∙ g.radix;
       start = ap (λ (z : CursorView). z.start) t.after ∙ g.start;
       identity = ap (λ (z : CursorView). z.identity) t.after ∙ g.identity;
@@ -105,11 +107,12 @@ goes_on_end u v w g t s =
       sound = s;
     }
 
-pub goes_on_further : (u v w : CursorView) → GoesOn u v → GoesOn v w → GoesOn u w
+pub goes_on_further : (u v w : CursorView) → MovesOn u v → MovesOn v w → MovesOn u w
 goes_on_further u v w g h =
     record {
       bytes = h.bytes ∙ g.bytes;
       format = h.format ∙ g.format;
+      prefixed = h.prefixed ∙ g.prefixed;
       radix = h.radix ∙ g.radix;
       start = h.start ∙ g.start;
       identity = h.identity ∙ g.identity;
@@ -118,12 +121,13 @@ goes_on_further u v w g h =
     }
 
 -- the numeral stays the same
-pub same_numeral : (u v : CursorView) → GoesOn u v → numeral_of v ≡ numeral_of u
+pub same_numeral : (u v : CursorView) → MovesOn u v → numeral_of v ≡ numeral_of u
 same_numeral u v g =
-    ap (λ f. numeral_in f v.bytes v.start v.radix) g.format
-    ∙ ap (λ b. numeral_in u.format b v.start v.radix) g.bytes
-    ∙ ap (λ j. numeral_in u.format u.bytes j v.radix) g.start
-    ∙ ap (λ r. numeral_in u.format u.bytes u.start r) g.radix
+    ap (λ f. numeral_in f v.is_prefixed v.radix v.bytes v.start) g.format
+    ∙ ap (λ p. numeral_in u.format p v.radix v.bytes v.start) g.prefixed
+    ∙ ap (λ b. numeral_in u.format u.is_prefixed v.radix b v.start) g.bytes
+    ∙ ap (λ j. numeral_in u.format u.is_prefixed v.radix u.bytes j) g.start
+    ∙ ap (λ r. numeral_in u.format u.is_prefixed r u.bytes u.start) g.radix
 
 -- ---- reading on
 
@@ -145,7 +149,7 @@ reads_further t b u v w before value first next =
       goes_on = goes_on_further u v w first.goes_on next.goes_on;
     }
 
-pub reads_all_further : (t : IntegerType) (b : Bool) (u v w : CursorView) (value : ℤ) → GoesOn u v → ReadsAll t b v w value → ReadsAll t b u w value
+pub reads_all_further : (t : IntegerType) (b : Bool) (u v w : CursorView) (value : ℤ) → MovesOn u v → ReadsAll t b v w value → ReadsAll t b u w value
 reads_all_further t b u v w value g all =
     let same = same_numeral u v g in
     record {
@@ -160,5 +164,5 @@ pub reads_no_more : (t : IntegerType) (b : Bool) (u : CursorView) (value : ℤ) 
 reads_no_more t b u value ready = record { reads = ready.reads; goes_on = goes_on_none u ready.sound ready.still_open }
 
 -- a fault of the numeral stays its fault
-pub fault_further : (t : IntegerType) (b : Bool) (u v : CursorView) (e : Error) → GoesOn u v → range_fault t b (numeral_of v) ≡ Some e → range_fault t b (numeral_of u) ≡ Some e
+pub fault_further : (t : IntegerType) (b : Bool) (u v : CursorView) (e : Error) → MovesOn u v → range_fault t b (numeral_of v) ≡ Some e → range_fault t b (numeral_of u) ≡ Some e
 fault_further t b u v e g fault = ap (range_fault t b) (sym (same_numeral u v g)) ∙ fault

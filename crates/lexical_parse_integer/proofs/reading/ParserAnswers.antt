@@ -8,11 +8,12 @@ use Rattle.lexical_util.specs.declared.error.Error.TheVariants.{InvalidDigit, Em
 use Rattle.lexical_parse_integer.specs.Affixes.{bare_radix, numeral_stop, octal_zero_at, prefix_radix}
 use Rattle.lexical_parse_integer.specs.CursorView.{CursorView, behind_prefix, IsSound, numeral_end, numeral_of}
 use Rattle.lexical_parse_integer.specs.Grammar.{complete, digits_required, first_fault_or, partial, prefix_fault, range_fault, zero_fault}
-use Rattle.lexical_parse_integer.specs.Head.{Head, head_of, no_sign, sign, sign_by}
-use Rattle.lexical_parse_integer.specs.Numeral.{Numeral, digit_count, numeral_in, numeral_value}
-use Rattle.lexical_parse_integer.specs.Reading.{GoesOn, IsAtHead, IsOver, IsRead, IsReading, Reads, ReadsNumeral, StandsAtStop}
+use Rattle.lexical_parse_integer.specs.Head.{Head, head_of, no_sign, sign, sign_by, chooses_radix}
+use Rattle.lexical_parse_integer.specs.Numeral.{Numeral, digit_count, numeral_in, numeral_value, numeral_behind}
+use Rattle.lexical_parse_integer.specs.Reading.{MovesOn, IsAtHead, IsOver, IsRead, IsReading, Reads, ReadsNumeral, StandsAtStop}
 use Rattle.lexical_util.specs.Format.{Format}
 use Rattle.lexical_util.specs.Number.{IntegerType}
+use Rattle.lexical_parse_integer.specs.Seeking.{starts_behind_prefix}
 use Rattle.lexical_parse_integer.proofs.Folds.{fact_of}
 use Rattle.lexical_parse_integer.proofs.reading.Soundness.{digits_bound}
 use Rattle.lexical_parse_integer.proofs.reading.OctalZeros.{bare_own, octal_byte}
@@ -26,6 +27,7 @@ pub record IsFresh (v : CursorView) : Type 0 where
   pub closed : v.closed ≡ false
   pub no_digit : v.digits ≡ 0
   pub no_turn : v.turns ≡ 0
+  pub bare : v.is_prefixed ≡ false
   pub in_force : (v.radix ≡ v.format.mantissa_radix) ⊎ (v.radix ≡ bare_radix v.format v.bytes v.start)
 
 cases_bool : (b : Bool) → (b ≡ true) ⊎ (b ≡ false)
@@ -35,9 +37,10 @@ cases_bool false = inr refl
 pub is_fresh : (v : CursorView) → IsSound v → v.position ≡ 0 → IsFresh v
 is_fresh v s front =
     let start : v.start ≡ 0 = omega (arith, s.after_start) in
+    let bare : v.is_prefixed ≡ false = s.prefixed ∙ ap starts_behind_prefix start in
     let open_now : v.closed ≡ false = elim (cases_bool v.closed) [ inl t ↦ absurd (omega (arith, (s.once_closed t).behind_end)) | inr t ↦ t ] in
     let none : v.digits ≡ 0 = omega (arith, digits_bound v s open_now) in
-    record { start = start; closed = open_now; no_digit = none; no_turn = omega (arith, s.turns); in_force = s.in_force (omega arith) }
+    record { start = start; closed = open_now; no_digit = none; no_turn = omega (arith, s.turns); bare = bare; in_force = s.in_force bare }
 
 -- where nothing was read, the region starts at the position
 pub stays_at_front : (v : CursorView) → IsSound v → v.position ≡ 0 → v ≡ record v { start = v.position; position = v.position }
@@ -152,18 +155,22 @@ module _ (t : IntegerType) (u v : CursorView) (minus : Bool) (fresh : IsFresh u)
   no_turn : v.turns ≡ 0
   no_turn = ap (λ (z : CursorView). z.turns) moved ∙ fresh.no_turn
 
+  bare_head : v.is_prefixed ≡ false
+  bare_head = ap (λ (z : CursorView). z.is_prefixed) moved ∙ fresh.bare
+
   same_prefix : prefix_radix v.format v.bytes v.position ≡ prefix_radix u.format u.bytes v.position
   same_prefix = ap (λ f. prefix_radix f v.bytes v.position) format ∙ ap (λ b. prefix_radix u.format b v.position) bytes
 
   -- and behind the prefix
-  pub at_prefix : (w : CursorView) → true ≡ is_some (prefix_radix v.format v.bytes v.position) → w ≡ behind_prefix v (prefix_radix v.format v.bytes v.position) → IsAtHead u.format t u.bytes minus true w
+  pub at_prefix : (w : CursorView) → true ≡ is_some (prefix_radix v.format v.bytes v.position) → w ≡ behind_prefix v (prefix_radix v.format v.bytes v.position) → IsAtHead u.format t u.bytes minus true false w
   unfolding head_of
   at_prefix w prefixed after = by_prefix (prefix_radix u.format u.bytes v.position) refl (prefixed ∙ ap is_some same_prefix) (after ∙ ap (behind_prefix v) same_prefix)
     where
-      by_prefix : (found : Option ℕ) → prefix_radix u.format u.bytes v.position ≡ found → true ≡ is_some found → w ≡ behind_prefix v found → IsAtHead u.format t u.bytes minus true w
+      by_prefix : (found : Option ℕ) → prefix_radix u.format u.bytes v.position ≡ found → true ≡ is_some found → w ≡ behind_prefix v found → IsAtHead u.format t u.bytes minus true false w
       by_prefix None h is e = absurd (false≢true (sym is))
       by_prefix (Some r) h is e = rw e (record {
         head_is = rw (signed, h) refl;
+        prefixed = refl;
         bytes = bytes;
         format = format;
         at_start = refl;
@@ -189,7 +196,7 @@ module _ (t : IntegerType) (u v : CursorView) (minus : Bool) (fresh : IsFresh u)
       by_prefix (Some r) is = absurd (false≢true is)
 
   -- there an octal zero may stand
-  pub at_bare : (w x : CursorView) (o : Bool) → false ≡ is_some (prefix_radix v.format v.bytes v.position) → w ≡ behind_prefix v (prefix_radix v.format v.bytes v.position) → o ≡ octal_zero_at w.format w.bytes w.position → x ≡ cond o (record w { radix = 8 }) w → IsAtHead u.format t u.bytes minus o x
+  pub at_bare : (w x : CursorView) (o : Bool) → false ≡ is_some (prefix_radix v.format v.bytes v.position) → w ≡ behind_prefix v (prefix_radix v.format v.bytes v.position) → o ≡ octal_zero_at w.format w.bytes w.position → x ≡ cond o (record w { radix = 8 }) w → IsAtHead u.format t u.bytes minus false o x
   unfolding head_of
   at_bare w x o bare after told put =
       let same : w ≡ v = stays_bare w bare after in
@@ -199,9 +206,10 @@ module _ (t : IntegerType) (u v : CursorView) (minus : Bool) (fresh : IsFresh u)
       none : prefix_radix u.format u.bytes v.position ≡ None
       none = none_bare bare
 
-      by_octal : (q : Bool) → q ≡ octal_zero_at u.format u.bytes v.position → x ≡ cond q (record v { radix = 8 }) v → IsAtHead u.format t u.bytes minus q x
+      by_octal : (q : Bool) → q ≡ octal_zero_at u.format u.bytes v.position → x ≡ cond q (record v { radix = 8 }) v → IsAtHead u.format t u.bytes minus false q x
       by_octal true h e = let h' : octal_zero_at u.format u.bytes v.position ≡ true = sym h in rw e (record {
         head_is = rw (signed, none, h', start) refl;
+        prefixed = bare_head;
         bytes = bytes;
         format = format;
         at_start = sym start;
@@ -215,6 +223,7 @@ module _ (t : IntegerType) (u v : CursorView) (minus : Bool) (fresh : IsFresh u)
           let radix : v.radix ≡ u.format.mantissa_radix = ap (λ (z : CursorView). z.radix) moved ∙ own_in_force t u (minus, v.position) fresh signed h' in
           rw e (record {
             head_is = rw (signed, none, h', radix, start) refl;
+            prefixed = bare_head;
             bytes = bytes;
             format = format;
             at_start = sym start;
@@ -241,23 +250,26 @@ unfolding partial
 sign_goes_part f t text e h = rw h refl
 
 abbrev pub common_fault : Format → IntegerType → List ℕ → Head → Option Error
-common_fault f t text h = option_or (prefix_fault text h) (option_or (zero_fault f h.is_marked (numeral_in f text h.start h.radix)) (range_fault t h.is_minus (numeral_in f text h.start h.radix)))
+common_fault f t text h = option_or (prefix_fault text h) (option_or (zero_fault f (chooses_radix h) (numeral_behind f text h)) (range_fault t h.is_negative (numeral_behind f text h)))
 
 fault_completes : (f : Format) (t : IntegerType) (text : List ℕ) (h : Head) (e : Error) → head_of f t text ≡ Ok h → common_fault f t text h ≡ Some e → complete f t text ≡ Err e
 unfolding complete
-fault_completes f t text h e is fault = rw is (first_told (prefix_fault text h) (zero_fault f h.is_marked (numeral_in f text h.start h.radix)) (range_fault t h.is_minus (numeral_in f text h.start h.radix)) _ _ e fault)
+fault_completes f t text h e is fault = rw is (first_told (prefix_fault text h) (zero_fault f (chooses_radix h) (numeral_behind f text h)) (range_fault t h.is_negative (numeral_behind f text h)) _ _ e fault)
 
 pub fault_goes_part : (f : Format) (t : IntegerType) (text : List ℕ) (h : Head) (e : Error) → head_of f t text ≡ Ok h → common_fault f t text h ≡ Some e → partial f t text ≡ Err e
 unfolding partial
-fault_goes_part f t text h e is fault = rw is (first_told (prefix_fault text h) (zero_fault f h.is_marked (numeral_in f text h.start h.radix)) (range_fault t h.is_minus (numeral_in f text h.start h.radix)) _ _ e fault)
+fault_goes_part f t text h e is fault = rw is (first_told (prefix_fault text h) (zero_fault f (chooses_radix h) (numeral_behind f text h)) (range_fault t h.is_negative (numeral_behind f text h)) _ _ e fault)
 
 -- both at once, by the cursor at the head
-module _ (f : Format) (t : IntegerType) (text : List ℕ) (minus p : Bool) (v : CursorView) (at : IsAtHead f t text minus p v) where
+module _ (f : Format) (t : IntegerType) (text : List ℕ) (minus p o : Bool) (v : CursorView) (at : IsAtHead f t text minus p o v) where
   abbrev head : Head
-  head = record { is_minus = minus; is_marked = p; start = v.start; radix = v.radix }
+  head = record { is_negative = minus; is_prefixed = p; is_octal = o; start = v.start; radix = v.radix }
 
-  pub same_text : numeral_in f text v.start v.radix ≡ numeral_of v
-  same_text = ap (λ g. numeral_in g text v.start v.radix) (sym at.format) ∙ ap (λ b. numeral_in v.format b v.start v.radix) (sym at.bytes)
+  pub same_text : numeral_behind f text head ≡ numeral_of v
+  same_text =
+      ap (λ g. numeral_in g p v.radix text v.start) (sym at.format)
+      ∙ ap (λ q. numeral_in v.format q v.radix text v.start) (sym at.prefixed)
+      ∙ ap (λ b. numeral_in v.format v.is_prefixed v.radix b v.start) (sym at.bytes)
 
   both : (e : Error) → common_fault f t text head ≡ Some e → (complete f t text ≡ Err e) × (partial f t text ≡ Err e)
   both e fault = (fault_completes f t text head e at.head_is fault, fault_goes_part f t text head e at.head_is fault)
@@ -269,22 +281,22 @@ module _ (f : Format) (t : IntegerType) (text : List ℕ) (minus p : Bool) (v : 
   prefix_alone n e size =
       let test = sym (alone_is true e) in
       let same : length text ≡ n = ap length (sym at.bytes) ∙ sym size in
-      both (Empty n) (ap (λ b. option_or (cond b (Some (Empty (length text))) None) (option_or (zero_fault f p (numeral_in f text v.start v.radix)) (range_fault t minus (numeral_in f text v.start v.radix)))) test ∙ ap (λ k. Some (Empty k)) same)
+      both (Empty n) (ap (λ b. option_or (cond b (Some (Empty (length text))) None) (option_or (zero_fault f (p || o) (numeral_behind f text head)) (range_fault t minus (numeral_behind f text head)))) test ∙ ap (λ k. Some (Empty k)) same)
 
   pub not_alone : false ≡ (p && (v.position == length v.bytes)) → prefix_fault text head ≡ None
   not_alone e = ap (λ b. cond b (Some (Empty (length text))) None) (sym (alone_is false e))
 
-  pub digit_fault : (e : Error) → false ≡ (p && (v.position == length v.bytes)) → option_or (zero_fault v.format p (numeral_of v)) (range_fault t minus (numeral_of v)) ≡ Some e → (complete f t text ≡ Err e) × (partial f t text ≡ Err e)
+  pub digit_fault : (e : Error) → false ≡ (p && (v.position == length v.bytes)) → option_or (zero_fault v.format (p || o) (numeral_of v)) (range_fault t minus (numeral_of v)) ≡ Some e → (complete f t text ≡ Err e) × (partial f t text ≡ Err e)
   digit_fault e goes fault =
-      both e (ap (λ o. option_or o (option_or (zero_fault f p (numeral_in f text v.start v.radix)) (range_fault t minus (numeral_in f text v.start v.radix)))) (not_alone goes)
-      ∙ ap (λ x. option_or (zero_fault f p x) (range_fault t minus x)) same_text ∙ ap (λ g. option_or (zero_fault g p (numeral_of v)) (range_fault t minus (numeral_of v))) (sym at.format) ∙ fault)
+      both e (ap (λ q. option_or q (option_or (zero_fault f (p || o) (numeral_behind f text head)) (range_fault t minus (numeral_behind f text head)))) (not_alone goes)
+      ∙ ap (λ x. option_or (zero_fault f (p || o) x) (range_fault t minus x)) same_text ∙ ap (λ g. option_or (zero_fault g (p || o) (numeral_of v)) (range_fault t minus (numeral_of v))) (sym at.format) ∙ fault)
 
-pub range_behind : (t : IntegerType) (minus p : Bool) (v w : CursorView) (e : Error) → GoesOn v w → zero_fault v.format p (numeral_of v) ≡ None → range_fault t minus (numeral_of w) ≡ Some e → option_or (zero_fault v.format p (numeral_of v)) (range_fault t minus (numeral_of v)) ≡ Some e
+pub range_behind : (t : IntegerType) (minus p : Bool) (v w : CursorView) (e : Error) → MovesOn v w → zero_fault v.format p (numeral_of v) ≡ None → range_fault t minus (numeral_of w) ≡ Some e → option_or (zero_fault v.format p (numeral_of v)) (range_fault t minus (numeral_of v)) ≡ Some e
 range_behind t minus p v w e g none fault =
     ap (λ z. option_or z (range_fault t minus (numeral_of v))) none ∙ ap (range_fault t minus) (sym (same_numeral v w g)) ∙ fault
 
 -- behind the first digit, reading may go on
-pub reading_behind : (t : IntegerType) (minus : Bool) (v w : CursorView) (value : ℤ) → (minus ≡ true → t.is_signed ≡ true) → GoesOn v w → Reads t minus (numeral_of v) w.digits value → IsReading t minus w value
+pub reading_behind : (t : IntegerType) (minus : Bool) (v w : CursorView) (value : ℤ) → (minus ≡ true → t.is_signed ≡ true) → MovesOn v w → Reads t minus (numeral_of v) w.digits value → IsReading t minus w value
 reading_behind t minus v w value signed g reads =
     record {
       still_open = g.closed;
@@ -295,7 +307,7 @@ reading_behind t minus v w value signed g reads =
 
 -- ---- all is read
 
-stop_of_numeral : (v : CursorView) → (numeral_of v).stop ≡ numeral_stop v.format v.radix v.bytes v.start
+stop_of_numeral : (v : CursorView) → (numeral_of v).stop ≡ numeral_stop v.format v.is_prefixed v.radix v.bytes v.start
 unfolding numeral_in
 stop_of_numeral v = refl
 
@@ -303,21 +315,22 @@ pub same_but_place : (b : Bool) (v w : CursorView) → w ≡ cond b (record v { 
 same_but_place true v w e = (ap (λ (z : CursorView). z.bytes) e, ap (λ (z : CursorView). z.format) e, ap (λ (z : CursorView). z.digits) e, ap (λ (z : CursorView). z.turns) e, ap (λ (z : CursorView). z.identity) e)
 same_but_place false v w e = (ap (λ (z : CursorView). z.bytes) e, ap (λ (z : CursorView). z.format) e, ap (λ (z : CursorView). z.digits) e, ap (λ (z : CursorView). z.turns) e, ap (λ (z : CursorView). z.identity) e)
 
-pub is_read : (f : Format) (t : IntegerType) (text : List ℕ) (minus p b : Bool) (v w x : CursorView) (value : ℤ) → IsAtHead f t text minus p v → false ≡ (p && (v.position == length v.bytes)) → GoesOn v w → ReadsNumeral t minus p v w value
-    → (w.position ≡ numeral_end w → x.position ≡ numeral_stop w.format w.radix w.bytes w.start) → x ≡ cond b (record w { position = w.position + 1; closed = true }) w → IsRead f t text value x
-is_read f t text minus p b v w x value at goes g reads stops after =
+pub is_read : (f : Format) (t : IntegerType) (text : List ℕ) (minus p o b : Bool) (v w x : CursorView) (value : ℤ) → IsAtHead f t text minus p o v → false ≡ (p && (v.position == length v.bytes)) → MovesOn v w → ReadsNumeral t minus (p || o) v w value
+    → (w.position ≡ numeral_end w → x.position ≡ numeral_stop w.format w.is_prefixed w.radix w.bytes w.start) → x ≡ cond b (record w { position = w.position + 1; closed = true }) w → IsRead f t text value x
+is_read f t text minus p o b v w x value at goes g reads stops after =
     let all = reads.all in
-    let here : Numeral = numeral_in f text v.start v.radix in
-    let first : numeral_of v ≡ here = sym (same_text f t text minus p v at) in
+    let h : Head = record { is_negative = minus; is_prefixed = p; is_octal = o; start = v.start; radix = v.radix } in
+    let here : Numeral = numeral_behind f text h in
+    let first : numeral_of v ≡ here = sym (same_text f t text minus p o v at) in
     let second : numeral_of w ≡ here = same_numeral v w g ∙ first in
     let kept = same_but_place b w x after in
     let ends : w.position ≡ numeral_end w = all.at_end ∙ ap (λ (y : Numeral). y.ends) (sym (same_numeral v w g)) ∙ numeral_ends w in
     let digits : x.digits ≡ w.digits = kept.2 in
     record {
-      head = record { is_minus = minus; is_marked = p; start = v.start; radix = v.radix };
+      head = h;
       head_is = at.head_is;
-      no_prefix_fault = not_alone f t text minus p v at goes;
-      no_zero_fault = ap (λ h. zero_fault h p here) (sym at.format) ∙ ap (zero_fault v.format p) (sym first) ∙ reads.no_zeros;
+      no_prefix_fault = not_alone f t text minus p o v at goes;
+      no_zero_fault = ap (λ g. zero_fault g (p || o) here) (sym at.format) ∙ ap (zero_fault v.format (p || o)) (sym first) ∙ reads.no_zeros;
       no_range_fault = ap (range_fault t minus) (sym first) ∙ all.fits;
       value_is = all.value_is ∙ ap (numeral_value minus) first;
       bytes = kept.0 ∙ g.bytes ∙ at.bytes;
@@ -333,16 +346,16 @@ pub over_same : (v w : CursorView) → IsSound v → w ≡ v → IsOver v.bytes 
 over_same v w s same = subst (λ (u : CursorView). IsOver v.bytes v.format u) (sym same) (record { bytes = refl; format = refl; sound = s })
 
 -- a cursor behind sign and prefix
-pub over_head : (f : Format) (t : IntegerType) (text : List ℕ) (minus p : Bool) (v : CursorView) → IsAtHead f t text minus p v → IsSound v → IsOver text f v
-over_head f t text minus p v at s = record { bytes = at.bytes; format = at.format; sound = s }
+pub over_head : (f : Format) (t : IntegerType) (text : List ℕ) (minus p o : Bool) (v : CursorView) → IsAtHead f t text minus p o v → IsSound v → IsOver text f v
+over_head f t text minus p o v at s = record { bytes = at.bytes; format = at.format; sound = s }
 
 -- a cursor that has gone on from there
-pub over_numeral : (f : Format) (t : IntegerType) (text : List ℕ) (minus p : Bool) (v w : CursorView) → IsAtHead f t text minus p v → GoesOn v w → IsOver text f w
-over_numeral f t text minus p v w at g = record { bytes = g.bytes ∙ at.bytes; format = g.format ∙ at.format; sound = fact_of g.sound }
+pub over_numeral : (f : Format) (t : IntegerType) (text : List ℕ) (minus p o : Bool) (v w : CursorView) → IsAtHead f t text minus p o v → MovesOn v w → IsOver text f w
+over_numeral f t text minus p o v w at g = record { bytes = g.bytes ∙ at.bytes; format = g.format ∙ at.format; sound = fact_of g.sound }
 
 -- a cursor from which the suffix was looked for
-pub over_suffix : (f : Format) (t : IntegerType) (text : List ℕ) (minus p b : Bool) (v w x : CursorView) → IsAtHead f t text minus p v → GoesOn v w → x ≡ cond b (record w { position = w.position + 1; closed = true }) w → IsSound x → IsOver text f x
-over_suffix f t text minus p b v w x at g after s =
+pub over_suffix : (f : Format) (t : IntegerType) (text : List ℕ) (minus p o b : Bool) (v w x : CursorView) → IsAtHead f t text minus p o v → MovesOn v w → x ≡ cond b (record w { position = w.position + 1; closed = true }) w → IsSound x → IsOver text f x
+over_suffix f t text minus p o b v w x at g after s =
     let kept = same_but_place b w x after in
     record { bytes = kept.0 ∙ g.bytes ∙ at.bytes; format = kept.1 ∙ g.format ∙ at.format; sound = s }
 
@@ -361,13 +374,13 @@ at_stop_read f t text value v r = record { head = r.head; head_is = r.head_is; a
 
 -- ---- the answers
 
-lacks_is : (f : Format) (t : IntegerType) (text : List ℕ) (value : ℤ) (v : CursorView) (b : Bool) → (r : IsRead f t text value v) → b ≡ (digits_required v.format && (v.digits == 0)) → (digits_required f && (digit_count (numeral_in f text r.head.start r.head.radix) == 0)) ≡ b
+lacks_is : (f : Format) (t : IntegerType) (text : List ℕ) (value : ℤ) (v : CursorView) (b : Bool) → (r : IsRead f t text value v) → b ≡ (digits_required v.format && (v.digits == 0)) → (digits_required f && (digit_count (numeral_behind f text r.head) == 0)) ≡ b
 lacks_is f t text value v b r e = ap (λ n. digits_required f && (n == 0)) (sym r.all_digits) ∙ ap (λ g. digits_required g && (v.digits == 0)) (sym r.format) ∙ sym e
 
 pub complete_stops : (f : Format) (t : IntegerType) (text : List ℕ) (value : ℤ) (v : CursorView) → IsRead f t text value v → v.position < length v.bytes → complete f t text ≡ Err (InvalidDigit v.position)
 unfolding complete
 complete_stops f t text value v r l =
-    let x : Numeral = numeral_in f text r.head.start r.head.radix in
+    let x : Numeral = numeral_behind f text r.head in
     let size : length v.bytes ≡ length text = ap length r.bytes in
     let stop : x.stop ≡ v.position = sym r.at_stop in
     let more : nat_lt v.position (length text) ≡ true = lt-ltb v.position (length text) (omega arith) in
@@ -380,7 +393,7 @@ complete_stops f t text value v r l =
 pub complete_empty : (f : Format) (t : IntegerType) (text : List ℕ) (value : ℤ) (v : CursorView) (n : ℕ) → IsRead f t text value v → v.position ≡ length v.bytes → n ≡ length v.bytes → true ≡ (digits_required v.format && (v.digits == 0)) → complete f t text ≡ Err (Empty n)
 unfolding complete
 complete_empty f t text value v n r end is lacks =
-    let x : Numeral = numeral_in f text r.head.start r.head.radix in
+    let x : Numeral = numeral_behind f text r.head in
     let size : length v.bytes ≡ length text = ap length r.bytes in
     let stop : x.stop ≡ v.position = sym r.at_stop in
     let no_more : nat_lt v.position (length text) ≡ false = le-ltb v.position (length text) (omega arith) in
@@ -395,7 +408,7 @@ complete_empty f t text value v n r end is lacks =
 pub complete_value : (f : Format) (t : IntegerType) (text : List ℕ) (value : ℤ) (v : CursorView) → IsRead f t text value v → v.position ≡ length v.bytes → false ≡ (digits_required v.format && (v.digits == 0)) → complete f t text ≡ Ok value
 unfolding complete
 complete_value f t text value v r end lacks =
-    let x : Numeral = numeral_in f text r.head.start r.head.radix in
+    let x : Numeral = numeral_behind f text r.head in
     let size : length v.bytes ≡ length text = ap length r.bytes in
     let stop : x.stop ≡ v.position = sym r.at_stop in
     let no_more : nat_lt v.position (length text) ≡ false = le-ltb v.position (length text) (omega arith) in
@@ -412,7 +425,7 @@ settled_is f t text value v b r e = ap (λ g. is_some g.digit_separator || (v.po
 pub partial_empty : (f : Format) (t : IntegerType) (text : List ℕ) (value : ℤ) (v : CursorView) → IsRead f t text value v → true ≡ (digits_required v.format && (v.digits == 0)) → true ≡ (is_some v.format.digit_separator || (v.position == length v.bytes)) → partial f t text ≡ Err (Empty v.position)
 unfolding partial
 partial_empty f t text value v r lacks settled =
-    let x : Numeral = numeral_in f text r.head.start r.head.radix in
+    let x : Numeral = numeral_behind f text r.head in
     let stop : x.stop ≡ v.position = sym r.at_stop in
     let test = lacks_is f t text value v true r lacks in
     let ends = settled_is f t text value v true r settled in
@@ -425,7 +438,7 @@ partial_empty f t text value v r lacks settled =
 pub partial_value : (f : Format) (t : IntegerType) (text : List ℕ) (value : ℤ) (v : CursorView) → IsRead f t text value v → false ≡ (digits_required v.format && (v.digits == 0)) → partial f t text ≡ Ok (value, v.position)
 unfolding partial
 partial_value f t text value v r lacks =
-    let x : Numeral = numeral_in f text r.head.start r.head.radix in
+    let x : Numeral = numeral_behind f text r.head in
     let stop : x.stop ≡ v.position = sym r.at_stop in
     let test = lacks_is f t text value v false r lacks in
     let e₁ = r.head_is in
@@ -437,7 +450,7 @@ partial_value f t text value v r lacks =
 pub partial_goes_on : (f : Format) (t : IntegerType) (text : List ℕ) (value : ℤ) (v : CursorView) → IsRead f t text value v → true ≡ (digits_required v.format && (v.digits == 0)) → false ≡ (is_some v.format.digit_separator || (v.position == length v.bytes)) → partial f t text ≡ Ok (value, v.position)
 unfolding partial
 partial_goes_on f t text value v r lacks settled =
-    let x : Numeral = numeral_in f text r.head.start r.head.radix in
+    let x : Numeral = numeral_behind f text r.head in
     let stop : x.stop ≡ v.position = sym r.at_stop in
     let test = lacks_is f t text value v true r lacks in
     let ends = settled_is f t text value v false r settled in

@@ -2,12 +2,12 @@
 use Rattle.std.proofs.Common.{◌≡◌, ℕ, ◌+◌, ◌-◌, ◌≤◌, ◌<◌, Bool, true, false, List, [], ◌∷◌, length, length-append, ◌&&◌, ltb, Option, Some, None, is_some, IsNone, option_and_then, slice_get, refl, sym, ◌∙◌, ap, arith, inl, inr, cond, subst}
 use Rattle.std.proofs.lemmas.Bool.{false≢true, cases_lt, ltb-false, ltb-true}
 use Rattle.std.proofs.lemmas.Bool.Decides.{nat_tests}
-use Rattle.std.specs.Prelude.{nat_lt}
+use Rattle.std.specs.Prelude.{nat_le, nat_lt}
 use Rattle.std.proofs.lemmas.Option.{slice_get_past}
 use Rattle.lexical_parse_integer.specs.Affixes.{bare_radix, is_affix, literal_radix, marked_radix, matches, numeral_stop, octal_zero_at, prefix_radix, suffix_at}
 use Rattle.lexical_parse_integer.specs.CursorView.{CursorView, IsSound, IsSuffixNoDigit, IsSuffixNoSeparator, ReachesEnd, TakesDigit, closes, numeral_end}
 use Rattle.lexical_parse_integer.specs.Runs.{are_same, is_in_numeral, digit_at, digits_between, end_of, places, separator_at}
-use Rattle.lexical_parse_integer.specs.Seeking.{Finds, HasNoDigit, IsSeparatorNoDigit}
+use Rattle.lexical_parse_integer.specs.Seeking.{Finds, HasNoDigit, IsSeparatorNoDigit, starts_behind_prefix}
 use Rattle.lexical_util.specs.Digit.{digit}
 use Rattle.lexical_util.specs.Format.{Format}
 use Rattle.lexical_util.specs.Validity.{fault}
@@ -57,7 +57,7 @@ pub suffix_no_separator : (f : Format) (b : List ℕ) → ((m x : ℕ) → f.bas
 unfolding suffix_at separator_at
 suffix_no_separator f b fit k t = by_mark f.case_sensitive_base_suffix f.base_suffix (slice_get b k) (λ c. are_same f.digit_separator c ≡ false) fit t
 
-pub IsSound-digit : (v : CursorView) (turns place value : ℕ) → IsSound v → v.closed ≡ false → turns ≡ v.turns + 1 → Finds v.format v.radix v.bytes v.start v.position (Digit place value) → IsSound (record v { position = place + 1; digits = v.digits + 1; turns = turns })
+pub IsSound-digit : (v : CursorView) (turns place value : ℕ) → IsSound v → v.closed ≡ false → turns ≡ v.turns + 1 → Finds v.format v.is_prefixed v.radix v.bytes v.start v.position (Digit place value) → IsSound (record v { position = place + 1; digits = v.digits + 1; turns = turns })
 IsSound-digit v turns place value s open_now one_more found =
     let o = s.while_open open_now in
     let low : v.start ≤ place = omega (arith, s.after_start, found.0) in
@@ -74,6 +74,7 @@ IsSound-digit v turns place value s open_now one_more found =
       suffix_separator = s.suffix_separator;
       in_force = s.in_force;
       own = s.own;
+      prefixed = s.prefixed;
       after_start = omega arith;
       within = omega (arith, digit_at_within v.radix v.bytes place value found.3);
       turns = omega (arith, s.turns);
@@ -85,10 +86,10 @@ IsSound-digit v turns place value s open_now one_more found =
       once_closed = λ t. absurd (false≢true (sym open_now ∙ t));
     }
 
-pub IsSound-end : (v : CursorView) (place : ℕ) → IsSound v → v.closed ≡ false → Finds v.format v.radix v.bytes v.start v.position (End place) → IsSound (record v { position = place })
+pub IsSound-end : (v : CursorView) (place : ℕ) → IsSound v → v.closed ≡ false → Finds v.format v.is_prefixed v.radix v.bytes v.start v.position (End place) → IsSound (record v { position = place })
 IsSound-end v place s open_now found =
     let o = s.while_open open_now in
-    let stop = IsStop-end_of v.format v.radix v.bytes v.start (omega (arith, s.after_start, s.within)) in
+    let stop = IsStop-end_of v.format v.is_prefixed v.radix v.bytes v.start (omega (arith, s.after_start, s.within)) in
     let low : v.position ≤ place = omega (arith, o.before_end, found.0) in
     let skipped = ap length (digits_between_to v.radix v.bytes v.start v.position place s.after_start low found.1) in
     record {
@@ -99,6 +100,7 @@ IsSound-end v place s open_now found =
       suffix_separator = s.suffix_separator;
       in_force = s.in_force;
       own = s.own;
+      prefixed = s.prefixed;
       after_start = omega (arith, s.after_start);
       within = omega (arith, stop.high, found.0);
       turns = s.turns;
@@ -111,7 +113,7 @@ IsSound-end v place s open_now found =
     }
 
 -- what the steps do, by what was found
-pub takes_found : (v : CursorView) (turns place value : ℕ) → turns ≡ v.turns + 1 → Finds v.format v.radix v.bytes v.start v.position (Digit place value) → TakesDigit v (record v { position = place + 1; digits = v.digits + 1; turns = turns }) value
+pub takes_found : (v : CursorView) (turns place value : ℕ) → turns ≡ v.turns + 1 → Finds v.format v.is_prefixed v.radix v.bytes v.start v.position (Digit place value) → TakesDigit v (record v { position = place + 1; digits = v.digits + 1; turns = turns }) value
 takes_found v turns place value one_more found = record {
   place = place;
   from = found.0;
@@ -121,7 +123,7 @@ takes_found v turns place value one_more found = record {
   after = ap (λ (n : ℕ). record v { position = place + 1; digits = v.digits + 1; turns = n }) one_more;
 }
 
-pub reaches_found : (v : CursorView) (place : ℕ) → Finds v.format v.radix v.bytes v.start v.position (End place) → ReachesEnd v (record v { position = place })
+pub reaches_found : (v : CursorView) (place : ℕ) → Finds v.format v.is_prefixed v.radix v.bytes v.start v.position (End place) → ReachesEnd v (record v { position = place })
 reaches_found v place found = record {
   none_left = subst (λ (e : ℕ). HasNoDigit v.radix v.bytes v.position e) found.0 found.1;
   after = ap (λ (n : ℕ). record v { position = n }) found.0;
@@ -131,9 +133,9 @@ no_separator : (f : Format) (b : List ℕ) (k : ℕ) → f.digit_separator ≡ N
 unfolding separator_at are_same
 no_separator f b k e = rw e refl
 
-belongs_some : (f : Format) (r : ℕ) (b : List ℕ) (j k : ℕ) → is_some (digit_at r b k) ≡ true → is_in_numeral f r b j k ≡ true
+belongs_some : (f : Format) (pre : Bool) (r : ℕ) (b : List ℕ) (j k : ℕ) → is_some (digit_at r b k) ≡ true → is_in_numeral f pre r b j k ≡ true
 unfolding is_in_numeral
-belongs_some f r b j k e = rw e refl
+belongs_some f pre r b j k e = rw e refl
 
 some_within : (r : ℕ) (b : List ℕ) (k : ℕ) → is_some (digit_at r b k) ≡ true → k < length b
 some_within r b k e =
@@ -153,11 +155,12 @@ IsSound-word v turns n s open_now contiguous some one_more all =
       suffix_separator = s.suffix_separator;
       in_force = s.in_force;
       own = s.own;
+      prefixed = s.prefixed;
       after_start = omega (arith, s.after_start);
       within = omega arith;
       turns = omega (arith, s.turns);
       while_open = λ _. record {
-        before_end = reaches v.format v.radix v.bytes v.start v.position (v.position + n) s.after_start o.before_end (omega arith) s.within (λ k l h. belongs_some v.format v.radix v.bytes v.start k (all k l h));
+        before_end = reaches v.format v.is_prefixed v.radix v.bytes v.start v.position (v.position + n) s.after_start o.before_end (omega arith) s.within (λ k l h. belongs_some v.format v.is_prefixed v.radix v.bytes v.start k (all k l h));
         digits = omega (arith, o.digits);
         at_run_start = λ _ t. absurd (false≢true (sym (no_separator v.format v.bytes (v.position + n) contiguous) ∙ t));
       };
@@ -165,10 +168,10 @@ IsSound-word v turns n s open_now contiguous some one_more all =
     }
 
 -- a fresh cursor
-pub IsSound-new : (b : List ℕ) (f : Format) (turns identity : ℕ) → IsNone (fault f) → turns ≡ 0 → IsSound (record { bytes = b; format = f; radix = f.mantissa_radix; start = 0; position = 0; digits = 0; closed = false; turns = turns; identity = identity })
+pub IsSound-new : (b : List ℕ) (f : Format) (turns identity : ℕ) → IsNone (fault f) → turns ≡ 0 → IsSound (record { bytes = b; format = f; is_prefixed = false; radix = f.mantissa_radix; start = 0; position = 0; digits = 0; closed = false; turns = turns; identity = identity })
 IsSound-new b f turns identity valid none =
     let fit = fits f valid in
-    let stop = IsStop-end_of f f.mantissa_radix b 0 (omega arith) in
+    let stop = IsStop-end_of f false f.mantissa_radix b 0 (omega arith) in
     record {
       valid = valid;
       radix = fit.is_radix;
@@ -177,6 +180,7 @@ IsSound-new b f turns identity valid none =
       suffix_separator = suffix_no_separator f b fit.suffix_separator;
       in_force = λ _. inl refl;
       own = λ _ _. refl;
+      prefixed = refl;
       after_start = omega arith;
       within = omega arith;
       turns = omega arith;
@@ -187,12 +191,12 @@ IsSound-new b f turns identity valid none =
 -- behind a sign
 own_radix : (v : CursorView) → IsSound v → v.start ≡ 0 → octal_zero_at v.format v.bytes 0 ≡ false → v.radix ≡ v.format.mantissa_radix
 own_radix v s start other =
-    elim (s.in_force (omega arith)) [
+    elim (s.in_force (s.prefixed ∙ ap starts_behind_prefix start)) [
       | inl e ↦ e
       | inr e ↦ e ∙ ap (bare_radix v.format v.bytes) start ∙ bare_own v.format v.bytes 0 other
     ]
 
-pub IsSound-sign : (v : CursorView) → IsSound v → v.position ≡ 0 → 0 < length v.bytes → octal_zero_at v.format v.bytes 0 ≡ false → IsSound (record v { start = 1; position = 1 })
+pub IsSound-sign : (v : CursorView) → IsSound v → v.position ≡ 0 → 0 < length v.bytes → octal_zero_at v.format v.bytes 0 ≡ false → IsSound (record v { is_prefixed = false; start = 1; position = 1 })
 IsSound-sign v s front some other =
     let start : v.start ≡ 0 = omega (arith, s.after_start) in
     elim (true_or_false v.closed) [
@@ -200,7 +204,7 @@ IsSound-sign v s front some other =
       | inr open_now ↦
           let o = s.while_open open_now in
           let none : v.digits ≡ 0 = omega (arith, o.digits, length-digits_between v.radix v.bytes v.start v.position) in
-          let stop = IsStop-end_of v.format v.radix v.bytes 1 (omega arith) in
+          let stop = IsStop-end_of v.format false v.radix v.bytes 1 (omega arith) in
           record {
             valid = s.valid;
             radix = s.radix;
@@ -209,6 +213,7 @@ IsSound-sign v s front some other =
             suffix_separator = s.suffix_separator;
             in_force = λ _. inl (own_radix v s start other);
             own = s.own;
+            prefixed = refl;
             after_start = omega arith;
             within = omega arith;
             turns = s.turns;
@@ -284,19 +289,20 @@ unfolding octal_zero_at
 octal_off f b k off here = false≢true (rw off at here)
 
 -- behind a prefix
-pub IsSound-prefix : (v : CursorView) (r : ℕ) → IsSound v → v.digits ≡ 0 → prefix_radix v.format v.bytes v.position ≡ Some r → IsSound (record v { radix = r; start = v.position + 2; position = v.position + 2 })
+pub IsSound-prefix : (v : CursorView) (r : ℕ) → IsSound v → v.digits ≡ 0 → prefix_radix v.format v.bytes v.position ≡ Some r → IsSound (record v { is_prefixed = true; radix = r; start = v.position + 2; position = v.position + 2 })
 IsSound-prefix v r s none here =
     let inside = prefix_within v.format v.bytes v.position r here in
     let fit = fits_prefix v.format v.bytes v.position r s.valid here in
-    let stop = IsStop-end_of v.format r v.bytes (v.position + 2) (omega arith) in
+    let stop = IsStop-end_of v.format true r v.bytes (v.position + 2) (omega arith) in
     record {
       valid = s.valid;
       radix = fit.is_radix;
       separator = separator_no_digit v.format r v.bytes fit.separator;
       suffix_digit = suffix_no_digit v.format r v.bytes fit.suffix_digit;
       suffix_separator = s.suffix_separator;
-      in_force = λ h. absurd (omega arith);
+      in_force = λ h. absurd (false≢true (sym h));
       own = λ off _. prefix_own v.format v.bytes v.position r off here;
+      prefixed = let two : nat_le 2 (v.position + 2) ≡ true = grind (arith, nat_tests) in sym two;
       after_start = omega arith;
       within = omega arith;
       turns = s.turns;
@@ -308,7 +314,7 @@ IsSound-prefix v r s none here =
 pub IsSound-octal : (v : CursorView) → IsSound v → v.position ≡ v.start → v.digits ≡ 0 → octal_zero_at v.format v.bytes v.position ≡ true → IsSound (record v { radix = 8 })
 IsSound-octal v s at none here =
     let fit = fits_octal v.format v.bytes v.position s.valid here in
-    let stop = IsStop-end_of v.format 8 v.bytes v.start (omega (arith, at, s.within)) in
+    let stop = IsStop-end_of v.format v.is_prefixed 8 v.bytes v.start (omega (arith, at, s.within)) in
     let there : octal_zero_at v.format v.bytes v.start ≡ true = ap (octal_zero_at v.format v.bytes) (sym at) ∙ here in
     record {
       valid = s.valid;
@@ -318,6 +324,7 @@ IsSound-octal v s at none here =
       suffix_separator = s.suffix_separator;
       in_force = λ _. inr (sym (bare_octal v.format v.bytes v.start there));
       own = λ _ off. absurd (octal_off v.format v.bytes v.position off here);
+      prefixed = s.prefixed;
       after_start = s.after_start;
       within = s.within;
       turns = s.turns;
@@ -333,13 +340,13 @@ IsSound-octal v s at none here =
 pub suffix_at_end : (v : CursorView) → IsSound v → v.closed ≡ false → suffix_at v.format v.bytes v.position ≡ true → v.position ≡ numeral_end v
 suffix_at_end v s open_now here =
     let o = s.while_open open_now in
-    is_end v.format v.radix v.bytes v.start v.position v.position s.after_start o.before_end (omega arith) s.within
+    is_end v.format v.is_prefixed v.radix v.bytes v.start v.position v.position s.after_start o.before_end (omega arith) s.within
     (λ k l h. absurd (omega arith))
-    (λ h. belongs_other v.format v.radix v.bytes v.start v.position (s.suffix_separator v.position here) (s.suffix_digit v.position here))
+    (λ h. belongs_other v.format v.is_prefixed v.radix v.bytes v.start v.position (s.suffix_separator v.position here) (s.suffix_digit v.position here))
 
-stop_behind : (f : Format) (r : ℕ) (b : List ℕ) (j : ℕ) → 0 < length (places f r b j) → suffix_at f b (end_of f r b j) ≡ true → numeral_stop f r b j ≡ end_of f r b j + 1
+stop_behind : (f : Format) (pre : Bool) (r : ℕ) (b : List ℕ) (j : ℕ) → 0 < length (places f pre r b j) → suffix_at f b (end_of f pre r b j) ≡ true → numeral_stop f pre r b j ≡ end_of f pre r b j + 1
 unfolding numeral_stop
-stop_behind f r b j some here = let t : ltb 0 (length (places f r b j)) ≡ true = grind (arith, nat_tests) in rw (t, here) refl
+stop_behind f pre r b j some here = let t : ltb 0 (length (places f pre r b j)) ≡ true = grind (arith, nat_tests) in rw (t, here) refl
 
 -- behind a suffix
 pub IsSound-suffix : (v : CursorView) → IsSound v → v.closed ≡ false → 0 < v.digits → suffix_at v.format v.bytes v.position ≡ true → IsSound (record v { position = v.position + 1; closed = true })
@@ -356,6 +363,7 @@ IsSound-suffix v s open_now some suffix =
       suffix_separator = s.suffix_separator;
       in_force = s.in_force;
       own = s.own;
+      prefixed = s.prefixed;
       after_start = omega (arith, s.after_start);
       within = omega (arith, suffix_at_within v.format v.bytes v.position suffix);
       turns = s.turns;
@@ -364,43 +372,43 @@ IsSound-suffix v s open_now some suffix =
         behind_end = omega arith;
         digits = all;
         some_digit = some;
-        at_stop = ap (λ n. n + 1) at_end ∙ sym (stop_behind v.format v.radix v.bytes v.start (omega arith) there);
+        at_stop = ap (λ n. n + 1) at_end ∙ sym (stop_behind v.format v.is_prefixed v.radix v.bytes v.start (omega arith) there);
       };
     }
 
-stop_no_digit : (f : Format) (r : ℕ) (b : List ℕ) (j : ℕ) → length (places f r b j) ≡ 0 → numeral_stop f r b j ≡ end_of f r b j
+stop_no_digit : (f : Format) (pre : Bool) (r : ℕ) (b : List ℕ) (j : ℕ) → length (places f pre r b j) ≡ 0 → numeral_stop f pre r b j ≡ end_of f pre r b j
 unfolding numeral_stop
-stop_no_digit f r b j none = let t : ltb 0 (length (places f r b j)) ≡ false = grind (arith, nat_tests) in rw t refl
+stop_no_digit f pre r b j none = let t : ltb 0 (length (places f pre r b j)) ≡ false = grind (arith, nat_tests) in rw t refl
 
 and-false : (x : Bool) → (x && false) ≡ false
 and-false true = refl
 and-false false = refl
 
-stop_other : (f : Format) (r : ℕ) (b : List ℕ) (j : ℕ) → suffix_at f b (end_of f r b j) ≡ false → numeral_stop f r b j ≡ end_of f r b j
+stop_other : (f : Format) (pre : Bool) (r : ℕ) (b : List ℕ) (j : ℕ) → suffix_at f b (end_of f pre r b j) ≡ false → numeral_stop f pre r b j ≡ end_of f pre r b j
 unfolding numeral_stop
-stop_other f r b j other = rw (other, and-false) refl
+stop_other f pre r b j other = rw (other, and-false) refl
 
 -- the stop of the numeral in the cursor's region
 abbrev pub view_stop : CursorView → ℕ
-view_stop v = numeral_stop v.format v.radix v.bytes v.start
+view_stop v = numeral_stop v.format v.is_prefixed v.radix v.bytes v.start
 
 pub at_stop_behind : (v : CursorView) → IsSound v → v.closed ≡ false → 0 < v.digits → suffix_at v.format v.bytes v.position ≡ true → v.position ≡ numeral_end v → v.position + 1 ≡ view_stop v
 at_stop_behind v s open_now some suffix at_end =
     let o = s.while_open open_now in
     let all = rw at_end at o.digits in
     let there = rw at_end at suffix in
-    ap (λ n. n + 1) at_end ∙ sym (stop_behind v.format v.radix v.bytes v.start (omega arith) there)
+    ap (λ n. n + 1) at_end ∙ sym (stop_behind v.format v.is_prefixed v.radix v.bytes v.start (omega arith) there)
 
 at_stop_no_digit : (v : CursorView) → IsSound v → v.closed ≡ false → v.digits ≡ 0 → v.position ≡ numeral_end v → v.position ≡ view_stop v
 at_stop_no_digit v s open_now none at_end =
     let o = s.while_open open_now in
     let all = rw at_end at o.digits in
-    at_end ∙ sym (stop_no_digit v.format v.radix v.bytes v.start (sym all ∙ none))
+    at_end ∙ sym (stop_no_digit v.format v.is_prefixed v.radix v.bytes v.start (sym all ∙ none))
 
 at_stop_other : (v : CursorView) → suffix_at v.format v.bytes v.position ≡ false → v.position ≡ numeral_end v → v.position ≡ view_stop v
 at_stop_other v other at_end =
     let there = rw at_end at other in
-    at_end ∙ sym (stop_other v.format v.radix v.bytes v.start there)
+    at_end ∙ sym (stop_other v.format v.is_prefixed v.radix v.bytes v.start there)
 
 -- where the suffix may be read, a digit was read and the suffix stands there
 pub may_close : (v : CursorView) → closes v ≡ true → (0 < v.digits) × (suffix_at v.format v.bytes v.position ≡ true)

@@ -4,17 +4,17 @@ use Rattle.std.specs.Prelude.{ℤ, pos}
 use Rattle.lexical_util.specs.Number.{HasRoom, IsNumber, integer_type, is_number, mul_add}
 use Rattle.lexical_parse_integer.specs.CursorView.{CursorView, IsSound, TakesDigit, numeral_of}
 use Rattle.lexical_parse_integer.specs.Numeral.{front_value}
-use Rattle.lexical_parse_integer.specs.Reading.{GoesOn, Reads}
+use Rattle.lexical_parse_integer.specs.Reading.{MovesOn, Reads}
 use Rattle.lexical_parse_integer.proofs.grammar.FrontValues.{front_value-next}
 use Rattle.lexical_parse_integer.proofs.reading.DigitLoop.{digit_below, digit_taken, numeral_radix, reads_next}
 use Rattle.lexical_parse_integer.proofs.bound.WordSteps.{room_fits}
 
 -- the radix in force stays
-pub radix_after : (u v w : CursorView) (d : ℕ) → GoesOn u v → TakesDigit v w d → u.radix ≡ w.radix
+pub radix_after : (u v w : CursorView) (d : ℕ) → MovesOn u v → TakesDigit v w d → u.radix ≡ w.radix
 radix_after u v w d g k = sym (ap (λ (z : CursorView). z.radix) k.after ∙ g.radix)
 
 -- a digit taken is at most 35
-pub digit_small : (u v w : CursorView) (d : ℕ) → IsSound u → GoesOn u v → TakesDigit v w d → d ≤ 127
+pub digit_small : (u v w : CursorView) (d : ℕ) → IsSound u → MovesOn u v → TakesDigit v w d → d ≤ 127
 digit_small u v w d sound g k =
     let high = sound.radix.high in
     let below = digit_below v w d u.radix k (radix_after u v w d g k) in
@@ -25,7 +25,7 @@ pub record JoinsDigit (bits : ℕ) (s b : Bool) (u w : CursorView) (next : ℤ) 
   pub fits : IsNumber (integer_type bits s) next
   pub reads : Reads (integer_type bits s) b (numeral_of u) w.digits next
 
-pub joins_digit : (bits : ℕ) (s b : Bool) (u v w : CursorView) (o d : ℕ) (value radix digit : ℤ) → IsSound u → GoesOn u v → TakesDigit v w d → HasRoom (integer_type bits s) u.radix o → (b ≡ true → s ≡ true) → v.digits < o
+pub joins_digit : (bits : ℕ) (s b : Bool) (u v w : CursorView) (o d : ℕ) (value radix digit : ℤ) → IsSound u → MovesOn u v → TakesDigit v w d → HasRoom (integer_type bits s) u.radix o → (b ≡ true → s ≡ true) → v.digits < o
     → Reads (integer_type bits s) b (numeral_of u) v.digits value → radix ≡ pos u.radix → digit ≡ pos d → JoinsDigit bits s b u w (mul_add b value radix digit)
 joins_digit bits s b u v w o d value radix digit sound g k room may less reads is_radix is_digit =
     let there = digit_taken u v w d g k in

@@ -11,7 +11,7 @@ use Rattle.lexical_parse_integer.specs.Affixes.{numeral_stop, prefix_radix, suff
 use Rattle.lexical_parse_integer.specs.Grammar.{after_head, common_faults, complete, complete_faults, fault_if, first_fault_or, first_outside, lacks_digits, partial, partial_faults, range_error, range_fault}
 use Rattle.lexical_parse_integer.specs.Head.{Head, head_after, head_behind, head_of, no_sign, sign}
 use Rattle.lexical_parse_integer.specs.Laws.{completion_of}
-use Rattle.lexical_parse_integer.specs.Numeral.{Numeral, numeral_in, numeral_value}
+use Rattle.lexical_parse_integer.specs.Numeral.{Numeral, numeral_in, numeral_value, numeral_behind}
 use Rattle.lexical_parse_integer.specs.Runs.{end_of, places}
 use Rattle.lexical_util.specs.Format.{Format}
 use Rattle.lexical_util.specs.Number.{IntegerType}
@@ -41,14 +41,14 @@ all_cases n stop first_zero false false lacks separated true (Some k) at v order
 all_cases n stop first_zero false false lacks separated false (Some k) at v order = refl
 all_cases n stop first_zero false false lacks separated minus None at v order = last_cases n stop lacks separated v order
 
-pub numeral_within : (f : Format) (text : List ℕ) (start r : ℕ) → start ≤ length text → (numeral_in f text start r).stop ≤ length text
+pub numeral_within : (f : Format) (pre : Bool) (text : List ℕ) (start r : ℕ) → start ≤ length text → (numeral_in f pre r text start).stop ≤ length text
 unfolding numeral_in numeral_stop
-numeral_within f text start r low = by_tests (nat_lt 0 (length (places f r text start))) (suffix_at f text (end_of f r text start)) refl
+numeral_within f pre text start r low = by_tests (nat_lt 0 (length (places f pre r text start))) (suffix_at f text (end_of f pre r text start)) refl
   where
-    by_tests : (a b : Bool) → suffix_at f text (end_of f r text start) ≡ b → cond (a && b) (end_of f r text start + 1) (end_of f r text start) ≤ length text
-    by_tests true true e = let inside = suffix_at_within f text (end_of f r text start) e in omega arith
-    by_tests true false e = (IsStop-end_of f r text start low).high
-    by_tests false b e = (IsStop-end_of f r text start low).high
+    by_tests : (a b : Bool) → suffix_at f text (end_of f pre r text start) ≡ b → cond (a && b) (end_of f pre r text start + 1) (end_of f pre r text start) ≤ length text
+    by_tests true true e = let inside = suffix_at_within f text (end_of f pre r text start) e in omega arith
+    by_tests true false e = (IsStop-end_of f pre r text start low).high
+    by_tests false b e = (IsStop-end_of f pre r text start low).high
 
 pair_len : (b : Bool) (n k : ℕ) (s : Bool × ℕ) → n ≤ k → ◌≡◌ {A = Result (Bool × ℕ) Error} (Ok (b, n)) (Ok s) → s.1 ≤ k
 pair_len b n k s low e =
@@ -110,13 +110,13 @@ unfolding complete partial head_of range_fault IsSignFault
 complete_is_completion f t text = behind (sign f t text) refl
   where
     behind : (r : Result (Bool × ℕ) Error) → sign f t text ≡ r →
-        after_head (head_after f text r) (λ h. let x = numeral_in f text h.start h.radix in first_fault_or (common_faults f t text h x ++ complete_faults f text x) (numeral_value h.is_minus x))
-        ≡ completion_of (length text) (after_head (head_after f text r) (λ h. let x = numeral_in f text h.start h.radix in first_fault_or (common_faults f t text h x ++ partial_faults f text x) (numeral_value h.is_minus x, x.stop)))
+        after_head (head_after f text r) (λ h. let x = numeral_behind f text h in first_fault_or (common_faults f t text h x ++ complete_faults f text x) (numeral_value h.is_negative x))
+        ≡ completion_of (length text) (after_head (head_after f text r) (λ h. let x = numeral_behind f text h in first_fault_or (common_faults f t text h x ++ partial_faults f text x) (numeral_value h.is_negative x, x.stop)))
     behind (Ok s) e =
         let h : Head = head_behind f text s (prefix_radix f text s.1) in
-        let x : Numeral = numeral_in f text h.start h.radix in
+        let x : Numeral = numeral_behind f text h in
         let low : h.start ≤ length text = head_within f text s _ (sign_within f t text s e) refl in
-        all_cases (length text) x.stop _ _ _ (lacks_digits f x) (is_some f.digit_separator) h.is_minus (first_outside t h.is_minus x) (λ k. slice_index x.places k) (numeral_value h.is_minus x) (below x.stop (length text) (numeral_within f text h.start h.radix low))
+        all_cases (length text) x.stop _ _ _ (lacks_digits f x) (is_some f.digit_separator) h.is_negative (first_outside t h.is_negative x) (λ k. slice_index x.places k) (numeral_value h.is_negative x) (below x.stop (length text) (numeral_within f h.is_prefixed text h.start h.radix low))
     behind (Err e) h = elim (sign_fault f t text e h) [ inl is ↦ rw is refl | inr is ↦ rw is refl ]
 
 -- an answer without a fault is the value

@@ -34,20 +34,20 @@ rest_value r text start = positional_value r (row r text start (length text - st
 
 -- the complete answer by the head and the numeral
 abbrev pub complete_by : Format → IntegerType → List ℕ → Head → Numeral → Result ℤ Error
-complete_by f t text h x = first_fault_or (common_faults f t text h x ++ complete_faults f text x) (numeral_value h.is_minus x)
+complete_by f t text h x = first_fault_or (common_faults f t text h x ++ complete_faults f text x) (numeral_value h.is_negative x)
 
 pub complete_row : (f : Format) (t : IntegerType) (text : List ℕ) (h : Head) (count : ℕ) → f.digit_separator ≡ None → head_of f t text ≡ Ok h → h.start ≤ length text → EndsRow h.radix text h.start (h.start + count) →
     complete f t text ≡ complete_by f t text h (row_numeral f text h.start h.radix count)
 unfolding complete
-complete_row f t text h count none head low ends = rw (head, numeral_in_a_row f text h.start h.radix count none low ends) refl
+complete_row f t text h count none head low ends = rw (head, numeral_in_a_row f h.is_prefixed text h.start h.radix count none low ends) refl
 
 -- without a prefix the head is the sign
-pub head_is : (f : Format) (t : IntegerType) (text : List ℕ) (s : Bool × ℕ) → f.base_prefix ≡ None → f.literal_prefixes ≡ false → f.literal_octal_zero ≡ false → sign f t text ≡ Ok s → head_of f t text ≡ Ok (record { is_minus = s.0; is_marked = false; start = s.1; radix = f.mantissa_radix })
+pub head_is : (f : Format) (t : IntegerType) (text : List ℕ) (s : Bool × ℕ) → f.base_prefix ≡ None → f.literal_prefixes ≡ false → f.literal_octal_zero ≡ false → sign f t text ≡ Ok s → head_of f t text ≡ Ok (record { is_negative = s.0; is_prefixed = false; is_octal = false; start = s.1; radix = f.mantissa_radix })
 unfolding head_of octal_zero_at prefix_radix marked_radix is_affix
 head_is f t text s none unasked plain sign_is =
     rw (sign_is, none, unasked) (by_zero (are_same (Some 48) (slice_get text s.1)))
   where
-    by_zero : (zero : Bool) → ◌≡◌ {A = Result Head Error} (Ok (head_behind f text s (cond zero None None))) (Ok (record { is_minus = s.0; is_marked = false; start = s.1; radix = f.mantissa_radix }))
+    by_zero : (zero : Bool) → ◌≡◌ {A = Result Head Error} (Ok (head_behind f text s (cond zero None None))) (Ok (record { is_negative = s.0; is_prefixed = false; is_octal = false; start = s.1; radix = f.mantissa_radix }))
     by_zero true = rw (not_asked f text s.1 plain) refl
     by_zero false = rw (not_asked f text s.1 plain) refl
 
@@ -67,7 +67,7 @@ pub digits_read_under : (f : Format) (t : IntegerType) (text : List ℕ) (s : Bo
 digits_read_under f t text s plain positive sign_is some all no_zeros fits =
     let r : ℕ = f.mantissa_radix in
     let n : ℕ = length text - s.1 in
-    let h : Head = record { is_minus = s.0; is_marked = false; start = s.1; radix = r } in
+    let h : Head = record { is_negative = s.0; is_prefixed = false; is_octal = false; start = s.1; radix = r } in
     let x : Numeral = row_numeral f text s.1 r n in
     let end : s.1 + n ≡ length text = omega arith in
     let ends : EndsRow r text s.1 (s.1 + n) = rw end (record { low = omega arith; high = omega arith; holds = all; fails = λ l. absurd (omega arith) }) in
@@ -159,11 +159,11 @@ whole_told r t text v read = by_sign (sign (with_radix r) t text) refl
     by_sign (Err e) faulty = let other = sign_fault_completes (with_radix r) t text e faulty in absurd (cc)
     by_sign (Ok s) sign_is =
         let f : Format = with_radix r in
-        let n : ℕ = row_count f r text s.1 in
-        let h : Head = record { is_minus = s.0; is_marked = false; start = s.1; radix = r } in
+        let n : ℕ = row_count f false r text s.1 in
+        let h : Head = record { is_negative = s.0; is_prefixed = false; is_octal = false; start = s.1; radix = r } in
         let x : Numeral = row_numeral f text s.1 r n in
         let within : s.1 ≤ length text = sign_within f t text s sign_is in
-        let ends : EndsRow r text s.1 (s.1 + n) = row_ends f r text s.1 refl within in
+        let ends : EndsRow r text s.1 (s.1 + n) = row_ends f false r text s.1 refl within in
         let whole = complete_row f t text h n refl (head_is f t text s refl refl refl sign_is) within ends in
         let by : complete_by f t text h x ≡ Ok v = sym whole ∙ read in
         let told : (range_fault t s.0 x ≡ None) × (fault_if (nat_lt x.stop (length text)) (InvalidDigit x.stop) ≡ None) × (fault_if (lacks_digits f x) (Empty (length text)) ≡ None) × (numeral_value s.0 x ≡ v) = five_ok (prefix_fault text h) (zero_fault f false x) (range_fault t s.0 x) (fault_if (nat_lt x.stop (length text)) (InvalidDigit x.stop)) (fault_if (lacks_digits f x) (Empty (length text))) (numeral_value s.0 x) v by in

@@ -8,14 +8,14 @@ use Rattle.lexical_util.specs.Format.{Format}
 use Rattle.lexical_parse_integer.proofs.grammar.Stretches.{HoldsBetween, IsStop-stop_of, below_stop, begin_of_if, true_or_false}
 use Rattle.lexical_parse_integer.proofs.grammar.NumeralEnd.{IsStop-end_of, separator_at_within, run_below}
 
-pub greatest_end_is : (f : Format) (r : ℕ) (b : List ℕ) (j : ℕ) → j ≤ length b → IsGreatestEnd f r b j
-greatest_end_is f r b j h =
-    let s = IsStop-end_of f r b j h in
+pub greatest_end_is : (f : Format) (pre : Bool) (r : ℕ) (b : List ℕ) (j : ℕ) → j ≤ length b → IsGreatestEnd f pre r b j
+greatest_end_is f pre r b j h =
+    let s = IsStop-end_of f pre r b j h in
     record {
       from = s.low;
       within = s.high;
       belong = s.holds;
-      greatest = λ e within all. below_stop (is_in_numeral f r b j) j (length b) (end_of f r b j) e s within (λ k l h'. all k (omega (arith, s.low)) h');
+      greatest = λ e within all. below_stop (is_in_numeral f pre r b j) j (length b) (end_of f pre r b j) e s within (λ k l h'. all k (omega (arith, s.low)) h');
     }
 
 -- the begin of a stretch: at most k, p holds from it on, and p fails just before it

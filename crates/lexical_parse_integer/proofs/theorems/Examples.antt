@@ -41,7 +41,7 @@ run_of_two : (run_begin internal (49 ∷ 95 ∷ 95 ∷ 50 ∷ []) 0 2 ≡ 1) × 
 unfolding begin_of separator_at are_same
 run_of_two = (refl, refl)
 
-two_end : (end_of internal 10 (49 ∷ 95 ∷ 95 ∷ 50 ∷ []) 0 ≡ 1) × (end_of internal 10 (49 ∷ 95 ∷ 50 ∷ []) 0 ≡ 3)
+two_end : (end_of internal false 10 (49 ∷ 95 ∷ 95 ∷ 50 ∷ []) 0 ≡ 1) × (end_of internal false 10 (49 ∷ 95 ∷ 50 ∷ []) 0 ≡ 3)
 unfolding grammar
 two_end = (refl, refl)
 
@@ -214,7 +214,7 @@ unfolding grammar
 seven_json = (refl, refl)
 
 -- ---- turns: the head of `12345678` is read in radix 10, and its eight digits have room in 64 bits
-pub eight_digits : (head_of standard (integer_type 64 false) (codes "12345678") ≡ Ok (record { is_minus = false; is_marked = false; start = 0; radix = 10 })) × (digit_count (numeral_in standard (codes "12345678") 0 10) ≡ 8) × (overflow_digits (integer_type 64 false) 10 ≡ 16)
+pub eight_digits : (head_of standard (integer_type 64 false) (codes "12345678") ≡ Ok (record { is_negative = false; is_prefixed = false; is_octal = false; start = 0; radix = 10 })) × (digit_count (numeral_in standard false 10 (codes "12345678") 0) ≡ 8) × (overflow_digits (integer_type 64 false) 10 ≡ 16)
 unfolding grammar
 eight_digits = (refl, refl, refl)
 

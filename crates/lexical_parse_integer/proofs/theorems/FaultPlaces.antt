@@ -14,7 +14,7 @@ use Rattle.lexical_parse_integer.specs.Affixes.{prefix_radix}
 use Rattle.lexical_parse_integer.specs.Grammar.{after_head, common_faults, complete, fault_if, first_fault_or, first_outside, partial, partial_faults, range_error, range_fault}
 use Rattle.lexical_parse_integer.specs.Head.{Head, head_after, head_behind, head_of, sign}
 use Rattle.lexical_parse_integer.specs.Laws.{StandsWithin, completion_of}
-use Rattle.lexical_parse_integer.specs.Numeral.{Numeral, numeral_in, numeral_value}
+use Rattle.lexical_parse_integer.specs.Numeral.{Numeral, numeral_in, numeral_value, numeral_behind}
 use Rattle.lexical_parse_integer.specs.Runs.{end_of, places}
 use Rattle.lexical_parse_integer.proofs.theorems.CompleteByPartial.{IsSignFault, complete_is_completion, head_within, numeral_within, sign_fault, sign_within}
 use Rattle.lexical_parse_integer.proofs.grammar.NumeralEnd.{IsStop-end_of}
@@ -22,15 +22,15 @@ use Rattle.lexical_parse_integer.proofs.theorems.RangeFaultPlaces.{digit_within,
 use Rattle.lexical_parse_integer.proofs.theorems.SettledAnswers.{outside_told}
 
 -- the first digit of a numeral stands within the text, if it has one
-first_within : (format : Format) (text : List ℕ) (start radix : ℕ) → start ≤ length text → slice_index (numeral_in format text start radix).places 0 ≤ length text
+first_within : (format : Format) (pre : Bool) (text : List ℕ) (start radix : ℕ) → start ≤ length text → slice_index (numeral_in format pre radix text start).places 0 ≤ length text
 unfolding numeral_in
-first_within format text start radix low = by_places (places format radix text start) (digits_before radix text start (end_of format radix text start))
+first_within format pre text start radix low = by_places (places format pre radix text start) (digits_before radix text start (end_of format pre radix text start))
   where
-    by_places : (xs : List ℕ) → All (λ place. place < start + (end_of format radix text start - start)) xs → slice_index xs 0 ≤ length text
+    by_places : (xs : List ℕ) → All (λ place. place < start + (end_of format pre radix text start - start)) xs → slice_index xs 0 ≤ length text
     by_places [] before = omega arith
     by_places (x ∷ xs) before =
-        let stop = IsStop-end_of format radix text start low in
-        let here : get_or (x ∷ xs) 0 0 < start + (end_of format radix text start - start) = All-get_or (λ place. place < start + (end_of format radix text start - start)) (x ∷ xs) 0 0 (omega arith) before in
+        let stop = IsStop-end_of format pre radix text start low in
+        let here : get_or (x ∷ xs) 0 0 < start + (end_of format pre radix text start - start) = All-get_or (λ place. place < start + (end_of format pre radix text start - start)) (x ∷ xs) 0 0 (omega arith) before in
         omega (arith, stop.low, stop.high, here)
 
 -- ---- answers
@@ -49,14 +49,14 @@ unfolding partial head_of range_fault IsSignFault
 partial_faults_within format type text = behind (sign format type text) refl
   where
     behind : (r : Result (Bool × ℕ) Error) → sign format type text ≡ r →
-        IfErr (after_head {A = ℤ × ℕ} (head_after format text r) (λ h. let x = numeral_in format text h.start h.radix in first_fault_or (common_faults format type text h x ++ partial_faults format text x) (numeral_value h.is_minus x, x.stop))) (StandsWithin (length text))
+        IfErr (after_head {A = ℤ × ℕ} (head_after format text r) (λ h. let x = numeral_behind format text h in first_fault_or (common_faults format type text h x ++ partial_faults format text x) (numeral_value h.is_negative x, x.stop))) (StandsWithin (length text))
     behind (Ok s) e =
         let h : Head = head_behind format text s (prefix_radix format text s.1) in
-        let x : Numeral = numeral_in format text h.start h.radix in
+        let x : Numeral = numeral_behind format text h in
         let low : h.start ≤ length text = head_within format text s _ (sign_within format type text s e) refl in
-        by_faults (length text) (slice_index x.places 0) x.stop _ _ _ h.is_minus (first_outside type h.is_minus x) (λ m. get_or x.places m 0) (numeral_value h.is_minus x, x.stop)
-        (first_within format text h.start h.radix low) (numeral_within format text h.start h.radix low)
-        (λ m told. digit_within format text h.start h.radix m low (outside_told type h.is_minus x m told).0)
+        by_faults (length text) (slice_index x.places 0) x.stop _ _ _ h.is_negative (first_outside type h.is_negative x) (λ m. get_or x.places m 0) (numeral_value h.is_negative x, x.stop)
+        (first_within format h.is_prefixed text h.start h.radix low) (numeral_within format h.is_prefixed text h.start h.radix low)
+        (λ m told. digit_within format h.is_prefixed text h.start h.radix m low (outside_told type h.is_negative x m told).0)
     behind (Err e) h = elim (sign_fault format type text e h) [ inl is ↦ rw is (omega arith) | inr is ↦ rw is (omega arith) ]
 
 -- a byte that is left is within the text

@@ -10,8 +10,8 @@ use Rattle.lexical_util.specs.Format.{Format}
 use Rattle.lexical_util.specs.Number.{IntegerType}
 use Rattle.lexical_parse_integer.specs.Affixes.{bare_radix, octal_zero_at, prefix_radix}
 use Rattle.lexical_parse_integer.specs.Grammar.{common_faults, first_fault_or, partial, partial_faults}
-use Rattle.lexical_parse_integer.specs.Head.{Head, head_after, head_behind, head_of, no_sign, sign}
-use Rattle.lexical_parse_integer.specs.Numeral.{Numeral, digit_count, numeral_in, numeral_value}
+use Rattle.lexical_parse_integer.specs.Head.{Head, head_after, head_behind, head_of, no_sign, sign, chooses_radix}
+use Rattle.lexical_parse_integer.specs.Numeral.{Numeral, digit_count, numeral_in, numeral_value, numeral_behind}
 use Rattle.lexical_parse_integer.specs.Runs.{digit_at}
 use Rattle.lexical_parse_integer.specs.Stops.{stops_after_digit}
 use Rattle.lexical_parse_integer.proofs.theorems.CompleteByPartial.{ok_told, sign_within}
@@ -74,43 +74,43 @@ row_tells r text start (suc n) ends none =
     let many : nat_lt 0 (suc n) ≡ true = lt-ltb 0 (suc n) (omega arith) in
     rw (behind, before, last, many) refl
 
-numeral_tells : (f : Format) (r : ℕ) (text : List ℕ) (start : ℕ) → f.digit_separator ≡ None → f.base_suffix ≡ None → start ≤ length text → stops_after_digit r text start ≡ false
-    → stops_after_digit r text (numeral_in f text start r).stop ≡ nat_lt 0 (digit_count (numeral_in f text start r))
-numeral_tells f r text start none plain low before =
-    let c : ℕ = row_count f r text start in
-    let ends : EndsRow r text start (start + c) = row_ends f r text start none low in
-    let same : numeral_in f text start r ≡ row_numeral f text start r c = numeral_in_a_row f text start r c none low ends in
+numeral_tells : (f : Format) (pre : Bool) (r : ℕ) (text : List ℕ) (start : ℕ) → f.digit_separator ≡ None → f.base_suffix ≡ None → start ≤ length text → stops_after_digit r text start ≡ false
+    → stops_after_digit r text (numeral_in f pre r text start).stop ≡ nat_lt 0 (digit_count (numeral_in f pre r text start))
+numeral_tells f pre r text start none plain low before =
+    let c : ℕ = row_count f pre r text start in
+    let ends : EndsRow r text start (start + c) = row_ends f pre r text start none low in
+    let same : numeral_in f pre r text start ≡ row_numeral f text start r c = numeral_in_a_row f pre text start r c none low ends in
     let stop : (row_numeral f text start r c).stop ≡ start + c = stop_plain f text start r c plain in
     let count : digit_count (row_numeral f text start r c) ≡ c = digits_of_row r text start c in
-    let at : (numeral_in f text start r).stop ≡ start + c = ap (λ (x : Numeral). x.stop) same ∙ stop in
-    let many : digit_count (numeral_in f text start r) ≡ c = ap (λ (x : Numeral). digit_count x) same ∙ count in
+    let at : (numeral_in f pre r text start).stop ≡ start + c = ap (λ (x : Numeral). x.stop) same ∙ stop in
+    let many : digit_count (numeral_in f pre r text start) ≡ c = ap (λ (x : Numeral). digit_count x) same ∙ count in
     ap (λ (k : ℕ). stops_after_digit r text k) at ∙ row_tells r text start c ends before ∙ ap (λ (k : ℕ). nat_lt 0 k) (sym many)
 
 -- ---- the front of a text without a prefix
 
-pub tells_digits : (f : Format) (t : IntegerType) (text : List ℕ) (h : Head) (v : ℤ) (k : ℕ) → f.digit_separator ≡ None → f.base_suffix ≡ None → head_of f t text ≡ Ok h → h.is_marked ≡ false
-    → partial f t text ≡ Ok (v, k) → stops_after_digit f.mantissa_radix text k ≡ nat_lt 0 (digit_count (numeral_in f text h.start h.radix))
+pub tells_digits : (f : Format) (t : IntegerType) (text : List ℕ) (h : Head) (v : ℤ) (k : ℕ) → f.digit_separator ≡ None → f.base_suffix ≡ None → head_of f t text ≡ Ok h → (chooses_radix h) ≡ false
+    → partial f t text ≡ Ok (v, k) → stops_after_digit f.mantissa_radix text k ≡ nat_lt 0 (digit_count (numeral_behind f text h))
 unfolding head_of partial
 tells_digits f t text h v k none plain head unprefixed told = behind (sign f t text) refl head
   where
-    stops : head_of f t text ≡ Ok h → (numeral_in f text h.start h.radix).stop ≡ k
+    stops : head_of f t text ≡ Ok h → (numeral_behind f text h).stop ≡ k
     stops is =
-        let x : Numeral = numeral_in f text h.start h.radix in
-        let front : first_fault_or (common_faults f t text h x ++ partial_faults f text x) (numeral_value h.is_minus x, x.stop) ≡ Ok (v, k) = rw is at told in
-        ap (λ (w : ℤ × ℕ). w.1) (ok_told (common_faults f t text h x ++ partial_faults f text x) (numeral_value h.is_minus x, x.stop) (v, k) front)
+        let x : Numeral = numeral_behind f text h in
+        let front : first_fault_or (common_faults f t text h x ++ partial_faults f text x) (numeral_value h.is_negative x, x.stop) ≡ Ok (v, k) = rw is at told in
+        ap (λ (w : ℤ × ℕ). w.1) (ok_told (common_faults f t text h x ++ partial_faults f text x) (numeral_value h.is_negative x, x.stop) (v, k) front)
 
-    by_prefix : (s : Bool × ℕ) (p : Option ℕ) → sign f t text ≡ Ok s → head_behind f text s p ≡ h → stops_after_digit f.mantissa_radix text k ≡ nat_lt 0 (digit_count (numeral_in f text h.start h.radix))
+    by_prefix : (s : Bool × ℕ) (p : Option ℕ) → sign f t text ≡ Ok s → head_behind f text s p ≡ h → stops_after_digit f.mantissa_radix text k ≡ nat_lt 0 (digit_count (numeral_behind f text h))
     by_prefix s None e is =
         let start : h.start ≡ s.1 = ap (λ (g : Head). g.start) (sym is) in
-        let decimal : octal_zero_at f text s.1 ≡ false = ap (λ (g : Head). g.is_marked) is ∙ unprefixed in
+        let decimal : octal_zero_at f text s.1 ≡ false = ap (λ (g : Head). chooses_radix g) is ∙ unprefixed in
         let bare : bare_radix f text s.1 ≡ f.mantissa_radix = rw decimal refl in
         let radix : h.radix ≡ f.mantissa_radix = ap (λ (g : Head). g.radix) (sym is) ∙ bare in
         let low : h.start ≤ length text = let within = sign_within f t text s e in omega arith in
         let before : stops_after_digit h.radix text h.start ≡ false = rw (start, radix) (sign_no_digit f t f.mantissa_radix text s e) in
         ap (λ (r : ℕ). stops_after_digit r text k) (sym radix) ∙ ap (λ (j : ℕ). stops_after_digit h.radix text j) (sym (stops head))
-        ∙ numeral_tells f h.radix text h.start none plain low before
-    by_prefix s (Some r) e is = let prefixed : true ≡ false = ap (λ (g : Head). g.is_marked) is ∙ unprefixed in cc
+        ∙ numeral_tells f h.is_prefixed h.radix text h.start none plain low before
+    by_prefix s (Some r) e is = let prefixed : true ≡ false = ap (λ (g : Head). chooses_radix g) is ∙ unprefixed in cc
 
-    behind : (r : Result (Bool × ℕ) Error) → sign f t text ≡ r → head_after f text r ≡ Ok h → stops_after_digit f.mantissa_radix text k ≡ nat_lt 0 (digit_count (numeral_in f text h.start h.radix))
+    behind : (r : Result (Bool × ℕ) Error) → sign f t text ≡ r → head_after f text r ≡ Ok h → stops_after_digit f.mantissa_radix text k ≡ nat_lt 0 (digit_count (numeral_behind f text h))
     behind (Ok s) e at = let is : head_behind f text s (prefix_radix f text s.1) ≡ h = cc in by_prefix s (prefix_radix f text s.1) e is
     behind (Err e) h at = cc

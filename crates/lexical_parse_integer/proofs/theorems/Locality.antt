@@ -12,7 +12,7 @@ use Rattle.lexical_util.specs.Validity.{fault}
 use Rattle.lexical_parse_integer.specs.Answer.{with_place, view_of}
 use Rattle.lexical_parse_integer.specs.Affixes.{bare_radix, octal_zero_at, prefix_radix}
 use Rattle.lexical_parse_integer.specs.Grammar.{first_outside, partial, range_error, range_fault}
-use Rattle.lexical_parse_integer.specs.Head.{Head, head_behind, head_of, sign}
+use Rattle.lexical_parse_integer.specs.Head.{Head, head_behind, head_of, sign, chooses_radix}
 use Rattle.lexical_parse_integer.specs.Laws.{IsLocal, IsSettledAt, SameFront}
 use Rattle.lexical_parse_integer.specs.Numeral.{Numeral, digit_count, front_value}
 use Rattle.lexical_digits.specs.Value.{positional_value, with_sign}
@@ -53,7 +53,7 @@ same_faults f t text other h x none a b c d =
     let start_other : (h.start == length other) ≡ false = ne_eqb h.start (length other) (λ e. omega arith) in
     let stop_text : (x.stop == length text) ≡ false = ne_eqb x.stop (length text) (λ e. omega arith) in
     let stop_other : (x.stop == length other) ≡ false = ne_eqb x.stop (length other) (λ e. omega arith) in
-    rw (none, start_text, start_other, stop_text, stop_other, and-false h.is_marked) refl
+    rw (none, start_text, start_other, stop_text, stop_other, and-false h.is_prefixed) refl
 
 module _ (f : Format) (t : IntegerType) (text other : List ℕ) (k : ℕ) (h : Head) (none : f.digit_separator ≡ None) (same : Agree (k + 1) text other) where
   digit_same : (j : ℕ) → j ≤ k → has_digit h.radix other j ≡ has_digit h.radix text j
@@ -83,12 +83,12 @@ module _ (f : Format) (t : IntegerType) (text other : List ℕ) (k : ℕ) (h : H
       partial_row f t other h count none head (omega arith) (same_ends count ends (omega arith) inside) ∙ ap (partial_by f t other h) numeral ∙ faults
 
   -- where a value leaves the type at the place
-  same_fault : (count m : ℕ) → EndsRow h.radix text h.start (h.start + count) → (h.is_marked && (h.start == length text)) ≡ false → has_zeros f h (head_row f text h count) ≡ false →
-      first_outside t h.is_minus (head_row f text h count) ≡ Some m → get_or (head_row f text h count).places m 0 ≡ k → (get_or (head_row f text h count).digits 0 0 ≡ 0 → h.start + 1 ≤ k) → head_of f t other ≡ Ok h →
+  same_fault : (count m : ℕ) → EndsRow h.radix text h.start (h.start + count) → (h.is_prefixed && (h.start == length text)) ≡ false → has_zeros f h (head_row f text h count) ≡ false →
+      first_outside t h.is_negative (head_row f text h count) ≡ Some m → get_or (head_row f text h count).places m 0 ≡ k → (get_or (head_row f text h count).digits 0 0 ≡ 0 → h.start + 1 ≤ k) → head_of f t other ≡ Ok h →
       partial f t other ≡ partial_by f t text h (head_row f text h count)
   unfolding range_fault
   same_fault count m ends prefix zeros outside at deep head =
-      let b : Bool = h.is_minus in
+      let b : Bool = h.is_negative in
       let r : ℕ = h.radix in
       let start : ℕ = h.start in
       let x : Numeral = head_row f text h count in
@@ -98,8 +98,8 @@ module _ (f : Format) (t : IntegerType) (text other : List ℕ) (k : ℕ) (h : H
       let place : get_or x.places m 0 ≡ start + m = place_of_row start count m inside in
       let last : start + m ≡ k = omega arith in
       let there = agree_inside (k + 1) k text other same (omega arith) (omega (arith, ends.high)) in
-      let count' : ℕ = row_count f r other start in
-      let ends' = row_ends f r other start none (omega arith) in
+      let count' : ℕ = row_count f h.is_prefixed r other start in
+      let ends' = row_ends f h.is_prefixed r other start none (omega arith) in
       let reached : start + (m + 1) ≤ start + count' = below_stop (has_digit r other) start (length other) (start + count') (start + (m + 1)) ends' (omega arith) (λ j l l'. digit_same j (omega arith) ∙ ends.holds j (omega (arith, ends'.low)) (omega arith)) in
       let y : Numeral = head_row f other h count' in
       let size' = digits_of_row r other start count' in
@@ -111,11 +111,11 @@ module _ (f : Format) (t : IntegerType) (text other : List ℕ) (k : ℕ) (h : H
       let more : m + 1 ≡ suc m = omega arith in
       let digits' : take (suc m) y.digits ≡ take (suc m) x.digits = rw more at digits in
       let first : get_or y.digits 0 0 ≡ get_or x.digits 0 0 = first_of_front m y.digits x.digits digits' in
-      let prefix' : (h.is_marked && (start == length other)) ≡ false = pair_false h.is_marked (start == length other) (ne_eqb start (length other) (λ e. omega arith)) in
-      let zeros_x : (((f.no_integer_leading_zeros && not h.is_marked) && nat_le 2 (digit_count y)) && (get_or x.digits 0 0 == 0)) ≡ false =
-      same_zeros (f.no_integer_leading_zeros && not h.is_marked) (digit_count x) (digit_count y) (get_or x.digits 0 0) zeros (λ one is. let far = deep is in absurd (omega arith)) in
-      let zeros' : (((f.no_integer_leading_zeros && not h.is_marked) && nat_le 2 (digit_count y)) && (get_or y.digits 0 0 == 0)) ≡ false =
-      ap (λ (d : ℕ). ((f.no_integer_leading_zeros && not h.is_marked) && nat_le 2 (digit_count y)) && (d == 0)) first ∙ zeros_x in
+      let prefix' : (h.is_prefixed && (start == length other)) ≡ false = pair_false h.is_prefixed (start == length other) (ne_eqb start (length other) (λ e. omega arith)) in
+      let zeros_x : (((f.no_integer_leading_zeros && not (chooses_radix h)) && nat_le 2 (digit_count y)) && (get_or x.digits 0 0 == 0)) ≡ false =
+      same_zeros (f.no_integer_leading_zeros && not (chooses_radix h)) (digit_count x) (digit_count y) (get_or x.digits 0 0) zeros (λ one is. let far = deep is in absurd (omega arith)) in
+      let zeros' : (((f.no_integer_leading_zeros && not (chooses_radix h)) && nat_le 2 (digit_count y)) && (get_or y.digits 0 0 == 0)) ≡ false =
+      ap (λ (d : ℕ). ((f.no_integer_leading_zeros && not (chooses_radix h)) && nat_le 2 (digit_count y)) && (d == 0)) first ∙ zeros_x in
       let left : partial_by f t other h y ≡ Err (range_error b (get_or y.places m 0)) = rw (prefix', zeros', outside') refl in
       let right : partial_by f t text h x ≡ Err (range_error b (get_or x.places m 0)) = rw (prefix, zeros, outside) refl in
       partial_row f t other h count' none head (omega arith) ends' ∙ left ∙ ap (λ (j : ℕ). Err (range_error b j)) (place' ∙ sym place) ∙ sym right
@@ -125,7 +125,7 @@ module _ (f : Format) (t : IntegerType) (text other : List ℕ) (k : ℕ) (h : H
       partial f t other ≡ partial_by f t text h (head_row f text h count)
   same_answer count ends (inl w) far head = same_value count ends w.4 w.5 head
   same_answer count ends (inr w) far head =
-      let told = outside_told t h.is_minus (head_row f text h count) w.0 w.3 in
+      let told = outside_told t h.is_negative (head_row f text h count) w.0 w.3 in
       let size = digits_of_row h.radix text h.start count in
       same_fault count w.0 ends w.1 w.2 w.3 w.4 (far.deep (omega (arith, told.0))) head
 
@@ -147,7 +147,7 @@ radix_least f text s (Some r) valid e = (fits_prefix f text s.1 r valid e).is_ra
 
 -- a head hangs on the text by its octal zero alone
 same_head : (f : Format) (text other : List ℕ) (s : Bool × ℕ) (p : Option ℕ) → octal_zero_at f other s.1 ≡ octal_zero_at f text s.1 → head_behind f other s p ≡ head_behind f text s p
-same_head f text other s None same = ap (λ (o : Bool). record { is_minus = s.0; is_marked = o; start = s.1; radix = cond o 8 f.mantissa_radix }) same
+same_head f text other s None same = ap (λ (o : Bool). record { is_negative = s.0; is_prefixed = false; is_octal = o; start = s.1; radix = cond o 8 f.mantissa_radix }) same
 same_head f text other s (Some r) same = refl
 
 local_by : (f : Format) (t : IntegerType) → f.digit_separator ≡ None → IsNone (fault f) → IsLocal f t
@@ -165,8 +165,8 @@ local_by f t none valid text other k settled front = by_sign (sign f t text) ref
         let p : Option ℕ = prefix_radix f text s.1 in
         let h : Head = head_behind f text s p in
         let low : h.start ≤ length text = head_within f text s p (sign_within f t text s with_sign) refl in
-        let count : ℕ = row_count f h.radix text h.start in
-        let ends : EndsRow h.radix text h.start (h.start + count) = row_ends f h.radix text h.start none low in
+        let count : ℕ = row_count f h.is_prefixed h.radix text h.start in
+        let ends : EndsRow h.radix text h.start (h.start + count) = row_ends f h.is_prefixed h.radix text h.start none low in
         let whole = partial_row f t text h count none (head_behind_sign f t text s with_sign) low ends in
         let settles : SettlesRow f t text h (head_row f text h count) k = settled_row f t text h (head_row f text h count) k (subst (λ (a : Result (ℤ × ℕ) Error). IsSettledAt (length text) k a) whole settled) in
         let far : IsReach h.radix text h.start count k = reach f t text h count k ends settles in

@@ -15,7 +15,7 @@ use Rattle.lexical_parse_integer.specs.Affixes.{prefix_radix}
 use Rattle.lexical_parse_integer.specs.Grammar.{after_head, common_faults, complete, fault_if, first_fault_or, first_outside, partial, partial_faults, range_error, range_fault}
 use Rattle.lexical_parse_integer.specs.Head.{Head, head_after, head_behind, head_of, sign}
 use Rattle.lexical_parse_integer.specs.Laws.{LeavesWithin, completion_of}
-use Rattle.lexical_parse_integer.specs.Numeral.{Numeral, digit_count, numeral_in, numeral_value}
+use Rattle.lexical_parse_integer.specs.Numeral.{Numeral, digit_count, numeral_in, numeral_value, numeral_behind}
 use Rattle.lexical_parse_integer.specs.Runs.{digit_at, digits_between, end_of, places}
 use Rattle.lexical_parse_integer.proofs.theorems.CompleteByPartial.{IsSignFault, complete_is_completion, head_within, sign_fault, sign_within}
 use Rattle.lexical_parse_integer.proofs.grammar.NumeralEnd.{IsStop-end_of}
@@ -32,14 +32,14 @@ digits_before radix text from to =
     omega arith))
 
 -- each digit of a numeral stands within the text
-pub digit_within : (format : Format) (text : List ℕ) (start radix index : ℕ) → start ≤ length text → index < digit_count (numeral_in format text start radix) → get_or (numeral_in format text start radix).places index 0 < length text
+pub digit_within : (format : Format) (pre : Bool) (text : List ℕ) (start radix index : ℕ) → start ≤ length text → index < digit_count (numeral_in format pre radix text start) → get_or (numeral_in format pre radix text start).places index 0 < length text
 unfolding numeral_in
-digit_within format text start radix index low inside =
-    let ends : ℕ = end_of format radix text start in
-    let stop = IsStop-end_of format radix text start low in
-    let count = length-map (places format radix text start) (λ place. unwrap_or (digit_at radix text place) 0) in
-    let counted : index < length (places format radix text start) = omega (arith, inside, count) in
-    let before : get_or (places format radix text start) index 0 < start + (ends - start) = All-get_or (λ place. place < start + (ends - start)) (places format radix text start) index 0 counted (digits_before radix text start ends) in
+digit_within format pre text start radix index low inside =
+    let ends : ℕ = end_of format pre radix text start in
+    let stop = IsStop-end_of format pre radix text start low in
+    let count = length-map (places format pre radix text start) (λ place. unwrap_or (digit_at radix text place) 0) in
+    let counted : index < length (places format pre radix text start) = omega (arith, inside, count) in
+    let before : get_or (places format pre radix text start) index 0 < start + (ends - start) = All-get_or (λ place. place < start + (ends - start)) (places format pre radix text start) index 0 counted (digits_before radix text start ends) in
     omega (arith, stop.low, stop.high)
 
 -- ---- answers
@@ -58,13 +58,13 @@ unfolding partial head_of range_fault IsSignFault
 partial_leaves_within format type text = behind (sign format type text) refl
   where
     behind : (r : Result (Bool × ℕ) Error) → sign format type text ≡ r →
-        LeavesWithin (length text) (after_head {A = ℤ × ℕ} (head_after format text r) (λ h. let x = numeral_in format text h.start h.radix in first_fault_or (common_faults format type text h x ++ partial_faults format text x) (numeral_value h.is_minus x, x.stop)))
+        LeavesWithin (length text) (after_head {A = ℤ × ℕ} (head_after format text r) (λ h. let x = numeral_behind format text h in first_fault_or (common_faults format type text h x ++ partial_faults format text x) (numeral_value h.is_negative x, x.stop)))
     behind (Ok s) e =
         let h : Head = head_behind format text s (prefix_radix format text s.1) in
-        let x : Numeral = numeral_in format text h.start h.radix in
+        let x : Numeral = numeral_behind format text h in
         let low : h.start ≤ length text = head_within format text s _ (sign_within format type text s e) refl in
-        by_faults (length text) _ x.stop _ _ _ h.is_minus (first_outside type h.is_minus x) (λ m. get_or x.places m 0) (numeral_value h.is_minus x, x.stop)
-        (λ m told. digit_within format text h.start h.radix m low (outside_told type h.is_minus x m told).0)
+        by_faults (length text) _ x.stop _ _ _ h.is_negative (first_outside type h.is_negative x) (λ m. get_or x.places m 0) (numeral_value h.is_negative x, x.stop)
+        (λ m told. digit_within format h.is_prefixed text h.start h.radix m low (outside_told type h.is_negative x m told).0)
     behind (Err e) h = elim (sign_fault format type text e h) [ inl is ↦ rw is tt | inr is ↦ rw is tt ]
 
 completion_within : (size : ℕ) (front : Result (ℤ × ℕ) Error) → LeavesWithin size front → LeavesWithin size (completion_of size front)

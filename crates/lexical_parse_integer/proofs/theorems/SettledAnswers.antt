@@ -15,7 +15,7 @@ use Rattle.lexical_util.specs.Format.{Format}
 use Rattle.lexical_util.specs.Number.{IntegerType, is_number}
 use Rattle.lexical_parse_integer.specs.Affixes.{prefix_radix, suffix_at}
 use Rattle.lexical_parse_integer.specs.Grammar.{common_faults, fault_if, first_fault_or, first_outside, lacks_digits, partial, partial_faults, range_error, range_fault}
-use Rattle.lexical_parse_integer.specs.Head.{Head, head_behind, head_of, sign}
+use Rattle.lexical_parse_integer.specs.Head.{Head, head_behind, head_of, sign, chooses_radix}
 use Rattle.lexical_parse_integer.specs.Laws.{IsSettledAt}
 use Rattle.lexical_parse_integer.specs.Numeral.{Numeral, digit_count, front_value, numeral_value}
 use Rattle.lexical_parse_integer.specs.Runs.{digit_at}
@@ -27,14 +27,14 @@ use Rattle.lexical_parse_integer.proofs.grammar.RangeOfFronts.{zero_is_number}
 -- ---- the partial answer, by the head and the row of digits
 
 abbrev pub partial_by : Format → IntegerType → List ℕ → Head → Numeral → Result (ℤ × ℕ) Error
-partial_by f t text h x = first_fault_or (common_faults f t text h x ++ partial_faults f text x) (numeral_value h.is_minus x, x.stop)
+partial_by f t text h x = first_fault_or (common_faults f t text h x ++ partial_faults f text x) (numeral_value h.is_negative x, x.stop)
 
 abbrev pub head_row : Format → List ℕ → Head → ℕ → Numeral
 head_row f text h count = row_numeral f text h.start h.radix count
 
 pub partial_row : (f : Format) (t : IntegerType) (text : List ℕ) (h : Head) (count : ℕ) → f.digit_separator ≡ None → head_of f t text ≡ Ok h → h.start ≤ length text → EndsRow h.radix text h.start (h.start + count) → partial f t text ≡ partial_by f t text h (head_row f text h count)
 unfolding partial
-partial_row f t text h count none head low ends = rw (head, numeral_in_a_row f text h.start h.radix count none low ends) refl
+partial_row f t text h count none head low ends = rw (head, numeral_in_a_row f h.is_prefixed text h.start h.radix count none low ends) refl
 
 pub head_behind_sign : (f : Format) (t : IntegerType) (text : List ℕ) (s : Bool × ℕ) → sign f t text ≡ Ok s → head_of f t text ≡ Ok (head_behind f text s (prefix_radix f text s.1))
 unfolding head_of
@@ -63,17 +63,17 @@ settled_cases n k i j stop first_zero false false true minus None at v h = absur
 settled_cases n k i j stop first_zero false false false minus None at v h = inl (refl, refl, refl, refl, h.0, h.1)
 
 abbrev pub has_zeros : Format → Head → Numeral → Bool
-has_zeros f h x = ((f.no_integer_leading_zeros && not h.is_marked) && nat_le 2 (digit_count x)) && (slice_index x.digits 0 == 0)
+has_zeros f h x = ((f.no_integer_leading_zeros && not (chooses_radix h)) && nat_le 2 (digit_count x)) && (slice_index x.digits 0 == 0)
 
 abbrev pub SettlesRow : Format → IntegerType → List ℕ → Head → Numeral → ℕ → Type 0
 SettlesRow f t text h x k =
-    Settles (length text) k x.stop (h.is_marked && (h.start == length text)) (has_zeros f h x) (first_outside t h.is_minus x)
+    Settles (length text) k x.stop (h.is_prefixed && (h.start == length text)) (has_zeros f h x) (first_outside t h.is_negative x)
     (λ j. slice_index x.places j) (lacks_digits f x && (is_some f.digit_separator || (x.stop == length text)))
 
 pub settled_row : (f : Format) (t : IntegerType) (text : List ℕ) (h : Head) (x : Numeral) (k : ℕ) → IsSettledAt (length text) k (partial_by f t text h x) → SettlesRow f t text h x k
 unfolding range_fault
 settled_row f t text h x k settled =
-    settled_cases (length text) k (length text) x.stop x.stop (slice_index x.places 0) _ _ _ h.is_minus (first_outside t h.is_minus x) (λ j. slice_index x.places j) (numeral_value h.is_minus x) settled
+    settled_cases (length text) k (length text) x.stop x.stop (slice_index x.places 0) _ _ _ h.is_negative (first_outside t h.is_negative x) (λ j. slice_index x.places j) (numeral_value h.is_negative x) settled
 
 -- ---- rows of digits
 
@@ -164,13 +164,13 @@ reach f t text h count k ends (inl w) =
     record { low = omega arith; deep = λ some first. omega arith }
 reach f t text h count k ends (inr w) = by_place w.0 w.3 w.4
   where
-    by_place : (m : ℕ) → first_outside t h.is_minus (head_row f text h count) ≡ Some m → get_or (range_with_len h.start count) m 0 ≡ k → IsReach h.radix text h.start count k
+    by_place : (m : ℕ) → first_outside t h.is_negative (head_row f text h count) ≡ Some m → get_or (range_with_len h.start count) m 0 ≡ k → IsReach h.radix text h.start count k
     by_place m outside at =
-        let told = outside_told t h.is_minus (head_row f text h count) m outside in
+        let told = outside_told t h.is_negative (head_row f text h count) m outside in
         let size = digits_of_row h.radix text h.start count in
         let place = place_of_row h.start count m (omega (arith, told.0)) in
         record { low = omega arith; deep = λ some first. by_first m told.1 (omega arith) first }
       where
-        by_first : (m : ℕ) → is_number t (front_value h.is_minus (head_row f text h count) (m + 1)) ≡ false → h.start + m ≡ k → get_or (row h.radix text h.start count) 0 0 ≡ 0 → h.start + 1 ≤ k
-        by_first zero leaves at first = let fit = zero_fits t h.is_minus h.radix (row h.radix text h.start count) first in absurd (cc)
+        by_first : (m : ℕ) → is_number t (front_value h.is_negative (head_row f text h count) (m + 1)) ≡ false → h.start + m ≡ k → get_or (row h.radix text h.start count) 0 0 ≡ 0 → h.start + 1 ≤ k
+        by_first zero leaves at first = let fit = zero_fits t h.is_negative h.radix (row h.radix text h.start count) first in absurd (cc)
         by_first (suc m) leaves at first = omega arith

@@ -5,7 +5,7 @@ ghost use Rattle.lexical_util.specs.Number.{HasRoom, HasSign, is_number, mul_add
 ghost use Rattle.lexical_parse_integer.specs.CursorView.{numeral_of};
 ghost use Rattle.lexical_parse_integer.specs.Grammar.{range_error, range_fault};
 ghost use Rattle.lexical_parse_integer.specs.Numeral.{digit_count};
-ghost use Rattle.lexical_parse_integer.specs.Reading.{GoesOn, IsReading, ReadsAll, ReadsOn};
+ghost use Rattle.lexical_parse_integer.specs.Reading.{MovesOn, IsReading, ReadsAll, ReadsOn};
 
 use crate::cursor::Cursor;
 use lexical_util::error::Error;
@@ -72,7 +72,7 @@ pub(crate) fn read_rest<T: Integer>(c: &mut Cursor<'_>, value: T, negative: bool
     requires ready { IsReading T.TYPE negative c.old (T.number value) }
     ensures all { IfOk result (λ value. ReadsAll T.TYPE negative c.old c.new (T.number value)) }
     ensures leaves { IfErr result (λ e. range_fault T.TYPE negative (numeral_of c.old) ≡ Some e) }
-    ensures goes_on { GoesOn c.old c.new }
+    ensures goes_on { MovesOn c.old c.new }
     ensures count { c.new.digits ≤ digit_count (numeral_of c.old) }
     ensures turns { c.new.turns + c.old.digits ≡ c.old.turns + c.new.digits }
 {

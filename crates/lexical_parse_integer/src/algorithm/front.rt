@@ -23,14 +23,25 @@ use lexical_util::format::NumberFormat;
 use lexical_util::num::Integer;
 use lexical_util::result::Result;
 
-// What stands before a numeral: whether there is a minus, whether a prefix or an octal zero marks the radix, where the
-// numeral starts, and the radix in force there.
+// What stands before a numeral: whether there is a minus, whether a prefix or an octal zero stands behind the sign, where
+// the numeral starts, and the radix in force there.
 #[derive(Clone, Copy)]
 pub(crate) struct Head {
-    pub(crate) is_minus: bool,
-    pub(crate) is_marked: bool,
+    pub(crate) is_negative: bool,
+    pub(crate) is_prefixed: bool,
+    pub(crate) is_octal: bool,
     pub(crate) start: usize,
     pub(crate) radix: u32,
+}
+
+impl Head {
+    // Whether the text chooses its radix.
+    #[inline(always)]
+    pub(crate) fn chooses_radix(self) -> bool
+        ensures { result ≡ (self.is_prefixed || self.is_octal) }
+    {
+        self.is_prefixed | self.is_octal
+    }
 }
 
 // The digits of a numeral: their value, how many they are, and where the numeral ends.
@@ -67,18 +78,20 @@ pub(super) fn sign_of<T: Integer>(bytes: &[u8], format: &NumberFormat) -> Result
 #[inline(always)]
 pub(crate) fn head_of<T: Integer>(bytes: &[u8], format: &NumberFormat) -> Result<Head>
     ensures head { IfOk result (λ head. head_of format.now T.TYPE bytes.now ≡ Ok (record {
-      is_minus = head.is_minus;
-      is_marked = head.is_marked;
+      is_negative = head.is_negative;
+      is_prefixed = head.is_prefixed;
+      is_octal = head.is_octal;
       start = head.start;
       radix = head.radix;
     })) }
     ensures fault { IfErr result (λ error. head_of format.now T.TYPE bytes.now ≡ Err error) }
 {
-    let (is_minus, start) = sign_of::<T>(bytes, format)?;
+    let (is_negative, start) = sign_of::<T>(bytes, format)?;
     match prefix_radix(bytes, format, start) {
         Some(radix) => Ok(Head {
-            is_minus,
-            is_marked: true,
+            is_negative,
+            is_prefixed: true,
+            is_octal: false,
             start: start + 2,
             radix,
         }),
@@ -86,8 +99,9 @@ pub(crate) fn head_of<T: Integer>(bytes: &[u8], format: &NumberFormat) -> Result
             let is_octal = octal_zero_at(bytes, format, start);
             let radix = if is_octal { 8 } else { format.mantissa_radix() };
             Ok(Head {
-                is_minus,
-                is_marked: is_octal,
+                is_negative,
+                is_prefixed: false,
+                is_octal,
                 start,
                 radix,
             })
@@ -98,22 +112,25 @@ pub(crate) fn head_of<T: Integer>(bytes: &[u8], format: &NumberFormat) -> Result
 // Whether a prefix is all that there is.
 #[inline(always)]
 fn is_prefix_alone(bytes: &[u8], head: Head) -> bool
-    ensures { result ≡ (head.is_marked && (head.start == length bytes.now)) }
+    ensures { result ≡ (head.is_prefixed && (head.start == length bytes.now)) }
 {
-    head.is_marked && head.start == bytes.len()
+    head.is_prefixed && head.start == bytes.len()
 }
 
 // The place of a zero before another digit, where the format forbids it.
 #[inline(always)]
 fn zero_before_digit(bytes: &[u8], format: &NumberFormat, head: Head) -> Option<usize>
-    requires sound { IsSound (view_at format.now bytes.now head.radix head.start head.start 0) }
-    ensures none { IsNone result → zero_fault format.now head.is_marked
-        (numeral_in format.now bytes.now head.start head.radix) ≡ None }
-    ensures some { IfSome result (λ place. zero_fault format.now head.is_marked
-        (numeral_in format.now bytes.now head.start head.radix)
+    requires sound { IsSound
+        (view_at format.now head.is_prefixed head.radix bytes.now head.start head.start 0) }
+    ensures none { IsNone result → zero_fault format.now
+        (head.is_prefixed || head.is_octal)
+        (numeral_in format.now head.is_prefixed head.radix bytes.now head.start) ≡ None }
+    ensures some { IfSome result (λ place. zero_fault format.now
+        (head.is_prefixed || head.is_octal)
+        (numeral_in format.now head.is_prefixed head.radix bytes.now head.start)
         ≡ Some (InvalidLeadingZeros place)) }
 {
-    if head.is_marked || !format.no_integer_leading_zeros() {
+    if !format.no_integer_leading_zeros() || head.chooses_radix() {
         return None;
     }
     let Found::Digit(place, digit) = seek(bytes, format, head.radix, head.start, head.start) else {
@@ -160,14 +177,15 @@ fn join<T: Integer>(
 // All digits of a numeral, or the fault of the first with which their value leaves the type.
 #[inline(always)]
 fn read_digits<T: Integer>(bytes: &[u8], format: &NumberFormat, head: Head) -> Result<Digits<T>>
-    requires sound { IsSound (view_at format.now bytes.now head.radix head.start head.start 0) }
-    requires minus { head.is_minus ≡ true → T.TYPE.is_signed ≡ true }
-    ensures all { IfOk result (λ found. ReadsAll T.TYPE head.is_minus
-        (view_at format.now bytes.now head.radix head.start head.start 0)
-        (view_at format.now bytes.now head.radix head.start found.end found.count)
+    requires sound { IsSound
+        (view_at format.now head.is_prefixed head.radix bytes.now head.start head.start 0) }
+    requires minus { head.is_negative ≡ true → T.TYPE.is_signed ≡ true }
+    ensures all { IfOk result (λ found. ReadsAll T.TYPE head.is_negative
+        (view_at format.now head.is_prefixed head.radix bytes.now head.start head.start 0)
+        (view_at format.now head.is_prefixed head.radix bytes.now head.start found.end found.count)
         (T.number found.value)) }
-    ensures leaves { IfErr result (λ error. range_fault T.TYPE head.is_minus
-        (numeral_in format.now bytes.now head.start head.radix) ≡ Some error) }
+    ensures leaves { IfErr result (λ error. range_fault T.TYPE head.is_negative
+        (numeral_in format.now head.is_prefixed head.radix bytes.now head.start) ≡ Some error) }
 {
     let most = T::overflow_digits(head.radix);
     let mut value = T::ZERO;
@@ -176,7 +194,7 @@ fn read_digits<T: Integer>(bytes: &[u8], format: &NumberFormat, head: Head) -> R
     loop {
         match seek(bytes, format, head.radix, head.start, place) {
             Found::Digit(at, digit) => {
-                value = join::<T>(value, digit, head.radix, at, head.is_minus, count < most)?;
+                value = join::<T>(value, digit, head.radix, at, head.is_negative, count < most)?;
                 count += 1;
                 place = at + 1;
             }
@@ -188,16 +206,19 @@ fn read_digits<T: Integer>(bytes: &[u8], format: &NumberFormat, head: Head) -> R
 // A numeral: the rule on zeros is judged first, since its fault comes before that of the value.
 #[inline(always)]
 fn read_numeral<T: Integer>(bytes: &[u8], format: &NumberFormat, head: Head) -> Result<Digits<T>>
-    requires sound { IsSound (view_at format.now bytes.now head.radix head.start head.start 0) }
-    requires minus { head.is_minus ≡ true → T.TYPE.is_signed ≡ true }
-    ensures all { IfOk result (λ found. ReadsNumeral T.TYPE head.is_minus head.is_marked
-        (view_at format.now bytes.now head.radix head.start head.start 0)
-        (view_at format.now bytes.now head.radix head.start found.end found.count)
+    requires sound { IsSound
+        (view_at format.now head.is_prefixed head.radix bytes.now head.start head.start 0) }
+    requires minus { head.is_negative ≡ true → T.TYPE.is_signed ≡ true }
+    ensures all { IfOk result (λ found. ReadsNumeral T.TYPE head.is_negative
+        (head.is_prefixed || head.is_octal)
+        (view_at format.now head.is_prefixed head.radix bytes.now head.start head.start 0)
+        (view_at format.now head.is_prefixed head.radix bytes.now head.start found.end found.count)
         (T.number found.value)) }
-    ensures fault { IfErr result (λ error. option_or (zero_fault format.now head.is_marked
-        (numeral_in format.now bytes.now head.start head.radix))
-        (range_fault T.TYPE head.is_minus
-        (numeral_in format.now bytes.now head.start head.radix)) ≡ Some error) }
+    ensures fault { IfErr result (λ error. option_or (zero_fault format.now
+        (head.is_prefixed || head.is_octal)
+        (numeral_in format.now head.is_prefixed head.radix bytes.now head.start))
+        (range_fault T.TYPE head.is_negative
+        (numeral_in format.now head.is_prefixed head.radix bytes.now head.start)) ≡ Some error) }
 {
     if let Some(place) = zero_before_digit(bytes, format, head) {
         return Err(Error::InvalidLeadingZeros(place));

@@ -21,7 +21,7 @@ use lexical_util::result::Result;
 #[tactic(auto, unfolding(crate::specs::Head::sign))]
 pub fn parse_sign<T: Integer>(c: &mut Cursor<'_>) -> Result<bool>
     requires { c.old.position ≡ 0 }
-    ensures answer { view_of (λ is_minus. (is_minus, c.new.position)) result
+    ensures answer { view_of (λ is_negative. (is_negative, c.new.position)) result
         ≡ sign c.old.format T.TYPE c.old.bytes }
     ensures moved { OnOk result
         (c.new ≡ record c.old { start = c.new.position; position = c.new.position }) }
@@ -49,12 +49,13 @@ pub fn parse_sign<T: Integer>(c: &mut Cursor<'_>) -> Result<bool>
     }
 }
 
-// Reads sign and prefix, and answers whether there is a minus, and whether a prefix or an octal zero marks the radix.
+// Reads sign and prefix, and answers whether there is a minus, whether there is a prefix, and whether an octal zero
+// follows.
 #[inline(always)]
-pub(crate) fn read_head<T: Integer>(c: &mut Cursor<'_>) -> Result<(bool, bool)>
+pub(crate) fn read_head<T: Integer>(c: &mut Cursor<'_>) -> Result<(bool, bool, bool)>
     requires { c.old.position ≡ 0 }
     ensures head { IfOk result
-        (λ found. IsAtHead c.old.format T.TYPE c.old.bytes found.0 found.1 c.new) }
+        (λ found. IsAtHead c.old.format T.TYPE c.old.bytes found.0 found.1 found.2 c.new) }
     ensures fault { IfErr result (λ e. head_of c.old.format T.TYPE c.old.bytes ≡ Err e) }
     ensures no_turn { OnErr result (c.new.turns ≡ 0) }
     ensures over { OnErr result (IsOver c.old.bytes c.old.format c.new) }
@@ -63,16 +64,16 @@ pub(crate) fn read_head<T: Integer>(c: &mut Cursor<'_>) -> Result<(bool, bool)>
     c.sound();
     let negative = parse_sign::<T>(c)?;
     if c.read_prefix() {
-        return Ok((negative, true));
+        return Ok((negative, true, false));
     }
     let is_octal = c.read_octal_zero();
-    Ok((negative, is_octal))
+    Ok((negative, false, is_octal))
 }
 
 // Whether a prefix is all that there is.
 #[inline(always)]
-pub(crate) fn is_prefix_alone(c: &Cursor<'_>, is_marked: bool) -> bool
-    ensures { result ≡ (is_marked && (c.now.position == length c.now.bytes)) }
+pub(crate) fn is_prefix_alone(c: &Cursor<'_>, is_prefixed: bool) -> bool
+    ensures { result ≡ (is_prefixed && (c.now.position == length c.now.bytes)) }
 {
-    is_marked && c.is_buffer_empty()
+    is_prefixed && c.is_buffer_empty()
 }

@@ -23,17 +23,6 @@ use lexical_digits::nibbles::value_of_nibbles;
 use lexical_util::format::NumberFormat;
 use lexical_util::num::Integer;
 
-// The value of hexadecimal digits alone, behind a minus where that is negative. Out of line it keeps all that it needs in
-// registers.
-#[inline(never)]
-fn value_of_hexadecimal<T: Integer>(digits: &[u8], negative: bool) -> Option<T>
-    requires some { 1 ≤ length digits.now }
-    requires minus { IsTrue negative → IsTrue T.TYPE.is_signed }
-    ensures { IfSome result (λ value. StandsFor T.TYPE 16 negative digits.now (T.number value)) }
-{
-    value_of_nibbles::<T>(digits, negative)
-}
-
 // The value of digits of radix 10 or 16 alone.
 #[inline(always)]
 fn value_in_radix<T: Integer>(digits: &[u8], radix: u32, negative: bool) -> Option<T>
@@ -43,7 +32,7 @@ fn value_in_radix<T: Integer>(digits: &[u8], radix: u32, negative: bool) -> Opti
 {
     match radix {
         10 => value_of_digits::<T>(digits, negative),
-        16 => value_of_hexadecimal::<T>(digits, negative),
+        16 => value_of_nibbles::<T>(digits, negative),
         _ => None,
     }
 }
@@ -90,8 +79,9 @@ fn is_behind_x<T: Integer>(bytes: &[u8], format: &NumberFormat) -> bool
 fn value_behind<T: Integer>(bytes: &[u8], format: &NumberFormat, head: Head) -> Option<T>
     requires valid { IsNone (fault format.now) }
     requires head { head_of format.now T.TYPE bytes.now ≡ Ok (record {
-      is_minus = head.is_minus;
-      is_marked = head.is_marked;
+      is_negative = head.is_negative;
+      is_prefixed = head.is_prefixed;
+      is_octal = head.is_octal;
       start = head.start;
       radix = head.radix;
     }) }
@@ -101,10 +91,10 @@ fn value_behind<T: Integer>(bytes: &[u8], format: &NumberFormat, head: Head) -> 
         return None;
     }
     let digits = &bytes[head.start..];
-    if !(head.is_marked | keeps_zero_rule(format, digits)) {
+    if !(head.chooses_radix() | keeps_zero_rule(format, digits)) {
         return None;
     }
-    value_in_radix::<T>(digits, head.radix, head.is_minus)
+    value_in_radix::<T>(digits, head.radix, head.is_negative)
 }
 
 // The value of the whole text, where digits alone stand behind any head: out of line, for texts that don't begin as most
@@ -134,8 +124,9 @@ pub(crate) fn value_of_row<T: Integer>(bytes: &[u8], format: &NumberFormat) -> O
     }
     if is_behind_x::<T>(bytes, format) {
         let head = Head {
-            is_minus: false,
-            is_marked: true,
+            is_negative: false,
+            is_prefixed: true,
+            is_octal: false,
             start: 2,
             radix: 16,
         };
@@ -143,8 +134,9 @@ pub(crate) fn value_of_row<T: Integer>(bytes: &[u8], format: &NumberFormat) -> O
     }
     if is_bare::<T>(bytes, format) {
         let head = Head {
-            is_minus: false,
-            is_marked: false,
+            is_negative: false,
+            is_prefixed: false,
+            is_octal: false,
             start: 0,
             radix: format.mantissa_radix(),
         };
@@ -172,11 +164,11 @@ pub(crate) fn value_of_groups<T: Integer>(
     {
         return None;
     }
-    let Ok((is_minus, start)) = sign_of::<T>(bytes, format) else {
+    let Ok((is_negative, start)) = sign_of::<T>(bytes, format) else {
         return None;
     };
     if bytes.len() <= start || !keeps_zero_rule(format, &bytes[start..]) {
         return None;
     }
-    value_of_threes::<T>(&bytes[start..], format, separator, is_minus)
+    value_of_threes::<T>(&bytes[start..], format, separator, is_negative)
 }

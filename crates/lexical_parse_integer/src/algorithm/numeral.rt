@@ -5,7 +5,7 @@ ghost use Rattle.lexical_util.specs.Number.{HasRoom};
 ghost use Rattle.lexical_parse_integer.specs.CursorView.{numeral_of};
 ghost use Rattle.lexical_parse_integer.specs.Folded.{Folded};
 ghost use Rattle.lexical_parse_integer.specs.Grammar.{range_fault, zero_fault};
-ghost use Rattle.lexical_parse_integer.specs.Reading.{GoesOn, IsAtNumeral, IsReading, KeepsTurns, LeavesFewTurns, LeavesTurns, ReadsAll, ReadsNumeral, ReadsOn};
+ghost use Rattle.lexical_parse_integer.specs.Reading.{MovesOn, IsAtNumeral, IsReading, KeepsTurns, LeavesFewTurns, LeavesTurns, ReadsAll, ReadsNumeral, ReadsOn};
 ghost use Rattle.lexical_parse_integer.specs.Turns.{AsksWords};
 
 use crate::algorithm::digits::{read_rest, read_untested};
@@ -73,7 +73,7 @@ pub(crate) fn read_digits<T: Integer>(
     requires ready { IsReading T.TYPE negative c.old (T.number value) }
     ensures all { IfOk result (λ value. ReadsAll T.TYPE negative c.old c.new (T.number value)) }
     ensures leaves { IfErr result (λ e. range_fault T.TYPE negative (numeral_of c.old) ≡ Some e) }
-    ensures goes_on { GoesOn c.old c.new }
+    ensures goes_on { MovesOn c.old c.new }
     ensures turns { Folded (KeepsTurns T.BITS T.TYPE no_multi_digit c.old c.new) }
 {
     let front = read_front::<T>(c, value, negative, no_multi_digit);
@@ -85,19 +85,19 @@ pub(crate) fn read_digits<T: Integer>(
 pub(crate) fn read_numeral<T: Integer>(
     c: &mut Cursor<'_>,
     negative: bool,
-    is_marked: bool,
+    radix_chosen: bool,
     no_multi_digit: bool,
 ) -> Result<T>
     requires front { IsAtNumeral c.old }
     requires minus { negative ≡ true → T.TYPE.is_signed ≡ true }
     ensures all { IfOk result
-        (λ value. ReadsNumeral T.TYPE negative is_marked c.old c.new (T.number value)) }
+        (λ value. ReadsNumeral T.TYPE negative radix_chosen c.old c.new (T.number value)) }
     ensures fault { IfErr result
-        (λ e. option_or (zero_fault c.old.format is_marked (numeral_of c.old))
+        (λ e. option_or (zero_fault c.old.format radix_chosen (numeral_of c.old))
         (range_fault T.TYPE negative (numeral_of c.old)) ≡ Some e) }
-    ensures goes_on { GoesOn c.old c.new }
+    ensures goes_on { MovesOn c.old c.new }
     ensures turns { Folded (KeepsTurns T.BITS T.TYPE no_multi_digit c.old c.new) }
 {
-    let first = read_first::<T>(c, negative, is_marked)?;
+    let first = read_first::<T>(c, negative, radix_chosen)?;
     read_digits::<T>(c, first, negative, no_multi_digit)
 }

@@ -5,7 +5,7 @@ ghost use Rattle.lexical_parse_integer.specs.CursorView.{IsSound, numeral_of};
 ghost use Rattle.lexical_parse_integer.specs.Folded.{Folded};
 ghost use Rattle.lexical_parse_integer.specs.Grammar.{range_fault, zero_fault};
 ghost use Rattle.lexical_parse_integer.specs.Numeral.{digit_count};
-ghost use Rattle.lexical_parse_integer.specs.Reading.{GoesOn, IsAtNumeral, LooksAhead, ReadsFirst};
+ghost use Rattle.lexical_parse_integer.specs.Reading.{MovesOn, IsAtNumeral, LooksAhead, ReadsFirst};
 
 use crate::algorithm::digits::join_checked;
 use crate::cursor::Cursor;
@@ -20,7 +20,7 @@ fn has_more(c: &mut Cursor<'_>) -> bool
     requires open { c.old.closed ≡ false }
     requires sound { Folded (IsSound c.old) }
     ensures answer { result ≡ nat_lt c.old.digits (digit_count (numeral_of c.old)) }
-    ensures goes_on { GoesOn c.old c.new }
+    ensures goes_on { MovesOn c.old c.new }
     ensures digits { result ≡ false → c.new.digits ≡ c.old.digits }
     ensures turns { c.new.turns + c.old.digits ≡ c.old.turns + c.new.digits }
     ensures count { c.old.digits ≤ digit_count (numeral_of c.old)
@@ -43,17 +43,17 @@ fn has_more(c: &mut Cursor<'_>) -> bool
 pub(crate) fn read_first<T: Integer>(
     c: &mut Cursor<'_>,
     negative: bool,
-    is_marked: bool,
+    radix_chosen: bool,
 ) -> Result<T>
     requires front { IsAtNumeral c.old }
     ensures first { IfOk result
-        (λ value. ReadsFirst T.TYPE negative is_marked c.old c.new (T.number value)) }
+        (λ value. ReadsFirst T.TYPE negative radix_chosen c.old c.new (T.number value)) }
     ensures ahead { LooksAhead c.old c.new }
     ensures fault { IfErr result
-        (λ e. option_or (zero_fault c.old.format is_marked (numeral_of c.old))
+        (λ e. option_or (zero_fault c.old.format radix_chosen (numeral_of c.old))
         (range_fault T.TYPE negative (numeral_of c.old)) ≡ Some e) }
 {
-    if is_marked || !c.format().no_integer_leading_zeros() {
+    if radix_chosen || !c.format().no_integer_leading_zeros() {
         return Ok(T::ZERO);
     }
     if c.is_contiguous() && c.first() != Some(b'0') {

@@ -66,9 +66,6 @@ fn value_by_kind<T: Integer>(bytes: &[u8], format: &NumberFormat) -> Option<T>
             None => value_of_row::<T>(bytes, format),
         };
     }
-    if format.mantissa_radix() == 10 && bytes.len() <= 16 {
-        return None;
-    }
     value_of_plain::<T>(bytes, format)
 }
 

@@ -1,14 +1,11 @@
 //! What the definitions of the grammar come to, over every format, type and text.
 //!
 //! These calls do nothing. A proof that needs one of these laws calls it and has its clauses.
-ghost use Rattle.std.specs.Prelude.{◌≡◌, ◌≢◌, ◌<◌, ◌≤◌, ◌⊎◌, false, true, Bool, List, is_some, length, slice_get, IfErr, IsNone, Ok, Some, ℕ, ℤ};
+ghost use Rattle.std.specs.Prelude.{◌≡◌, ◌≢◌, ◌<◌, ◌≤◌, ◌⊎◌, true, Bool, List, length, slice_get, IfErr, IsNone, Ok, Some, ℕ, ℤ};
 ghost use Rattle.std.specs.Fmt.{signed_decimal};
-ghost use Rattle.lexical_parse_integer.specs.Affixes.{prefix_radix};
 ghost use Rattle.lexical_parse_integer.specs.Grammar.{complete, partial};
-ghost use Rattle.lexical_parse_integer.specs.Head.{Head, head_of, sign};
-ghost use Rattle.lexical_parse_integer.specs.Laws.{Completes, IsGreatestEnd, IsLocal, IsLongestRun, IsNumeralOf, LeavesWithin, ReadsNumerals, ReadsPadded, StandsWithin, TellsDigits, Writes, WritesShortest, completion_of, with_leading_behind_prefix, without_prefix_flag};
-ghost use Rattle.lexical_parse_integer.specs.Numeral.{numeral_in};
-ghost use Rattle.lexical_parse_integer.specs.Runs.{digit_at, is_behind_prefix, separator_at};
+ghost use Rattle.lexical_parse_integer.specs.Laws.{Completes, IsGreatestEnd, IsLocal, IsLongestRun, IsNumeralOf, LeavesWithin, ReadsNumerals, ReadsPadded, StandsWithin, TellsDigits, Writes, WritesShortest, completion_of};
+ghost use Rattle.lexical_parse_integer.specs.Runs.{digit_at, separator_at};
 ghost use Rattle.lexical_util.specs.Digit.{IsRadix};
 ghost use Rattle.lexical_util.specs.Format.{Format};
 ghost use Rattle.lexical_util.specs.Number.{IntegerType, IsNumber};
@@ -22,7 +19,8 @@ use lexical_util::format::NumberFormat;
 /// Under the standard format the numeral in `12,3` that starts at 0 ends at 2.
 pub fn greatest_end(bytes: &[u8], format: &NumberFormat, radix: u32, start: usize)
     requires { start ≤ length bytes.now }
-    ensures { IsGreatestEnd format.now radix bytes.now start }
+    ensures { (is_prefixed : Bool)
+        → IsGreatestEnd format.now is_prefixed radix bytes.now start }
 {}
 
 /// The run of a separator is the longest stretch of separators, within the region that begins at
@@ -33,24 +31,6 @@ pub fn longest_run(bytes: &[u8], format: &NumberFormat, start: usize, place: usi
     requires within { start ≤ place }
     requires separator { separator_at format.now bytes.now place ≡ true }
     ensures { IsLongestRun format.now bytes.now start place }
-{}
-
-/// A region starts at 2 or later exactly where a prefix comes after the sign. There separators are judged as under a
-/// format that has the flag for leading separators where either flag is set, and elsewhere as under one without the
-/// flag for separators after a prefix.
-pub fn prefixes()
-    ensures place { (format : Format) (type : IntegerType) (text : List ℕ) (sign_read : Bool × ℕ)
-        (head : Head)
-        → sign format type text ≡ Ok sign_read → head_of format type text ≡ Ok head
-        → is_behind_prefix head.start ≡ is_some (prefix_radix format text sign_read.1) }
-    ensures behind { (format : Format) (text : List ℕ) (start radix : ℕ)
-        → is_behind_prefix start ≡ true
-        → numeral_in format text start radix
-        ≡ numeral_in (with_leading_behind_prefix format) text start radix }
-    ensures elsewhere { (format : Format) (text : List ℕ) (start radix : ℕ)
-        → is_behind_prefix start ≡ false
-        → numeral_in format text start radix
-        ≡ numeral_in (without_prefix_flag format) text start radix }
 {}
 
 /// Where a value leaves its type, it does so at a place within the text.

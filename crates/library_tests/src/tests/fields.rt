@@ -3,7 +3,6 @@
 mod caller;
 mod columns;
 mod fields;
-mod hostile;
 mod long;
 mod parts;
 

@@ -1,6 +1,5 @@
 // Runs over readers, writers and buffers that refuse: what no built program can be asked for.
 
-mod batches;
 mod devices;
 mod memory;
 mod refusals;

@@ -1,15 +1,15 @@
 use Rattle.std.proofs.Common.{◌≡◌, ℕ, List, [], ◌∷◌, ◌++◌, ◌∙◌, Option, ap, subst}
 use Rattle.answer_lines.specs.Command.{Command, command_in}
 use Rattle.answer_lines.specs.Gather.{GainsFront, Sends}
-use Rattle.answer_lines.specs.Output.{answer_of, command_answer, command_effect, settings_after}
+use Rattle.answer_lines.specs.Output.{answer_to, command_answer, command_effect, settings_after}
 use Rattle.answer_lines.specs.Settings.{Settings}
 use Rattle.answer_lines.proofs.Sending.{front_first, front_of_sent, front_second, gathers_more}
 use Rattle.answer_lines.proofs.answer.answer.Goals as goal
 
 -- the answer to the command of a line is the answer to the line
 answer-of_command : (settings : Settings) (line : List ℕ) (command : Option Command)
-    → command ≡ command_in line → command_answer settings command ≡ answer_of settings line
-unfolding answer_of
+    → command ≡ command_in line → command_answer settings command ≡ answer_to settings line
+unfolding answer_to
 answer-of_command settings line command e = ap (command_answer settings) e
 
 pub returns-in_err-tell-clause-front : goal.returns-in_err-tell-clause-front

@@ -2,7 +2,7 @@ use Rattle.std.proofs.Common.{arith, ◌≡◌, ◌<◌, ◌∙◌, ◌++◌, ap
 use Rattle.std.proofs.lemmas.Bool.Decides.{nat_tests}
 use Rattle.std.proofs.lemmas.Result.{on_ok_weaker}
 use Rattle.answer_lines.specs.Lines.{lines}
-use Rattle.answer_lines.specs.Output.{answers}
+use Rattle.answer_lines.specs.Output.{answers_to}
 use Rattle.answer_lines.proofs.LineSteps.{Front-line, Sends-end, Sends-next, Sends-last}
 use Rattle.answer_lines.proofs.Sending.{front_more, sends_held, sends_sent}
 use Rattle.answer_lines.proofs.program.run.Goals as goal
@@ -10,8 +10,8 @@ use Rattle.answer_lines.proofs.program.run.Goals as goal
 pub loop-rest-init : goal.loop-rest-init
 loop-rest-init g c =
     let texts = lines c.args.input.now in
-    sends_held _ _ _ (ap (λ batch. batch ++ answers c.standard-settings.result texts)
-    c.new-batch.ensures ∙ ap (λ settings. answers settings texts) c.standard-settings.ensures)
+    sends_held _ _ _ (ap (λ batch. batch ++ answers_to c.standard-settings.result texts)
+    c.new-batch.ensures ∙ ap (λ settings. answers_to settings texts) c.standard-settings.ensures)
 
 pub loop-rest-preserved : goal.loop-rest-preserved
 loop-rest-preserved g c =

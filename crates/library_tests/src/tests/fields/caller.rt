@@ -1,20 +1,11 @@
 // Callers of fields and columns, proved and run.
 
-ghost use Rattle.std.specs.Prelude.{◌≡◌, ◌<◌, ◌^◌, count_by, is_err, length, map, sum, IfOk};
+ghost use Rattle.std.specs.Prelude.{◌≡◌, ◌<◌, ◌^◌, count_by, is_err, length, sum};
 ghost use Rattle.lexical_fields.specs.Callers.{plain_fields, total};
 
 use crate::tests::answers;
 use lexical_fields::{ColumnError, Fields, read_column};
 use lexical_parse_integer::{format, options};
-use std::alloc::{AllocError, Global};
-use std::test::Fail;
-
-/// How many fields a text has.
-fn field_count(text: &[u8], separator: u8) -> usize
-    ensures { result ≡ length (plain_fields separator text.now) }
-{
-    Fields::<u64>::new(text, separator, &format::STANDARD, &options::STANDARD).count()
-}
 
 /// How many fields of a text are no numbers.
 fn fault_count(text: &[u8], separator: u8) -> usize
@@ -23,16 +14,6 @@ fn fault_count(text: &[u8], separator: u8) -> usize
     Fields::<u64>::new(text, separator, &format::STANDARD, &options::STANDARD)
         .filter(|field| field.answer.is_err())
         .count()
-}
-
-/// Where each field starts.
-fn starts(alloc: Global, text: &[u8], separator: u8) -> Result<Vec<usize>, AllocError>
-    ensures { IfOk result
-        (λ starts. starts.items ≡ map (λ field. field.start) (plain_fields separator text.now)) }
-{
-    Fields::<u64>::new(text, separator, &format::STANDARD, &options::STANDARD)
-        .map(|field| field.start)
-        .collect(alloc)
 }
 
 // The sum of some numbers.
@@ -59,15 +40,8 @@ fn total(text: &[u8], separator: u8, values: &mut [u64]) -> Result<u128, ColumnE
 }
 
 #[test]
-fn callers(rt: HostRuntime) -> Result<(), Fail> {
-    answers(&rt, field_count(b"12,,7,", b','), 3);
+fn callers(rt: HostRuntime) {
     answers(&rt, fault_count(b"12,,7,", b','), 1);
-    answers(
-        &rt,
-        starts(rt.alloc(), b"12,,7,", b',')?.as_slice(),
-        [0, 3, 4].as_slice(),
-    );
     let mut values = [0; 4];
     answers(&rt, total(b"12,7,", b',', &mut values), Ok(19));
-    Ok(())
 }

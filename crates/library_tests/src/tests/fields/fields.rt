@@ -2,7 +2,7 @@
 
 use crate::tests::{answers, answers_to};
 use lexical_fields::{Field, Fields, field_length};
-use lexical_parse_integer::{Error, NumberFormatBuilder, Result as Parse, format, options};
+use lexical_parse_integer::{Error, Result as Parse, format, options};
 use std::process::Abort;
 
 // Where a field starts, its bytes, and what it stands for.
@@ -49,77 +49,12 @@ fn fields_go_on_behind_a_fault(rt: HostRuntime) {
     );
 }
 
-// The next field of a text starts and stops there and has this answer, or there is none.
-fn next_is(
-    rt: &impl Abort,
-    fields: &mut Fields<'_, u8>,
-    text: &[u8],
-    want: Option<(usize, usize, Parse<u8>)>,
-) {
-    match (fields.next(), want) {
-        (Some(field), Some((start, stop, answer))) => answers_to(
-            rt,
-            text,
-            (field.start, Some(field.text), field.answer),
-            (start, text.get(start..stop), answer),
-        ),
-        (field, want) => answers_to(rt, text, field.is_some(), want.is_some()),
-    }
-}
-
-// The separator of a text of zeros stands at this place.
-fn is_parted_at(rt: &impl Abort, text: &[u8], place: usize) {
-    answers(rt, field_length(text, b';'), place);
-    let mut fields = Fields::<u8>::new(text, b';', &format::STANDARD, &options::STANDARD);
-    let front = if place == 0 {
-        Err(Error::Empty(0))
-    } else {
-        Ok(0)
-    };
-    next_is(rt, &mut fields, text, Some((0, place, front)));
-    let start = place.saturating_add(1);
-    if start < text.len() {
-        next_is(rt, &mut fields, text, Some((start, text.len(), Ok(0))));
-    }
-    next_is(rt, &mut fields, text, None);
-}
-
 #[test]
-fn the_separator_is_found_at_each_place(rt: HostRuntime) {
+fn a_length_is_that_of_the_first_field(rt: HostRuntime) {
     let zeros = [b'0'; 40];
-    answers(&rt, field_length(&zeros, b';'), 40);
-    answers(&rt, field_length(b"", b';'), 0);
     for place in 0..40 {
         let mut text = zeros;
         text[place] = b';';
-        is_parted_at(&rt, &text, place);
+        answers(&rt, field_length(&text, b';'), place);
     }
-}
-
-#[test]
-fn each_field_has_the_fault_of_an_invalid_format(rt: HostRuntime) {
-    let format = NumberFormatBuilder::new()
-        .mantissa_radix(1)
-        .build_unchecked();
-    let mut fields = Fields::<u8>::new(b"1,2", b',', &format, &options::STANDARD);
-    let fault = Err(Error::InvalidMantissaRadix);
-    answers(
-        &rt,
-        fields.next(),
-        Some(Field {
-            start: 0,
-            text: b"1",
-            answer: fault,
-        }),
-    );
-    answers(
-        &rt,
-        fields.next(),
-        Some(Field {
-            start: 2,
-            text: b"2",
-            answer: fault,
-        }),
-    );
-    answers(&rt, fields.next(), None);
 }

@@ -1,6 +1,5 @@
-// Long texts: 16 MiB of separators, or of one field.
+// A long text: 16 MiB of one field.
 
-use super::hostile::counts;
 use super::{Answer, column, fault_in};
 use crate::tests::answers;
 use lexical_fields::read_column;
@@ -16,13 +15,6 @@ fn lines_of(text: &[u8]) -> (Answer, [u64; 2]) {
     let options = options::LARGE_NUMBERS;
     let answer = read_column::<u64>(text, b'\n', &format::STANDARD, &options, &mut room);
     (answer, room)
-}
-
-#[test]
-fn separators_for_16_mebibytes(rt: HostRuntime) -> Result<(), Fail> {
-    let text = vec![in rt.alloc(); b'\n'; SIZE]?;
-    answers(&rt, counts(&text, b'\n'), (SIZE, SIZE));
-    Ok(())
 }
 
 #[test]

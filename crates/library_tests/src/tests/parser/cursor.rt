@@ -25,25 +25,6 @@ fn stands(rt: &impl Abort, c: &Cursor<'_>, want: (usize, usize, usize, bool)) {
     answers(rt, state(c), want);
 }
 
-// A cursor that read nothing shows these of its text and its format.
-fn shows(rt: &impl Abort, c: &Cursor<'_>, length: usize, first: Option<u8>, is_contiguous: bool) {
-    stands(rt, c, (0, 0, 0, false));
-    let text = (c.buffer_length(), c.is_buffer_empty(), c.first());
-    answers(rt, text, (length, length == 0, first));
-    answers(rt, (c.radix(), c.is_contiguous()), (10, is_contiguous));
-}
-
-#[test]
-fn a_new_cursor_shows_its_text(rt: HostRuntime) {
-    let format = with_all_parts();
-    assert!(rt; format.is_valid());
-    let c = Cursor::new(b"+0x1_23h.", &format);
-    shows(&rt, &c, 9, Some(b'+'), false);
-    answers(&rt, c.format(), format);
-    shows(&rt, &Cursor::new(b"", &format), 0, None, false);
-    shows(&rt, &Cursor::new(b"", &STANDARD), 0, None, true);
-}
-
 // The cursor gives this digit, or none, and is in this state then.
 fn gives(
     rt: &impl Abort,
@@ -56,29 +37,22 @@ fn gives(
     stands(rt, c, want);
 }
 
-fn has_suffix(rt: &impl Abort, c: &mut Cursor<'_>, want: bool) {
-    assert!(rt; !c.is_closed());
-    answers(rt, c.read_suffix(), want);
-}
-
 #[test]
 fn a_cursor_reads_part_by_part(rt: HostRuntime) {
     let format = with_all_parts();
     assert!(rt; format.is_valid());
     let mut c = Cursor::new(b"+0x1_23h.", &format);
+    let shown = (c.buffer_length(), c.is_contiguous(), c.radix());
+    answers(&rt, shown, (9, false, 10));
     c.step_sign();
-    stands(&rt, &c, (1, 1, 0, false));
-    assert!(rt; c.read_prefix());
-    stands(&rt, &c, (3, 3, 0, false));
+    let is_prefixed = c.read_prefix();
+    answers(&rt, (is_prefixed, state(&c)), (true, (3, 3, 0, false)));
     gives(&rt, &mut c, Some(1), (4, 3, 1, false));
-    answers(&rt, c.first(), Some(b'_'));
     gives(&rt, &mut c, Some(2), (6, 3, 2, false));
-    has_suffix(&rt, &mut c, false);
     gives(&rt, &mut c, Some(3), (7, 3, 3, false));
     gives(&rt, &mut c, None, (7, 3, 3, false));
-    has_suffix(&rt, &mut c, true);
-    stands(&rt, &c, (8, 3, 3, true));
-    answers(&rt, c.first(), Some(b'.'));
+    assert!(rt; !c.is_closed() && c.read_suffix());
+    answers(&rt, (state(&c), c.first()), ((8, 3, 3, true), Some(b'.')));
 }
 
 #[test]
@@ -87,9 +61,7 @@ fn a_cursor_takes_four_bytes_at_once(rt: HostRuntime) {
     answers(&rt, c.peek_word(4), Some(&b"1234"[..]));
     answers(&rt, c.peek_word(8), None);
     c.take_digits(4);
-    answers(&rt, state(&c), (4, 0, 4, false));
-    answers(&rt, c.next_digit(), Some(5));
-    answers(&rt, c.is_buffer_empty(), true);
+    answers(&rt, (c.next_digit(), c.is_buffer_empty()), (Some(5), true));
 }
 
 // The text's first eight bytes. The cursor that lent them is gone when it returns.

@@ -15,7 +15,7 @@ use lexical_parse_integer::laws::{
 };
 use lexical_parse_integer::options::{LARGE_NUMBERS, SMALL_NUMBERS};
 use lexical_util::error::Error;
-use lexical_util::format::{JSON, NumberFormatBuilder, STANDARD};
+use lexical_util::format::{JSON, STANDARD};
 use lexical_util::num::Integer;
 use lexical_util::result::Result as Answer;
 
@@ -73,49 +73,9 @@ fn turns_follow_from_digits(rt: HostRuntime) {
 }
 
 #[test]
-fn complete_follows_partial(rt: HostRuntime) {
-    answers(
-        &rt,
-        complete_and_partial::<i32>(b"12x", &STANDARD, &SMALL_NUMBERS),
-        (Err(Error::InvalidDigit(2)), Ok((12, 2))),
-    );
-    let internal = NumberFormatBuilder::new()
-        .digit_separator(Some(b'_'))
-        .integer_internal_digit_separator(true)
-        .build_unchecked();
-    answers(
-        &rt,
-        complete_and_partial::<i64>(b"_1_", &internal, &SMALL_NUMBERS),
-        (Err(Error::InvalidDigit(0)), Err(Error::Empty(0))),
-    );
-}
-
-#[test]
-fn a_value_leaves_its_type_within_the_text(rt: HostRuntime) {
+fn callers_that_lean_on_laws(rt: HostRuntime) {
     answers(&rt, byte_too_many(b"256"), Some(b'6'));
-    answers(&rt, byte_too_many(b"1000"), Some(b'0'));
-    answers(&rt, byte_too_many(b"25x"), None);
-}
-
-#[test]
-fn later_bytes_change_nothing(rt: HostRuntime) {
-    answers(
-        &rt,
-        local::<u64>(b"12 x", b"12 345", &STANDARD, &LARGE_NUMBERS),
-        (Ok((12, 2)), Ok((12, 2))),
-    );
-    answers(
-        &rt,
-        local::<u8>(b"2567", b"256abc", &STANDARD, &SMALL_NUMBERS),
-        (Err(Error::Overflow(2)), Err(Error::Overflow(2))),
-    );
     answers(&rt, cut::<u64>(b"12 x", 2), (Ok((12, 2)), Ok((12, 2))));
-}
-
-#[test]
-fn numerals_are_read_back(rt: HostRuntime) {
-    answers(&rt, numeral::<i8>(b"-10000000", 2), Ok(-128));
-    answers(&rt, numeral::<u16>(b"zZ", 36), Ok(1295));
 }
 
 #[test]
@@ -124,26 +84,17 @@ fn what_std_writes_is_read_back(rt: HostRuntime) {
 }
 
 #[test]
-fn zeros_leave_the_value(rt: HostRuntime) {
+fn laws_make_their_parses(rt: HostRuntime) {
     answers(
         &rt,
-        zeros_in_front::<i8>(b"-128", b"-00128"),
-        (Ok(-128), Ok(-128)),
+        complete_and_partial::<i32>(b"12x", &STANDARD, &SMALL_NUMBERS),
+        (Err(Error::InvalidDigit(2)), Ok((12, 2))),
     );
-}
-
-#[test]
-fn options_change_no_answer(rt: HostRuntime) {
-    answers(
-        &rt,
-        small_and_large::<u64>(b"18446744073709551616", &STANDARD),
-        (Err(Error::Overflow(19)), Err(Error::Overflow(19))),
-    );
-}
-
-#[test]
-fn rebuilt_options_are_equal(rt: HostRuntime) {
-    let options = rebuilt(&LARGE_NUMBERS);
-    answers(&rt, options.get_no_multi_digit(), false);
-    answers(&rt, options, LARGE_NUMBERS);
+    answers(&rt, numeral::<u16>(b"zZ", 36), Ok(1295));
+    let zeros = zeros_in_front::<i8>(b"-128", b"-00128");
+    answers(&rt, zeros, (Ok(-128), Ok(-128)));
+    let small = small_and_large::<u64>(b"18446744073709551616", &STANDARD);
+    let overflow = Err(Error::Overflow(19));
+    answers(&rt, small, (overflow, overflow));
+    answers(&rt, rebuilt(&LARGE_NUMBERS), LARGE_NUMBERS);
 }

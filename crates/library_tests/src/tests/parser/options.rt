@@ -11,62 +11,35 @@ use std::alloc::AllocError;
 use std::cmp::Ordering;
 use std::test::Fail;
 
+// The calls that make options, and what each has; `true` is the standard.
 #[test]
-fn all_options_are_valid(rt: HostRuntime) {
-    answers(&rt, OptionsBuilder::new().is_valid(), true);
-    answers(
-        &rt,
-        OptionsBuilder::new().build_unchecked().is_valid(),
-        true,
-    );
-    answers(&rt, OptionsBuilder::default().is_valid(), true);
-    answers(&rt, Options::new().is_valid(), true);
-    answers(&rt, ParseOptions::is_valid(&LARGE_NUMBERS), true);
-}
-
-#[test]
-fn every_build_answers(rt: HostRuntime) {
-    answers(&rt, OptionsBuilder::new().build(), Ok(Options::new()));
-    answers(&rt, OptionsBuilder::default().build(), Ok(Options::new()));
-    answers(&rt, Options::new().rebuild(), Options::builder());
-    answers(&rt, Options::new(), Options::default());
-}
-
-#[test]
-fn new_options_take_digits_one_at_a_time(rt: HostRuntime) {
-    answers(&rt, OptionsBuilder::new().get_no_multi_digit(), true);
-    answers(&rt, OptionsBuilder::default().get_no_multi_digit(), true);
-    answers(&rt, Options::new().get_no_multi_digit(), true);
-    answers(&rt, Options::default().get_no_multi_digit(), true);
-    answers(&rt, Options::from_radix(10).get_no_multi_digit(), true);
-    answers(&rt, Options::from_radix(36).get_no_multi_digit(), true);
-}
-
-#[test]
-fn what_was_set_stands_after_a_build(rt: HostRuntime) {
-    for value in [true, false] {
-        let builder = OptionsBuilder::new().no_multi_digit(value);
-        answers(&rt, builder.get_no_multi_digit(), value);
-        answers(&rt, builder.build_strict().get_no_multi_digit(), value);
-        answers(&rt, builder.build_unchecked().get_no_multi_digit(), value);
-        answers(&rt, builder.build_strict().rebuild(), builder);
-    }
-}
-
-#[test]
-fn setters_of_options(rt: HostRuntime) {
+fn options_have_what_was_set(rt: HostRuntime) {
+    let builder = OptionsBuilder::new().no_multi_digit(false);
     let mut options = Options::new();
-    options.no_multi_digit(false);
-    answers(&rt, options.get_no_multi_digit(), false);
     options.set_no_multi_digit(true);
-    answers(&rt, options.get_no_multi_digit(), true);
-}
-
-#[test]
-fn ready_made_options(rt: HostRuntime) {
-    answers(&rt, STANDARD.get_no_multi_digit(), true);
-    answers(&rt, SMALL_NUMBERS.get_no_multi_digit(), true);
-    answers(&rt, LARGE_NUMBERS.get_no_multi_digit(), false);
+    let valid = [
+        builder.is_valid(),
+        options.is_valid(),
+        ParseOptions::is_valid(&LARGE_NUMBERS),
+    ];
+    answers(&rt, valid, [true; 3]);
+    let set = [
+        OptionsBuilder::default().get_no_multi_digit(),
+        builder.get_no_multi_digit(),
+        builder.build_strict().get_no_multi_digit(),
+        builder.build_unchecked().get_no_multi_digit(),
+        options.get_no_multi_digit(),
+        Options::default().get_no_multi_digit(),
+        Options::from_radix(36).get_no_multi_digit(),
+        STANDARD.get_no_multi_digit(),
+        SMALL_NUMBERS.get_no_multi_digit(),
+        LARGE_NUMBERS.get_no_multi_digit(),
+    ];
+    let expected = [
+        true, false, false, false, true, true, true, true, true, false,
+    ];
+    answers(&rt, set, expected);
+    answers(&rt, builder.build(), Ok(LARGE_NUMBERS));
 }
 
 // ---- the derives: the clauses are the laws, and the calls below only run them
@@ -130,33 +103,23 @@ fn cloned_builder(builder: &OptionsBuilder) -> std::result::Result<OptionsBuilde
 
 #[test]
 fn options_compare_by_their_field(rt: HostRuntime) -> std::result::Result<(), Fail> {
+    let new = OptionsBuilder::new();
+    let large = cloned(&LARGE_NUMBERS)?.rebuild();
     let tests = [
         are_equal(&STANDARD, &SMALL_NUMBERS),
         are_equal(&LARGE_NUMBERS, &SMALL_NUMBERS),
         is_less(&LARGE_NUMBERS, &SMALL_NUMBERS),
-        is_less(&SMALL_NUMBERS, &LARGE_NUMBERS),
-    ];
-    answers(&rt, tests, [true, false, true, false]);
-    let less = (Ordering::Less, Some(Ordering::Less));
-    answers(&rt, compared(&LARGE_NUMBERS, &SMALL_NUMBERS), less);
-    answers(&rt, cloned(&LARGE_NUMBERS)?, LARGE_NUMBERS);
-    Ok(())
-}
-
-#[test]
-fn builders_compare_by_their_field(rt: HostRuntime) -> std::result::Result<(), Fail> {
-    let new = OptionsBuilder::new();
-    let large = LARGE_NUMBERS.rebuild();
-    let tests = [
         are_equal_builders(&new, &Options::builder()),
-        are_equal_builders(&large, &new),
+        are_equal_builders(&cloned_builder(&large)?, &new),
         is_less_builder(&large, &new),
-        is_less_builder(&new, &large),
     ];
-    answers(&rt, tests, [true, false, true, false]);
+    answers(&rt, tests, [true, false, true, true, false, true]);
     let less = (Ordering::Less, Some(Ordering::Less));
-    answers(&rt, compared_builders(&large, &new), less);
-    answers(&rt, cloned_builder(&large)?, large);
+    let orders = [
+        compared(&LARGE_NUMBERS, &SMALL_NUMBERS),
+        compared_builders(&large, &new),
+    ];
+    answers(&rt, orders, [less, less]);
     Ok(())
 }
 

@@ -20,14 +20,17 @@ use std::process::Abort;
 
 #[test]
 fn parsers_of_a_type(rt: HostRuntime) {
-    let answer = u64::parse_complete(b"18446744073709551616", &STANDARD, &LARGE_NUMBERS);
-    answers(&rt, answer, Err(Error::Overflow(19)));
-    let front = u64::parse_partial(b"1234 }, {\"Key\"", &STANDARD, &SMALL_NUMBERS);
-    answers(&rt, front, Ok((1234, 4)));
-    let dot = algorithm_partial::<i128>(b"+123.45", &STANDARD, &SMALL_NUMBERS);
-    answers(&rt, dot, Ok((123, 4)));
-    let json = algorithm_complete::<i32>(b"-01", &JSON, &LARGE_NUMBERS);
-    answers(&rt, json, Err(Error::InvalidLeadingZeros(1)));
+    let whole = [
+        u64::parse_complete(b"18446744073709551616", &STANDARD, &LARGE_NUMBERS),
+        algorithm_complete::<u64>(b"01", &JSON, &LARGE_NUMBERS),
+    ];
+    let faults = [Err(Error::Overflow(19)), Err(Error::InvalidLeadingZeros(0))];
+    answers(&rt, whole, faults);
+    let fronts = [
+        i128::parse_partial(b"1234 }, {\"Key\"", &STANDARD, &SMALL_NUMBERS),
+        algorithm_partial::<i128>(b"+123.45", &STANDARD, &SMALL_NUMBERS),
+    ];
+    answers(&rt, fronts, [Ok((1234, 4)), Ok((123, 4))]);
 }
 
 // At an answer the cursor stands behind the suffix, and counts the digits alone.
@@ -48,10 +51,10 @@ fn front_stands(rt: &impl Abort, format: &NumberFormat, options: &Options) {
 #[test]
 fn cursors_stand_where_reading_stops(rt: HostRuntime) {
     let format = with_all_parts();
-    whole_stands(&rt, &format, &SMALL_NUMBERS);
-    whole_stands(&rt, &format, &LARGE_NUMBERS);
-    front_stands(&rt, &format, &SMALL_NUMBERS);
-    front_stands(&rt, &format, &LARGE_NUMBERS);
+    for options in [SMALL_NUMBERS, LARGE_NUMBERS] {
+        whole_stands(&rt, &format, &options);
+        front_stands(&rt, &format, &options);
+    }
 }
 
 // The number of the whole text and of its front, by what the bound says of the type alone.
@@ -70,11 +73,6 @@ fn callers_over_every_type_that_reads_itself(rt: HostRuntime) {
         both::<i8>(text),
         (Err(Error::InvalidDigit(3)), Ok((-12, 3))),
     );
-    answers(
-        &rt,
-        both::<u64>(text),
-        (Err(Error::InvalidDigit(0)), Ok((0, 0))),
-    );
 }
 
 // The number at the front of a text under a format.
@@ -90,7 +88,6 @@ where
 fn callers_over_every_type_that_reads_itself_with_options(rt: HostRuntime) {
     let format = with_all_parts();
     answers(&rt, field::<i16>(b"-0x1_2h,", &format), Ok((-12, 7)));
-    answers(&rt, field::<u128>(b"1_2_3", &format), Ok((123, 5)));
     let radixless = NumberFormatBuilder::from_radix(1);
     answers(
         &rt,

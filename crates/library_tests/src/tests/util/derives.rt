@@ -59,27 +59,18 @@ fn cloned_builder(builder: &NumberFormatBuilder) -> Result<NumberFormatBuilder, 
 
 #[test]
 fn equality_and_copies(rt: HostRuntime) -> Result<(), Fail> {
-    let faults = [
-        are_equal_faults(Error::Empty(1), Error::Empty(1)),
-        are_equal_faults(Error::Empty(1), Error::Empty(2)),
-        are_equal_faults(Error::Empty(1), Error::InvalidDigit(1)),
-    ];
-    answers(&rt, faults, [true, false, false]);
-    let formats = [
+    let (builder, fault) = (NumberFormatBuilder::new(), Error::Empty(1));
+    let equalities = [
+        are_equal_faults(fault, cloned_fault(&fault)?),
+        are_equal_faults(fault, Error::Empty(2)),
+        are_equal_faults(fault, Error::InvalidDigit(1)),
         are_equal_formats(&NumberFormatBuilder::from_radix(10), &STANDARD),
-        are_equal_formats(&JSON, &STANDARD),
-    ];
-    answers(&rt, formats, [true, false]);
-    let builder = NumberFormatBuilder::new();
-    let builders = [
-        are_equal_builders(&builder, &NumberFormatBuilder::new()),
+        are_equal_formats(&cloned_format(&JSON)?, &STANDARD),
+        are_equal_builders(&builder, &cloned_builder(&builder)?),
         are_equal_builders(&builder, &builder.base_suffix(Some(b'h'))),
     ];
-    answers(&rt, builders, [true, false]);
-    let copies = copied(&Error::Empty(1), &JSON, &builder);
-    answers(&rt, copies, (Error::Empty(1), JSON, builder));
-    answers(&rt, cloned_fault(&Error::Empty(1))?, Error::Empty(1));
-    answers(&rt, cloned_format(&JSON)?, JSON);
-    answers(&rt, cloned_builder(&builder)?, builder);
+    let expected = [true, false, false, true, false, true, false];
+    answers(&rt, equalities, expected);
+    answers(&rt, copied(&fault, &JSON, &builder), (fault, JSON, builder));
     Ok(())
 }

@@ -70,44 +70,14 @@ fn reaches_end<T: Integer + Debug>(rt: &impl Abort, front: T, digit: u32, negati
 #[test]
 fn ends_of_the_types(rt: HostRuntime) {
     reaches_end::<u8>(&rt, 25, 5, false, 255);
-    reaches_end::<u16>(&rt, 6553, 5, false, 65535);
-    reaches_end::<u32>(&rt, 429496729, 5, false, 4294967295);
     reaches_end::<u64>(&rt, 1844674407370955161, 5, false, 18446744073709551615);
-    reaches_end::<usize>(&rt, 1844674407370955161, 5, false, 18446744073709551615);
-    reaches_end::<u128>(
-        &rt,
-        34028236692093846346337460743176821145,
-        5,
-        false,
-        340282366920938463463374607431768211455,
-    );
     reaches_end::<i8>(&rt, 12, 7, false, 127);
     reaches_end::<i8>(&rt, -12, 8, true, -128);
-    reaches_end::<i16>(&rt, 3276, 7, false, 32767);
-    reaches_end::<i16>(&rt, -3276, 8, true, -32768);
-    reaches_end::<i32>(&rt, 214748364, 7, false, 2147483647);
-    reaches_end::<i32>(&rt, -214748364, 8, true, -2147483648);
-    reaches_end::<i64>(&rt, 922337203685477580, 7, false, 9223372036854775807);
-    reaches_end::<i64>(&rt, -922337203685477580, 8, true, -9223372036854775808);
-    reaches_end::<isize>(&rt, 922337203685477580, 7, false, 9223372036854775807);
-    reaches_end::<isize>(&rt, -922337203685477580, 8, true, -9223372036854775808);
-    reaches_end::<i128>(
-        &rt,
-        17014118346046923173168730371588410572,
-        7,
-        false,
-        170141183460469231731687303715884105727,
-    );
     reaches_end::<i128>(
         &rt,
         -17014118346046923173168730371588410572,
         8,
         true,
         -170141183460469231731687303715884105728,
-    );
-    answers(
-        &rt,
-        <u8 as Integer>::ZERO.checked_mul_add(10, 1, true),
-        None,
     );
 }

@@ -1,11 +1,11 @@
 use Rattle.std.proofs.Common.{◌≡◌, ◌+◌, ◌-◌}
 use Rattle.lexical_parse_integer.specs.CursorView.{numeral_end, numeral_of}
-use Rattle.lexical_parse_integer.specs.Reading.{GoesOn, Reads}
+use Rattle.lexical_parse_integer.specs.Reading.{MovesOn, Reads}
 use Rattle.lexical_parse_integer.proofs.algorithm.digits.read_rest.Given as goal
 
 abbrev pub invariant-loop-digit : goal.invariant-loop-digit
 invariant-loop-digit g l = record {
-  goes_on : GoesOn l.fn.c l.c;
+  goes_on : MovesOn l.fn.c l.c;
   reads : Reads g.T.Integer.TYPE l.fn.negative (numeral_of l.fn.c) l.c.digits (g.T.Integer.number l.value);
   turns : l.c.turns + l.fn.c.digits ≡ l.fn.c.turns + l.c.digits;
   sign : l.negative ≡ l.fn.negative;

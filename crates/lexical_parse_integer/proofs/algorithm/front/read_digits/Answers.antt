@@ -21,20 +21,20 @@ pub loop-at-preserved : goal.loop-at-preserved
 loop-at-preserved g c =
     let i = c.loop-at.invariant in
     record {
-      sound = next_sound _ c.args.bytes.now _ _ _ _ c.in-Digit.at _ i.sound c.in-Digit.ensures;
-      reads = next_reads _ c.args.bytes.now _ _ _ _ _ _ c.in-Digit.at _ _ _ i.sound c.in-Digit.ensures i.reads c.in_ok-value-in-Digit.ensures.fits.0 c.in_ok-value-in-Digit.ensures.fits.1;
+      sound = next_sound _ _ c.args.bytes.now _ _ _ _ c.in-Digit.at _ i.sound c.in-Digit.ensures;
+      reads = next_reads _ _ c.args.bytes.now _ _ _ _ _ _ c.in-Digit.at _ _ _ i.sound c.in-Digit.ensures i.reads c.in_ok-value-in-Digit.ensures.fits.0 c.in_ok-value-in-Digit.ensures.fits.1;
     }
 
 pub returns-in_err-value-in-Digit-clause-leaves : goal.returns-in_err-value-in-Digit-clause-leaves
 returns-in_err-value-in-Digit-clause-leaves g c =
     let p = err_from_is_err_and c.from_residual.result c.from_residual.ensures.1 in
     let i = c.loop-at.invariant in
-    rw (p.1, p.2) (next_leaves _ c.args.bytes.now _ _ _ _ _ _ c.in-Digit.at _ _ _ i.sound c.in-Digit.ensures i.reads c.in_err-value-in-Digit.ensures.leaves.0 c.in_err-value-in-Digit.ensures.leaves.1)
+    rw (p.1, p.2) (next_leaves _ _ c.args.bytes.now _ _ _ _ _ _ c.in-Digit.at _ _ _ i.sound c.in-Digit.ensures i.reads c.in_err-value-in-Digit.ensures.leaves.0 c.in_err-value-in-Digit.ensures.leaves.1)
 
 pub returns-in-End-clause-all : goal.returns-in-End-clause-all
 returns-in-End-clause-all g c =
     let i = c.loop-at.invariant in
-    all_read _ c.args.bytes.now _ _ _ _ _ _ _ _ i.sound c.in-End.ensures i.reads
+    all_read _ _ c.args.bytes.now _ _ _ _ _ _ _ _ i.sound c.in-End.ensures i.reads
 
 pub overflow_add-count : goal.overflow_add-count
 overflow_add-count g c =
@@ -49,4 +49,4 @@ overflow_add-place g c =
     omega arith
 
 pub join-requires-clause-few : goal.join-requires-clause-few
-join-requires-clause-few g c = λ less. next_fits _ c.args.bytes.now _ _ _ _ _ _ _ c.in-Digit.at _ _ c.requires.sound c.loop-at.invariant.sound c.in-Digit.ensures c.overflow_digits-most.ensures.room c.requires.minus (ltb-true _ _ less) c.loop-at.invariant.reads
+join-requires-clause-few g c = λ less. next_fits _ _ c.args.bytes.now _ _ _ _ _ _ _ c.in-Digit.at _ _ c.requires.sound c.loop-at.invariant.sound c.in-Digit.ensures c.overflow_digits-most.ensures.room c.requires.minus (ltb-true _ _ less) c.loop-at.invariant.reads

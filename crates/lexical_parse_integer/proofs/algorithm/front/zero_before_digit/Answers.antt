@@ -4,10 +4,10 @@ use Rattle.lexical_parse_integer.proofs.reading.FrontAnswers.{next_sound, none_f
 use Rattle.lexical_parse_integer.proofs.algorithm.front.zero_before_digit.Goals as goal
 
 pub returns-in_default-clause-none : goal.returns-in_default-clause-none
-returns-in_default-clause-none c = λ _. none_first _ c.args.bytes.now _ _ _ _ c.requires.sound c.in_default.ensures
+returns-in_default-clause-none c = λ _. none_first _ _ c.args.bytes.now _ _ _ _ c.requires.sound c.in_default.ensures
 
 pub returns-then-digit-ne0-clause-none : goal.returns-then-digit-ne0-clause-none
-returns-then-digit-ne0-clause-none c = λ _. other_digit_first _ c.args.bytes.now _ _ _ c.in-Digit.place _ c.requires.sound c.in-Digit.ensures c.if-digit-ne0.true
+returns-then-digit-ne0-clause-none c = λ _. other_digit_first _ _ c.args.bytes.now _ _ _ c.in-Digit.place _ c.requires.sound c.in-Digit.ensures c.if-digit-ne0.true
 
 pub overflow_add-place : goal.overflow_add-place
 overflow_add-place c =
@@ -15,11 +15,11 @@ overflow_add-place c =
     omega arith
 
 pub seek-requires-2-clause-within : goal.seek-requires-2-clause-within
-seek-requires-2-clause-within c = (next_sound _ c.args.bytes.now _ _ _ _ c.in-Digit.place _ c.requires.sound c.in-Digit.ensures).within
+seek-requires-2-clause-within c = (next_sound _ _ c.args.bytes.now _ _ _ _ c.in-Digit.place _ c.requires.sound c.in-Digit.ensures).within
 
 pub returns-in-Digit-seek-clause-some : goal.returns-in-Digit-seek-clause-some
 returns-in-Digit-seek-clause-some c =
-    zero_before _ c.args.bytes.now _ _ _ c.in-Digit.place _ _ _ c.requires.sound c.in-Digit.ensures c.if-digit-ne0.false c.in-Digit-seek.ensures (sym c.if-not-no_integer_leading_zeros.ensures) c.if-head.false
+    zero_before _ _ c.args.bytes.now _ _ _ c.in-Digit.place _ _ _ c.requires.sound c.in-Digit.ensures c.if-digit-ne0.false c.in-Digit-seek.ensures (sym c.if-not-no_integer_leading_zeros.ensures) (sym c.if-chooses_radix.ensures)
 
 pub returns-in-End-clause-none : goal.returns-in-End-clause-none
-returns-in-End-clause-none c = λ _. zero_alone _ c.args.bytes.now _ _ _ c.in-Digit.place _ _ c.requires.sound c.in-Digit.ensures c.in-End.ensures
+returns-in-End-clause-none c = λ _. zero_alone _ _ c.args.bytes.now _ _ _ c.in-Digit.place _ _ c.requires.sound c.in-Digit.ensures c.in-End.ensures

@@ -8,5 +8,6 @@ value_in_radix-requires-clause-minus g c = head_signed _ _ c.args.bytes.now _ c.
 
 pub returns : goal.returns
 returns g c =
-    let rule = ap (λ (b : Bool). c.args.head.is_marked || b) (sym c.keeps_zero_rule.ensures) ∙ c.if-not-head-keeps_zero_rule.false in
+    let chooses : Bool = c.args.head.is_prefixed || c.args.head.is_octal in
+    let rule = ap (λ (b : Bool). chooses || b) (sym c.keeps_zero_rule.ensures) ∙ ap (λ (b : Bool). b || c.keeps_zero_rule.result) (sym c.chooses_radix.ensures) ∙ c.if-not-chooses_radix-keeps_zero_rule.false in
     if_found c.value_in_radix.result (λ v stands. digits_read _ _ c.args.bytes.now _ _ c.requires.valid c.requires.head c.if-bytes-head.false rule stands) c.value_in_radix.ensures

@@ -5,7 +5,7 @@ use Rattle.std.proofs.lemmas.Int.{ints}
 use Rattle.lexical_util.specs.Format.{Format}
 use Rattle.lexical_util.specs.Number.{HasRoom, mul_add}
 use Rattle.lexical_parse_integer.specs.CursorView.{CursorView}
-use Rattle.lexical_parse_integer.specs.Reading.{GoesOn}
+use Rattle.lexical_parse_integer.specs.Reading.{MovesOn}
 use Rattle.lexical_parse_integer.specs.Turns.{digits_per_word}
 use Rattle.lexical_parse_integer.proofs.Folds.{fact_of}
 use Rattle.lexical_parse_integer.proofs.reading.Soundness.{none_from_IsNone}
@@ -74,7 +74,7 @@ returns-in-None g c =
     record {
       words = record {
         reads = rw digits i.reads;
-        goes_on = subst (GoesOn c.args.c.now) (sym same) i.goes_on;
+        goes_on = subst (MovesOn c.args.c.now) (sym same) i.goes_on;
         turns = rw (digits, turns) i.turns;
         within = rw digits i.within;
         ended = inr (omega arith);

@@ -1,0 +1,164 @@
+//! Columns: the numbers of a text's fields, read into a slice by one call.
+
+use crate::{Error, Format, Integer};
+use core::ffi::c_char;
+use core::fmt;
+use jadvolni_sys as sys;
+
+/// One of the eight integer types that columns have: `u8` to `u64`, `i8` to `i64`.
+pub trait ColumnInteger: Integer + ColumnCalls {}
+
+type ColumnCall<T> = unsafe extern "C" fn(
+    *const c_char,
+    usize,
+    u8,
+    *const sys::jadvolni_format,
+    *mut T,
+    usize,
+    *mut usize,
+) -> sys::jadvolni_result;
+
+/// The library's call for columns of a type. It reads the text and the format that it is handed,
+/// writes to the slice and the count at most, and keeps nothing.
+pub trait ColumnCalls: Sized {
+    const COLUMN: ColumnCall<Self>;
+}
+
+/// How far a column was read.
+#[derive(Debug, Copy, Clone, PartialEq, Eq)]
+pub struct Column {
+    /// How many numbers were read.
+    pub count: usize,
+    /// Where reading stopped: the text's end, or the start of the first field for which the slice had
+    /// no room.
+    pub stop: usize,
+}
+
+/// Why a column isn't read to its end.
+#[derive(Debug, Copy, Clone, PartialEq, Eq)]
+pub enum ColumnError {
+    /// The format is invalid, and nothing was read.
+    InvalidFormat(Error),
+    /// A field is no number of the type. It is the first such one, and all before it were read.
+    InvalidField {
+        /// Which field it is, counted from 0: so many numbers were read.
+        field: usize,
+        /// The place in the text at which it starts.
+        start: usize,
+        /// Its fault, whose place counts from the text's start.
+        error: Error,
+    },
+}
+
+impl fmt::Display for ColumnError {
+    /// The fault, and the field that has it: `overflow at byte 5, in field 1`.
+    fn fmt(&self, f: &mut fmt::Formatter<'_>) -> fmt::Result {
+        match self {
+            ColumnError::InvalidFormat(error) => error.fmt(f),
+            ColumnError::InvalidField { field, error, .. } => {
+                write!(f, "{error}, in field {field}")
+            }
+        }
+    }
+}
+
+impl core::error::Error for ColumnError {}
+
+/// Reads the numbers of the text's fields between a separator, which may be any byte, as far as the
+/// slice has room. A last separator ends no further field.
+///
+/// The numbers are at the slice's front, and the rest of it is as it was, also after a fault. What has
+/// no room isn't looked at: a call on the text from `stop` on goes on exactly there.
+///
+/// ```
+/// use jadvolni::{parse_column, Column, ColumnError, Error};
+/// let mut values = [0u8; 4];
+/// assert_eq!(parse_column("12\n7\n", b'\n', &mut values), Ok(Column { count: 2, stop: 5 }));
+/// assert_eq!(values, [12, 7, 0, 0]);
+/// let fault = ColumnError::InvalidField { field: 1, start: 3, error: Error::Overflow(5) };
+/// assert_eq!(parse_column("12,256,x", b',', &mut values), Err(fault));
+/// assert_eq!(fault.to_string(), "overflow at byte 5, in field 1");
+/// ```
+#[inline]
+pub fn parse_column<T: ColumnInteger>(
+    text: impl AsRef<[u8]>,
+    separator: u8,
+    values: &mut [T],
+) -> Result<Column, ColumnError> {
+    parse_column_with_format(text, separator, &Format::STANDARD, values)
+}
+
+/// Reads the numbers of the text's fields under a format, which is looked at first.
+///
+/// ```
+/// use jadvolni::{parse_column_with_format, Column, Format};
+/// let mut values = [0u16; 2];
+/// let read = parse_column_with_format("0xFF 1_0", b' ', &Format::LITERAL, &mut values);
+/// assert_eq!((read, values), (Ok(Column { count: 2, stop: 8 }), [255, 10]));
+/// ```
+pub fn parse_column_with_format<T: ColumnInteger>(
+    text: impl AsRef<[u8]>,
+    separator: u8,
+    format: &Format,
+    values: &mut [T],
+) -> Result<Column, ColumnError> {
+    let (text, mut count) = (text.as_ref(), 0);
+    // SAFETY: the pointers are those of slices with their lengths, of a format that is lent, and of the
+    // count; `values` and the count are this call's alone.
+    let outcome = unsafe {
+        T::COLUMN(
+            text.as_ptr().cast(),
+            text.len(),
+            separator,
+            &format.0,
+            values.as_mut_ptr(),
+            values.len(),
+            &mut count,
+        )
+    };
+    match Error::of(outcome) {
+        None => Ok(Column { count, stop: outcome.place }),
+        Some(error) => Err(match error.place() {
+            Some(place) => {
+                let start = field_start(&text[..place], separator);
+                ColumnError::InvalidField { field: count, start, error }
+            }
+            None => ColumnError::InvalidFormat(error),
+        }),
+    }
+}
+
+/// Where the field starts that a text ends in: behind its last separator, or at 0. Of a block that more
+/// follows it is how many bytes are whole fields.
+///
+/// ```
+/// assert_eq!(jadvolni::field_start("12\n34\n5", b'\n'), 6);
+/// ```
+#[inline]
+pub fn field_start(text: impl AsRef<[u8]>, separator: u8) -> usize {
+    let text = text.as_ref();
+    // SAFETY: the pointer is that of a slice with its length.
+    unsafe { sys::jadvolni_field_start(text.as_ptr().cast(), text.len(), separator) }
+}
+
+/// The types, and the call of each.
+macro_rules! columns {
+    ($($type:ty: $call:ident)*) => {$(
+        impl ColumnInteger for $type {}
+
+        impl ColumnCalls for $type {
+            const COLUMN: ColumnCall<$type> = sys::$call;
+        }
+    )*};
+}
+
+columns! {
+    u8: jadvolni_parse_u8_column
+    u16: jadvolni_parse_u16_column
+    u32: jadvolni_parse_u32_column
+    u64: jadvolni_parse_u64_column
+    i8: jadvolni_parse_i8_column
+    i16: jadvolni_parse_i16_column
+    i32: jadvolni_parse_i32_column
+    i64: jadvolni_parse_i64_column
+}
