@@ -1,5 +1,5 @@
 -- Up to twelve digits in lanes, three by three: what the shuffle leaves, and what the products add up to.
-use Rattle.std.proofs.Common.{◌≡◌, ℕ, zero, suc, ◌+◌, ◌-◌, ◌*◌, ◌%◌, ◌^◌, ◌<◌, ◌≤◌, List, [], ◌∷◌, ◌++◌, Bool, true, false, cond, length, get_or, map, take, replicate, refl, ap, ap₂, sym, subst, ◌∙◌, arith, rules, w8, length-append, length-take-le}
+use Rattle.std.proofs.Common.{◌≡◌, ℕ, zero, suc, ◌+◌, ◌-◌, ◌*◌, ◌%◌, ◌^◌, ◌<◌, ◌≤◌, List, [], ◌∷◌, ◌++◌, Bool, true, false, length, get_or, map, take, replicate, refl, ap, ap₂, sym, subst, ◌∙◌, arith, rules, w8, length-append, length-take-le}
 use lib.Dec.{T, leb, ltb, ltb→lt}
 use lib.Lanes.{Each1, all_below, dots, mask_l, pair_sums}
 use mir.ValLaws.{and_both}
@@ -14,7 +14,7 @@ use Rattle.lexical_digits.specs.Value.{positional_value}
 use Rattle.lexical_digits.specs.Words.{AreDigits, word_value}
 use Rattle.lexical_digits.specs.WrittenNumbers.{WritesDecimal}
 use Rattle.lexical_digits.proofs.AsciiDigits.{AreAsciiDigits, digits_from_ascii}
-use Rattle.lexical_digits.proofs.WordsOfDigits.{AllBytes, all_bytes, all_taken, raised_none}
+use Rattle.lexical_digits.proofs.WordsOfDigits.{AllBytes, raised_none}
 use Rattle.lexical_fields.specs.Threes.{in_threes, lowered, weights}
 use Rattle.lexical_fields.specs.declared.threes.TheConstants.{PLACES}
 

@@ -14,7 +14,7 @@ use crate::first::read_first;
 use crate::places::field_answer;
 use crate::search::{lowest, marks_in_front};
 use crate::threes::numbers_to_12;
-use lexical_digits::values::value_of_two;
+use lexical_digits::values::{joined, value_of_two};
 use lexical_parse_integer::parse::ParseInteger;
 use lexical_parse_integer::{NumberFormat, Options, Result};
 
@@ -54,7 +54,30 @@ fn value_of_few<T: ParseInteger>(digits: &[u8], count: usize, negative: bool) ->
     value_of_two::<T>(high, low, 1_000_000, negative)
 }
 
-// The value of a field of one to twelve digits alone or behind a minus, with room behind it. `None` says nothing of it.
+// The value of thirteen to twenty digits with room behind them: the last twelve, and those before.
+#[inline(always)]
+fn value_of_more<T: ParseInteger>(digits: &[u8], count: usize, negative: bool) -> Option<T>
+    requires least { 13 ≤ count }
+    requires most { count ≤ 20 }
+    requires room { count + 16 ≤ length digits.now }
+    requires minus { IsTrue negative → IsTrue T.TYPE.is_signed }
+    ensures { IfSome result
+        (λ value. StandsFor T.TYPE 10 negative (take count digits.now) (T.number value)) }
+{
+    if T::BITS <= 32 {
+        return None;
+    }
+    let first = value_of_few::<T>(digits, count - 12, negative)?;
+    let (high, low) = numbers_to_12(&digits[count - 12..], 12)?;
+    let scale = joined::<T>(1_000_000, 1_000_000, 0);
+    let rest = joined::<T>(high, 1_000_000, low);
+    match first.checked_mul_add(scale, rest, negative) {
+        Some(value) => Some(value),
+        None => None,
+    }
+}
+
+// The value of a field of one to twenty digits alone or behind a minus, with room behind it. `None` says nothing of it.
 #[inline(always)]
 fn value_with_room<T: ParseInteger>(
     text: &[u8],
@@ -72,8 +95,11 @@ fn value_with_room<T: ParseInteger>(
         return None;
     }
     let count = size - usize::from(negative);
-    if count > 12 || !keeps_zero_rule(format, &digits[..count]) {
+    if count > 20 || !keeps_zero_rule(format, &digits[..count]) {
         return None;
+    }
+    if count > 12 {
+        return value_of_more::<T>(digits, count, negative);
     }
     value_of_few::<T>(digits, count, negative)
 }

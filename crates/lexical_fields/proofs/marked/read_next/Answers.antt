@@ -1,4 +1,4 @@
-use Rattle.std.proofs.Common.{◌≡◌, ◌+◌, ◌-◌, ◌/◌, ◌^◌, ◌≤◌, ◌∙◌, ap, sym, subst, length, take, drop, length-drop, arith}
+use Rattle.std.proofs.Common.{◌≡◌, ◌+◌, ◌-◌, ◌/◌, ◌^◌, ◌∙◌, ap, sym, subst, length, take, drop, length-drop, arith}
 use Rattle.std.proofs.lemmas.List.{take_all}
 use Rattle.lexical_fields.specs.ReadFields.{field_answer}
 use Rattle.lexical_fields.specs.Search.{AreMarks}

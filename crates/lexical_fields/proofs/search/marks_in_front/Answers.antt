@@ -1,4 +1,4 @@
-use Rattle.std.proofs.Common.{ap, ◌∙◌, ◌≡◌, length, arith, take, sym, length-take-le, cond, eqb}
+use Rattle.std.proofs.Common.{ap, ◌∙◌, arith, sym, length-take-le, cond, eqb}
 use Rattle.std.proofs.lemmas.List.{get_or-take}
 use Rattle.lexical_fields.proofs.search.marks_in_front.Goals as goal
 

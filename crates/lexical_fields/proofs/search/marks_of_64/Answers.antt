@@ -1,4 +1,4 @@
-use Rattle.std.proofs.Common.{ap, ◌∙◌, ◌≡◌, length, arith, take, cond, eqb, get_or, List, ℕ}
+use Rattle.std.proofs.Common.{ap, ◌∙◌, ◌≡◌, length, arith, take, cond, eqb, List, ℕ}
 use Rattle.std.specs.Int.{bit_at}
 use Rattle.std.proofs.lemmas.List.{get_or-take, take_all}
 use Rattle.lexical_fields.proofs.Marks.{bit_beyond, bit_here, mask_is}

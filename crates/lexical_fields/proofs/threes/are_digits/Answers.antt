@@ -1,4 +1,4 @@
-use Rattle.std.proofs.Common.{◌≡◌, ◌+◌, ◌^◌, ◌∙◌, ap, arith, length, List, ℕ, map, w8}
+use Rattle.std.proofs.Common.{arith, w8}
 use Rattle.std.proofs.lemmas.Simd.{bitmask_splat}
 use Rattle.lexical_fields.proofs.ThreeDigits.{lanes_small}
 use Rattle.lexical_fields.proofs.threes.are_digits.Goals as goal

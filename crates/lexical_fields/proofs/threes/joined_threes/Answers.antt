@@ -1,5 +1,5 @@
 use borrow.Author.Lanes.{dot4_Fits}
-use Rattle.std.proofs.Common.{◌∷◌, [], refl}
+use Rattle.std.proofs.Common.{refl}
 use lib.Lanes.{pair_sums, products}
 use Rattle.lexical_fields.specs.Threes.{weights}
 use Rattle.lexical_fields.proofs.ThreeDigits.{sums_below}

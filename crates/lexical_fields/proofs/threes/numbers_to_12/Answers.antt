@@ -1,8 +1,7 @@
-use Rattle.std.proofs.Common.{rules, ◌≡◌, ◌∙◌, ◌-◌, ◌++◌, ap, arith, length, replicate, map, take, length-take-le, refl, sym}
-use Rattle.std.specs.Prelude.{IsTrue}
+use Rattle.std.proofs.Common.{◌≡◌, ◌∙◌, ◌-◌, ◌++◌, ap, arith, length, replicate, map, take, length-take-le, sym}
 use Rattle.lexical_digits.proofs.WordsOfDigits.{all_bytes, all_taken}
 use Rattle.lexical_fields.specs.Threes.{in_threes, lowered}
-use Rattle.lexical_fields.proofs.ThreeDigits.{WritesHalves, text_halves}
+use Rattle.lexical_fields.proofs.ThreeDigits.{text_halves}
 use Rattle.lexical_fields.proofs.threes.numbers_to_12.Goals as goal
 
 pub returns : goal.returns
