@@ -28,13 +28,21 @@ behind_size t false text digits behind = ap length behind ∙ omega arith
 behind_size t true text digits behind = ap length behind.0 ∙ omega arith
 
 -- digits behind a minus or alone are what their field stands for
-pub field_stands : (f : Format) (t : IntegerType) (negative : Bool) (text digits : List ℕ) (value : ℤ) (size count start : ℕ)
+pub field_stands : (f : Format) (t : IntegerType) (negative : Bool) (text digits : List ℕ) (value : ℤ) (size count
+    start : ℕ)
     → IsPlain f → f.mantissa_radix ≡ 10 → IsBehind negative t text digits → start ≡ bool_byte negative
     → size ≡ start + count → 0 < count → size ≤ length text → keeps_zero_rule f (take count digits) ≡ true
     → StandsFor t 10 negative (take count digits) value → complete f t (take size text) ≡ Ok value
 field_stands f t negative text digits value size count start plain ten behind at is some within rule stands =
     let whole = behind_size t negative text digits behind in
-    let long : length (take count digits) ≡ count = length-take-le count digits (omega (arith, whole, at, is, within)) in
+    let long : length (take count digits) ≡ count = length-take-le count digits (omega (
+      arith,
+      whole,
+      at,
+      is,
+      within,
+    )) in
     table_read f t 10 negative (take size text) (take count digits) value plain ten
-    (record { low = omega arith; high = omega arith }) (front_behind t negative text digits size count start behind at is)
+    (record { low = omega arith; high = omega arith }) (front_behind t negative text digits size count start behind
+    at is)
     (omega (arith, long, some)) rule stands

@@ -36,7 +36,9 @@ all_set (true ∷ ms) full = let more = pow-suc 2 (length ms) in (refl, all_set 
 all_set (false ∷ ms) full = let more = pow-suc 2 (length ms) in absurd (omega (arith, full, more))
 
 -- what is true of twelve elements and more, by their names
-of_twelve : (P : List ℕ → Type 0) → ((a b c d e f g h i j k l : ℕ) (rest : List ℕ) → P (a ∷ b ∷ c ∷ d ∷ e ∷ f ∷ g ∷ h ∷ i ∷ j ∷ k ∷ l ∷ rest)) → (xs : List ℕ) → 12 ≤ length xs → P xs
+of_twelve : (P : List ℕ → Type 0)
+    → ((a b c d e f g h i j k l : ℕ) (rest : List ℕ) → P (a ∷ b ∷ c ∷ d ∷ e ∷ f ∷ g ∷ h ∷ i ∷ j ∷ k ∷ l ∷ rest))
+    → (xs : List ℕ) → 12 ≤ length xs → P xs
 of_twelve P p [] long = absurd (omega arith)
 of_twelve P p (a ∷ []) long = absurd (omega arith)
 of_twelve P p (a ∷ b ∷ []) long = absurd (omega arith)
@@ -56,20 +58,34 @@ abbrev IsShuffled : ℕ → List ℕ → List ℕ → Type 0
 IsShuffled n other xs = swz_l w8 16 xs 0 (get_or PLACES n other) ≡ in_threes (replicate (12 - n) 0 ++ take n xs)
 
 shuffled : (n : ℕ) (other xs : List ℕ) → n ≤ 12 → 12 ≤ length xs → IsShuffled n other xs
-shuffled zero other xs few long = of_twelve (IsShuffled 0 other) (λ a b c d e f g h i j k l rest. refl) xs long
-shuffled (suc zero) other xs few long = of_twelve (IsShuffled 1 other) (λ a b c d e f g h i j k l rest. refl) xs long
-shuffled (suc (suc zero)) other xs few long = of_twelve (IsShuffled 2 other) (λ a b c d e f g h i j k l rest. refl) xs long
-shuffled (suc (suc (suc zero))) other xs few long = of_twelve (IsShuffled 3 other) (λ a b c d e f g h i j k l rest. refl) xs long
-shuffled (suc (suc (suc (suc zero)))) other xs few long = of_twelve (IsShuffled 4 other) (λ a b c d e f g h i j k l rest. refl) xs long
-shuffled (suc (suc (suc (suc (suc zero))))) other xs few long = of_twelve (IsShuffled 5 other) (λ a b c d e f g h i j k l rest. refl) xs long
-shuffled (suc (suc (suc (suc (suc (suc zero)))))) other xs few long = of_twelve (IsShuffled 6 other) (λ a b c d e f g h i j k l rest. refl) xs long
-shuffled (suc (suc (suc (suc (suc (suc (suc zero))))))) other xs few long = of_twelve (IsShuffled 7 other) (λ a b c d e f g h i j k l rest. refl) xs long
-shuffled (suc (suc (suc (suc (suc (suc (suc (suc zero)))))))) other xs few long = of_twelve (IsShuffled 8 other) (λ a b c d e f g h i j k l rest. refl) xs long
-shuffled (suc (suc (suc (suc (suc (suc (suc (suc (suc zero))))))))) other xs few long = of_twelve (IsShuffled 9 other) (λ a b c d e f g h i j k l rest. refl) xs long
-shuffled (suc (suc (suc (suc (suc (suc (suc (suc (suc (suc zero)))))))))) other xs few long = of_twelve (IsShuffled 10 other) (λ a b c d e f g h i j k l rest. refl) xs long
-shuffled (suc (suc (suc (suc (suc (suc (suc (suc (suc (suc (suc zero))))))))))) other xs few long = of_twelve (IsShuffled 11 other) (λ a b c d e f g h i j k l rest. refl) xs long
-shuffled (suc (suc (suc (suc (suc (suc (suc (suc (suc (suc (suc (suc zero)))))))))))) other xs few long = of_twelve (IsShuffled 12 other) (λ a b c d e f g h i j k l rest. refl) xs long
-shuffled (suc (suc (suc (suc (suc (suc (suc (suc (suc (suc (suc (suc (suc n))))))))))))) other xs few long = absurd (omega arith)
+shuffled zero other xs few long =
+    of_twelve (IsShuffled 0 other) (λ a b c d e f g h i j k l rest. refl) xs long
+shuffled (suc zero) other xs few long =
+    of_twelve (IsShuffled 1 other) (λ a b c d e f g h i j k l rest. refl) xs long
+shuffled (suc (suc zero)) other xs few long =
+    of_twelve (IsShuffled 2 other) (λ a b c d e f g h i j k l rest. refl) xs long
+shuffled (suc (suc (suc zero))) other xs few long =
+    of_twelve (IsShuffled 3 other) (λ a b c d e f g h i j k l rest. refl) xs long
+shuffled (suc (suc (suc (suc zero)))) other xs few long =
+    of_twelve (IsShuffled 4 other) (λ a b c d e f g h i j k l rest. refl) xs long
+shuffled (suc (suc (suc (suc (suc zero))))) other xs few long =
+    of_twelve (IsShuffled 5 other) (λ a b c d e f g h i j k l rest. refl) xs long
+shuffled (suc (suc (suc (suc (suc (suc zero)))))) other xs few long =
+    of_twelve (IsShuffled 6 other) (λ a b c d e f g h i j k l rest. refl) xs long
+shuffled (suc (suc (suc (suc (suc (suc (suc zero))))))) other xs few long =
+    of_twelve (IsShuffled 7 other) (λ a b c d e f g h i j k l rest. refl) xs long
+shuffled (suc (suc (suc (suc (suc (suc (suc (suc zero)))))))) other xs few long =
+    of_twelve (IsShuffled 8 other) (λ a b c d e f g h i j k l rest. refl) xs long
+shuffled (suc (suc (suc (suc (suc (suc (suc (suc (suc zero))))))))) other xs few long =
+    of_twelve (IsShuffled 9 other) (λ a b c d e f g h i j k l rest. refl) xs long
+shuffled (suc (suc (suc (suc (suc (suc (suc (suc (suc (suc zero)))))))))) other xs few long =
+    of_twelve (IsShuffled 10 other) (λ a b c d e f g h i j k l rest. refl) xs long
+shuffled (suc (suc (suc (suc (suc (suc (suc (suc (suc (suc (suc zero))))))))))) other xs few long =
+    of_twelve (IsShuffled 11 other) (λ a b c d e f g h i j k l rest. refl) xs long
+shuffled (suc (suc (suc (suc (suc (suc (suc (suc (suc (suc (suc (suc zero)))))))))))) other xs few long =
+    of_twelve (IsShuffled 12 other) (λ a b c d e f g h i j k l rest. refl) xs long
+shuffled (suc (suc (suc (suc (suc (suc (suc (suc (suc (suc (suc (suc (suc n))))))))))))) other xs few long = absurd
+    (omega arith)
 
 -- twelve digits in threes, joined in threes and these in pairs, are the halves of their number
 pub record AreHalves (digits pairs : List ℕ) : Type 0 where
@@ -78,12 +94,14 @@ pub record AreHalves (digits pairs : List ℕ) : Type 0 where
   pub low : get_or pairs 1 0 < 1000000
 
 abbrev HasHalves : List ℕ → Type 0
-HasHalves ys = length ys ≡ 12 → Each1 (λ d. d < 10) (in_threes ys) → AreHalves ys (pairs_of 1000 (dots (in_threes ys) weights))
+HasHalves ys =
+    length ys ≡ 12 → Each1 (λ d. d < 10) (in_threes ys) → AreHalves ys (pairs_of 1000 (dots (in_threes ys) weights))
 
 pub halves : (ys : List ℕ) → 12 ≤ length ys → HasHalves ys
 halves ys long = of_twelve HasHalves named ys long
   where
-    named : (a b c d e f g h i j k l : ℕ) (rest : List ℕ) → HasHalves (a ∷ b ∷ c ∷ d ∷ e ∷ f ∷ g ∷ h ∷ i ∷ j ∷ k ∷ l ∷ rest)
+    named : (a b c d e f g h i j k l : ℕ) (rest : List ℕ)
+        → HasHalves (a ∷ b ∷ c ∷ d ∷ e ∷ f ∷ g ∷ h ∷ i ∷ j ∷ k ∷ l ∷ rest)
     named a b c d e f g h i j k l [] twelve small =
         let sa : a < 10 = small.0 in
         let sb : b < 10 = small.1.0 in
@@ -142,7 +160,8 @@ behind_zeros zero ds = refl
 behind_zeros (suc k) ds = omega (arith, behind_zeros k ds)
 
 -- digits that were put in threes
-small_in_threes : (n : ℕ) (ys : List ℕ) → length ys ≡ 3 * n → Each1 (λ d. d < 10) (in_threes ys) → Each1 (λ d. d < 10) ys
+small_in_threes : (n : ℕ) (ys : List ℕ) → length ys ≡ 3 * n → Each1 (λ d. d < 10) (in_threes ys) → Each1 (λ d. d <
+    10) ys
 small_in_threes n [] long small = tt
 small_in_threes n (a ∷ []) long small = absurd (omega arith)
 small_in_threes n (a ∷ b ∷ []) long small = absurd (omega arith)

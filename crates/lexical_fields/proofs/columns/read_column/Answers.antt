@@ -81,6 +81,7 @@ returns g c =
 
 pub loop-count-init : goal.loop-count-init
 loop-count-init g c = record {
-  reading = reading_starts _ g.T.Integer.number c.args.format.now g.T.Integer.TYPE c.args.separator c.args.text.now c.args.values.now;
+  reading = reading_starts _ g.T.Integer.number c.args.format.now g.T.Integer.TYPE c.args.separator c.args.text.now
+      c.args.values.now;
   marks = no_marks c.args.separator c.args.text.now;
 }

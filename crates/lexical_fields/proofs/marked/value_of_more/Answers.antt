@@ -31,7 +31,12 @@ returns-in-Some g c =
     let step : next ≡ mul_add negative first (pos (10 ^ 12)) (pos m) =
     found ∙ ap (λ (z : ℤ). mul_add negative first z rest) c.joined-scale.ensures.value
     ∙ ap (λ (z : ℤ). mul_add negative first (pos (10 ^ 12)) z) c.joined-rest.ensures.value in
-    let all = more_digits g.T.Integer.TYPE 10 negative k 12 m digits first next (omega (arith, left, c.requires.room, c.requires.least))
+    let all = more_digits g.T.Integer.TYPE 10 negative k 12 m digits first next (omega (
+      arith,
+      left,
+      c.requires.room,
+      c.requires.least,
+    ))
     c.in_ok-first.ensures (decimal_front (take 12 (drop k digits)) m part) step
     (sum_fits g.T.Integer.TYPE next sum c.in-Some.ensures) in
     let size : k + 12 ≡ c.args.count = omega (arith, c.requires.least) in
