@@ -20,6 +20,9 @@ LINES = ("lexical_util:\nlexical_digits: lexical_util\n"
 NEEDED = (os.environ.get("RT", "rt"), "cargo", "make", "cc", "c++", "ar")
 # How many drivers are linked, each with its code sixteen bytes further on: that moves times.
 PLACES = 4
+# At how many places a program may make a call: what a compiler puts in place at one, it may not at
+# many.
+SITES = 20
 # What stands before all other code. The linker would leave out what nothing names.
 BEFORE_ALL = """std::arch::global_asm!(
     ".text", ".p2align 4", ".globl before_all", "before_all: .skip SIZE, 0xcc", "ret"
@@ -75,8 +78,8 @@ def room() -> str:
     return os.environ.get("BENCH_ROOM") or ours
 
 
-def library(room: str) -> None:
-    """The measured library, as `libbench_calls.a`."""
+def library(room: str, sites: int) -> None:
+    """The measured library, as `libbench_calls.a`, with each call at so many places."""
     tree = os.path.join(room, "tree")
     os.makedirs(os.path.join(tree, "crates", "bench_calls", "src"), exist_ok=True)
     for crate in CRATES:
@@ -84,7 +87,7 @@ def library(room: str) -> None:
     write(os.path.join(tree, "crates.txt"),
           LINES + "bench_calls staticlib: lexical_util lexical_parse_integer\n")
     folder = os.path.join(tree, "crates", "bench_calls")
-    write(os.path.join(folder, "src", "lib.rt"), loops.source())
+    write(os.path.join(folder, "src", "lib.rt"), loops.source(sites))
     run([os.environ.get("RT", "rt"), "lib"], folder)
     shutil.copy(os.path.join(folder, "out", "libbench_calls.a"), os.path.join(room, "driver"))
 
@@ -110,11 +113,11 @@ def write(path: str, text: str) -> None:
         file.write(text)
 
 
-def linked(at: str, place: int, words: list[str], flags: str) -> str:
-    """The driver whose code stands so many times sixteen bytes further on."""
+def linked(at: str, kind: str, place: int, words: list[str], flags: str) -> str:
+    """The driver of a kind whose code stands so many times sixteen bytes further on."""
     write(os.path.join(at, "src", "place.rs"), BEFORE_ALL.replace("SIZE", str(16 * place)))
     run(words, at, RUSTFLAGS=flags)
-    kept = os.path.join(at, f"driver-{place}")
+    kept = os.path.join(at, f"driver-{kind}-{place}")
     shutil.copy(os.path.join(at, "target", "release", "driver"), kept)
     return kept
 
@@ -130,12 +133,11 @@ def write_package(at: str, has_lexical: bool) -> None:
     write(os.path.join(at, ".cargo", "config.toml"), config)
 
 
-def drivers() -> tuple[list[str], list[str]]:
-    """(the drivers' paths, what could not be measured and why)."""
+def drivers() -> tuple[list[str], list[str], list[str]]:
+    """(the drivers' paths, those with each call at many places, what was left out and why)."""
     at = os.path.join(room(), "driver")
     os.makedirs(os.path.join(at, "src"), exist_ok=True)
     library_for_c(at)
-    library(room())
     run(["c++", "-std=gnu++20", "-O3", "-march=x86-64-v2", f"-I{os.path.join(TOP, 'include')}",
          "-c", os.path.join(HERE, "driver", "peers.cpp"), "-o", "peers.o"], at)
     run(["ar", "crs", "libpeers.a", "peers.o"], at)
@@ -147,4 +149,8 @@ def drivers() -> tuple[list[str], list[str]]:
     flags = f"-C target-cpu=x86-64-v2 -L native={at} {linked_in} -l stdc++"
     lacking = f"lexical-core: {REGISTRY} has none (Debian's librust-lexical-core-dev)"
     left_out = [] if has_lexical else [lacking]
-    return [linked(at, place, words, flags) for place in range(PLACES)], left_out
+    found = []
+    for kind, sites in (("one", 1), ("many", SITES)):
+        library(room(), sites)
+        found.append([linked(at, kind, place, words, flags) for place in range(PLACES)])
+    return found[0], found[1], left_out

@@ -97,20 +97,32 @@ LOW_BITS = {
 }
 
 
+FORMAT = "    let format = format(fields);\n"
+IN_PLACE = "u64::from_lexical_with_options(bytes, &format, &options::STANDARD)"
+
+
 def loop(name: str, what: str, call: str, more: str = "", before: str = "") -> str:
     """The function of a loop around a call."""
     return LOOP.format(name=name, what=what, call=call, more=more, before=before)
 
 
-def source() -> str:
-    """The text of the library."""
+def source(sites: int) -> str:
+    """The text of the library, in which each call of the parsers stands at so many places: the
+    loops at the first are measured."""
     found = [HEAD, loop("ours_none", "The loop alone.", "Ok(bytes.len() as u64)")]
+    ends = ["", *(f"_{site}" for site in range(1, sites))]
+    return "".join(found + [one for end in ends for one in loops(end)])
+
+
+def loops(end: str) -> list[str]:
+    """A loop around each call, with names of this end."""
+    found = []
     for integer, low_bits in LOW_BITS.items():
         call = f"{integer}::from_lexical(bytes).map(|value| {low_bits})"
-        found.append(loop(f"ours_{integer}", f"Whole texts as `{integer}`.", call))
+        found.append(loop(f"ours_{integer}{end}", f"Whole texts as `{integer}`.", call))
     call = "u64::from_lexical_partial(bytes).map(|front| front.0)"
-    found.append(loop("ours_front", "The fronts of texts as `u64`.", call))
-    what, call = "Whole texts as `u64`, under a format.", "under(bytes, &format)"
-    before = "    let format = format(fields);\n"
-    found.append(loop("ours_under", what, call, ", fields: &Fields", before))
-    return "".join(found)
+    found.append(loop(f"ours_front{end}", "The fronts of texts as `u64`.", call))
+    what, more, before = "Whole texts as `u64`, under a format", ", fields: &Fields", FORMAT
+    found.append(loop(f"ours_under{end}", f"{what}.", "under(bytes, &format)", more, before))
+    found.append(loop(f"ours_in_place{end}", f"{what}, in place.", IN_PLACE, more, before))
+    return found

@@ -9,12 +9,22 @@ from xml.sax.saxutils import escape
 import page
 
 HERE = os.path.dirname(os.path.abspath(__file__))
-OURS = ("ours", "ours, constant", "C call")
+AT_MANY = "ours, 20 sites"
+OURS = ("ours", AT_MANY, "ours, constant", "ours, in place", "C call")
 PEERS = (*OURS, "from_chars", "strtoull", "lexical-core")
-COLOURS = {"ours": "#1f6f5c", "ours, constant": "#7fb8a8", "C call": "#4f9a86",
-           "from_chars": "#c77d2e", "strtoull": "#b8a27a", "lexical-core": "#6b6fae"}
+# The rows that most users have, as they are told first.
+MOST = ("u64, realistic", "i64, realistic", "JSON at run time, realistic",
+        "radix 16 at run time, 8 digits", "fault: a letter at the end")
+FIRST = {"ours": "inlined", AT_MANY: "at 20 call sites", "C call": "from C",
+         "from_chars": "`std::from_chars`"}
+COLOURS = {"ours": "#1f6f5c", AT_MANY: "#2f8f7a", "ours, constant": "#7fb8a8",
+           "ours, in place": "#a5cfc4", "C call": "#4f9a86", "from_chars": "#c77d2e",
+           "strtoull": "#b8a27a", "lexical-core": "#6b6fae"}
 # of the picture: where its bars begin, how long and thick they are, and where it cuts them
 LEFT, TOP, UNIT, BAR, GAP, GREATEST = 250, 60, 260, 7, 9, 2.5
+
+# Of whom the table has instructions.
+COUNTED = ("std", "ours", AT_MANY, "C call", "from_chars")
 
 Numbers = dict[str, dict[str, float]]
 
@@ -52,14 +62,14 @@ def table(seen: Seen) -> str:
     """The table: times as ratios to std, for both sizes of a set, and instructions."""
     peers = peers_of(seen)
     head = ["texts", "std, ns", *peers, "ours, 60,000 texts", "from_chars, 60,000 texts"]
-    head += ["instructions: std / ours / from_chars"] if seen.counts else []
+    head += [f"instructions: {' / '.join(COUNTED)}"] if seen.counts else []
     rows = []
     for name, row in seen.small.items():
         cells = [name, shown(row["std"], 1)]
         cells += [shown(ratio(seen.small, name, peer)) for peer in peers]
         cells += [shown(ratio(seen.large, name, peer)) for peer in ("ours", "from_chars")]
         if seen.counts:
-            counts = [seen.counts[name].get(peer) for peer in ("std", "ours", "from_chars")]
+            counts = [seen.counts[name].get(peer) for peer in COUNTED]
             cells.append(" / ".join(shown(count, 0) or "–" for count in counts))
         rows.append(cells)
     return "\n".join(page.table(head, rows))
@@ -73,7 +83,7 @@ def numbers(seen: Seen) -> str:
     for name, row in seen.small.items():
         for peer in row:
             cells = [name, peer, shown(row[peer], 3), shown(ratio(seen.small, name, peer), 3),
-                     shown(seen.large[name][peer], 3), shown(ratio(seen.large, name, peer), 3),
+                     shown(seen.large[name].get(peer), 3), shown(ratio(seen.large, name, peer), 3),
                      shown(seen.counts.get(name, {}).get(peer), 1)]
             lines.append("\t".join(cells))
     return "\n".join(lines) + "\n"
@@ -141,13 +151,20 @@ def picture(seen: Seen) -> str:
         *legend(peers), *axis(place), *body, "</svg>", ""])
 
 
+def first_rows(seen: Seen) -> list[str]:
+    """The table of what most users have."""
+    return page.table(["where `str::parse` takes 1", *FIRST.values()], [
+        [name, *(shown(ratio(seen.small, name, peer)) for peer in FIRST)] for name in MOST])
+
+
 def part(seen: Seen) -> list[str]:
     """What docs/SPEED.md says of what was measured."""
     said = [f"Measured on {seen.date} by `make bench`: {seen.machine}. Seed {seen.asked.seed}, "
             f"{seen.asked.rounds} rounds.", ""]
     said += [f"Not measured: {what}." for what in seen.left_out] + ([""] if seen.left_out else [])
-    return said + ["![What each takes, where std takes 1](../bench/results.svg)", "", table(seen),
-                   "", slower(seen), "", cost_of_call(seen), ""]
+    picture = "![What each takes, where std takes 1](../bench/results.svg)"
+    return [*first_rows(seen), "", *said, picture, "", table(seen), "", slower(seen), "",
+            cost_of_call(seen), ""]
 
 
 def slower(seen: Seen) -> str:

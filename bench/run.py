@@ -5,10 +5,11 @@
 
 Every peer reads the same texts in one run, in turn: of each the least time counts, with that of an
 empty loop taken off. A loop's time hangs on where it stands, so that the driver is linked four
-times, each time sixteen bytes further on, and the least of all counts. There are two sizes of each
-set: 4,096 texts, whose branches a processor learns, and 60,000, whose it doesn't. Where callgrind
-is installed, instructions are counted too. It writes bench/results.tsv, bench/results.svg and the
-table of docs/SPEED.md, and prints the table. The gate runs none of this.
+times, each time sixteen bytes further on, and the least of all counts. Four more have each of our
+calls at twenty places. There are two sizes of each set: 4,096 texts, whose branches a processor
+learns, and 60,000, whose it doesn't. Where callgrind is installed, instructions are counted too. It
+writes bench/results.tsv, bench/results.svg and the table of docs/SPEED.md, and prints the table.
+The gate runs none of this.
 """
 from __future__ import annotations
 
@@ -19,6 +20,7 @@ import re
 import shutil
 import subprocess
 import sys
+from typing import Sequence
 
 import drivers
 import page
@@ -53,9 +55,10 @@ def instructions(driver: str, seed: int, name: str, peer: str) -> int:
     return page.instructions([driver, "once", str(COUNTED), str(seed), name, peer])
 
 
-def counted(driver: str, seed: int) -> report.Numbers:
-    """Instructions a text, without the loop, by set and peer."""
-    rows = [(name, peer, f"loop of {own}") for name, peer, own in said_by(driver, "list")]
+def counted(driver: str, seed: int, peers: Sequence[str] = ()) -> report.Numbers:
+    """Instructions a text, without the loop, by set and peer: of all peers, or of these alone."""
+    rows = [(name, peer, f"loop of {own}") for name, peer, own in said_by(driver, "list")
+            if not peers or peer in peers]
     runs = list({(name, one) for name, peer, loop in rows for one in (peer, loop)})
     with concurrent.futures.ThreadPoolExecutor(os.cpu_count() or 1) as pool:
         totals = dict(zip(runs, pool.map(lambda it: instructions(driver, seed, *it), runs)))
@@ -63,6 +66,13 @@ def counted(driver: str, seed: int) -> report.Numbers:
     for name, peer, loop in rows:
         found.setdefault(name, {})[peer] = (totals[name, peer] - totals[name, loop]) / COUNTED
     return found
+
+
+def add_many(found: report.Numbers, many: report.Numbers) -> None:
+    """Puts what ours takes at many places beside the others, as many times std as in its run."""
+    for name, row in many.items():
+        unit = found[name]["std"] / row["std"] if "std" in row else 1
+        found[name][report.AT_MANY] = row["ours"] * unit
 
 
 def machine() -> str:
@@ -85,16 +95,18 @@ def main() -> int:
     parser.add_argument("--no-counts", action="store_true", help="count no instructions")
     asked = parser.parse_args()
     page.need(*drivers.NEEDED)
-    built, left_out = drivers.drivers()
+    built, many, left_out = drivers.drivers()
     on = machine()
     rounds = max(asked.rounds // len(built), 5)
     small = measured(built, asked.small, rounds, asked.seed)
+    add_many(small, measured(many, asked.small, rounds, asked.seed))
     large = measured(built, asked.large, max(rounds // 4, 5), asked.seed)
     counts = {}
     if asked.no_counts:
         left_out.append("instructions: they were not asked for")
     elif shutil.which("valgrind"):
         counts = counted(built[0], asked.seed)
+        add_many(counts, counted(many[0], asked.seed, ["ours"]))
     else:
         left_out.append("instructions: valgrind is not installed")
     seen = report.Seen(on, datetime.date.today().isoformat(), asked, small, large, counts, left_out)

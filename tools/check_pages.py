@@ -101,7 +101,7 @@ def wrong_links(page: str, text: str, pages: dict[str, str], files: set[str]) ->
         is_folder = any(it.startswith(place + "/") for it in files)
         if place not in files and not is_folder:
             found.append(f"{page}: there is no {target}")
-        elif anchor and anchor not in anchors_of(pages.get(place, "")):
+        elif anchor and place in pages and anchor not in anchors_of(pages[place]):
             found.append(f"{page}: {place} has no heading #{anchor}")
     return found
 

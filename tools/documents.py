@@ -18,7 +18,8 @@ Functions are taken whole, with their doc comments. `all` takes the file's text 
 to its first assertion; `imports and body of NAME` the file's `use` lines too; and `whole` the
 file's text after the comment that it begins with, `definitions` that after its imports too. `what
 it stands on` lists a file of definitions behind those that it imports, in reading order. With `as
-CRATE` at the end, `crate::` is that crate's name, as a caller elsewhere writes it.
+CRATE` at the end, `crate::` is that crate's name, as a caller elsewhere writes it. A link to a
+function, as [`read`](lib.rt#L1), gets the line on which that begins.
 """
 from __future__ import annotations
 
@@ -38,6 +39,8 @@ TOP = os.path.dirname(os.path.dirname(os.path.abspath(__file__)))
 BLOCK = re.compile(
     r"(?m)^(<!-- block: (?P<file>[^:\n]+): (?P<what>[^\n]*?)(?: as (?P<crate>\w+))? -->\n"
     r"```\w+\n)(?s:.*?)^```$")
+# A link to a function of a source file, with the line on which it begins.
+LINE_LINK = re.compile(r"(?P<text>\[`(?P<name>[\w:]+)`\]\((?P<file>[^()#\s]+\.rt)#L)\d+")
 IMPORTED = re.compile(r"(?m)^(?:pub )?use Rattle\.(\w+)\.specs\.([\w.]+)\.\{")
 CODE_LINE = re.compile(r"(?m)^(?!\s*--|(?:pub )?use |\s*$).+")
 
@@ -150,6 +153,21 @@ def with_blocks(top: str, path: str, faults: list[str]) -> str:
     return BLOCK.sub(fill, source.read(os.path.join(top, path)))
 
 
+def with_lines(top: str, path: str, text: str, faults: list[str]) -> str:
+    """A document whose links to functions lead to the lines on which these begin."""
+    def fill(link: re.Match[str]) -> str:
+        file = os.path.normpath(os.path.join(top, os.path.dirname(path), link["file"]))
+        try:
+            code = source.read(file)
+            head = only_function(link["file"], code, link["name"]).head
+        except (OSError, Unfit) as fault:
+            faults.append(f"{path}: {fault}")
+            return link[0]
+        return f"{link['text']}{code.count(chr(10), 0, head) + 1}"
+
+    return LINE_LINK.sub(fill, text)
+
+
 def documents(top: str, faults: list[str]) -> dict[str, str]:
     """The text of each document that is made from the source, wholly or in part."""
     whole = {"docs/CONTRACTS.md": contracts_page.page(top, crates_of(top))}
@@ -157,7 +175,9 @@ def documents(top: str, faults: list[str]) -> dict[str, str]:
     if formats:
         whole["docs/FORMATS.md"] = formats
     pages = [path for path in files_of(top) if path.endswith(".md") and path not in whole]
-    return {**{path: with_blocks(top, path, faults) for path in pages}, **whole}
+    by_hand = {path: with_lines(top, path, with_blocks(top, path, faults), faults)
+               for path in pages}
+    return {**by_hand, **whole}
 
 
 def old_ones(top: str, found: dict[str, str]) -> list[str]:

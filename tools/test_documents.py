@@ -163,9 +163,10 @@ class OfFields(unittest.TestCase):
     def test_each_list_has_each_field(self) -> None:
         fields = field_lists.fields_of(documents.TOP)
         self.assertEqual([field.bit for field in fields if field.kind == "mark"], [1, 2, 4])
-        for file, text in field_lists.files(documents.TOP).items():
+        files = field_lists.files(documents.TOP)
+        for file in {region.file for region in field_lists.REGIONS}:
             for field in fields:
-                self.assertIn(field.name, text, file)
+                self.assertIn(field.name, files[file], file)
 
     def test_a_field_more_is_missed(self) -> None:
         more = field_lists.Field("later_flag", "flag", "What is to come.", 0)

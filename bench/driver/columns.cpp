@@ -12,6 +12,9 @@
 
 #include "jadvolni.hpp"
 
+// So many bytes stand before all code: where a loop stands moves its time.
+asm(".text\n.p2align 4\n.skip " SKIPPED ", 0xcc");
+
 namespace {
 
 // The numbers of the lines, by a loop around std::from_chars. A line that is none stops it.

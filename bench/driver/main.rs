@@ -51,7 +51,7 @@ fn hold_alike(set: &Set) {
 // The empty loop of a peer's language.
 fn loop_of(peer: &str) -> &'static str {
     match peer {
-        "ours" | "ours, constant" => "ours",
+        "ours" | "ours, constant" | "ours, in place" => "ours",
         "C call" | "from_chars" | "strtoull" => "from_chars",
         _ => "std",
     }

@@ -40,6 +40,22 @@ std::uint64_t called(const char *texts, const std::uint32_t *stops, std::size_t 
 
 constexpr std::uint64_t all = ~std::uint64_t{0}, all_but_the_sign = all >> 1;
 
+// Texts by the call that takes a format.
+std::uint64_t called_under(const char *texts, const std::uint32_t *stops, std::size_t count, const jadvolni_format &format) {
+    return sum_of<std::uint64_t>(texts, stops, count, all, [&](const char *first, const char *last, std::uint64_t &value) {
+        auto size = static_cast<std::size_t>(last - first);
+        return jadvolni_parse_u64_with_format(first, size, &format, &value).status == JADVOLNI_OK;
+    });
+}
+
+// Whether all bytes are digits of the radix, and what they are worth.
+bool read_by_from_chars(const char *first, const char *last, std::uint64_t &value, int radix) {
+    auto [stop, fault] = std::from_chars(first, last, value, radix);
+    return fault == std::errc() && stop == last;
+}
+
+bool begins_with_prefix(const char *first, const char *last) { return last - first > 1 && first[0] == '0' && first[1] == 'x'; }
+
 }  // namespace
 
 extern "C" {
@@ -91,12 +107,57 @@ LOOP(call_u64) { return called<std::uint64_t, jadvolni_parse_u64>(texts, stops, 
 LOOP(call_i64) { return called<std::int64_t, jadvolni_parse_i64>(texts, stops, count, all_but_the_sign); }
 LOOP(call_front) { return called<std::uint64_t, jadvolni_parse_u64_partial>(texts, stops, count, all); }
 
+// A u128 comes in halves.
+LOOP(call_u128) {
+    return sum_of<std::uint64_t>(texts, stops, count, all, [](const char *first, const char *last, std::uint64_t &value) {
+        jadvolni_uint128 halves{};
+        bool is_read = jadvolni_parse_u128(first, static_cast<std::size_t>(last - first), &halves).status == JADVOLNI_OK;
+        value = halves.low;
+        return is_read;
+    });
+}
+
+LOOP(call_json) {
+    jadvolni_format format = JADVOLNI_FORMAT_JSON;
+    return called_under(texts, stops, count, format);
+}
+
 LOOP(call_hex) {
     jadvolni_format format = JADVOLNI_FORMAT_STANDARD;
     format.mantissa_radix = 16;
-    return sum_of<std::uint64_t>(texts, stops, count, all, [&](const char *first, const char *last, std::uint64_t &value) {
-        auto size = static_cast<std::size_t>(last - first);
-        return jadvolni_parse_u64_with_format(first, size, &format, &value).status == JADVOLNI_OK;
+    return called_under(texts, stops, count, format);
+}
+
+LOOP(call_separators) {
+    jadvolni_format format = JADVOLNI_FORMAT_STANDARD;
+    format.digit_separator = '_';
+    format.integer_internal_digit_separator = 1;
+    return called_under(texts, stops, count, format);
+}
+
+LOOP(call_prefix) {
+    jadvolni_format format = JADVOLNI_FORMAT_STANDARD;
+    format.mantissa_radix = 16;
+    format.base_prefix = 'x';
+    return called_under(texts, stops, count, format);
+}
+
+LOOP(call_literal) {
+    jadvolni_format format = JADVOLNI_FORMAT_STANDARD;
+    format.literal_prefixes = 1;
+    return called_under(texts, stops, count, format);
+}
+
+LOOP(cpp_prefix) {
+    return sum_of<std::uint64_t>(texts, stops, count, all, [](const char *first, const char *last, std::uint64_t &value) {
+        return read_by_from_chars(begins_with_prefix(first, last) ? first + 2 : first, last, value, 16);
+    });
+}
+
+LOOP(cpp_literal) {
+    return sum_of<std::uint64_t>(texts, stops, count, all, [](const char *first, const char *last, std::uint64_t &value) {
+        return begins_with_prefix(first, last) ? read_by_from_chars(first + 2, last, value, 16)
+                                               : read_by_from_chars(first, last, value, 10);
     });
 }
 

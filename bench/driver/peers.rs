@@ -89,34 +89,23 @@ pub mod lexical {
 #[cfg(not(feature = "lexical-core"))]
 pub mod lexical {}
 
+macro_rules! declared {
+    ($($name:ident)*) => { unsafe extern "C" { $(
+        pub fn $name(texts: *const u8, size: usize, stops: *const u32, count: usize) -> u64;
+    )* } };
+}
+
+declared! {
+    cpp_none cpp_u8 cpp_u32 cpp_u64 cpp_u128 cpp_i32 cpp_i64 cpp_i128
+    cpp_hex cpp_front cpp_separators cpp_prefix cpp_literal
+    call_u64 call_i64 call_u128 call_front call_json call_hex call_separators call_prefix call_literal
+    c_u64 c_hex
+    ours_none ours_u8 ours_u32 ours_u64 ours_u128 ours_i32 ours_i64 ours_i128 ours_front
+}
+
 unsafe extern "C" {
-    pub fn cpp_none(texts: *const u8, size: usize, stops: *const u32, count: usize) -> u64;
-    pub fn cpp_u8(texts: *const u8, size: usize, stops: *const u32, count: usize) -> u64;
-    pub fn cpp_u32(texts: *const u8, size: usize, stops: *const u32, count: usize) -> u64;
-    pub fn cpp_u64(texts: *const u8, size: usize, stops: *const u32, count: usize) -> u64;
-    pub fn cpp_u128(texts: *const u8, size: usize, stops: *const u32, count: usize) -> u64;
-    pub fn cpp_i32(texts: *const u8, size: usize, stops: *const u32, count: usize) -> u64;
-    pub fn cpp_i64(texts: *const u8, size: usize, stops: *const u32, count: usize) -> u64;
-    pub fn cpp_i128(texts: *const u8, size: usize, stops: *const u32, count: usize) -> u64;
-    pub fn cpp_hex(texts: *const u8, size: usize, stops: *const u32, count: usize) -> u64;
-    pub fn cpp_front(texts: *const u8, size: usize, stops: *const u32, count: usize) -> u64;
-    pub fn cpp_separators(texts: *const u8, size: usize, stops: *const u32, count: usize) -> u64;
-    pub fn call_u64(texts: *const u8, size: usize, stops: *const u32, count: usize) -> u64;
-    pub fn call_i64(texts: *const u8, size: usize, stops: *const u32, count: usize) -> u64;
-    pub fn call_hex(texts: *const u8, size: usize, stops: *const u32, count: usize) -> u64;
-    pub fn call_front(texts: *const u8, size: usize, stops: *const u32, count: usize) -> u64;
-    pub fn c_u64(texts: *const u8, size: usize, stops: *const u32, count: usize) -> u64;
-    pub fn c_hex(texts: *const u8, size: usize, stops: *const u32, count: usize) -> u64;
-    pub fn ours_none(texts: *const u8, size: usize, stops: *const u32, count: usize) -> u64;
-    pub fn ours_u8(texts: *const u8, size: usize, stops: *const u32, count: usize) -> u64;
-    pub fn ours_u32(texts: *const u8, size: usize, stops: *const u32, count: usize) -> u64;
-    pub fn ours_u64(texts: *const u8, size: usize, stops: *const u32, count: usize) -> u64;
-    pub fn ours_u128(texts: *const u8, size: usize, stops: *const u32, count: usize) -> u64;
-    pub fn ours_i32(texts: *const u8, size: usize, stops: *const u32, count: usize) -> u64;
-    pub fn ours_i64(texts: *const u8, size: usize, stops: *const u32, count: usize) -> u64;
-    pub fn ours_i128(texts: *const u8, size: usize, stops: *const u32, count: usize) -> u64;
-    pub fn ours_front(texts: *const u8, size: usize, stops: *const u32, count: usize) -> u64;
-    pub fn ours_under(texts: *const u8, size: usize, stops: *const u32, count: usize, fields: *const Fields) -> u64;
+    fn ours_under(texts: *const u8, size: usize, stops: *const u32, count: usize, fields: *const Fields) -> u64;
+    fn ours_in_place(texts: *const u8, size: usize, stops: *const u32, count: usize, fields: *const Fields) -> u64;
 }
 
 /// A format, as the measured library takes it.
@@ -139,23 +128,33 @@ const TEN: Fields = Fields {
     literal_prefixes: false,
 };
 
+const RADIX16: Fields = Fields {
+    mantissa_radix: 16,
+    ..TEN
+};
+
+const JSON: Fields = Fields { json: true, ..TEN };
+
 macro_rules! under {
-    ($($name:ident = $fields:expr;)*) => { $(
+    ($($name:ident = $call:ident($fields:expr);)*) => { $(
         /// Our call under a format that its compiler doesn't know.
         #[unsafe(no_mangle)]
         #[inline(never)]
         pub unsafe extern "C" fn $name(texts: *const u8, size: usize, stops: *const u32, count: usize) -> u64 {
             let fields = black_box($fields);
-            unsafe { ours_under(texts, size, stops, count, &fields) }
+            unsafe { $call(texts, size, stops, count, &fields) }
         }
     )* };
 }
 
 under! {
-    ours_radix10 = TEN;
-    ours_radix16 = Fields { mantissa_radix: 16, ..TEN };
-    ours_json = Fields { json: true, ..TEN };
-    ours_separators = Fields { digit_separator: b'_', ..TEN };
-    ours_prefix = Fields { mantissa_radix: 16, base_prefix: b'x', ..TEN };
-    ours_literal = Fields { literal_prefixes: true, ..TEN };
+    ours_radix10 = ours_under(TEN);
+    ours_radix16 = ours_under(RADIX16);
+    ours_json = ours_under(JSON);
+    ours_separators = ours_under(Fields { digit_separator: b'_', ..TEN });
+    ours_prefix = ours_under(Fields { base_prefix: b'x', ..RADIX16 });
+    ours_literal = ours_under(Fields { literal_prefixes: true, ..TEN });
+    in_place_radix10 = ours_in_place(TEN);
+    in_place_radix16 = ours_in_place(RADIX16);
+    in_place_json = ours_in_place(JSON);
 }

@@ -64,13 +64,6 @@ macro_rules! decimal {
 fn u64_sets(sets: &mut Sets) {
     let mut peers = decimal!(std_u64, ours_u64, cpp_u64, lexical_u64);
     peers.insert(2, ("C call", call_u64));
-    sets.add("faults", &peers, faulty);
-    sets.add("a fault at the end", &peers, between("", realistic, "x"));
-    sets.add(
-        "a plus",
-        &[("std", std_u64), ("ours", ours_u64), ("C call", call_u64)],
-        between("+", realistic, ""),
-    );
     peers.insert(4, ("strtoull", c_u64));
     sets.add("u64, 1 digit", &peers, digits(1));
     sets.add("u64, 2 digits", &peers, digits(2));
@@ -100,7 +93,8 @@ fn other_types(sets: &mut Sets) {
     sets.add("u32, 1 to 9 digits", &peers, digits_from_to(1, 9));
     let peers = decimal!(std_i32, ours_i32, cpp_i32, lexical_i32);
     sets.add("i32, 1 to 9 digits", &peers, signed(digits_from_to(1, 9)));
-    let peers = decimal!(std_u128, ours_u128, cpp_u128, lexical_u128);
+    let mut peers = decimal!(std_u128, ours_u128, cpp_u128, lexical_u128);
+    peers.insert(2, ("C call", call_u128));
     sets.add("u128, 30 to 38 digits", &peers, digits_from_to(30, 38));
     let peers = decimal!(std_i128, ours_i128, cpp_i128, lexical_i128);
     sets.add("i128, 30 to 38 digits", &peers, signed(digits_from_to(30, 38)));
@@ -108,19 +102,21 @@ fn other_types(sets: &mut Sets) {
 
 // Formats that the compiler of the call doesn't know, but that have no mark.
 fn at_run_time(sets: &mut Sets) {
-    let peers: [Peer; 4] = [
+    let peers: [Peer; 5] = [
         ("std", std_radix10),
         ("ours", ours_radix10),
         ("ours, constant", ours_u64),
+        ("ours, in place", in_place_radix10),
         ("from_chars", cpp_u64),
     ];
     sets.add("radix 10 at run time, 1 digit", &peers, digits(1));
     sets.add("radix 10 at run time, 8 digits", &peers, digits(8));
     sets.add("radix 10 at run time, 16 digits", &peers, digits(16));
     sets.add("radix 10 at run time, realistic", &peers, realistic);
-    let peers: [Peer; 5] = [
+    let peers: [Peer; 6] = [
         ("std", std_radix16),
         ("ours", ours_radix16),
+        ("ours, in place", in_place_radix16),
         ("C call", call_hex),
         ("from_chars", cpp_hex),
         ("strtoull", c_hex),
@@ -129,7 +125,14 @@ fn at_run_time(sets: &mut Sets) {
     sets.add("radix 16 at run time, 8 digits", &peers, hexadecimal(8, 8));
     sets.add("radix 16 at run time, 16 digits", &peers, hexadecimal(16, 16));
     sets.add("radix 16 at run time, 1 to 16 digits", &peers, hexadecimal(1, 16));
-    let peers: [Peer; 3] = [("std", std_u64), ("ours", ours_json), ("from_chars", cpp_u64)];
+    let peers: [Peer; 5] = [
+        ("std", std_u64),
+        ("ours", ours_json),
+        ("ours, in place", in_place_json),
+        ("C call", call_json),
+        ("from_chars", cpp_u64),
+    ];
+    sets.add("JSON at run time, 1 digit", &peers, digits(1));
     sets.add("JSON at run time, 1 to 20 digits", &peers, digits_from_to(1, 20));
     sets.add("JSON at run time, realistic", &peers, realistic);
 }
@@ -148,9 +151,10 @@ fn fronts(sets: &mut Sets) {
 
 // Separators and prefixes, at run time.
 fn marks(sets: &mut Sets) {
-    let peers: [Peer; 3] = [
+    let peers: [Peer; 4] = [
         ("std", std_separators),
         ("ours", ours_separators),
+        ("C call", call_separators),
         ("from_chars", cpp_separators),
     ];
     sets.add(
@@ -165,16 +169,44 @@ fn marks(sets: &mut Sets) {
         grouped(false, digits_from_to(10, 19)),
     );
     sets.add("no separator, 1 to 20 digits", &peers, digits_from_to(1, 20));
-    let peers: [Peer; 2] = [("std", std_prefix), ("ours", ours_prefix)];
+    let peers: [Peer; 4] = [
+        ("std", std_prefix),
+        ("ours", ours_prefix),
+        ("C call", call_prefix),
+        ("from_chars", cpp_prefix),
+    ];
     sets.add("prefix 0x, 8 digits", &peers, between("0x", hexadecimal(8, 8), ""));
     sets.add(
         "prefix 0x, 1 to 16 digits",
         &peers,
         between("0x", hexadecimal(1, 16), ""),
     );
-    let peers: [Peer; 2] = [("std", std_literal), ("ours", ours_literal)];
+    let peers: [Peer; 4] = [
+        ("std", std_literal),
+        ("ours", ours_literal),
+        ("C call", call_literal),
+        ("from_chars", cpp_literal),
+    ];
     sets.add("0x or decimal", &peers, literals);
     sets.add("0x or decimal, all decimal", &peers, realistic);
+}
+
+// What users write by mistake, and a plus, which not all peers read.
+fn faults(sets: &mut Sets) {
+    let mut peers = decimal!(std_u64, ours_u64, cpp_u64, lexical_u64);
+    peers.insert(2, ("C call", call_u64));
+    sets.add("fault: of three kinds", &peers, faulty);
+    sets.add("fault: empty", &peers, |_| String::new());
+    sets.add("fault: a letter at the end", &peers, between("", realistic, "x"));
+    sets.add("fault: a blank in front", &peers, between(" ", realistic, ""));
+    sets.add("fault: a blank at the end", &peers, between("", realistic, " "));
+    sets.add("fault: a minus alone", &peers, |_| "-".to_owned());
+    sets.add("fault: one digit too many", &peers, digits(21));
+    sets.add(
+        "a plus",
+        &[("std", std_u64), ("ours", ours_u64), ("C call", call_u64)],
+        between("+", realistic, ""),
+    );
 }
 
 /// All sets, with `count` texts each, of a seed.
@@ -189,7 +221,6 @@ pub fn sets(count: usize, seed: u64) -> Vec<Set> {
     at_run_time(&mut sets);
     fronts(&mut sets);
     marks(&mut sets);
-    // The faults come last.
-    sets.found.rotate_left(3);
+    faults(&mut sets);
     sets.found
 }

@@ -69,11 +69,15 @@ fn value_of_blocks<T: Integer>(digits: &[u8], size: usize, negative: bool) -> Op
     requires minus { IsTrue negative → IsTrue T.TYPE.is_signed }
     ensures { IfSome result (λ value. StandsFor T.TYPE 16 negative digits.now (T.number value)) }
 {
-    let (high, low) = numbers_of_blocks(digits, size)?;
     let root = T::from_u32(1 << (2 * size) as u32);
     let scale = root.mul_add(root, T::ZERO, false);
-    let value = T::from_u32(high).mul_add(scale, T::from_u32(low), false);
-    Some(signed_value::<T>(value, negative))
+    match numbers_of_blocks(digits, size) {
+        Some((high, low)) => {
+            let value = T::from_u32(high).mul_add(scale, T::from_u32(low), false);
+            Some(signed_value::<T>(value, negative))
+        }
+        None => None,
+    }
 }
 
 /// The value of hexadecimal digits, behind a minus where that is negative. Each range of lengths ends on its own, so that

@@ -18,20 +18,20 @@ mul_add-scale-requires-clause-fits g c =
 
 pub from_u32-requires : goal.from_u32-requires
 from_u32-requires g c =
-    let whole = whole_below _ c.args.digits.now (number_limit g.T.Integer.TYPE) c.in_ok-high.ensures c.requires.room in
-    lt-ltb _ _ (high_below c.in_ok-high.high c.in_ok-high.low (16 ^ c.args.size) _ (some_scale c.args.size) whole)
+    let whole = whole_below _ c.args.digits.now (number_limit g.T.Integer.TYPE) c.in-Some.ensures c.requires.room in
+    lt-ltb _ _ (high_below c.in-Some.high c.in-Some.low (16 ^ c.args.size) _ (some_scale c.args.size) whole)
 
-pub from_u32-requires-2 : goal.from_u32-requires-2
-from_u32-requires-2 g c =
-    let whole = whole_below _ c.args.digits.now (number_limit g.T.Integer.TYPE) c.in_ok-high.ensures c.requires.room in
+pub from_u32-requires-in-Some : goal.from_u32-requires-in-Some
+from_u32-requires-in-Some g c =
+    let whole = whole_below _ c.args.digits.now (number_limit g.T.Integer.TYPE) c.in-Some.ensures c.requires.room in
     lt-ltb _ _ (omega (arith, whole))
 
 pub mul_add-value-requires-clause-fits : goal.mul_add-value-requires-clause-fits
 mul_add-value-requires-clause-fits g c =
     let none : g.T.Integer.number c.ZERO.result ≡ pos 0 = ap g.T.Integer.number c.ZERO.ensures ∙ g.met.T.Integer.zero_law in
     let scale : g.T.Integer.number c.mul_add-scale.result ≡ pos (16 ^ c.args.size) = c.mul_add-scale.ensures ∙ scale_is _ _ c.args.size c.requires.small c.from_u32-root.ensures none in
-    let whole = whole_below _ c.args.digits.now (number_limit g.T.Integer.TYPE) c.in_ok-high.ensures c.requires.room in
-    ap (is_number g.T.Integer.TYPE) (parts_worth _ _ _ _ _ _ c.from_u32.ensures scale c.from_u32-2.ensures) ∙ lt-ltb _ _ whole
+    let whole = whole_below _ c.args.digits.now (number_limit g.T.Integer.TYPE) c.in-Some.ensures c.requires.room in
+    ap (is_number g.T.Integer.TYPE) (parts_worth _ _ _ _ _ _ c.from_u32.ensures scale c.from_u32-in-Some.ensures) ∙ lt-ltb _ _ whole
 
 pub mul_add-value-requires-clause-scale : goal.mul_add-value-requires-clause-scale
 mul_add-value-requires-clause-scale g c =
@@ -42,17 +42,17 @@ pub signed_value-requires-clause-fits : goal.signed_value-requires-clause-fits
 signed_value-requires-clause-fits g c =
     let none : g.T.Integer.number c.ZERO.result ≡ pos 0 = ap g.T.Integer.number c.ZERO.ensures ∙ g.met.T.Integer.zero_law in
     let scale : g.T.Integer.number c.mul_add-scale.result ≡ pos (16 ^ c.args.size) = c.mul_add-scale.ensures ∙ scale_is _ _ c.args.size c.requires.small c.from_u32-root.ensures none in
-    let whole = whole_below _ c.args.digits.now (number_limit g.T.Integer.TYPE) c.in_ok-high.ensures c.requires.room in
-    ap (is_number g.T.Integer.TYPE) (c.mul_add-value.ensures ∙ parts_worth _ _ _ _ _ _ c.from_u32.ensures scale c.from_u32-2.ensures) ∙ lt-ltb _ _ whole
+    let whole = whole_below _ c.args.digits.now (number_limit g.T.Integer.TYPE) c.in-Some.ensures c.requires.room in
+    ap (is_number g.T.Integer.TYPE) (c.mul_add-value.ensures ∙ parts_worth _ _ _ _ _ _ c.from_u32.ensures scale c.from_u32-in-Some.ensures) ∙ lt-ltb _ _ whole
 
-pub returns : goal.returns
-returns g c =
+pub returns-in-Some : goal.returns-in-Some
+returns-in-Some g c =
     let none : g.T.Integer.number c.ZERO.result ≡ pos 0 = ap g.T.Integer.number c.ZERO.ensures ∙ g.met.T.Integer.zero_law in
     let scale : g.T.Integer.number c.mul_add-scale.result ≡ pos (16 ^ c.args.size) = c.mul_add-scale.ensures ∙ scale_is _ _ c.args.size c.requires.small c.from_u32-root.ensures none in
-    let worth = c.mul_add-value.ensures ∙ parts_worth _ _ _ _ _ _ c.from_u32.ensures scale c.from_u32-2.ensures in
+    let worth = c.mul_add-value.ensures ∙ parts_worth _ _ _ _ _ _ c.from_u32.ensures scale c.from_u32-in-Some.ensures in
     record {
-      size = pos (c.in_ok-high.high * 16 ^ c.args.size + c.in_ok-high.low);
-      writes = c.in_ok-high.ensures;
+      size = pos (c.in-Some.high * 16 ^ c.args.size + c.in-Some.low);
+      writes = c.in-Some.ensures;
       worth = c.signed_value.ensures.value ∙ ap (λ (z : ℤ). if c.args.negative then neg_ℤ z else z) worth;
       fits = c.signed_value.ensures.fits;
     }

@@ -1,0 +1,2 @@
+-- The lemmas of the proofs, a file for each subject.
+pub mod Counted
