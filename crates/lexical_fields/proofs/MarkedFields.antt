@@ -8,7 +8,7 @@ use Rattle.lexical_util.specs.Format.{Format}
 use Rattle.lexical_digits.specs.WrittenNumbers.{StandsFor}
 use Rattle.lexical_parse_integer.specs.Grammar.{complete}
 use Rattle.lexical_parse_integer.specs.Plain.{IsBehind, IsPlain, keeps_zero_rule}
-use Rattle.lexical_parse_integer.proofs.plain.DigitsByTable.{table_read}
+use Rattle.lexical_parse_integer.proofs.ForCallers.{table_read}
 
 -- what stands behind a minus, cut where the field ends
 front_behind : (t : IntegerType) (negative : Bool) (text digits : List ℕ) (size count start : ℕ)

@@ -1,6 +1,6 @@
 use Rattle.std.proofs.Common.{◌&&◌, Bool, get_or, ap, ◌∙◌, arith}
 use Rattle.std.specs.Prelude.{◌==◌}
-use Rattle.lexical_parse_integer.proofs.plain.DigitsAlone.{behind_is}
+use Rattle.lexical_parse_integer.proofs.ForCallers.{behind_is}
 use Rattle.lexical_fields.proofs.marked.behind_minus.Goals as goal
 
 pub returns-clause-behind : goal.returns-clause-behind
