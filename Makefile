@@ -28,7 +28,7 @@ $(PROGRAM): $(SOURCES)
 	@RT=$(RT) tools/build.sh lexint
 	@touch $@
 
-check: answers test-c ## proves and builds what one uses, and runs the worked rows and the callers of the library
+check: answers test-c ## proves and builds what one uses, and runs the test vectors and the callers of the library
 
 test: | toolchain ## the gate: proves everything from nothing, has every must-fail edit refused, runs every test
 	@RT=$(RT) tools/gate.sh
@@ -36,7 +36,7 @@ test: | toolchain ## the gate: proves everything from nothing, has every must-fa
 devices: $(PROGRAM) ## runs the program over devices that refuse; a part of the gate
 	@tools/devices.py $(PROGRAM)
 
-answers: $(PROGRAM) ## has the program answer every worked row and every stored input; a part of the gate
+answers: $(PROGRAM) ## has the program answer every test vector and every stored input; a part of the gate
 	@tools/run_rows.py $(PROGRAM)
 	@tools/run_lines.py $(PROGRAM)
 
@@ -57,7 +57,7 @@ vendor: ## copies the Rattle crates into your repository: DEST=../yours WITH="le
 
 include tools/lib.mk
 
-rows: | toolchain ## writes the theorems of the worked rows from tools/rows.txt and tools/languages.txt
+rows: | toolchain ## writes the theorems of the test vectors from tools/rows.txt and tools/languages.txt
 	@python3 tools/rows.py
 	@cd crates/rows && $(RT) fmt
 
@@ -78,8 +78,8 @@ check-languages: $(PROGRAM) ## compares the formats of languages with the compil
 SEED ?=
 LINES ?= 200000
 
-fuzz: $(PROGRAM) ## runs the program beside a slow reading of the grammar: SEED=1 LINES=1000000
-	@python3 tools/slow_reading.py --check
+fuzz: $(PROGRAM) ## runs the program beside a reference implementation of the grammar: SEED=1 LINES=1000000
+	@python3 tools/reference_lines.py --check
 	@python3 tools/fuzz.py --lines $(LINES) $(if $(SEED),--seed $(SEED))
 
 fuzz-edges: $(PROGRAM) ## the same over each length, end of a type and place of a separator: 3 million lines

@@ -1,6 +1,6 @@
 """The library's C calls from Python, by the shared library and the header, for tests alone.
 
-    python3 tools/c_calls.py LIBRARY    compares the worked rows with a shared library
+    python3 tools/c_calls.py LIBRARY    compares the test vectors with a shared library
 
 What the struct of a format looks like, and which number each status is, is read from
 include/jadvolni.h, so that a header and a library that disagree show here.
@@ -14,8 +14,8 @@ import sys
 from typing import Callable, Iterator, NamedTuple, Optional
 
 import row_data
-from slow_grammar import BYTE_FIELDS, FLAG_FIELDS, TYPES, Fault, Format, Value
-from slow_reading import form_of
+from reference import BYTE_FIELDS, FLAG_FIELDS, TYPES, Fault, Format, Value
+from reference_lines import form_of
 
 TOP = row_data.TOP
 HEADER = os.path.join(TOP, "include", "jadvolni.h")
@@ -74,7 +74,7 @@ class Answer(NamedTuple):
 
 
 def expected(answer: Value | Fault, text: bytes, is_partial: bool) -> Answer:
-    """What a call has to answer, by what the slow reading does."""
+    """What a call has to answer, by what the reference does."""
     if isinstance(answer, Value):
         return Answer("Ok", answer.stop if is_partial else len(text), answer.value)
     return Answer(answer.name, answer.place or 0, BEFORE)
@@ -155,7 +155,7 @@ def wrong_answers(library: Library, row: row_data.Row) -> Iterator[str]:
 
 
 def compare_rows(library: Library) -> str:
-    """Runs the worked rows of tools/rows.txt through the calls, and says how many there are."""
+    """Runs the test vectors of tools/rows.txt through the calls, and says how many there are."""
     rows = [row for group in row_data.groups_of(row_data.DATA) for row in group.rows]
     wrong = [said for row in rows for said in wrong_answers(library, row)]
     if wrong:

@@ -99,7 +99,7 @@ def flags_of_a_distribution(place: Place) -> str:
 
 
 def worked_rows(place: Place) -> str:
-    """The worked rows of tools/rows.txt, by the shared library."""
+    """The test vectors of tools/rows.txt, by the shared library."""
     needs_shared(place)
     rows = [sys.executable, source("tools", "c_calls.py"), place.library("libjadvolni.so")]
     return run(rows).strip()
@@ -144,7 +144,7 @@ def call(place: Place, caller: str, compiler: str, flags: List[str], shared: boo
 
 
 def short_fronts(place: Place) -> str:
-    """The answers of from_chars under formats, beside those of the slow reading."""
+    """The answers of from_chars under formats, beside those of the reference."""
     program = build(place, "g++", "tests/c/fronts.cpp", [CXX17, *OPTIMISED])
     wanted = subprocess.run([sys.executable, source("tools", "short_fronts.py")], check=True,
                             stdout=subprocess.PIPE, timeout=900).stdout
@@ -333,10 +333,10 @@ def steps(place: Place) -> Iterator[Step]:
     yield "what the static library is", partial(static_library, place)
     yield "what the shared library is", partial(shared_library, place)
     yield "flags of a distribution", partial(flags_of_a_distribution, place)
-    yield "worked rows, by the shared library", partial(worked_rows, place)
+    yield "test vectors, by the shared library", partial(worked_rows, place)
     yield "messages of the header", partial(messages, place)
     yield from calls(place)
-    yield "fronts under formats, beside the slow reading", partial(short_fronts, place)
+    yield "fronts under formats, beside the reference", partial(short_fronts, place)
     yield from check_misuse.steps(place)
     yield from check_formats.steps(place)
     yield from check_examples.steps(place)

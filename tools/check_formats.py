@@ -12,7 +12,7 @@ from typing import Iterator
 from c_calls import c_format
 from callers import C_COMPILERS, CXX17, CXX_COMPILERS, OPTIMISED, Failed, Place, Step, build, run
 from row_data import LANGUAGES, Group, Row, groups_of
-from slow_grammar import STANDARD
+from reference import STANDARD
 
 HEAD = """#ifdef __cplusplus
 #include "jadvolni.hpp"

@@ -8,11 +8,11 @@
   at a line's end alone. What the Rust crate has, and this repository lacks, is in LACKING. `T`
   stands for the name of a type.
 - A `call: clause` in backquotes has to name a clause of a function.
-- A run of the program over what `printf` gives it has to answer as the slow reading of the grammar
+- A run of the program over what `printf` gives it has to answer as the reference of the grammar
   does.
 - A figure in a list of README has to stand on the page that its line links to.
 - A page has at most as many words as BUDGETS says, and those of BUDGETS have at most MOST_WORDS
-  together. What a tool takes from the source or compares with it (blocks, worked rows) and what a
+  together. What a tool takes from the source or compares with it (blocks, test vectors) and what a
   measurement writes doesn't count. `tools/documents.py --words` prints the counts.
 - The newest version of the changelog is that of the header and of the packages.
 """
@@ -24,7 +24,7 @@ import posixpath
 import re
 from typing import Iterable
 
-import slow_reading
+import reference_lines
 import source
 
 MOST_WORDS = 10000
@@ -167,11 +167,11 @@ def wrong_clauses(page: str, text: str, clauses: set[tuple[str, str]]) -> list[s
 
 
 def wrong_runs(page: str, text: str) -> list[str]:
-    """The runs of the program that the slow reading answers in another way."""
+    """The runs of the program that the reference answers in another way."""
     found = []
     for block in FENCE.finditer(text):
         for given, shown in RUN.findall(block[0]):
-            output = slow_reading.output_of(given.encode().decode("unicode_escape").encode())
+            output = reference_lines.output_of(given.encode().decode("unicode_escape").encode())
             if output != shown:
                 found.append(f"{page}: the run over '{given}' answers {output!r}")
     return found

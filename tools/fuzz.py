@@ -1,5 +1,5 @@
 #!/usr/bin/env python3
-"""Runs the built program beside the slow reading of the grammar, until they differ.
+"""Runs the built program beside the reference of the grammar, until they differ.
 
     python3 tools/fuzz.py [--program PATH] [--seed N] [--lines N]    random lines
     python3 tools/fuzz.py [--program PATH] --all [--longest N]       all short texts
@@ -29,8 +29,8 @@ from fuzz_edges import edge_runs
 from fuzz_lines import Lines
 from fuzz_short import short_runs
 from row_data import TOP
-from slow_grammar import STANDARD, TYPES
-from slow_reading import Session
+from reference import STANDARD, TYPES
+from reference_lines import Session
 
 PROGRAM = os.path.join(TOP, "crates", "lexint", "out", "lexint")
 DRIVER = os.path.join(TOP, "tests", "from_str_radix.rs")
@@ -87,7 +87,7 @@ def int_expects(question: Question) -> Optional[str]:
     if not set(digits.lower()) <= set(DIGITS[:question.radix]):
         return None
     value = int(question.text, question.radix)
-    # said anew here, so that the slow reading's own ends of the types are compared as well
+    # said anew here, so that the reference's own ends of the types are compared as well
     limit = 2 ** (kind.bits - kind.signed)
     if value >= limit:
         return "err Overflow "
@@ -143,7 +143,7 @@ class Comparison:
         if output != "".join(expected):
             return first_difference(expected, output)
         found = self.by_int(questions) or self.by_rust(questions)
-        self.compared["slow reading"] += 0 if found else len(lines)
+        self.compared["reference"] += 0 if found else len(lines)
         return found
 
     def by_int(self, questions: List[Question]) -> Optional[Difference]:
@@ -192,9 +192,9 @@ def first_difference(expected: List[str], output: str) -> Difference:
     for number, wanted in enumerate(expected):
         if not output.startswith(wanted, place):
             lines = output[place:].splitlines(True)[:max(1, wanted.count("\n"))]
-            return Difference(number, "slow reading", wanted, "".join(lines))
+            return Difference(number, "reference", wanted, "".join(lines))
         place += len(wanted)
-    return Difference(len(expected) - 1, "slow reading", "no more lines\n", output[place:])
+    return Difference(len(expected) - 1, "reference", "no more lines\n", output[place:])
 
 
 # ---- lines
@@ -266,7 +266,7 @@ def reproduced(source: bytes) -> str:
 
 def tell(found: Difference, lines: List[bytes], comparison: Comparison) -> None:
     """Prints a difference at the smallest lines at which there is still one."""
-    line = comparison.compared["slow reading"] + found.number + 1
+    line = comparison.compared["reference"] + found.number + 1
     print(f"fuzz: a difference at line {line}; it is made smaller now", flush=True)
     first = next((number for number in range(found.number, -1, -1) if lines[number] == b"r"), 0)
     batch = lines[first:found.number + 1]
@@ -301,7 +301,7 @@ def compare_all(runs: Iterable[List[bytes]], comparison: Comparison) -> int:
             tell(found, lines, comparison)
             return 1
     counts = comparison.compared
-    print(f"fuzz: {counts['slow reading']} lines and no difference; {counts['int']} answers were "
+    print(f"fuzz: {counts['reference']} lines and no difference; {counts['int']} answers were "
           f"compared with Python's int too, and {counts['from_str_radix']} with from_str_radix")
     return 0
 

@@ -1,5 +1,5 @@
 #!/usr/bin/env python3
-"""Runs the C calls beside the slow reading of the grammar: make check-c.
+"""Runs the C calls beside the reference of the grammar: make check-c.
 
     python3 tools/fuzz_c.py [--parses N] [--formats N] [--seed N] [--lib FILE]
 
@@ -26,9 +26,9 @@ from c_calls import (BEFORE, NUL_BITS, NUMBERS, RESERVED, Answer, CFormat, Libra
                      compare_rows, expected)
 from fuzz_lines import CAPITALS, DOUBTFUL_BYTES, NAMES, ODD_RADIXES, RADIXES, SMALL, Lines
 from row_data import TOP
-from slow_grammar import (BYTE_FIELDS, FLAG_FIELDS, JSON, STANDARD, TYPES, Format, format_fault,
-                          number_in_front, parse)
-from slow_reading import LITERAL, Session
+from reference import (BYTE_FIELDS, FLAG_FIELDS, JSON, STANDARD, TYPES, Format, format_fault,
+                       number_in_front, parse)
+from reference_lines import LITERAL, Session
 
 MOST_TOLD = 5
 # Under each of these all texts of up to three bytes are tried.

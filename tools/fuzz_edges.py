@@ -8,7 +8,7 @@ from typing import Iterator, List, NamedTuple
 from fuzz_lines import CAPITALS, SMALL, as_numeral
 from fuzz_short import (BEHIND, INTERNAL, CONSECUTIVE, LITERAL, NO_PLUS, NO_ZEROS, OCTAL, PREFIX,
                         SEPARATOR, SUFFIX, choices_of_flags, runs_under)
-from slow_grammar import TYPES
+from reference import TYPES
 
 # longer than the digits of a type of 128 bits, and than any length that is read in a way of its own
 LONGEST = 43

@@ -9,7 +9,7 @@ from __future__ import annotations
 from random import Random
 from typing import Dict, List, Optional, Tuple
 
-from slow_grammar import BYTE_FIELDS, FLAG_FIELDS, TYPES, IntegerType
+from reference import BYTE_FIELDS, FLAG_FIELDS, TYPES, IntegerType
 
 NAMES = tuple(TYPES)
 SMALL = b"0123456789abcdefghijklmnopqrstuvwxyz"

@@ -71,5 +71,5 @@ test-c: build/libjadvolni.a $(SHARED) ## runs the callers in C, C++, Rust and Py
 PARSES ?= 1000000
 FORMATS ?= 100000
 
-check-c: $(LIBRARIES) ## runs random parses through the C calls, beside the slow reading: SEED, PARSES, FORMATS
+check-c: $(LIBRARIES) ## runs random parses through the C calls, beside the reference: SEED, PARSES, FORMATS
 	@python3 tools/fuzz_c.py --parses $(PARSES) --formats $(FORMATS) $(if $(SEED),--seed $(SEED))

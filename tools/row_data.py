@@ -1,4 +1,4 @@
-"""Reads the worked rows of tools/rows.txt and tools/languages.txt: each says how its rows look."""
+"""Reads the test vectors of tools/rows.txt and tools/languages.txt: each says how its rows look."""
 from __future__ import annotations
 
 import os
@@ -46,7 +46,7 @@ OF_FORMATS = [
 
 # the setters of a format, each with its number, byte or truth value
 Fields = Tuple[Tuple[str, int], ...]
-# a ready format by its name, or the fields over the standard one
+# a preset by its name, or the fields over the standard one
 Format = Union[str, Fields]
 
 

@@ -1,5 +1,5 @@
 #!/usr/bin/env python3
-"""Writes the worked rows of tools/rows.txt and tools/languages.txt as theorems.
+"""Writes the test vectors of tools/rows.txt and tools/languages.txt as theorems.
 
     python3 tools/rows.py            writes the files
     python3 tools/rows.py --check    writes nothing, and fails where a file is another
@@ -17,7 +17,7 @@ fields becomes `LANGUAGE ≡ FORMAT`. The check computes the definitions on thos
 a theorem of which a row and the definitions disagree. tools/run_rows.py has the built program
 answer the rows, and names the row that is wrong. The files are crates/rows/proofs/rows/FILE.antt,
 and proofs/rows.antt, which declares them; proofs/Tables.antt has the words of the theorems. The
-texts of the rows under the two ready formats are written to src/tests/ready.rt too, for the tests:
+texts of the rows under the two presets are written to src/tests/ready.rt too, for the tests:
 the program makes no call without a format. Needs Python 3.8 and nothing else.
 """
 from __future__ import annotations
@@ -168,7 +168,7 @@ def theorems(file: File) -> str:
     body = body.rstrip("\n") + "\n"
     with_fields = {group.name for group in file.groups if group.fields is not None}
     imports = antt_imports(body, sorted(with_fields - {"json"}))
-    head = f"-- Worked rows: {file.shows}.\n-- {WRITTEN.format(file.data)}\n"
+    head = f"-- Test vectors: {file.shows}.\n-- {WRITTEN.format(file.data)}\n"
     return f"{head}{imports}\n{body}"
 
 
@@ -179,14 +179,14 @@ MOST_BYTES = 120
 
 
 def ready_texts(files: List[File]) -> str:
-    """The texts of the rows under the ready formats, a line each, but those that begin another."""
+    """The texts of the rows under the presets, a line each, but those that begin another."""
     rows = [row for file in files for group in file.groups for row in group.rows]
     texts = {row.text for row in rows if row.parser != "format" and row.format in ((), "json")
              and len(row.text) <= MOST_BYTES and row.text.isascii()}
     lines = [escaped(text + b"0" if text.endswith(b"\r") else text)  # (a line loses that byte)
              for text in sorted(texts)
              if not any(it.startswith(text) and it != text for it in texts)]
-    head = f"// The texts of the worked rows under `STANDARD` and `JSON`.\n// {WRITTEN}\n"
+    head = f"// The texts of the test vectors under `STANDARD` and `JSON`.\n// {WRITTEN}\n"
     return (head.format("rows.txt and tools/languages.txt")
             + 'pub(super) const TEXTS: &str = "' + "\n".join(lines) + '";\n')
 
@@ -198,7 +198,7 @@ def all_files(files: List[File]) -> dict[str, str]:
     modules = sorted(file.name.capitalize() for file in files)
     declared = "".join(f"pub mod {module}\n" for module in modules)
     written = WRITTEN.format("rows.txt and tools/languages.txt")
-    head = f"-- Worked rows, a file for each subject.\n-- {written}\n"
+    head = f"-- Test vectors, a file for each subject.\n-- {written}\n"
     return {
         "proofs/rows.antt": head + declared,
         "src/tests/ready.rt": ready_texts(files),

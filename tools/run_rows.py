@@ -1,5 +1,5 @@
 #!/usr/bin/env python3
-"""Has the built program answer the worked rows of tools/rows.txt and tools/languages.txt.
+"""Has the built program answer the test vectors of tools/rows.txt and tools/languages.txt.
 
     tools/run_rows.py [PROGRAM..]
 
@@ -21,7 +21,7 @@ SECONDS = 60
 
 
 def ready_formats(groups: List[Group]) -> Dict[str, Fields]:
-    """The fields of each ready format, by its name."""
+    """The fields of each preset, by its name."""
     return {group.name: group.fields for group in groups if group.fields is not None}
 
 

@@ -2,8 +2,8 @@
 """Writes what jadvolni::from_chars has to answer to short texts, as records for tests/c/fronts.cpp.
 
 All texts of up to three bytes of an alphabet are asked for under each format of fuzz_short.py, also
-where no digit is required, and those of four under a few. The answers are those of slow_reading.py:
-a digit was read where its reading has one.
+where no digit is required, and those of four under a few. The answers are those of
+reference_lines.py: a digit was read where its reading has one.
 """
 from __future__ import annotations
 
@@ -17,9 +17,9 @@ sys.dont_write_bytecode = True
 import c_calls  # noqa: E402
 import fuzz_short  # noqa: E402
 from fuzz_short import BEHIND, LITERAL, OCTAL, OPTIONAL, PREFIX, SEPARATOR, TRAILING  # noqa: E402
-from slow_grammar import (TYPES, Fault, Format, IntegerType, format_fault,  # noqa: E402
-                          number_in_front)
-from slow_reading import Session  # noqa: E402
+from reference import (TYPES, Fault, Format, IntegerType, format_fault,  # noqa: E402
+                       number_in_front)
+from reference_lines import Session  # noqa: E402
 
 NONE, NO_NUMBER, OUT_OF_RANGE = range(3)
 BEFORE = 77

@@ -1,4 +1,4 @@
-"""Tries the laws of the crate `lexical_laws` on all short texts, by the slow reading.
+"""Tries the laws of the crate `lexical_laws` on all short texts, by the reference.
 
     python3 tools/try_laws.py [FORMATS [SEED]]    exit status 1 where a law fails
 
@@ -15,9 +15,9 @@ from collections import Counter
 from random import Random
 from typing import Any, Callable, Dict, Iterator, List, NamedTuple, Optional, Tuple
 
-from slow_grammar import (FLAG_FIELDS, JSON, STANDARD, TYPES, Answer, Format, IntegerType, Value,
-                          digit, format_fault, matches, number_in_front, parse, prefixes_of)
-from slow_reading import Token, tokens_of
+from reference import (FLAG_FIELDS, JSON, STANDARD, TYPES, Answer, Format, IntegerType, Value,
+                       digit, format_fault, matches, number_in_front, parse, prefixes_of)
+from reference_lines import Token, tokens_of
 
 ALPHABET = b"0129-+_xF"
 TEXTS = [bytes(text) for size in range(5) for text in itertools.product(ALPHABET, repeat=size)]

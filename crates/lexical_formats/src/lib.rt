@@ -2,7 +2,7 @@
 //!
 //! Each is made by setters of a [`NumberFormatBuilder`], so a caller may copy the lines and change one. A format says
 //! what it can of a language: its radixes, its separators, its zeros. What it can't say is told with each function, and
-//! with worked texts in docs/FORMATS.md.
+//! with test vectors in docs/FORMATS.md.
 //!
 //! In most languages a sign is an operator and no part of a literal. There a plus is refused, and a minus is too where
 //! the type is unsigned; a signed type reads it.

@@ -287,7 +287,7 @@ not_empty false true (Some k) at place size v e = cc
 not_empty false false (Some k) at place size v e = cc
 not_empty false m None at place size v e = cc
 
--- the first digit is one in the radix in force
+-- the first digit is one in the effective radix
 digit_in_force : (f : Format) (c : ℕ) (cs : List ℕ) → is_some (digit c f.mantissa_radix) ≡ true → is_some (digit c (bare_radix f (c ∷ cs) 0)) ≡ true
 unfolding octal_zero_at are_same
 digit_in_force f c cs first = by_zero (f.literal_octal_zero && (c == 48)) refl

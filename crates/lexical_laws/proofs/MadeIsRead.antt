@@ -57,7 +57,7 @@ octal_asked : (f : Format) (body : List ℕ) → octal_zero_at f body 0 ≡ true
 unfolding octal_zero_at
 octal_asked f body e = (and_parts f.literal_octal_zero _ e).0
 
--- a digit of the radix in force without a prefix is one of the format's
+-- a digit of the effective radix without a prefix is one of the format's
 own_digit : (f : Format) (body : List ℕ) (c : ℕ) → fault f ≡ None → is_some (digit c (bare_radix f body 0)) ≡ true → is_some (digit c f.mantissa_radix) ≡ true
 own_digit f body c valid d = by_zero (octal_zero_at f body 0) refl d
   where

@@ -26,7 +26,7 @@ pub none_of : {A : Type 0} (o : Option A) → IsNone o → o ≡ None
 none_of None h = refl
 none_of (Some x) h = absurd (false≢true (sym h))
 
--- ---- the radix in force
+-- ---- the effective radix
 
 pub bare_fit : (f : Format) (body : List ℕ) → IsNone (fault f) → IsFit f (bare_radix f body 0)
 bare_fit f body valid = by_zero (octal_zero_at f body 0) refl

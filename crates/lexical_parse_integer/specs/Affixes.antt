@@ -25,7 +25,7 @@ literal_radix is_case_sensitive byte =
     else (if is_affix is_case_sensitive (Some letter_b) byte then Some 2
     else None))
 
--- the radix in force behind a zero and a byte, where the two are a prefix: the format's own leaves its radix
+-- the effective radix behind a zero and a byte, where the two are a prefix: the format's own leaves its radix
 unfoldable pub marked_radix : Format → Option ℕ → Option ℕ
 marked_radix format byte =
     if is_affix format.case_sensitive_base_prefix format.base_prefix byte
@@ -33,7 +33,7 @@ marked_radix format byte =
     else (if format.literal_prefixes then literal_radix format.case_sensitive_base_prefix byte
     else None)
 
--- the radix in force behind the prefix at a place, where one stands there: a zero, and the byte directly behind it
+-- the effective radix behind the prefix at a place, where one stands there: a zero, and the byte directly behind it
 unfoldable pub prefix_radix : Format → List ℕ → ℕ → Option ℕ
 prefix_radix format text place =
     if are_same (Some digit_zero) (slice_get text place)
@@ -44,7 +44,7 @@ unfoldable pub octal_zero_at : Format → List ℕ → ℕ → Bool
 octal_zero_at format text place =
     format.literal_octal_zero && are_same (Some digit_zero) (slice_get text place)
 
--- the radix in force in a region without a prefix: 8 where an octal zero stands at its start, and else the format's
+-- the effective radix in a region without a prefix: 8 where an octal zero stands at its start, and else the format's
 abbrev pub bare_radix : Format → List ℕ → ℕ → ℕ
 bare_radix format text start = if octal_zero_at format text start then 8 else format.mantissa_radix
 

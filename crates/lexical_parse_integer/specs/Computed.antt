@@ -1,4 +1,4 @@
--- What a worked text computes: `unfolding grammar` opens the definitions of a text's answer, for a proof by `refl`.
+-- What a test vector computes: `unfolding grammar` opens the definitions of a text's answer, for a proof by `refl`.
 use Rattle.lexical_parse_integer.specs.Affixes.{is_affix, literal_radix, marked_radix, matches, numeral_stop, octal_zero_at, prefix_radix, suffix_at}
 use Rattle.lexical_parse_integer.specs.Grammar.{complete, partial, range_fault}
 use Rattle.lexical_parse_integer.specs.Head.{head_of, sign}

@@ -12,7 +12,7 @@ use Rattle.lexical_parse_integer.specs.Seeking.{IsSeparatorNoDigit, IsAtRunStart
 pub record CursorView : Type 0 where
   pub bytes : List ℕ
   pub format : Format
-  -- whether a prefix was read, the radix in force, and where the numeral's region starts
+  -- whether a prefix was read, the effective radix, and where the numeral's region starts
   pub is_prefixed : Bool
   pub radix : ℕ
   pub start : ℕ
@@ -86,7 +86,7 @@ pub record IsSound (cursor : CursorView) : Type 0 where
 
 -- ---- what its calls do
 
--- a cursor behind a prefix that puts a radix in force, and as it is where there is none
+-- a cursor behind a prefix that puts an effective radix, and as it is where there is none
 abbrev pub behind_prefix : CursorView → Option ℕ → CursorView
 behind_prefix cursor None = cursor
 behind_prefix cursor (Some radix) =

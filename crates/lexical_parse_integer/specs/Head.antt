@@ -24,7 +24,7 @@ unfoldable pub sign : Format → IntegerType → List ℕ → Result (Bool × �
 sign format type text = sign_by format type (slice_get text 0)
 
 -- Whether a text has a minus, whether a prefix or an octal zero stands behind its sign, where the region of its numeral
--- starts, and the radix in force there.
+-- starts, and the effective radix there.
 pub record Head : Type 0 where
   pub is_negative : Bool
   pub is_prefixed : Bool
@@ -36,7 +36,7 @@ pub record Head : Type 0 where
 abbrev pub chooses_radix : Head → Bool
 chooses_radix head = head.is_prefixed || head.is_octal
 
--- the head of a text with this sign, and with a prefix that puts a radix in force, or none
+-- the head of a text with this sign, and with a prefix that puts an effective radix, or none
 abbrev pub head_behind : Format → List ℕ → Bool × ℕ → Option ℕ → Head
 head_behind format text sign_read None = record {
   is_negative = sign_read.0;

@@ -9,7 +9,7 @@ use Rattle.lexical_digits.specs.Value.{positional_value, with_sign}
 
 -- A numeral in the region of a text.
 pub record Numeral : Type 0 where
-  -- where the region starts, and the radix in force
+  -- where the region starts, and the effective radix
   pub start : ℕ
   pub radix : ℕ
   -- the places of its digits, and their values

@@ -15,7 +15,7 @@ abbrev pub turns_bound : ℕ → ℕ → ℕ → ℕ
 turns_bound word room digits =
     min digits room / word + min digits room % word + (digits - min digits room)
 
--- few turns for a text: no more than the bound, for a radix in force of at most 10, and none at a sign's fault
+-- few turns for a text: no more than the bound, for an effective radix of at most 10, and none at a sign's fault
 abbrev pub HasFewTurns : Format → IntegerType → List ℕ → ℕ → Type 0
 HasFewTurns format type text turns = MatchResult (head_of format type text)
     (λ head. head.radix ≤ 10

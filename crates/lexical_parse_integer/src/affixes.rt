@@ -65,7 +65,7 @@ fn literal_radix(is_case_sensitive: bool, byte: Option<u8>) -> Option<u32>
     }
 }
 
-// The radix in force behind a zero and a byte, where the two are a prefix.
+// The effective radix behind a zero and a byte, where the two are a prefix.
 #[inline(always)]
 #[tactic(auto, unfolding(crate::specs::Affixes::marked_radix))]
 fn marked_radix(format: &NumberFormat, byte: Option<u8>) -> Option<u32>
@@ -84,7 +84,7 @@ fn marked_radix(format: &NumberFormat, byte: Option<u8>) -> Option<u32>
     }
 }
 
-// The radix in force behind the prefix at a place, where one stands there.
+// The effective radix behind the prefix at a place, where one stands there.
 #[inline(always)]
 #[tactic(auto, unfolding(crate::specs::Affixes::prefix_radix, crate::specs::Runs::are_same))]
 pub(crate) fn prefix_radix(bytes: &[u8], format: &NumberFormat, place: usize) -> Option<u32>

@@ -5,7 +5,7 @@
 //! after `new` come `step_sign`, `read_prefix`, `read_octal_zero`, the digits by `next_digit` or `take_digits`, and `read_suffix`, each
 //! where it is wanted.
 //!
-//! Contracts see a cursor as a record: the text, the format, the radix in force, where the numeral's region starts,
+//! Contracts see a cursor as a record: the text, the format, the effective radix, where the numeral's region starts,
 //! the position, how many digits were read, whether the suffix was read, how many turns that took, and which cursor it
 //! is. A turn is one digit taken alone, or one word of four or eight digits taken at once. Their count and the identity
 //! take no byte at run time.
@@ -181,7 +181,7 @@ impl<'a> Cursor<'a> {
         self.format.digit_separator().is_none()
     }
 
-    /// The radix in force.
+    /// The effective radix.
     #[inline(always)]
     pub fn radix(&self) -> u32
         ensures { result ≡ self.now.radix }
@@ -327,7 +327,7 @@ impl<'a> Cursor<'a> {
 
     /// Takes the next `n` bytes, which are digits, as one turn. `n` is 4 or 8.
     ///
-    /// Each of the bytes has to be a digit of the radix in force, the format without a separator byte, and the
+    /// Each of the bytes has to be a digit of the effective radix, the format without a separator byte, and the
     /// suffix not read.
     #[inline(always)]
     pub fn take_digits(&mut self, n: usize)

@@ -300,7 +300,7 @@ impl NumberFormat {
     }
 
     /// Whether the text may choose its radix: a `0x`, `0o` or `0b` directly after the sign is a prefix, and makes the
-    /// radix in force 16, 8 or 2. Either letter case is matched, unless `case_sensitive_base_prefix` is set: then the
+    /// effective radix 16, 8 or 2. Either letter case is matched, unless `case_sensitive_base_prefix` is set: then the
     /// small letters alone. Without such a prefix the radix is 10.
     #[inline(always)]
     pub fn literal_prefixes(&self) -> bool
@@ -310,7 +310,7 @@ impl NumberFormat {
     }
 
     /// Whether a first zero makes a numeral octal, as in C: where a `0` is directly after the sign, and is no part
-    /// of a prefix, the radix in force is 8, and that zero is the numeral's first digit. `0777` is 511, and `0` is 0.
+    /// of a prefix, the effective radix is 8, and that zero is the numeral's first digit. `0777` is 511, and `0` is 0.
     #[inline(always)]
     pub fn literal_octal_zero(&self) -> bool
         ensures { result ≡ self.now.literal_octal_zero }

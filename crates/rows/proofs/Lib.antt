@@ -1,3 +1,3 @@
--- The theorems of the worked rows.
+-- The theorems of the test vectors.
 pub mod Tables
 pub mod rows

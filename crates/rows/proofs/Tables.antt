@@ -1,4 +1,4 @@
--- What the tables of worked rows say, and the types that they name.
+-- What the tables of test vectors say, and the types that they name.
 use Rattle.std.specs.Prelude.{◌≡◌, ℕ, ℤ, List, map, Option, pos, neg_ℤ, true, false}
 use Rattle.lexical_util.specs.declared.error.Error.{Error}
 use Rattle.lexical_util.specs.Format.{Format}

@@ -1,4 +1,4 @@
--- Worked rows, a file for each subject.
+-- Test vectors, a file for each subject.
 -- Written by tools/rows.py from tools/rows.txt and tools/languages.txt: make rows writes it anew.
 pub mod Affixes
 pub mod Behind

@@ -1,4 +1,4 @@
-//! Worked rows: texts with their answers worked out by hand, as theorems, and hostile texts beside a slow reading of the
+//! Test vectors: texts with their answers worked out by hand, as theorems, and hostile texts beside a reference implementation of the
 //! grammar. No crate uses this one.
 #![tactic(auto)]
 

@@ -1,4 +1,4 @@
-// What no clause says: that the built calls answer hostile texts as a slow reading of the grammar does.
+// What no clause says: that the built calls answer hostile texts as a reference implementation of the grammar does.
 mod beginnings;
 mod broken;
 mod bytes;
@@ -8,5 +8,5 @@ mod languages;
 mod lengths;
 mod parted;
 mod ready;
-mod slow;
+mod reference;
 mod small;

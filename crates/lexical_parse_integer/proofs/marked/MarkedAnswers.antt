@@ -32,7 +32,7 @@ use Rattle.lexical_parse_integer.proofs.reading.ParserAnswers.{sign_minus}
 use Rattle.lexical_parse_integer.proofs.reading.Soundness.{separator_no_digit, suffix_no_digit, suffix_no_separator}
 use Rattle.lexical_parse_integer.proofs.words.WordsInTexts.{StandsAt, length-ahead, stands_ahead}
 
--- ---- the radix in force is fit
+-- ---- the effective radix is fit
 
 pub fits_head : (f : Format) (t : IntegerType) (text : List ℕ) (h : Head) → IsNone (fault f) → head_of f t text ≡ Ok h → IsFit f h.radix
 unfolding head_of

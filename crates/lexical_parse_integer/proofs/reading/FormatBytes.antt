@@ -1,4 +1,4 @@
--- What a format's validity says of separator and suffix in the radix in force: for a cursor behind its prefix.
+-- What a format's validity says of separator and suffix in the effective radix: for a cursor behind its prefix.
 use Rattle.std.proofs.Common.{◌≡◌, ℕ, Bool, true, false, cond, subst, List, IsNone, Option, Some, None, refl, sym, ap, arith, inl, inr, ◌+◌}
 use Rattle.std.specs.Prelude.{◌≢◌, ◌≤◌, slice_get}
 use Rattle.std.proofs.lemmas.Bool.{false≢true, cases_eq}
@@ -12,7 +12,7 @@ use Rattle.lexical_parse_integer.specs.Affixes.{is_affix, literal_radix, marked_
 use Rattle.lexical_parse_integer.specs.Runs.{are_same}
 use Rattle.lexical_parse_integer.proofs.reading.OctalZeros.{octal_asked}
 
--- what the format's validity gives a cursor under a radix in force
+-- what the format's validity gives a cursor under an effective radix
 pub record IsFit (format : Format) (radix : ℕ) : Type 0 where
   pub is_radix : IsRadix radix
   pub separator : (byte : ℕ) → format.digit_separator ≡ Some byte → digit byte radix ≡ None

@@ -1,4 +1,4 @@
--- What an octal zero says of its bytes, and of the radix in force.
+-- What an octal zero says of its bytes, and of the effective radix.
 use Rattle.std.proofs.Common.{◌≡◌, ℕ, Bool, false, true, ◌&&◌, List, Option, Some, None, refl, ap, arith}
 use Rattle.std.specs.Prelude.{◌≢◌, slice_get}
 use Rattle.std.proofs.Math.Bool.{and-false}

@@ -9,7 +9,7 @@ use Rattle.lexical_parse_integer.proofs.grammar.FrontValues.{front_value-next}
 use Rattle.lexical_parse_integer.proofs.reading.DigitLoop.{digit_below, digit_taken, numeral_radix, reads_next}
 use Rattle.lexical_parse_integer.proofs.bound.WordSteps.{room_fits}
 
--- the radix in force stays
+-- the effective radix stays
 pub radix_after : (u v w : CursorView) (d : ℕ) → MovesOn u v → TakesDigit v w d → u.radix ≡ w.radix
 radix_after u v w d g k = sym (ap (λ (z : CursorView). z.radix) k.after ∙ g.radix)
 

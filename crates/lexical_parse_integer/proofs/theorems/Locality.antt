@@ -136,7 +136,7 @@ sign_reach f text s None count k radix ends far =
     let low = far.low in
     (omega arith, λ byte. let first = zero_counts (bare_radix f text s.1) text s.1 count radix byte ends in let deep = far.deep first.0 first.1 in omega arith)
 
--- each radix in force is at least 2
+-- each effective radix is at least 2
 radix_least : (f : Format) (text : List ℕ) (s : Bool × ℕ) (p : Option ℕ) → IsNone (fault f) → prefix_radix f text s.1 ≡ p → 2 ≤ (head_behind f text s p).radix
 radix_least f text s None valid e = by_zero (octal_zero_at f text s.1) refl
   where

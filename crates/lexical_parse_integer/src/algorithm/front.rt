@@ -22,7 +22,7 @@ use lexical_util::num::Integer;
 use lexical_util::result::Result;
 
 // What stands before a numeral: whether there is a minus, whether a prefix or an octal zero stands behind the sign, where
-// the numeral starts, and the radix in force there.
+// the numeral starts, and the effective radix there.
 #[derive(Clone, Copy)]
 pub(crate) struct Head {
     pub(crate) is_negative: bool,

@@ -1,4 +1,4 @@
--- Worked rows: the integers of Rust, Go, Swift, Ada and VHDL, and of assemblers.
+-- Test vectors: the integers of Rust, Go, Swift, Ada and VHDL, and of assemblers.
 -- Written by tools/rows.py from tools/languages.txt: make rows writes it anew.
 use Rattle.std.specs.Prelude.{◌≡◌, [], ◌∷◌, codes, pos, Some, true, Ok, Err}
 use Rattle.std.proofs.Common.{refl}

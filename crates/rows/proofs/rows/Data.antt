@@ -1,4 +1,4 @@
--- Worked rows: the integers of JSON, JSON5, TOML, YAML and SQL.
+-- Test vectors: the integers of JSON, JSON5, TOML, YAML and SQL.
 -- Written by tools/rows.py from tools/languages.txt: make rows writes it anew.
 use Rattle.std.specs.Prelude.{◌≡◌, [], ◌∷◌, codes, pos, Some, true, Ok, Err}
 use Rattle.std.proofs.Common.{refl}

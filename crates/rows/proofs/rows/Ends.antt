@@ -1,4 +1,4 @@
--- Worked rows: values at the ends of the types, and outside of them.
+-- Test vectors: values at the ends of the types, and outside of them.
 -- Written by tools/rows.py from tools/rows.txt: make rows writes it anew.
 use Rattle.std.specs.Prelude.{[], ◌∷◌, codes, pos, Ok, Err}
 use Rattle.std.proofs.Common.{refl}

@@ -1,4 +1,4 @@
--- Worked rows: separators, by the flags that are set.
+-- Test vectors: separators, by the flags that are set.
 -- Written by tools/rows.py from tools/rows.txt: make rows writes it anew.
 use Rattle.std.specs.Prelude.{[], ◌∷◌, codes, pos, Some, true, false, Ok, Err}
 use Rattle.std.proofs.Common.{refl}

@@ -1,4 +1,4 @@
--- Worked rows: formats, and the fault of the first rule that one breaks.
+-- Test vectors: formats, and the fault of the first rule that one breaks.
 -- Written by tools/rows.py from tools/rows.txt: make rows writes it anew.
 use Rattle.std.specs.Prelude.{[], ◌∷◌, codes, Some, None, true, Err}
 use Rattle.std.proofs.Common.{refl}

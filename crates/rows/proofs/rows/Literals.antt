@@ -1,4 +1,4 @@
--- Worked rows: prefixes by which the text chooses its radix.
+-- Test vectors: prefixes by which the text chooses its radix.
 -- Written by tools/rows.py from tools/rows.txt: make rows writes it anew.
 use Rattle.std.specs.Prelude.{[], ◌∷◌, codes, pos, Some, true, Ok, Err}
 use Rattle.std.proofs.Common.{refl}
@@ -46,7 +46,7 @@ literal_case_complete : Answers complete (
 unfolding grammar
 literal_case_complete = refl
 
--- ---- the radix in force decides which bytes are digits, and which values leave the type
+-- ---- the effective radix decides which bytes are digits, and which values leave the type
 
 literal_faults_complete : Answers complete (
     (record standard { literal_prefixes = true }, u32, codes "0x", Err (Empty 2)) ∷
@@ -71,7 +71,7 @@ literal_faults_partial : Answers partial (
 unfolding grammar
 literal_faults_partial = refl
 
--- ---- zeros behind a literal prefix are allowed, and separators are judged in the radix in force
+-- ---- zeros behind a literal prefix are allowed, and separators are judged in the effective radix
 
 literals_beside_others_complete : Answers complete (
     (record standard { literal_prefixes = true; no_integer_leading_zeros = true }, u32, codes "0x01", Ok (pos 1)) ∷

@@ -1,4 +1,4 @@
--- Worked rows: literals of languages, from the texts of their references.
+-- Test vectors: literals of languages, from the texts of their references.
 -- Written by tools/rows.py from tools/rows.txt: make rows writes it anew.
 use Rattle.std.specs.Prelude.{[], ◌∷◌, codes, pos, Some, true, Ok, Err}
 use Rattle.std.proofs.Common.{refl}

@@ -1,4 +1,4 @@
--- Worked rows: radixes from 2 to 36.
+-- Test vectors: radixes from 2 to 36.
 -- Written by tools/rows.py from tools/rows.txt: make rows writes it anew.
 use Rattle.std.specs.Prelude.{[], ◌∷◌, codes, pos, Ok, Err}
 use Rattle.std.proofs.Common.{refl}

@@ -1,4 +1,4 @@
--- Worked rows: separators beside signs, faults, and bytes of other kinds.
+-- Test vectors: separators beside signs, faults, and bytes of other kinds.
 -- Written by tools/rows.py from tools/rows.txt: make rows writes it anew.
 use Rattle.std.specs.Prelude.{[], ◌∷◌, codes, pos, Some, true, Ok, Err}
 use Rattle.std.proofs.Common.{refl}
@@ -104,7 +104,7 @@ digits_that_separate_complete : Answers complete (
 unfolding grammar
 digits_that_separate_complete = refl
 
--- ---- a digit beside a separator is one of the radix in force
+-- ---- a digit beside a separator is one of the effective radix
 
 great_radix_complete : Answers complete (
     -- 1 * 16 + 15

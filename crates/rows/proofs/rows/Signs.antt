@@ -1,4 +1,4 @@
--- Worked rows: signs, and digits that are missing.
+-- Test vectors: signs, and digits that are missing.
 -- Written by tools/rows.py from tools/rows.txt: make rows writes it anew.
 use Rattle.std.specs.Prelude.{[], ◌∷◌, codes, pos, Some, true, false, Ok, Err}
 use Rattle.std.proofs.Common.{refl}

@@ -1,4 +1,4 @@
--- Worked rows: where reading stops.
+-- Test vectors: where reading stops.
 -- Written by tools/rows.py from tools/rows.txt: make rows writes it anew.
 use Rattle.std.specs.Prelude.{[], ◌∷◌, codes, pos, Ok, Err}
 use Rattle.std.proofs.Common.{refl}

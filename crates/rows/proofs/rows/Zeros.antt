@@ -1,4 +1,4 @@
--- Worked rows: leading zeros, and the integers of JSON.
+-- Test vectors: leading zeros, and the integers of JSON.
 -- Written by tools/rows.py from tools/rows.txt: make rows writes it anew.
 use Rattle.std.specs.Prelude.{[], ◌∷◌, codes, pos, Some, true, Ok, Err}
 use Rattle.std.proofs.Common.{refl}

@@ -5,7 +5,7 @@ use super::formats::{
     SUFFIX_CASE, format_of,
 };
 use super::ready::TEXTS;
-use super::slow::LONGEST;
+use super::reference::LONGEST;
 use lexical_parse_integer::NumberFormat;
 use lexical_parse_integer::format::{JSON, STANDARD};
 use std::process::Abort;
@@ -119,7 +119,7 @@ _h
 01.1
 00.1";
 
-// Each beginning of the text of each line, as long as the slow reading reads.
+// Each beginning of the text of each line, as long as the reference reads.
 fn beginnings(rt: &impl Abort, format: &NumberFormat, texts: &str) {
     for text in texts.lines() {
         let text = text.as_bytes();

@@ -1,6 +1,6 @@
 // The rules of formats, and formats that break one rule, two, or any number of them.
 use super::compare::{I64, U8, agrees};
-use super::slow::digit_of;
+use super::reference::digit_of;
 use lexical_parse_integer::{Error, NumberFormat, NumberFormatBuilder};
 
 // Whether a byte may be no separator, prefix or suffix.

@@ -1,6 +1,6 @@
-// Comparisons of the parsers with the slow reading, as each of the integer types.
+// Comparisons of the parsers with the reference, as each of the integer types.
 use super::broken::first_broken;
-use super::slow::{Number, complete, partial, read};
+use super::reference::{Number, complete, partial, read};
 use lexical_parse_integer::format::STANDARD;
 use lexical_parse_integer::options::{LARGE_NUMBERS, SMALL_NUMBERS};
 use lexical_parse_integer::{FromLexicalWithOptions, NumberFormat, Options, Result};
@@ -83,7 +83,7 @@ fn answers(kind: Kind, text: &[u8], format: &NumberFormat, options: Option<Optio
     }
 }
 
-// What the slow reading has both parsers answer.
+// What the reference has both parsers answer.
 fn expected(kind: Kind, text: &[u8], format: &NumberFormat) -> Answers {
     if let Some(fault) = first_broken(format) {
         return (Err(fault), Err(fault));
@@ -96,7 +96,7 @@ fn expected(kind: Kind, text: &[u8], format: &NumberFormat) -> Answers {
     )
 }
 
-// Both parsers answer what the slow reading does, with either kind of options, and under the standard format also by
+// Both parsers answer what the reference does, with either kind of options, and under the standard format also by
 // the calls without options.
 pub(super) fn agrees(rt: &impl Abort, kind: Kind, format: &NumberFormat, text: &[u8]) {
     let expected = expected(kind, text, format);

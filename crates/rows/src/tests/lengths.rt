@@ -1,5 +1,5 @@
 // Texts of digits alone, at both ends of each range of lengths that are read in a way of their own, with one other byte
-// at each place. The slow reading tells what they stand for.
+// at each place. The reference tells what they stand for.
 use super::compare::{I32, I64, KINDS, Kind, U64, agrees};
 use super::formats::{
     INTERNAL, LITERALS, NO_PLUS, NO_ZEROS, PREFIX, SEPARATOR, SIGN, SUFFIX, format_of,

@@ -1,4 +1,4 @@
-// The texts of the worked rows under `STANDARD` and `JSON`.
+// The texts of the test vectors under `STANDARD` and `JSON`.
 // Written by tools/rows.py from tools/rows.txt and tools/languages.txt: make rows writes it anew.
 pub(super) const TEXTS: &str = " 5
 +-0000

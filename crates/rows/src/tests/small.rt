@@ -1,4 +1,4 @@
-// Every text of up to four or five bytes out of a few, by the slow reading.
+// Every text of up to four or five bytes out of a few, by the reference.
 use super::compare::{I8, I64, Kind, U8, U32, agrees};
 use super::formats::{
     BEHIND_PREFIX, LITERALS, NO_PLUS, NO_ZEROS, OCTAL, OPTIONAL, PREFIX, SEPARATOR, SIGN, SUFFIX,

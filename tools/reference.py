@@ -1,4 +1,4 @@
-"""A slow reading of the grammar, to compare the built program and the library with.
+"""A reference implementation of the grammar, to compare the built program and the library with.
 
 Written from docs/GRAMMAR.md, and not from the code or the definitions in specs/, so that a slip
 there isn't repeated here. It looks at the whole text by its places, as the grammar does: it finds
@@ -170,8 +170,8 @@ def prefixes_of(form: Format) -> Iterator[Tuple[int, int]]:
 
 
 class Region(NamedTuple):
-    """Where the numeral's region starts, whether a prefix stands before it, the radix in force, and
-    whether a zero at its start makes it octal."""
+    """Where the numeral's region starts, whether a prefix stands before it, the effective radix,
+    and whether a zero at its start makes it octal."""
 
     start: int
     prefixed: bool

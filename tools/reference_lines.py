@@ -1,10 +1,10 @@
 #!/usr/bin/env python3
-"""A slow reading of the program's lines, to compare the built program with.
+"""A reference implementation of the program's lines, to compare the built program with.
 
-    python3 tools/slow_reading.py            answers the lines of standard input
-    python3 tools/slow_reading.py --check    compares it with the worked rows and known runs
+    python3 tools/reference_lines.py            answers the lines of standard input
+    python3 tools/reference_lines.py --check    compares it with the test vectors and known runs
 
-Written from docs/GRAMMAR.md and crates/lexint/README.md, as tools/slow_grammar.py says, which reads
+Written from docs/GRAMMAR.md and crates/lexint/README.md, as tools/reference.py says, which reads
 the texts. Needs Python 3.8 and nothing else.
 """
 from __future__ import annotations
@@ -15,8 +15,8 @@ from typing import Iterator, List, NamedTuple, Optional, Tuple
 
 import row_data
 import run_lines
-from slow_grammar import (BYTE_FIELDS, FLAG_FIELDS, JSON, STANDARD, TYPES, WORTH, Answer, Fault,
-                          Format, Value, format_fault, parse)
+from reference import (BYTE_FIELDS, FLAG_FIELDS, JSON, STANDARD, TYPES, WORTH, Answer, Fault,
+                       Format, Value, format_fault, parse)
 
 # ---- tokens
 
@@ -147,7 +147,7 @@ def output_of(source: bytes) -> str:
     return "".join(session.answer(line) for line in lines_of(source))
 
 
-# ---- the slow reading itself against what is known
+# ---- the reference itself against what is known
 
 # Longer runs of tools/lines.txt would take it minutes.
 LONGEST = 10_000
@@ -159,7 +159,7 @@ def form_of(row: row_data.Row) -> Format:
 
 
 def answer_of_row(row: row_data.Row) -> row_data.Answer:
-    """The slow reading's answer to a row of tools/rows.txt."""
+    """The reference's answer to a row of tools/rows.txt."""
     form = form_of(row)
     answer: Optional[Answer] = format_fault(form)
     if answer is None and row.parser != "format":
@@ -187,12 +187,12 @@ def judged_runs() -> Iterator[Judged]:
 
 
 def check() -> int:
-    """Compares the slow reading with the worked rows and the runs, and answers the exit status."""
+    """Compares the reference with the test vectors and the runs, and answers the exit status."""
     judged = list(judged_rows()) + list(judged_runs())
     wrong = [one for one in judged if one[1] != one[2]]
     for question, answer, wanted in wrong:
-        print(f"slow_reading: {question}: {answer!r}, and not {wanted!r}")
-    print(f"slow_reading: {len(judged)} rows and runs, {len(wrong)} answered in another way")
+        print(f"reference_lines: {question}: {answer!r}, and not {wanted!r}")
+    print(f"reference_lines: {len(judged)} rows and runs, {len(wrong)} answered in another way")
     return 1 if wrong else 0
 
 
