@@ -16,7 +16,8 @@ from random import Random
 from typing import Any, Callable, Dict, Iterator, List, NamedTuple, Optional, Tuple
 
 from slow_grammar import (FLAG_FIELDS, JSON, STANDARD, TYPES, Answer, Format, IntegerType, Value,
-                          digit, format_fault, matches, parse, prefixes_of)
+                          digit, format_fault, matches, number_in_front, parse, prefixes_of)
+from slow_reading import Token, tokens_of
 
 ALPHABET = b"0129-+_xF"
 TEXTS = [bytes(text) for size in range(5) for text in itertools.product(ALPHABET, repeat=size)]
@@ -192,8 +193,35 @@ def fault_is_dead(case: Case, chance: Random) -> Optional[bool]:
     return read(case.form, case.kind, case.text[:answer.place + 1] + tail) is None
 
 
+def front_is_longest(case: Case, chance: Random) -> Optional[bool]:
+    """The number in front is an integer by itself, and without separators no longer front is."""
+    form, kind, text, _ = case
+    front = number_in_front(form, kind, text)
+    if not isinstance(front, Value):
+        return None
+    longer = range(front.stop + 1, len(text) + 1) if form.digit_separator is None else ()
+    return (read(form, kind, text[:front.stop]) == front.value
+            and all(read(form, kind, text[:stop]) is None for stop in longer))
+
+
+def foreign_byte_ends(case: Case, chance: Random) -> Optional[bool]:
+    """A text that isn't missing its end is read alike in front of a byte that is no part of one."""
+    form, kind, text, _ = case
+    front = parse(form, kind, text, True)
+    tail = b";" + bytes(chance.choices(ALPHABET, k=chance.randrange(4)))
+    return None if front == ("Empty", len(text)) else parse(form, kind, text + tail, True) == front
+
+
+def tokens_join(case: Case, chance: Random) -> bool:
+    """The tokens of two sources put together at a line feed are those of both."""
+    later, place = chance.choice(TEXTS), len(case.text) + 1
+    moved = [Token(name, start + place, stop + place) for name, start, stop in tokens_of(later)]
+    return list(tokens_of(case.text + b"\n" + later)) == [*tokens_of(case.text), *moved]
+
+
 LAWS: List[Law] = [generated, types_agree, relaxing_keeps, case_is_irrelevant,
-                   separators_count_nothing, json_is_canonical, fault_is_dead]
+                   separators_count_nothing, json_is_canonical, fault_is_dead,
+                   front_is_longest, foreign_byte_ends, tokens_join]
 
 
 def draw_format(chance: Random) -> Format:

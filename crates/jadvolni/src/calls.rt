@@ -11,7 +11,7 @@ ghost use Rattle.jadvolni.specs.FormatFields.{are_known, format_of};
 use crate::format::FormatFields;
 use crate::outcome::{Outcome, UNKNOWN_FIELD};
 use crate::slot::Slot;
-use lexical_parse_integer::algorithm::value_if_short;
+use lexical_parse_integer::quick::value_if_short;
 use lexical_parse_integer::{
     FromLexical, FromLexicalWithOptions, NumberFormatBuilder, Options, Result, format,
     number_in_front, options,

@@ -119,7 +119,9 @@ fn with_sixteen<T: Integer>(digits: &[u8], place: usize, value: T) -> Option<T>
     ensures { IfSome result
         (λ next. StandsFor T.TYPE 10 false (take (place + 16) digits.now) (T.number next)) }
 {
-    let (high, low) = numbers_to_16(&digits[place..place + 16])?;
+    let Some((high, low)) = numbers_to_16(&digits[place..place + 16]) else {
+        return None;
+    };
     let rest = joined::<T>(high, 100_000_000, low);
     let scale = joined::<T>(100_000_000, 100_000_000, 0);
     if T::BITS > 64 && place <= 16 {

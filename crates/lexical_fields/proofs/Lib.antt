@@ -8,6 +8,8 @@ pub mod FieldPieces
 pub mod FieldRows
 pub mod FieldSteps
 pub mod FieldsInParts
+pub mod MarkedFields
 pub mod Marks
 pub mod MovedFields
+pub mod ThreeDigits
 pub mod WholeFields

@@ -6,3 +6,4 @@ pub mod Parts
 pub mod Places
 pub mod ReadFields
 pub mod Search
+pub mod Threes

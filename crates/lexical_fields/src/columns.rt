@@ -3,8 +3,8 @@
 ghost use Rattle.std.specs.Prelude.{◌≡◌, length, take, drop, map, IfOk};
 ghost use Rattle.lexical_fields.specs.Columns.{GoesOn, answer_of, numbers_of};
 
-use crate::first::read_first;
-use lexical_parse_integer::algorithm::is_separated;
+use crate::marked::read_next;
+use lexical_parse_integer::quick::is_separated;
 use lexical_parse_integer::parse::ParseInteger;
 use lexical_parse_integer::{Error, NumberFormat, Options};
 
@@ -67,12 +67,15 @@ pub fn read_column<T: ParseInteger>(
     }
     let separated = is_separated(format, separator);
     let mut rest = text;
+    let mut marks = 0;
     for count in 0..values.len() {
         let start = text.len() - rest.len();
         if rest.is_empty() {
             return Ok(Column { count, stop: start });
         }
-        let (answer, behind) = read_first::<T>(start, rest, separator, format, options, separated);
+        let (answer, behind, more) = read_next::<T>(
+            start, rest, marks, separator, format, options, separated,
+        );
         match answer {
             Ok(value) => values[count] = value,
             Err(error) => {
@@ -84,6 +87,7 @@ pub fn read_column<T: ParseInteger>(
             }
         }
         rest = behind;
+        marks = more;
     }
     Ok(Column {
         count: values.len(),

@@ -8,7 +8,7 @@ ghost use Rattle.lexical_fields.specs.ReadFields.{field_answer};
 
 use crate::places::field_answer;
 use crate::split::split_field;
-use lexical_parse_integer::algorithm::field_in_front;
+use lexical_parse_integer::quick::field_in_front;
 use lexical_parse_integer::parse::ParseInteger;
 use lexical_parse_integer::{NumberFormat, Options, Result};
 

@@ -11,10 +11,12 @@
 mod columns;
 mod first;
 mod iterator;
+mod marked;
 mod parts;
 mod places;
 mod search;
 mod split;
+mod threes;
 
 pub use columns::{Column, ColumnError, read_column};
 pub use iterator::{Field, Fields};

@@ -1,7 +1,7 @@
 // Where a byte first stands, by sixteen bytes at once.
 ghost use Rattle.std.specs.Prelude.{◌≡◌, ◌≢◌, ◌==◌, ◌<◌, ◌≤◌, ℕ, if◌then◌else◌, length, slice_index, IfSome, IsNone};
 ghost use Rattle.std.specs.Int.{bit_at};
-ghost use Rattle.lexical_fields.specs.Search.{StandsFirst};
+ghost use Rattle.lexical_fields.specs.Search.{AreMarks, StandsFirst};
 
 use std::simd::prelude::*;
 
@@ -15,9 +15,33 @@ fn marks(lanes: u8x16, byte: u8) -> u64
     lanes.simd_eq(u8x16::splat(byte)).to_bitmask()
 }
 
+// A bit for each of 64 bytes, set where that is the byte.
+#[inline(always)]
+fn marks_of_64(bytes: &[u8], byte: u8) -> u64
+    requires { length bytes.now ≡ 64 }
+    ensures here { (k : ℕ) → k < 64
+        → bit_at result k ≡ (if slice_index bytes.now k == byte then 1 else 0) }
+    ensures beyond { (k : ℕ) → 64 ≤ k → bit_at result k ≡ 0 }
+{
+    u8x64::from_slice(bytes)
+        .simd_eq(u8x64::splat(byte))
+        .to_bitmask()
+}
+
+// The separators among the first bytes of a text, a bit for each, and none where the text is short.
+#[inline(always)]
+pub(crate) fn marks_in_front(text: &[u8], separator: u8) -> u64
+    ensures { AreMarks separator text.now result }
+{
+    if text.len() < 80 {
+        return 0;
+    }
+    marks_of_64(&text[..64], separator)
+}
+
 // The least bit that is set.
 #[inline(always)]
-fn lowest(marks: u64) -> usize
+pub(crate) fn lowest(marks: u64) -> usize
     requires { marks ≢ 0 }
     ensures set { bit_at marks result ≡ 1 }
     ensures below { (k : ℕ) → k < result → bit_at marks k ≡ 0 }

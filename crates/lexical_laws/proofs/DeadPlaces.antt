@@ -62,7 +62,7 @@ first_same n [] (y ∷ ys) e = cc
 first_same n (x ∷ xs) [] e = cc
 first_same n (x ∷ xs) (y ∷ ys) e = let same : x ≡ y = cc in ap Some same
 
-inside_other : (place : ℕ) (text other : List ℕ) → SameFront (place + 1) text other → place < length text → place < length other
+pub inside_other : (place : ℕ) (text other : List ℕ) → SameFront (place + 1) text other → place < length text → place < length other
 inside_other place text other same within =
     let size = ap length same in
     omega (arith, length-take (place + 1) text, length-take (place + 1) other)
@@ -79,7 +79,7 @@ same_sign f t text other place same =
     ap (sign_by f t) (sym (first_same place text other same'))
 
 -- the other text's answer, where the partial one is settled at the place
-settled_dead : (f : Format) (t : IntegerType) (text other : List ℕ) (place : ℕ) (v : ℤ) → IsLocal f t →
+pub settled_dead : (f : Format) (t : IntegerType) (text other : List ℕ) (place : ℕ) (v : ℤ) → IsLocal f t →
     ((text : List ℕ) → complete f t text ≡ completion_of (length text) (partial f t text)) →
     (answer : Result (ℤ × ℕ) Error) → partial f t text ≡ answer → IsSettledAt (length text) place answer → SameFront (place + 1) text other → place < length other →
     completion_of (length other) answer ≢ Ok v → complete f t other ≢ Ok v

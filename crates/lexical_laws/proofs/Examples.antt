@@ -5,7 +5,8 @@ use Rattle.lexical_util.specs.declared.error.Error.TheVariants.{Empty, InvalidDi
 use Rattle.lexical_util.specs.Format.{Format, json, standard}
 use Rattle.lexical_util.specs.Number.{IntegerType, integer_type}
 use Rattle.lexical_parse_integer.specs.Computed.{grammar}
-use Rattle.lexical_parse_integer.specs.Grammar.{complete}
+use Rattle.lexical_parse_integer.specs.Grammar.{complete, partial}
+use Rattle.lexical_parse_integer.specs.Fronts.{number_in_front}
 use Rattle.lexical_laws.specs.Integer.{IsInteger}
 use Rattle.lexical_laws.specs.Integer.IsPrefix.{no_prefix}
 use Rattle.lexical_laws.specs.Integer.IsSign.{no_sign as none}
@@ -173,3 +174,36 @@ parted_by_x = record standard { digit_separator = Some 120; integer_internal_dig
 one_x_zero : (complete parted_by_x u8 (49 ∷ 120 ∷ 48 ∷ []) ≡ Ok (pos 10)) × (complete parted_by_x u8 (49 ∷ 88 ∷ 48 ∷ []) ≡ Err (InvalidDigit 1))
 unfolding grammar
 one_x_zero = (refl, refl)
+
+-- ---- fronts: of `12x` the front `12` is read
+
+twelve : (number_in_front standard u8 (49 ∷ 50 ∷ 120 ∷ []) ≡ Ok (pos 12, 2)) × (complete standard u8 (49 ∷ 50 ∷ []) ≡ Ok (pos 12))
+unfolding grammar
+twelve = (refl, refl)
+
+-- a fault comes before the longest front
+too_great : (number_in_front standard u8 (50 ∷ 53 ∷ 54 ∷ []) ≡ Err (Overflow 2)) × (complete standard u8 (50 ∷ 53 ∷ []) ≡ Ok (pos 25))
+unfolding grammar
+too_great = (refl, refl)
+
+-- where separators may trail alone, a longer front may be an integer
+abbrev trailing : Format
+trailing = record standard { digit_separator = Some 95; integer_trailing_digit_separator = true }
+
+one_trails : (number_in_front trailing u8 (49 ∷ 95 ∷ 50 ∷ []) ≡ Ok (pos 1, 1)) × (complete trailing u8 (49 ∷ 95 ∷ []) ≡ Ok (pos 1))
+unfolding grammar
+one_trails = (refl, refl)
+
+-- ---- foreign bytes: `12;3` is read as `12` is
+
+twelve_alone : (partial standard u8 (49 ∷ 50 ∷ 59 ∷ 51 ∷ []) ≡ Ok (pos 12, 2)) × (partial standard u8 (49 ∷ 50 ∷ []) ≡ Ok (pos 12, 2))
+unfolding grammar
+twelve_alone = (refl, refl)
+
+-- where the end is missing, a byte behind it may count
+abbrev prefixed : Format
+prefixed = record standard { base_prefix = Some 120 }
+
+missing_end : (partial prefixed u8 (48 ∷ 120 ∷ []) ≡ Err (Empty 2)) × (partial prefixed u8 (48 ∷ 120 ∷ 59 ∷ []) ≡ Ok (pos 0, 2))
+unfolding grammar
+missing_end = (refl, refl)

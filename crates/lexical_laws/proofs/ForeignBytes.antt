@@ -1,5 +1,5 @@
 -- What stands behind a byte that is no part of a number counts for nothing.
-use Rattle.std.proofs.Common.{◌≡◌, ℕ, zero, suc, ◌+◌, ◌-◌, ◌<◌, ◌≤◌, Bool, true, false, ◌&&◌, ◌||◌, cond, List, [], ◌∷◌, ◌++◌, length, filter, map, not, Option, Some, None, IsNone, IsSome, is_some, option_and_then, Ok, Err, Result, refl, sym, ap, subst, ◌∙◌, arith, ◌⊎◌, inl, inr, length-append}
+use Rattle.std.proofs.Common.{◌≡◌, ℕ, zero, suc, ◌+◌, ◌-◌, ◌<◌, ◌≤◌, Bool, true, false, ◌&&◌, ◌||◌, cond, List, [], ◌∷◌, ◌++◌, length, filter, map, not, Option, Some, None, IsNone, IsSome, is_some, Ok, Err, Result, refl, sym, ap, ◌∙◌, arith, inl, inr, length-append}
 use Rattle.std.proofs.Math.IntN.{ℤ}
 use Rattle.std.proofs.Math.Bool.{and-false}
 use Rattle.std.proofs.lemmas.Bool.{and_parts, cases_lt, false≢true, ne_eqb}
@@ -9,19 +9,18 @@ use Rattle.std.specs.List.{range_with_len}
 use Rattle.std.specs.Option.{option_map, unwrap_or}
 use Rattle.std.specs.Prelude.{◌==◌, ◌≢◌, find, nat_le, nat_lt, slice_get, slice_index}
 use Rattle.lexical_util.specs.declared.error.Error.{Error}
-use Rattle.lexical_util.specs.declared.error.Error.TheVariants.{Empty, InvalidLeadingZeros, MissingSign, Overflow, Underflow}
+use Rattle.lexical_util.specs.declared.error.Error.TheVariants.{Empty, InvalidLeadingZeros, MissingSign}
 use Rattle.lexical_util.specs.Digit.{digit}
 use Rattle.lexical_util.specs.Format.{Format}
 use Rattle.lexical_util.specs.Number.{IntegerType, is_number}
 use Rattle.lexical_util.specs.Validity.{fault}
 use Rattle.lexical_util.proofs.Valid.{digit_below}
 use Rattle.lexical_parse_integer.specs.Affixes.{bare_radix, is_affix, marked_radix, numeral_stop, octal_zero_at, prefix_radix, suffix_at}
-use Rattle.lexical_parse_integer.specs.Grammar.{after_head, common_faults, digits_required, fault_if, first_fault_or, first_outside, lacks_digits, partial, partial_faults, prefix_fault, range_error, range_fault, zero_fault}
-use Rattle.lexical_parse_integer.specs.Head.{Head, head_after, head_behind, head_of, no_sign, sign, sign_by}
+use Rattle.lexical_parse_integer.specs.Grammar.{common_faults, digits_required, fault_if, first_fault_or, first_outside, lacks_digits, partial, partial_faults, range_error, range_fault, zero_fault}
+use Rattle.lexical_parse_integer.specs.Head.{Head, chooses_radix, head_after, head_behind, head_of, no_sign, sign, sign_by}
 use Rattle.lexical_parse_integer.specs.Numeral.{Numeral, digit_count, front_value, numeral_in, numeral_value}
 use Rattle.lexical_parse_integer.specs.Runs.{are_same, digit_at, digits_between, end_of, is_in_numeral, places, separator_at}
 use Rattle.lexical_parse_integer.proofs.ForCallers.{IsFit, IsStop-end_of, belongs_other, true_or_false}
-use Rattle.lexical_laws.specs.Integer.{is_separator}
 use Rattle.lexical_laws.specs.Keeping.{IsForeign}
 use Rattle.lexical_laws.proofs.Bodies.{digit_at-some}
 use Rattle.lexical_laws.proofs.Cuts.{AreMarkedAlike, IsCut, head_alike, numeral_same, places_same, same_end}
@@ -36,9 +35,9 @@ use Rattle.lexical_laws.proofs.WhatIsRead.{digit_at-none, none_of, separator_at-
 
 -- the partial answer by the head and the numeral
 abbrev pub partial_by : Format → IntegerType → List ℕ → Head → Numeral → Result (ℤ × ℕ) Error
-partial_by f t text h x = first_fault_or (common_faults f t text h x ++ partial_faults f text x) (numeral_value h.is_minus x, x.stop)
+partial_by f t text h x = first_fault_or (common_faults f t text h x ++ partial_faults f text x) (numeral_value h.is_negative x, x.stop)
 
-pub partial_is : (f : Format) (t : IntegerType) (text : List ℕ) (h : Head) → head_of f t text ≡ Ok h → partial f t text ≡ partial_by f t text h (numeral_in f text h.start h.radix)
+pub partial_is : (f : Format) (t : IntegerType) (text : List ℕ) (h : Head) → head_of f t text ≡ Ok h → partial f t text ≡ partial_by f t text h (numeral_in f h.is_prefixed h.radix text h.start)
 unfolding partial
 partial_is f t text h head = rw head refl
 
@@ -47,20 +46,20 @@ unfolding partial
 partial_fault f t text e head = rw head refl
 
 -- where reading stops is within the text
-pub stop_within : (f : Format) (text : List ℕ) (start r : ℕ) → start ≤ length text → (start ≤ (numeral_in f text start r).stop) × ((numeral_in f text start r).stop ≤ length text)
+pub stop_within : (f : Format) (pre : Bool) (text : List ℕ) (start r : ℕ) → start ≤ length text → (start ≤ (numeral_in f pre r text start).stop) × ((numeral_in f pre r text start).stop ≤ length text)
 unfolding numeral_in numeral_stop
-stop_within f text start r low = by_tests (nat_lt 0 (length (places f r text start))) (suffix_at f text (end_of f r text start)) refl
+stop_within f pre text start r low = by_tests (nat_lt 0 (length (places f pre r text start))) (suffix_at f text (end_of f pre r text start)) refl
   where
-    by_tests : (a b : Bool) → suffix_at f text (end_of f r text start) ≡ b → (start ≤ cond (a && b) (end_of f r text start + 1) (end_of f r text start)) × (cond (a && b) (end_of f r text start + 1) (end_of f r text start) ≤ length text)
+    by_tests : (a b : Bool) → suffix_at f text (end_of f pre r text start) ≡ b → (start ≤ cond (a && b) (end_of f pre r text start + 1) (end_of f pre r text start)) × (cond (a && b) (end_of f pre r text start + 1) (end_of f pre r text start) ≤ length text)
     by_tests true true e =
-        let here = suffix_here f text (end_of f r text start) e in
-        let stop = IsStop-end_of f r text start low in
-        elim (cases_lt (end_of f r text start) (length text)) [
+        let here = suffix_here f text (end_of f pre r text start) e in
+        let stop = IsStop-end_of f pre r text start low in
+        elim (cases_lt (end_of f pre r text start) (length text)) [
           | inl lt ↦ (omega (arith, stop.low), omega arith)
-          | inr ge ↦ (let none = slice_get_past text (end_of f r text start) ge in let some = here.1 in absurd (cc))
+          | inr ge ↦ (let none = slice_get_past text (end_of f pre r text start) ge in let some = here.1 in absurd (cc))
         ]
-    by_tests true false e = let stop = IsStop-end_of f r text start low in (stop.low, stop.high)
-    by_tests false b e = let stop = IsStop-end_of f r text start low in (stop.low, stop.high)
+    by_tests true false e = let stop = IsStop-end_of f pre r text start low in (stop.low, stop.high)
+    by_tests false b e = let stop = IsStop-end_of f pre r text start low in (stop.low, stop.high)
 
 -- where the text ends counts for the faults of missing digits alone
 more_behind : (prefix lacks separated ended : Bool) (zeros range : Option Error) (size stop : ℕ) (v : ℤ × ℕ) → (ended ≡ true → stop ≡ size) →
@@ -184,20 +183,20 @@ module _ (f : Format) (t : IntegerType) (text rest : List ℕ) (byte : ℕ) (val
     digit_off : digit_at h.radix longer (length text) ≡ None
     digit_off = digit_at-some h.radix longer (length text) byte next ∙ no_digit
 
-    cut_longer : IsCut f h.radix longer h.start (length text)
+    cut_longer : IsCut f h.is_prefixed h.radix longer h.start (length text)
     cut_longer = record {
       within = omega (arith, size);
       digit = digit_off;
       run = λ _ _. separator_off;
-      over = belongs_other f h.radix longer h.start (length text) separator_off digit_off;
+      over = belongs_other f h.is_prefixed h.radix longer h.start (length text) separator_off digit_off;
     }
 
-    cut_text : IsCut f h.radix text h.start (length text)
+    cut_text : IsCut f h.is_prefixed h.radix text h.start (length text)
     cut_text = record {
       within = omega arith;
       digit = digit_at-none h.radix text (length text) ended;
       run = λ _ _. separator_at-none f text (length text) ended;
-      over = belongs_other f h.radix text h.start (length text) (separator_at-none f text (length text) ended) (digit_at-none h.radix text (length text) ended);
+      over = belongs_other f h.is_prefixed h.radix text h.start (length text) (separator_at-none f text (length text) ended) (digit_at-none h.radix text (length text) ended);
     }
 
     same_suffix : (k : ℕ) → k ≤ length text → suffix_at f longer k ≡ suffix_at f text k
@@ -210,56 +209,56 @@ module _ (f : Format) (t : IntegerType) (text rest : List ℕ) (byte : ℕ) (val
           ∙ sym (ap (λ j. is_affix f.case_sensitive_base_suffix f.base_suffix (slice_get text j)) e ∙ ap (is_affix f.case_sensitive_base_suffix f.base_suffix) ended ∙ no_affix f.case_sensitive_base_suffix f.base_suffix)
     ]
 
-    same_numeral : numeral_in f longer h.start h.radix ≡ numeral_in f text h.start h.radix
+    same_numeral : numeral_in f h.is_prefixed h.radix longer h.start ≡ numeral_in f h.is_prefixed h.radix text h.start
     same_numeral =
-        let end = same_end f h.radix longer text h.start (length text) cut_longer cut_text within start_low in
-        let spots = places_same f h.radix longer text h.start (length text) cut_longer cut_text within start_low in
-        let stop = IsStop-end_of f h.radix text h.start start_low in
-        numeral_same f h.radix longer text h.start (length text) cut_longer cut_text within start_low
-        (ap (λ ps. nat_lt 0 (length ps) && suffix_at f longer (end_of f h.radix longer h.start)) spots
-        ∙ ap (λ e. nat_lt 0 (length (places f h.radix text h.start)) && suffix_at f longer e) end
-        ∙ ap (λ b. nat_lt 0 (length (places f h.radix text h.start)) && b) (same_suffix (end_of f h.radix text h.start) stop.high))
+        let end = same_end f h.is_prefixed h.radix longer text h.start (length text) cut_longer cut_text within start_low in
+        let spots = places_same f h.is_prefixed h.radix longer text h.start (length text) cut_longer cut_text within start_low in
+        let stop = IsStop-end_of f h.is_prefixed h.radix text h.start start_low in
+        numeral_same f h.is_prefixed h.radix longer text h.start (length text) cut_longer cut_text within start_low
+        (ap (λ ps. nat_lt 0 (length ps) && suffix_at f longer (end_of f h.is_prefixed h.radix longer h.start)) spots
+        ∙ ap (λ e. nat_lt 0 (length (places f h.is_prefixed h.radix text h.start)) && suffix_at f longer e) end
+        ∙ ap (λ b. nat_lt 0 (length (places f h.is_prefixed h.radix text h.start)) && b) (same_suffix (end_of f h.is_prefixed h.radix text h.start) stop.high))
 
     -- ---- the answer
 
     abbrev x : Numeral
-    x = numeral_in f text h.start h.radix
+    x = numeral_in f h.is_prefixed h.radix text h.start
 
     -- the longer text's answer: none of its faults is one of the end
     longer_is : partial f t longer
-        ≡ first_fault_or (None ∷ zero_fault f h.is_marked x ∷ range_fault t h.is_minus x ∷ fault_if (lacks_digits f x && (is_some f.digit_separator || false)) (Empty x.stop) ∷ []) (numeral_value h.is_minus x, x.stop)
+        ≡ first_fault_or (None ∷ zero_fault f (chooses_radix h) x ∷ range_fault t h.is_negative x ∷ fault_if (lacks_digits f x && (is_some f.digit_separator || false)) (Empty x.stop) ∷ []) (numeral_value h.is_negative x, x.stop)
     longer_is =
-        let stop = stop_within f text h.start h.radix start_low in
+        let stop = stop_within f h.is_prefixed text h.start h.radix start_low in
         let start_off : (h.start == length longer) ≡ false = ne_eqb h.start (length longer) (λ e. omega (arith, size, start_low)) in
         let stop_off : (x.stop == length longer) ≡ false = ne_eqb x.stop (length longer) (λ e. omega (arith, size, stop.1)) in
-        partial_is f t longer h (same_head ∙ head) ∙ ap (partial_by f t longer h) same_numeral ∙ rw (start_off, stop_off, and-false h.is_marked) refl
+        partial_is f t longer h (same_head ∙ head) ∙ ap (partial_by f t longer h) same_numeral ∙ rw (start_off, stop_off, and-false h.is_prefixed) refl
 
     read_alike : partial f t text ≢ Err (Empty (length text)) → partial f t longer ≡ partial f t text
     read_alike other' =
         let whole = partial_is f t text h head in
         longer_is
-        ∙ more_behind (h.is_marked && (h.start == length text)) (lacks_digits f x) (is_some f.digit_separator) (x.stop == length text) (zero_fault f h.is_marked x) (range_fault t h.is_minus x) (length text) x.stop (numeral_value h.is_minus x, x.stop)
+        ∙ more_behind (h.is_prefixed && (h.start == length text)) (lacks_digits f x) (is_some f.digit_separator) (x.stop == length text) (zero_fault f (chooses_radix h) x) (range_fault t h.is_negative x) (length text) x.stop (numeral_value h.is_negative x, x.stop)
         (λ on. (grind (arith, nat_tests))) (λ e. other' (whole ∙ e))
         ∙ sym whole
 
     no_digits : h.start ≡ length text → x.digits ≡ []
     unfolding numeral_in digits_between
     no_digits at_end =
-        let stop = IsStop-end_of f h.radix text h.start start_low in
-        let none : end_of f h.radix text h.start - h.start ≡ 0 = omega (arith, stop.high) in
+        let stop = IsStop-end_of f h.is_prefixed h.radix text h.start start_low in
+        let none : end_of f h.is_prefixed h.radix text h.start - h.start ≡ 0 = omega (arith, stop.high) in
         ap (λ n. map (λ place. unwrap_or (digit_at h.radix text place) 0) (filter (λ place. is_some (digit_at h.radix text place)) (range_with_len h.start n))) none
 
     asked_alike : digits_required f ≡ true → is_some f.digit_separator ≡ true → partial f t longer ≡ partial f t text
     asked_alike asked separated =
         longer_is
-        ∙ asked_behind (h.is_marked && (h.start == length text)) (lacks_digits f x) (is_some f.digit_separator) (x.stop == length text) (zero_fault f h.is_marked x) (range_fault t h.is_minus x) (length text) x.stop (numeral_value h.is_minus x, x.stop) separated
+        ∙ asked_behind (h.is_prefixed && (h.start == length text)) (lacks_digits f x) (is_some f.digit_separator) (x.stop == length text) (zero_fault f (chooses_radix h) x) (range_fault t h.is_negative x) (length text) x.stop (numeral_value h.is_negative x, x.stop) separated
         (λ on.
-        let both = and_parts h.is_marked (h.start == length text) on in
+        let both = and_parts h.is_prefixed (h.start == length text) on in
         let at_end : h.start ≡ length text = (let test = both.1 in grind (arith, nat_tests)) in
         let none = no_digits at_end in
-        let stop = stop_within f text h.start h.radix start_low in (
-          no_zero_fault f h.is_marked x none,
-          no_range_fault t h.is_minus x none,
+        let stop = stop_within f h.is_prefixed text h.start h.radix start_low in (
+          no_zero_fault f (chooses_radix h) x none,
+          no_range_fault t h.is_negative x none,
           ap (λ ds. digits_required f && (length ds == 0)) none ∙ rw asked refl,
           omega (arith, stop.0, stop.1),
         ))
@@ -300,23 +299,23 @@ digit_in_force f c cs first = by_zero (f.literal_octal_zero && (c == 48)) refl
         let is : c ≡ 48 = (let test = both.1 in grind (arith, nat_tests)) in
         ap (λ b. is_some (digit b 8)) is
 
-first_belongs : (f : Format) (r c : ℕ) (cs : List ℕ) → is_some (digit c r) ≡ true → is_in_numeral f r (c ∷ cs) 0 0 ≡ true
+first_belongs : (f : Format) (pre : Bool) (r c : ℕ) (cs : List ℕ) → is_some (digit c r) ≡ true → is_in_numeral f pre r (c ∷ cs) 0 0 ≡ true
 unfolding is_in_numeral digit_at
-first_belongs f r c cs first = rw first refl
+first_belongs f pre r c cs first = rw first refl
 
 -- so the numeral has one
-some_digit : (f : Format) (r c : ℕ) (cs : List ℕ) → is_some (digit c r) ≡ true → (digit_count (numeral_in f (c ∷ cs) 0 r) == 0) ≡ false
+some_digit : (f : Format) (pre : Bool) (r c : ℕ) (cs : List ℕ) → is_some (digit c r) ≡ true → (digit_count (numeral_in f pre r (c ∷ cs) 0) == 0) ≡ false
 unfolding numeral_in digits_between digit_at
-some_digit f r c cs first = by_end (end_of f r (c ∷ cs) 0) refl
+some_digit f pre r c cs first = by_end (end_of f pre r (c ∷ cs) 0) refl
   where
-    here : is_in_numeral f r (c ∷ cs) 0 0 ≡ true
-    here = first_belongs f r c cs first
+    here : is_in_numeral f pre r (c ∷ cs) 0 0 ≡ true
+    here = first_belongs f pre r c cs first
 
-    by_end : (n : ℕ) → end_of f r (c ∷ cs) 0 ≡ n → (length (map (λ place. unwrap_or (digit_at r (c ∷ cs) place) 0) (filter (λ place. is_some (digit_at r (c ∷ cs) place)) (range_with_len 0 (n - 0)))) == 0) ≡ false
+    by_end : (n : ℕ) → end_of f pre r (c ∷ cs) 0 ≡ n → (length (map (λ place. unwrap_or (digit_at r (c ∷ cs) place) 0) (filter (λ place. is_some (digit_at r (c ∷ cs) place)) (range_with_len 0 (n - 0)))) == 0) ≡ false
     by_end zero e =
-        let stop = IsStop-end_of f r (c ∷ cs) 0 (omega arith) in
+        let stop = IsStop-end_of f pre r (c ∷ cs) 0 (omega arith) in
         let off = stop.fails (omega (arith, e)) in
-        absurd (false≢true (sym off ∙ ap (is_in_numeral f r (c ∷ cs) 0) e ∙ here))
+        absurd (false≢true (sym off ∙ ap (is_in_numeral f pre r (c ∷ cs) 0) e ∙ here))
     by_end (suc n) e = let size : suc n - 0 ≡ suc n = omega arith in rw size (rw first (ne_eqb (suc _) 0 (λ e. omega arith)))
 
 -- no byte marks a radix
@@ -326,10 +325,10 @@ unmarked f c none unasked = rw (none, unasked) refl
 
 -- what can be wrong with a numeral that has a digit
 faults_are : (f : Format) (t : IntegerType) (text : List ℕ) (h : Head) (x : Numeral) → (h.start == length text) ≡ false → (digit_count x == 0) ≡ false →
-    partial_by f t text h x ≡ first_fault_or (None ∷ fault_if (((f.no_integer_leading_zeros && not h.is_marked) && nat_le 2 (digit_count x)) && (slice_index x.digits 0 == 0)) (InvalidLeadingZeros (slice_index x.places 0))
-    ∷ option_map (λ k. range_error h.is_minus (slice_index x.places k)) (first_outside t h.is_minus x) ∷ None ∷ []) (numeral_value h.is_minus x, x.stop)
+    partial_by f t text h x ≡ first_fault_or (None ∷ fault_if (((f.no_integer_leading_zeros && not (chooses_radix h)) && nat_le 2 (digit_count x)) && (slice_index x.digits 0 == 0)) (InvalidLeadingZeros (slice_index x.places 0))
+    ∷ option_map (λ k. range_error h.is_negative (slice_index x.places k)) (first_outside t h.is_negative x) ∷ None ∷ []) (numeral_value h.is_negative x, x.stop)
 unfolding range_fault
-faults_are f t text h x start some = rw (start, some, and-false h.is_marked, and-false (digits_required f)) refl
+faults_are f t text h x start some = rw (start, some, and-false h.is_prefixed, and-false (digits_required f)) refl
 
 pub digit_read : (f : Format) (t : IntegerType) (c : ℕ) (cs : List ℕ) → IsNone (fault f) → is_some (digit c f.mantissa_radix) ≡ true → f.base_prefix ≡ None → f.literal_prefixes ≡ false → partial f t (c ∷ cs) ≢ Err (Empty (length (c ∷ cs)))
 unfolding head_of sign
@@ -352,8 +351,8 @@ digit_read f t c cs valid first none unasked = by_flag f.required_mantissa_sign 
         let prefix : prefix_radix f (c ∷ cs) 0 ≡ None = no_prefix_radix f (c ∷ cs) (λ b here. unmarked f b none unasked) in
         let h : Head = head_behind f (c ∷ cs) (false, 0) None in
         let head : head_of f t (c ∷ cs) ≡ Ok h = ap (head_after f (c ∷ cs)) sign_is ∙ ap (λ p. Ok (head_behind f (c ∷ cs) (false, 0) p)) prefix in
-        let x : Numeral = numeral_in f (c ∷ cs) 0 (bare_radix f (c ∷ cs) 0) in
-        let some = some_digit f (bare_radix f (c ∷ cs) 0) c cs (digit_in_force f c cs first) in
+        let x : Numeral = numeral_in f false (bare_radix f (c ∷ cs) 0) (c ∷ cs) 0 in
+        let some = some_digit f false (bare_radix f (c ∷ cs) 0) c cs (digit_in_force f c cs first) in
         let answer = faults_are f t (c ∷ cs) h x (ne_eqb 0 (length (c ∷ cs)) (λ e. omega arith)) some in
         not_empty _ false (first_outside t false x) (λ k. slice_index x.places k) _ (length (c ∷ cs)) (numeral_value false x, x.stop) (sym answer ∙ sym (partial_is f t (c ∷ cs) h head) ∙ e)
 

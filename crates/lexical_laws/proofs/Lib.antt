@@ -16,4 +16,5 @@ pub mod WithoutSeparators
 pub mod Canonical
 pub mod Cuts
 pub mod ForeignBytes
+pub mod LongestFronts
 pub mod LetterCase

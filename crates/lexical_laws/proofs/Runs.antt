@@ -135,7 +135,7 @@ other_is_digit : (f : Format) (pre : Bool) (r : ℕ) (text : List ℕ) (start k 
 unfolding is_in_numeral
 other_is_digit f pre r text start k here s = let told = rw s at here in sym (or-false (is_some (digit_at r text k))) ∙ told
 
-run_in_numeral : (f : Format) (pre : Bool) (r : ℕ) (text : List ℕ) (start k : ℕ) → is_in_numeral f pre r text start k ≡ true → digit_at r text k ≡ None → separator_at f text k ≡ true → is_in_passing_run f pre r text start k ≡ true
+pub run_in_numeral : (f : Format) (pre : Bool) (r : ℕ) (text : List ℕ) (start k : ℕ) → is_in_numeral f pre r text start k ≡ true → digit_at r text k ≡ None → separator_at f text k ≡ true → is_in_passing_run f pre r text start k ≡ true
 unfolding is_in_numeral
 run_in_numeral f pre r text start k here none s = rw (none, s) at here
 

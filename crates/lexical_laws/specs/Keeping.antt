@@ -1,6 +1,6 @@
 -- What keeps a value, and what rules one out.
 use Rattle.std.specs.Char.{is_ascii_alphabetic}
-use Rattle.std.specs.Prelude.{false, map, Some, ◌≡◌, ◌≢◌, ◌⊎◌, ◌+◌, ℕ, Bool, true, not, List, filter, None, ℤ, Result, Ok, Err}
+use Rattle.std.specs.Prelude.{false, map, Some, ◌≡◌, ◌≢◌, ◌⊎◌, ◌+◌, ◌<◌, ◌≤◌, ℕ, length, take, Bool, true, not, List, filter, None, ℤ, Result, Ok, Err}
 use Rattle.std.specs.Bool.{⊤}
 use Rattle.lexical_util.specs.Ascii.{minus, plus}
 use Rattle.lexical_util.specs.declared.error.Error.{Error}
@@ -12,7 +12,7 @@ use Rattle.lexical_util.specs.Validity.{lower_case}
 use Rattle.lexical_parse_integer.specs.Affixes.{is_affix, marked_radix}
 use Rattle.lexical_parse_integer.specs.Grammar.{complete}
 use Rattle.lexical_parse_integer.specs.Laws.{SameFront}
-use Rattle.lexical_laws.specs.Integer.{is_separator}
+use Rattle.lexical_laws.specs.Integer.{IsInteger, is_separator}
 
 -- ---- types
 
@@ -94,3 +94,12 @@ pub record IgnoresCase (format : Format) : Type 0 where
   pub suffix : format.case_sensitive_base_suffix ≡ false
   pub separator : (byte : ℕ) → format.digit_separator ≡ Some byte
       → is_ascii_alphabetic byte ≡ false
+
+-- ---- fronts
+
+-- The bytes before a place are an integer, and no text that goes on as this one does is: they are the longest front.
+pub record IsLongestFront (format : Format) (type : IntegerType) (text : List ℕ) (value : ℤ)
+    (place : ℕ) : Type 0 where
+  pub within : place ≤ length text
+  pub whole : IsInteger format type (take place text) value
+  pub last : place < length text → IsDead format type text place

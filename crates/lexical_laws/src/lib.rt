@@ -3,20 +3,21 @@
 //! A law is a call whose contract says what always holds. A proof that needs one calls it and has its clauses.
 #![tactic(auto)]
 
-ghost use Rattle.std.specs.Prelude.{◌≡◌, ◌≢◌, ◌↔◌, ◌<◌, ◌≤◌, ◌⊎◌, ◌++◌, ◌∷◌, codes, Err, false, IsNone, IsSome, length, List, Ok, Some, true, ℕ, ℤ};
+ghost use Rattle.std.specs.Prelude.{◌≡◌, ◌≢◌, ◌↔◌, ◌<◌, ◌≤◌, ◌⊎◌, ◌++◌, ◌∷◌, codes, Err, false, IsNone, IsSome, length, List, Ok, Some, take, true, ℕ, ℤ};
 ghost use Rattle.std.specs.Fmt.{signed_decimal};
 ghost use Rattle.lexical_laws.specs.Integer.{IsInteger};
-ghost use Rattle.lexical_laws.specs.Keeping.{AdmitsMore, AreAlike, IgnoresCase, Implies, IsDead, IsForeign, IsRangeFault, without_separators};
+ghost use Rattle.lexical_laws.specs.Keeping.{AdmitsMore, AreAlike, IgnoresCase, Implies, IsDead, IsForeign, IsLongestFront, IsRangeFault, without_separators};
 ghost use Rattle.lexical_util.specs.Faults.{place_of};
 ghost use Rattle.lexical_util.specs.declared.error.Error.{Error};
 ghost use Rattle.lexical_util.specs.declared.error.Error.TheVariants.{Empty};
+ghost use Rattle.lexical_parse_integer.specs.Fronts.{number_in_front};
 ghost use Rattle.lexical_parse_integer.specs.Grammar.{complete, digits_required, partial};
 ghost use Rattle.lexical_parse_integer.specs.Runs.{digit_at};
 ghost use Rattle.lexical_util.specs.Format.{Format, json};
 ghost use Rattle.lexical_util.specs.Number.{IntegerType, is_number};
 ghost use Rattle.lexical_util.specs.Validity.{fault};
 
-use lexical_parse_integer::laws::grammar::{complete_by_partial, locality, numerals};
+use lexical_parse_integer::laws::grammar::{complete_by_partial, front_end, locality, numerals};
 
 /// What an integer is: the complete parser reads a text as a value exactly where the text is made of a sign, a prefix,
 /// a body and a suffix that may stand there, and the body's digits are worth the value.
@@ -40,6 +41,27 @@ pub fn types()
         → complete format type text ≡ Ok value → is_number other value ≡ false
         → IsRangeFault (complete format other text) }
 {}
+
+/// The number in front of a text is an integer by itself (`whole`). Where the format has no separator, and no fault
+/// comes first, it is the only front that is an integer and that no text going on as this one does is (`longest`).
+///
+/// The longest front of `12x` is `12`. A fault comes first in `256` as `u8`, though `25` is one: it is `Overflow(2)`.
+/// With separators a longer front may be an integer: where they may trail alone, `1` is read of `1_2`, and `1_` is one.
+pub fn fronts()
+    ensures whole { (format : Format) (type : IntegerType) (text : List ℕ) (value : ℤ) (place : ℕ)
+        → IsNone (fault format) → number_in_front format type text ≡ Ok (value, place)
+        → IsInteger format type (take place text) value }
+    ensures longest { (format : Format) (type : IntegerType) (text : List ℕ) (found : ℤ × ℕ)
+        (value : ℤ) (place : ℕ)
+        → IsNone (fault format) → IsNone format.digit_separator
+        → number_in_front format type text ≡ Ok found
+        → (number_in_front format type text ≡ Ok (value, place))
+        ↔ IsLongestFront format type text value place }
+{
+    locality();
+    complete_by_partial();
+    front_end();
+}
 
 /// A text keeps its value under a format that admits more: a mark where there was none, separators in more places, or
 /// less that is asked for.

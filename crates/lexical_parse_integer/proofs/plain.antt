@@ -1,4 +1,5 @@
 -- Texts of digits alone under formats without marks: for the answers of `algorithm::plain`.
+pub mod DigitFaults
 pub mod DigitsAlone
 pub mod DigitsByTable
 pub mod DigitsInFront

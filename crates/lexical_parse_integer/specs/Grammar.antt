@@ -26,8 +26,8 @@ prefix_fault text head =
 -- that
 abbrev pub zero_fault : Format → Bool → Numeral → Option Error
 zero_fault format radix_chosen numeral =
-    fault_if (((format.no_integer_leading_zeros && not radix_chosen) && nat_le 2 (digit_count numeral))
-    && (slice_index numeral.digits 0 == 0))
+    fault_if (((format.no_integer_leading_zeros && not radix_chosen)
+    && nat_le 2 (digit_count numeral)) && (slice_index numeral.digits 0 == 0))
     (InvalidLeadingZeros (slice_index numeral.places 0))
 
 -- the fault of a value that leaves the type at a place

@@ -27,7 +27,8 @@ view_at format is_prefixed radix text start position digits = record {
 -- the values of the first fronts, so many, are numbers of the type
 abbrev pub FrontsFit : IntegerType → Bool → Numeral → ℕ → Type 0
 FrontsFit type is_negative numeral count =
-    (index : ℕ) → index < count → is_number type (front_value is_negative numeral (index + 1)) ≡ true
+    (index : ℕ) → index < count
+    → is_number type (front_value is_negative numeral (index + 1)) ≡ true
 
 -- a value is that of the first digits, so many, and each front so far is a number of the type
 pub record Reads (type : IntegerType) (is_negative : Bool) (numeral : Numeral) (read : ℕ)
@@ -101,8 +102,8 @@ pub record ReadsAll (type : IntegerType) (is_negative : Bool) (old new : CursorV
   pub all : new.digits ≡ digit_count (numeral_of old)
 
 -- all digits are read, and there is no zero too many in front
-pub record ReadsNumeral (type : IntegerType) (is_negative radix_chosen : Bool) (old new : CursorView)
-    (value : ℤ) : Type 0 where
+pub record ReadsNumeral (type : IntegerType) (is_negative radix_chosen : Bool)
+    (old new : CursorView) (value : ℤ) : Type 0 where
   pub no_zeros : zero_fault old.format radix_chosen (numeral_of old) ≡ None
   pub all : ReadsAll type is_negative old new value
 

@@ -23,12 +23,8 @@ mod zeros;
 use crate::algorithm::front::{complete_from_front, partial_from_front};
 use crate::algorithm::head::{is_prefix_alone, read_head};
 use crate::algorithm::numeral::read_numeral;
-pub use crate::algorithm::plain::fields::{field_in_front, is_separated};
-use crate::algorithm::plain::overflow::fault_of_overflow;
-pub use crate::algorithm::plain::value_if_short;
-use crate::algorithm::plain::{
-    front_if_plain, place_after_digits, signed_front, value_behind_plus, value_if_plain,
-};
+use crate::algorithm::plain::faults::{fault_after_many, place_after_few};
+use crate::algorithm::plain::{front_if_plain, value_behind_plus, value_if_plain};
 use crate::cursor::Cursor;
 use crate::options::Options;
 pub use head::parse_sign;
@@ -162,17 +158,8 @@ pub fn algorithm_complete<T: Integer>(
 {
     match value_if_plain::<T>(bytes, format) {
         Some(value) => Ok(value),
-        None => complete_out_of_line::<T>(bytes, format),
+        None => complete_from_front::<T>(bytes, format),
     }
-}
-
-// What the quick way leaves stays out of line, so that the way of most texts is small enough to be held in place.
-#[inline(never)]
-fn complete_out_of_line<T: Integer>(bytes: &[u8], format: &NumberFormat) -> Result<T>
-    requires valid { IsNone (fault format.now) }
-    ensures { view_of T.number result ≡ complete format.now T.TYPE bytes.now }
-{
-    complete_from_front::<T>(bytes, format)
 }
 
 /// The integer that the front of the text stands for under a valid format, and the place at which reading stops.
@@ -197,6 +184,7 @@ pub fn algorithm_partial<T: Integer>(
     }
 }
 
+// What the quick way leaves stays out of line, so that the way of most texts is small enough to be held in place.
 #[inline(never)]
 fn partial_out_of_line<T: Integer>(bytes: &[u8], format: &NumberFormat) -> Result<(T, usize)>
     requires valid { IsNone (fault format.now) }
@@ -205,15 +193,7 @@ fn partial_out_of_line<T: Integer>(bytes: &[u8], format: &NumberFormat) -> Resul
     partial_from_front::<T>(bytes, format)
 }
 
-// ---- under the standard format, whose fields the compiler then folds into the code
-
-// The complete answer for a text that no quick way reads.
-#[inline(never)]
-fn standard_whole<T: Integer>(bytes: &[u8]) -> Result<T>
-    ensures { view_of T.number result ≡ complete standard T.TYPE bytes.now }
-{
-    complete_from_front::<T>(bytes, &format::STANDARD)
-}
+// ---- under the standard format
 
 // The complete answer for a text that isn't digits alone behind a minus or none. The place for an answer through memory is
 // made ready here, and so not for a value.
@@ -226,23 +206,14 @@ pub(crate) fn standard_complete<T: Integer>(bytes: &[u8]) -> Result<T>
             return Ok(value);
         }
     }
-    if let Some(fault) = fault_of_overflow::<T>(bytes) {
-        return Err(fault);
+    if bytes.len() > T::overflow_digits(10) {
+        if let Some(fault) = fault_after_many::<T>(bytes) {
+            return Err(fault);
+        }
     }
-    match place_after_digits::<T>(bytes) {
+    match place_after_few::<T>(bytes) {
         Some(place) => Err(Error::InvalidDigit(place)),
-        None => standard_whole::<T>(bytes),
-    }
-}
-
-// The front of a text: its digits by words, behind a plus too, and what these leave one after another.
-#[inline(never)]
-fn standard_front<T: Integer>(bytes: &[u8]) -> Result<(T, usize)>
-    ensures { view_of (with_place T.number) result ≡ partial standard T.TYPE bytes.now }
-{
-    match signed_front::<T>(bytes) {
-        Some(found) => Ok(found),
-        None => partial_from_front::<T>(bytes, &format::STANDARD),
+        None => complete_from_front::<T>(bytes, &format::STANDARD),
     }
 }
 
@@ -251,5 +222,5 @@ fn standard_front<T: Integer>(bytes: &[u8]) -> Result<(T, usize)>
 pub(crate) fn standard_partial<T: Integer>(bytes: &[u8]) -> Result<(T, usize)>
     ensures { view_of (with_place T.number) result ≡ partial standard T.TYPE bytes.now }
 {
-    standard_front::<T>(bytes)
+    partial_out_of_line::<T>(bytes, &format::STANDARD)
 }

@@ -9,6 +9,7 @@ pub mod laws;
 mod number;
 pub mod options;
 pub mod parse;
+pub mod quick;
 mod seek;
 mod stop;
 mod turns;

@@ -17,7 +17,7 @@ pub(crate) enum Found {
 
 #[inline(always)]
 #[tactic(auto, unfolding(crate::specs::Runs::digit_at))]
-fn digit_at(bytes: &[u8], radix: u32, place: usize) -> Option<u32>
+pub(crate) fn digit_at(bytes: &[u8], radix: u32, place: usize) -> Option<u32>
     requires { IsRadix radix }
     ensures { result ≡ digit_at radix bytes.now place }
 {

@@ -1,12 +1,10 @@
--- Decimal numbers at the front of a text that leave their type: for the answers of `algorithm::plain::overflow`.
-use Rattle.std.proofs.Common.{slice_get, ◌≡◌, ℕ, zero, suc, ◌+◌, ◌-◌, ◌*◌, ◌<◌, ◌≤◌, Bool, true, false, ◌&&◌, not, List, [], ◌∷◌, ◌++◌, length, get_or, map, take, drop, refl, sym, ap, ◌∙◌, subst, arith, rules, Some, Ok, Err, pos}
-use Rattle.std.specs.Prelude.{◌==◌, ◌||◌, is_some, slice_range, ℤ, neg_ℤ, if◌then◌else◌}
-use Rattle.std.proofs.lemmas.Bool.{and_parts, eqb-true}
-use Rattle.std.proofs.lemmas.Bool.Decides.{nat_tests}
+-- Decimal numbers at the front of a text that leave their type: for the answers of `algorithm::plain::faults`.
+use Rattle.std.proofs.Common.{◌≡◌, ℕ, zero, suc, ◌+◌, ◌-◌, ◌*◌, ◌<◌, ◌≤◌, Bool, true, false, List, [], ◌∷◌, ◌++◌, length, get_or, map, take, drop, refl, sym, ap, ◌∙◌, subst, arith, Some, Ok, Err, pos}
+use Rattle.std.specs.Prelude.{is_some, slice_range, ℤ, neg_ℤ, if◌then◌else◌}
 use Rattle.std.proofs.lemmas.List.{length-drop, length-take-le, take_more}
 use Rattle.lexical_util.specs.Digit.{digit}
 use Rattle.lexical_util.specs.Format.{Format, standard}
-use Rattle.lexical_util.specs.Number.{HasSign, IntegerType, is_number, mul_add}
+use Rattle.lexical_util.specs.Number.{IntegerType, is_number, mul_add}
 use Rattle.lexical_parse_integer.specs.Grammar.{complete, range_error, range_fault}
 use Rattle.lexical_parse_integer.specs.Head.{Head, sign}
 use Rattle.lexical_parse_integer.specs.Numeral.{Numeral, digit_count, front_value}
@@ -29,7 +27,7 @@ use Rattle.lexical_digits.proofs.WordsOfDigits.{digits_joined, value_joined}
 use Rattle.lexical_parse_integer.proofs.theorems.DigitTexts.{complete_by, complete_row, head_is}
 use Rattle.lexical_parse_integer.proofs.theorems.ReadBack.{row_is}
 use Rattle.lexical_parse_integer.proofs.theorems.SettledAnswers.{digits_of_row, front_of_row, place_of_row}
-use Rattle.lexical_digits.proofs.AsciiDigits.{ascii_from_digits, digit_from, digit_to}
+use Rattle.lexical_digits.proofs.AsciiDigits.{ascii_from_digits}
 
 -- ---- one digit more
 

@@ -15,13 +15,13 @@ use Rattle.lexical_parse_integer.specs.Grammar.{digits_required, fault_if, first
 use Rattle.lexical_parse_integer.specs.Head.{Head, head_after, head_behind, head_of, sign, chooses_radix}
 use Rattle.lexical_parse_integer.specs.Numeral.{Numeral, digit_count, numeral_in, numeral_value, numeral_behind}
 use Rattle.lexical_parse_integer.specs.Reading.{MovesOn, IsRead, Reads, ReadsAll, ReadsNumeral, view_at}
-use Rattle.lexical_parse_integer.specs.Runs.{end_of, places}
+use Rattle.lexical_parse_integer.specs.Runs.{digit_at, end_of, places}
 use Rattle.lexical_parse_integer.specs.Seeking.{Finds, starts_behind_prefix}
 use Rattle.lexical_parse_integer.specs.declared.seek.Found.{Found}
 use Rattle.lexical_parse_integer.specs.declared.seek.Found.TheVariants.{Digit, End}
 use Rattle.lexical_parse_integer.proofs.Folds.{folded}
 use Rattle.lexical_parse_integer.proofs.grammar.DigitCounts.{digits_between_none}
-use Rattle.lexical_parse_integer.proofs.grammar.NumeralEnd.{IsStop-end_of}
+use Rattle.lexical_parse_integer.proofs.grammar.NumeralEnd.{IsStop-end_of, finds_here}
 use Rattle.lexical_parse_integer.proofs.marked.MarkedAnswers.{fits_head}
 use Rattle.lexical_parse_integer.proofs.reading.DigitLoop.{reads_end, reads_leaves, reads_next}
 use Rattle.lexical_parse_integer.proofs.reading.FirstDigit.{few_no_fault, leading_zeros, no_digit_no_zeros, other_first}
@@ -107,6 +107,14 @@ module _ (f : Format) (pre : Bool) (text : List ℕ) (r start : ℕ) where
   pub found_here : (k n : ℕ) (found : Found) → IsSound (at k n) → Finds f (starts_behind_prefix start) r text start k found → Finds f pre r text start k found
   found_here k n found s told = subst (λ p. Finds f p r text start k found) (sym s.prefixed) told
 
+  -- where a search may begin
+  pub may_seek : (k n : ℕ) → IsSound (at k n) → k ≤ end_of f (starts_behind_prefix start) r text start
+  may_seek k n s = subst (λ p. k ≤ end_of f p r text start) s.prefixed (s.while_open refl).before_end
+
+  -- the digit at the place to which reading has come is the next
+  pub digit_here : (k n d : ℕ) → IsSound (at k n) → digit_at r text k ≡ Some d → Finds f (starts_behind_prefix start) r text start k (Digit k d)
+  digit_here k n d s is = finds_here f (starts_behind_prefix start) r text start k s.after_start (may_seek k n s) s.within d is
+
   takes : (k n place d : ℕ) → Finds f pre r text start k (Digit place d) → TakesDigit (at k n) (at (place + 1) (n + 1)) d
   takes k n place d found = takes_found (at k n) (n + 1) place d refl found
 
@@ -131,10 +139,6 @@ module _ (f : Format) (pre : Bool) (text : List ℕ) (r start : ℕ) where
 
   pub all_read : (t : IntegerType) (b : Bool) (k n stop : ℕ) (value : ℤ) → IsSound (at k n) → Finds f (starts_behind_prefix start) r text start k (End stop) → Reads t b x n value → ReadsAll t b (at start 0) (at stop n) value
   all_read t b k n stop value s found reads = reads_end t b (at start 0) (at k n) (at stop n) value (on start 0 k n s) (ends k n stop (found_here k n (End stop) s found)) reads
-
-  -- where a search may begin
-  pub may_seek : (k n : ℕ) → IsSound (at k n) → k ≤ end_of f (starts_behind_prefix start) r text start
-  may_seek k n s = subst (λ p. k ≤ end_of f p r text start) s.prefixed (s.while_open refl).before_end
 
   -- ---- the rule on zeros
 

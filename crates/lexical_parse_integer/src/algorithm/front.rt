@@ -1,23 +1,21 @@
 // A text read from its front: what stands before the digits, the digits one after another, and what stands behind
 // them. Every text has its answer here under every valid format, so whatever a quick way isn't sure of is read here.
-ghost use Rattle.std.specs.Prelude.{◌<◌, false, pos, ◌≡◌, ◌&&◌, ◌||◌, ◌==◌, Err, IfErr, IfOk, IfSome, IsNone, Ok, Some, None, is_some, length, nat_lt, true, if◌then◌else◌, ◌+◌};
+ghost use Rattle.std.specs.Prelude.{◌≡◌, ◌≤◌, ◌&&◌, ◌||◌, ◌==◌, Err, IfErr, IfOk, IfSome, IsNone, Ok, Some, None, is_some, length, nat_lt, true, if◌then◌else◌, ◌+◌};
 ghost use Rattle.std.specs.Option.{option_or};
-ghost use Rattle.lexical_util.specs.Digit.{IsRadix};
-ghost use Rattle.lexical_util.specs.Number.{HasSign, is_number, mul_add};
 ghost use Rattle.lexical_util.specs.Validity.{fault};
 ghost use Rattle.lexical_util.specs.declared.error.Error.TheVariants.{InvalidLeadingZeros};
 ghost use Rattle.lexical_parse_integer.specs.Affixes.{suffix_at};
 ghost use Rattle.lexical_parse_integer.specs.Answer.{view_of, with_place};
 ghost use Rattle.lexical_parse_integer.specs.CursorView.{IsSound};
-ghost use Rattle.lexical_parse_integer.specs.Grammar.{complete, digits_required, partial, range_error, range_fault, zero_fault};
+ghost use Rattle.lexical_parse_integer.specs.Grammar.{complete, digits_required, partial, range_fault, zero_fault};
 ghost use Rattle.lexical_parse_integer.specs.Head.{head_of, sign};
 ghost use Rattle.lexical_parse_integer.specs.Laws.{completion_of};
 ghost use Rattle.lexical_parse_integer.specs.Numeral.{numeral_in};
-ghost use Rattle.lexical_parse_integer.specs.Reading.{ReadsAll, ReadsNumeral, view_at};
+ghost use Rattle.lexical_parse_integer.specs.Reading.{Reads, ReadsAll, ReadsNumeral, view_at};
 
 use crate::affixes::{octal_zero_at, prefix_radix, suffix_at};
 use crate::algorithm::digits::join_checked;
-use crate::seek::{Found, seek};
+use crate::seek::{Found, digit_at, seek};
 use lexical_util::error::Error;
 use lexical_util::format::NumberFormat;
 use lexical_util::num::Integer;
@@ -145,36 +143,50 @@ fn zero_before_digit(bytes: &[u8], format: &NumberFormat, head: Head) -> Option<
     }
 }
 
-// The value with one digit more, or the fault of the digit's place where it leaves the type: no test is made where there
-// are so few digits that it can't.
+// The digits in a row from where reading has come, as long as they are so few that no value leaves the type: a step is one
+// look-up, with no test of the value and none for a separator.
 #[inline(always)]
-fn join<T: Integer>(
-    value: T,
-    digit: u32,
-    radix: u32,
-    place: usize,
-    negative: bool,
-    is_few: bool,
-) -> Result<T>
-    requires radix { IsRadix radix }
-    requires digit { digit < radix }
-    requires sign { HasSign negative (T.number value) }
-    requires few { is_few ≡ true
-        → is_number T.TYPE (mul_add negative (T.number value) (pos radix) (pos digit)) ≡ true }
-    ensures fits { IfOk result
-        (λ next. (T.number next ≡ mul_add negative (T.number value) (pos radix) (pos digit))
-        × (is_number T.TYPE (T.number next) ≡ true)) }
-    ensures leaves { IfErr result
-        (λ e. (e ≡ range_error negative place)
-        × (is_number T.TYPE (mul_add negative (T.number value) (pos radix) (pos digit)) ≡ false)) }
+fn read_row<T: Integer>(
+    bytes: &[u8],
+    format: &NumberFormat,
+    head: Head,
+    read: Digits<T>,
+) -> Digits<T>
+    requires first { IsSound
+        (view_at format.now head.is_prefixed head.radix bytes.now head.start head.start 0) }
+    requires minus { head.is_negative ≡ true → T.TYPE.is_signed ≡ true }
+    requires sound { IsSound
+        (view_at format.now head.is_prefixed head.radix bytes.now head.start read.end read.count) }
+    requires reads { Reads T.TYPE head.is_negative
+        (numeral_in format.now head.is_prefixed head.radix bytes.now head.start) read.count
+        (T.number read.value) }
+    ensures still_sound { IsSound (view_at format.now head.is_prefixed head.radix bytes.now
+        head.start result.end result.count) }
+    ensures still_reads { Reads T.TYPE head.is_negative
+        (numeral_in format.now head.is_prefixed head.radix bytes.now head.start) result.count
+        (T.number result.value) }
+    ensures forward { read.end ≤ result.end }
 {
-    if is_few {
-        return Ok(value.mul_add(T::from_u32(radix), T::from_u32(digit), negative));
+    let most = T::overflow_digits(head.radix);
+    let radix = T::from_u32(head.radix);
+    let Digits {
+        mut value,
+        mut count,
+        mut end,
+    } = read;
+    while count < most {
+        let Some(digit) = digit_at(bytes, head.radix, end) else {
+            return Digits { value, count, end };
+        };
+        value = value.mul_add(radix, T::from_u32(digit), head.is_negative);
+        count += 1;
+        end += 1;
     }
-    join_checked::<T>(value, digit, radix, place, negative)
+    Digits { value, count, end }
 }
 
-// All digits of a numeral, or the fault of the first with which their value leaves the type.
+// All digits of a numeral, or the fault of the first with which their value leaves the type: a row of digits, and the next
+// digit behind what ends it, again and again.
 #[inline(always)]
 fn read_digits<T: Integer>(bytes: &[u8], format: &NumberFormat, head: Head) -> Result<Digits<T>>
     requires sound { IsSound
@@ -187,16 +199,20 @@ fn read_digits<T: Integer>(bytes: &[u8], format: &NumberFormat, head: Head) -> R
     ensures leaves { IfErr result (λ error. range_fault T.TYPE head.is_negative
         (numeral_in format.now head.is_prefixed head.radix bytes.now head.start) ≡ Some error) }
 {
-    let most = T::overflow_digits(head.radix);
-    let mut value = T::ZERO;
-    let mut count = 0;
-    let mut place = head.start;
+    let mut read = Digits {
+        value: T::ZERO,
+        count: 0,
+        end: head.start,
+    };
     loop {
-        match seek(bytes, format, head.radix, head.start, place) {
-            Found::Digit(at, digit) => {
-                value = join::<T>(value, digit, head.radix, at, head.is_negative, count < most)?;
-                count += 1;
-                place = at + 1;
+        let Digits { value, count, end } = read_row::<T>(bytes, format, head, read);
+        match seek(bytes, format, head.radix, head.start, end) {
+            Found::Digit(place, digit) => {
+                read = Digits {
+                    value: join_checked::<T>(value, digit, head.radix, place, head.is_negative)?,
+                    count: count + 1,
+                    end: place + 1,
+                };
             }
             Found::End(end) => return Ok(Digits { value, count, end }),
         }
@@ -286,7 +302,7 @@ fn completion<T: Integer>(bytes: &[u8], front: Result<(T, usize)>) -> Result<T>
 }
 
 /// The integer that the whole text stands for under a valid format.
-#[inline(always)]
+#[inline(never)]
 pub(crate) fn complete_from_front<T: Integer>(bytes: &[u8], format: &NumberFormat) -> Result<T>
     requires valid { IsNone (fault format.now) }
     ensures { view_of T.number result ≡ complete format.now T.TYPE bytes.now }

@@ -1,9 +1,10 @@
-use Rattle.std.proofs.Common.{length, take, ◌-◌}
+use Rattle.std.proofs.Common.{◌-◌, ◌≤◌, length, take}
 use Rattle.lexical_digits.specs.WrittenNumbers.{StandsFor}
-use Rattle.lexical_parse_integer.proofs.algorithm.plain.overflow.digits_before_overflow.Given as goal
+use Rattle.lexical_parse_integer.proofs.algorithm.plain.faults.fault_after_many.Given as goal
 
 abbrev pub invariant-loop-count : goal.invariant-loop-count
 invariant-loop-count g l = record {
+  some : 1 ≤ l.count;
   writes : StandsFor g.T.Integer.TYPE 10 l.negative (take l.count l.digits) (g.T.Integer.number l.value);
 }
 

@@ -1,0 +1,87 @@
+// Faults of decimal texts under the standard format that begin with a digit, behind a sign or none: most faults.
+//
+// Each is a call of its own, which answers in registers. `None` says nothing.
+ghost use Rattle.std.specs.Prelude.{◌≡◌, ◌<◌, ◌≤◌, Err, IfSome, IsNone, get_or, length, take};
+ghost use Rattle.lexical_util.specs.Digit.{digit};
+ghost use Rattle.lexical_util.specs.Format.{standard};
+ghost use Rattle.lexical_util.specs.declared.error.Error.TheVariants.{InvalidDigit};
+ghost use Rattle.lexical_digits.specs.Words.{AreDigits};
+ghost use Rattle.lexical_parse_integer.specs.Grammar.{complete};
+
+use crate::algorithm::digits::join_checked;
+use crate::algorithm::front::sign_of;
+use lexical_digits::fronts::{number_behind, number_in_front, value_of_digits};
+use lexical_util::digit::char_to_digit;
+use lexical_util::error::Error;
+use lexical_util::format;
+use lexical_util::num::Integer;
+
+// How many digits a text begins with: counted by words, whose numbers nobody asks for.
+#[inline(always)]
+fn digits_in_front(text: &[u8]) -> usize
+    requires some { 1 ≤ length text.now }
+    ensures within { result ≤ length text.now }
+    ensures digits { AreDigits 10 (take result text.now) }
+    ensures stops { result < length text.now → IsNone (digit (get_or text.now result 0) 10) }
+{
+    let (_, mut count) = number_in_front(text);
+    if count < 8 {
+        return count;
+    }
+    loop {
+        let (_, more) = number_behind(text, count);
+        count += more;
+        if more < 8 {
+            return count;
+        }
+    }
+}
+
+// The place of the first byte after the digits, where there is one and their type has room for them, whatever they are.
+#[inline(never)]
+pub(in crate::algorithm) fn place_after_few<T: Integer>(bytes: &[u8]) -> Option<usize>
+    ensures { IfSome result
+        (λ place. complete standard T.TYPE bytes.now ≡ Err (InvalidDigit place)) }
+{
+    let Ok((_, start)) = sign_of::<T>(bytes, &format::STANDARD) else {
+        return None;
+    };
+    let digits = &bytes[start..];
+    if digits.is_empty() {
+        return None;
+    }
+    let count = digits_in_front(digits);
+    if count == 0 || count == digits.len() || count > T::overflow_digits(10) {
+        return None;
+    }
+    Some(start + count)
+}
+
+// The fault behind as many digits as the type has room for: at the digit with which the number leaves the type, or at the
+// first byte that is no digit.
+#[inline(never)]
+pub(in crate::algorithm) fn fault_after_many<T: Integer>(bytes: &[u8]) -> Option<Error>
+    ensures { IfSome result (λ error. complete standard T.TYPE bytes.now ≡ Err error) }
+{
+    let Ok((negative, start)) = sign_of::<T>(bytes, &format::STANDARD) else {
+        return None;
+    };
+    let digits = &bytes[start..];
+    let mut count = T::overflow_digits(10);
+    if digits.len() <= count {
+        return None;
+    }
+    let mut value = value_of_digits::<T>(&digits[..count], negative)?;
+    while count < digits.len() {
+        let place = start + count;
+        let Some(digit) = char_to_digit(digits[count], 10) else {
+            return Some(Error::InvalidDigit(place));
+        };
+        match join_checked::<T>(value, digit, 10, place, negative) {
+            Ok(next) => value = next,
+            Err(fault) => return Some(fault),
+        }
+        count += 1;
+    }
+    None
+}
