@@ -3,11 +3,11 @@
 RT ?= rt
 PREFIX ?= /usr/local
 PROGRAM := crates/lexint/out/lexint
-PROGRAM_CRATES := lexint answer_lines lexical_digits $(shell sed -n 's/^answer_lines: *//p' crates.txt)
-SOURCES := $(shell find $(addprefix crates/,$(PROGRAM_CRATES)) -name out -prune -o -type f \( -name '*.rt' -o -name '*.antt' \) -print) crates.txt
+FOR_SHELLS := crates/jad/out/jad
+SOURCES = $(shell find crates/$(1) crates/answer_lines crates/lexical_* -name out -prune -o -type f \( -name '*.rt' -o -name '*.antt' \) -print) crates.txt
 
-.PHONY: help toolchain run check test devices answers lexint install uninstall install-lexint uninstall-lexint rows docs
-.PHONY: vendor check-docs check-languages bench must-not-compile fuzz fuzz-edges
+.PHONY: help toolchain run check test devices answers lexint jad install uninstall install-programs uninstall-programs rows
+.PHONY: docs vendor check-docs check-languages bench must-not-compile fuzz fuzz-edges
 
 # A target is listed by the words after its two number signs.
 help:
@@ -23,9 +23,13 @@ run: $(PROGRAM) ## proves and builds the program where needed, and gives it stan
 
 lexint: $(PROGRAM) ## proves and builds the program, as crates/lexint/out/lexint
 
+jad: $(FOR_SHELLS) ## proves and builds the program for shells, as crates/jad/out/jad
+
 # What is said on the way goes to standard error: standard output is the program's alone.
-$(PROGRAM): $(SOURCES)
-	@RT=$(RT) tools/build.sh lexint
+$(PROGRAM): $(call SOURCES,lexint)
+$(FOR_SHELLS): $(call SOURCES,jad)
+$(PROGRAM) $(FOR_SHELLS):
+	@RT=$(RT) tools/build.sh $(@F)
 	@touch $@
 
 check: answers test-c ## proves and builds what one uses, and runs the test vectors and the callers of the library
@@ -40,17 +44,18 @@ answers: $(PROGRAM) ## has the program answer every test vector and every stored
 	@tools/run_rows.py $(PROGRAM)
 	@tools/run_lines.py $(PROGRAM)
 
-install: install-lexint install-lib ## puts the program and the library where users look: PREFIX, DESTDIR
+install: install-programs install-lib ## puts the programs and the library where users look: PREFIX, DESTDIR
 
-uninstall: uninstall-lexint uninstall-lib ## takes both away
+uninstall: uninstall-programs uninstall-lib ## takes them away
 
-install-lexint: $(PROGRAM)
+install-programs: $(PROGRAM) $(FOR_SHELLS)
 	install -d $(DESTDIR)$(PREFIX)/bin $(DESTDIR)$(MANDIR)/man1
-	install -m 755 $(PROGRAM) $(DESTDIR)$(PREFIX)/bin/lexint
+	install -m 755 $^ $(DESTDIR)$(PREFIX)/bin
 	$(FILL) packaging/lexint.1.in > $(DESTDIR)$(MANDIR)/man1/lexint.1
+	$(FILL) packaging/jad.1.in > $(DESTDIR)$(MANDIR)/man1/jad.1
 
-uninstall-lexint:
-	rm -f $(DESTDIR)$(PREFIX)/bin/lexint $(DESTDIR)$(MANDIR)/man1/lexint.1
+uninstall-programs:
+	rm -f $(foreach program,lexint jad,$(DESTDIR)$(PREFIX)/bin/$(program) $(DESTDIR)$(MANDIR)/man1/$(program).1)
 
 vendor: ## copies the Rattle crates into your repository: DEST=../yours WITH="lexical_literals lexical_fields lexical_formats"
 	@packaging/vendor.sh

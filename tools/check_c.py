@@ -270,12 +270,12 @@ def documents() -> str:
 def man_pages() -> str:
     """groff finds nothing to say of the manual pages."""
     needs("groff")
-    for page in ("jadvolni.3.in", "lexint.1.in"):
+    for page in ("jadvolni.3.in", "lexint.1.in", "jad.1.in"):
         command = ["groff", "-man", "-Tutf8", "-wall", source("packaging", page)]
         done = subprocess.run(command, capture_output=True, text=True, timeout=60)
         if done.returncode or done.stderr:
             raise Failed(done.stderr)
-    return "2 pages"
+    return "3 pages"
 
 
 # ---- Rust and Python

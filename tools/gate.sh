@@ -96,6 +96,7 @@ part devices python3 tools/devices.py
 part answers python3 tools/run_rows.py
 part lines python3 tools/run_lines.py
 part shells tests/shell_snippet.sh crates/lexint/out/lexint
+part jad tests/jad.sh crates/jad/out/jad
 part libraries told libraries
 part programs told programs
 part callers told callers
