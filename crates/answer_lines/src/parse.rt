@@ -52,8 +52,8 @@ where
     Ok((number_of::<T, W>(value), stop))
 }
 
-/// The number that the whole text stands for as one of the named type. `usize` and `isize` are 64 bits wide, and read as
-/// `u64` and `i64`.
+/// The number that the whole text stands for as one of the named type. `usize` and `isize` are 64 bits wide, and read
+/// as `u64` and `i64`.
 pub fn complete(
     name: TypeName,
     text: &[u8],

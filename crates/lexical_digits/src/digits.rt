@@ -1,5 +1,5 @@
-//! The numbers that decimal digits write: a few by bytes, more by words of eight bytes. Digits 0 fill up a word that the
-//! text doesn't, and no branch hangs on a digit.
+//! The numbers that decimal digits write: a few by bytes, more by words of eight bytes. Digits 0 fill up a word that
+//! the text doesn't, and no branch hangs on a digit.
 ghost use Rattle.std.specs.Prelude.{◌≡◌, ◌+◌, ◌-◌, ◌*◌, ◌/◌, ◌<◌, ◌≤◌, ◌^◌, ◌%◌, ◌∷◌, [], IfSome, get_or, length, slice_range, take};
 ghost use Rattle.lexical_digits.specs.WrittenNumbers.{WritesDecimal, bytes_number};
 ghost use Rattle.lexical_digits.specs.Words.{AreDigits, word_bytes, word_value};

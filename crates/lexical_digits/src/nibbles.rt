@@ -1,5 +1,5 @@
-//! The values of hexadecimal digits: a few by bytes, more by two blocks that overlap. No branch hangs on a digit: a table
-//! has the value of each byte, and for what is no digit one so large that the sum shows it.
+//! The values of hexadecimal digits: a few by bytes, more by two blocks that overlap. No branch hangs on a digit: a
+//! table has the value of each byte, and for what is no digit one so large that the sum shows it.
 ghost use Rattle.std.specs.Prelude.{◌≡◌, ◌+◌, ◌*◌, ◌^◌, ◌<◌, ◌≤◌, ◌≤ℤ◌, IfSome, IsTrue, length, pos, unwrap_or};
 ghost use Rattle.lexical_util.specs.Digit.{digit};
 ghost use Rattle.lexical_util.specs.Number.{number_limit};
@@ -80,8 +80,8 @@ fn value_of_blocks<T: Integer>(digits: &[u8], size: usize, negative: bool) -> Op
     }
 }
 
-/// The value of hexadecimal digits, behind a minus where that is negative. Each range of lengths ends on its own, so that
-/// no text pays for what another one needs. It stays out of line, where it keeps all that it needs in registers.
+/// The value of hexadecimal digits, behind a minus where that is negative. Each range of lengths ends on its own, so
+/// that no text pays for what another one needs. It stays out of line, where it keeps all that it needs in registers.
 #[inline(never)]
 pub fn value_of_nibbles<T: Integer>(digits: &[u8], negative: bool) -> Option<T>
     requires some { 1 ≤ length digits.now }

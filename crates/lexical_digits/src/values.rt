@@ -130,8 +130,8 @@ fn with_sixteen<T: Integer>(digits: &[u8], place: usize, value: T) -> Option<T>
     value.checked_mul_add(scale, rest, false)
 }
 
-/// The value of seventeen digits and more, behind a minus where that is negative: a few digits, and then sixteen by sixteen.
-/// It stays out of line, so that the parser of shorter texts is small enough to be held in place.
+/// The value of seventeen digits and more, behind a minus where that is negative: a few digits, and then sixteen by
+/// sixteen. It stays out of line, so that the parser of shorter texts is small enough to be held in place.
 #[inline(never)]
 pub fn value_of_long<T: Integer>(digits: &[u8], negative: bool) -> Option<T>
     requires bits { 32 < T.TYPE.bits }

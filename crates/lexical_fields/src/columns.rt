@@ -4,8 +4,8 @@ ghost use Rattle.std.specs.Prelude.{◌≡◌, length, take, drop, map, IfOk};
 ghost use Rattle.lexical_fields.specs.Columns.{GoesOn, answer_of, numbers_of};
 
 use crate::marked::read_next;
-use lexical_parse_integer::quick::is_separated;
 use lexical_parse_integer::parse::ParseInteger;
+use lexical_parse_integer::quick::is_separated;
 use lexical_parse_integer::{Error, NumberFormat, Options};
 
 /// How far a column was read.

@@ -8,8 +8,8 @@ ghost use Rattle.lexical_fields.specs.ReadFields.{field_answer};
 
 use crate::places::field_answer;
 use crate::split::split_field;
-use lexical_parse_integer::quick::field_in_front;
 use lexical_parse_integer::parse::ParseInteger;
+use lexical_parse_integer::quick::field_in_front;
 use lexical_parse_integer::{NumberFormat, Options, Result};
 
 // The answer of the first field, which starts at a place, and what is after its separator. Where the separator is no

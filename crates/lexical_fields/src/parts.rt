@@ -26,9 +26,8 @@ pub fn whole_fields(text: &[u8], separator: u8) -> usize
 /// text.
 ///
 /// A part may end within a field. That field is left, unless the part is the last one: put the bytes from `stop` on in
-/// front of the next part. Where the slice is full, `stop` is the start of the next field, as ever. Places count from the
-/// part's start. Read so, all parts give the numbers and the first fault of the whole text
-/// ([`reads_in_parts`]).
+/// front of the next part. Where the slice is full, `stop` is the start of the next field, as ever. Places count from
+/// the part's start. Read so, all parts give the numbers and the first fault of the whole text ([`reads_in_parts`]).
 ///
 /// With a comma, `12,7` gives one number and stops at 3 where more follows, and two numbers where it is the last part.
 pub fn read_column_part<T: ParseInteger>(
@@ -59,8 +58,8 @@ pub fn read_column_part<T: ParseInteger>(
     read_column::<T>(whole, separator, format, options, values)
 }
 
-/// The law of parts: wherever a text is cut, its parts give the answers of the whole text, if what is left of each is put
-/// in front of the next. Places are counted over all parts.
+/// The law of parts: wherever a text is cut, its parts give the answers of the whole text, if what is left of each is
+/// put in front of the next. Places are counted over all parts.
 ///
 /// The call does nothing. A proof that needs the law makes it, and has its clause.
 pub fn reads_in_parts()

@@ -78,8 +78,8 @@ pub fn relaxing()
 /// without a separator byte and without the rule on leading zeros.
 ///
 /// So whoever reads byte after byte may stop there. A fault at the text's end is about no byte: `+` is `Empty(1)`, and
-/// `+1` is 1. With a separator more bytes may mend a text: `0_` may be `InvalidDigit(1)`, and `0_0` a value. So they may
-/// under the zero rule, which blames the zero in `01`.
+/// `+1` is 1. With a separator more bytes may mend a text: `0_` may be `InvalidDigit(1)`, and `0_0` a value. So they
+/// may under the zero rule, which blames the zero in `01`.
 pub fn dead_places()
     ensures { (format : Format) (type : IntegerType) (text : List ℕ) (error : Error) (place : ℕ)
         → IsNone (fault format) → IsNone format.digit_separator
@@ -94,8 +94,8 @@ pub fn dead_places()
 /// before the byte.
 ///
 /// `12;3` is read as `12` is. A text of which the end is missing may be read otherwise: with the prefix `x` and no
-/// separator `0x` is `Empty(2)`, and of `0x;` the front `0x` is 0. So the text isn't one (`read`), or the format asks for
-/// a digit and has a separator (`asked`), or it has no prefix and the text begins with a digit (`digit`).
+/// separator `0x` is `Empty(2)`, and of `0x;` the front `0x` is 0. So the text isn't one (`read`), or the format asks
+/// for a digit and has a separator (`asked`), or it has no prefix and the text begins with a digit (`digit`).
 pub fn foreign_bytes()
     ensures read { (format : Format) (type : IntegerType) (text rest : List ℕ) (byte : ℕ)
         → IsNone (fault format) → IsForeign format byte
@@ -115,8 +115,8 @@ pub fn foreign_bytes()
 /// Separators count for nothing: a text has the same value without them, under a valid format that asks for a digit and
 /// has no octal zeros.
 ///
-/// Else a separator may part what would be read together: `-_09` is -9 and `-09` a fault under octal zeros. And where no
-/// digit is asked for, `0x_` may be 0, but `0x` is `Empty(2)`.
+/// Else a separator may part what would be read together: `-_09` is -9 and `-09` a fault under octal zeros. And where
+/// no digit is asked for, `0x_` may be 0, but `0x` is `Empty(2)`.
 pub fn separators()
     ensures { (format : Format) (type : IntegerType) (text : List ℕ) (value : ℤ)
         → IsNone (fault format) → format.literal_octal_zero ≡ false

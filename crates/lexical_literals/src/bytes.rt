@@ -3,7 +3,8 @@ ghost use Rattle.std.specs.Prelude.{◌≡◌, ◌≤◌, length};
 ghost use Rattle.std.specs.List.{prefix_len};
 ghost use Rattle.lexical_literals.specs.Tokens.{is_skipped, is_word_byte, word_length};
 
-// 1 for each byte of a word, 2 for each that is skipped between tokens, and 0 for any other: one table for the two tests.
+// 1 for each byte of a word, 2 for each that is skipped between tokens, and 0 for any other: one table for the two
+// tests.
 #[rattlefmt::skip]
 static KINDS: [u8; 256] = [
     0, 0, 0, 0, 0, 0, 0, 0, 0, 2, 2, 0, 0, 2, 0, 0, // tab, line feed, carriage return

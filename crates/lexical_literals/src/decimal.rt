@@ -1,5 +1,5 @@
-// Decimal digits alone: what most numbers of a source are. They are read as the standard format reads them, which is soon
-// done, where the format can have no other answer.
+// Decimal digits alone: what most numbers of a source are. They are read as the standard format reads them, which is
+// soon done, where the format can have no other answer.
 //
 // Only what is sure is answered: what is left is read under the format.
 ghost use Rattle.std.specs.Prelude.{◌≡◌, ◌<◌, IsTrue, Ok, Some, false, is_some, length, pos, slice_index, true};
@@ -25,8 +25,8 @@ pub(crate) fn is_decimal(format: &NumberFormat) -> bool
         && format.base_suffix().is_none()
 }
 
-// Whether more than digits seems to follow, as the letter of a prefix does, or a separator behind at most three digits: a
-// guess, by which such a number is read once.
+// Whether more than digits seems to follow, as the letter of a prefix does, or a separator behind at most three digits:
+// a guess, by which such a number is read once.
 #[inline(always)]
 pub(crate) fn seems_marked(text: &[u8]) -> bool {
     if text.len() < 4 {
@@ -61,8 +61,8 @@ fn stand_alone(text: &[u8], count: usize, format: &NumberFormat) -> bool
     !is_word_byte(byte) && !is_separator(byte, format)
 }
 
-// The number of the decimal digits that a text begins with, and how many they are, or 0 where that isn't sure: out of line,
-// so that the two come in registers.
+// The number of the decimal digits that a text begins with, and how many they are, or 0 where that isn't sure: out of
+// line, so that the two come in registers.
 #[inline(never)]
 pub(crate) fn decimal_front(text: &[u8], format: &NumberFormat) -> (u64, usize)
     requires first { is_some (digit (slice_index text.now 0) 10) ≡ true }

@@ -101,8 +101,8 @@ fn number(text: &[u8], format: &NumberFormat, decimal: bool) -> (Kind, usize)
 }
 
 // The number of 64 bits that a text begins with, as most are, and 0 bytes where that isn't sure: out of line, so that
-// what calls `next` has it in place, and in two registers. Where there is a separator the compiler leaves out what reads
-// digits alone.
+// what calls `next` has it in place, and in two registers. Where there is a separator the compiler leaves out what
+// reads digits alone.
 #[inline(never)]
 fn marked_number(text: &[u8], format: &NumberFormat) -> (u64, usize)
     requires valid { IsNone (fault format.now) }

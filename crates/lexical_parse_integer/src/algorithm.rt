@@ -195,8 +195,8 @@ fn partial_out_of_line<T: Integer>(bytes: &[u8], format: &NumberFormat) -> Resul
 
 // ---- under the standard format
 
-// The complete answer for a text that isn't digits alone behind a minus or none. The place for an answer through memory is
-// made ready here, and so not for a value.
+// The complete answer for a text that isn't digits alone behind a minus or none. The place for an answer through memory
+// is made ready here, and so not for a value.
 #[inline(always)]
 pub(crate) fn standard_complete<T: Integer>(bytes: &[u8]) -> Result<T>
     ensures { view_of T.number result ≡ complete standard T.TYPE bytes.now }

@@ -2,8 +2,8 @@
 //!
 //! A cursor borrows the text and keeps the format. It goes forward alone, and lends no more of the text than the
 //! next word. The parsers of [`algorithm`](crate::algorithm) use its calls; a reader written by hand can too:
-//! after `new` come `step_sign`, `read_prefix`, `read_octal_zero`, the digits by `next_digit` or `take_digits`, and `read_suffix`, each
-//! where it is wanted.
+//! after `new` come `step_sign`, `read_prefix`, `read_octal_zero`, the digits by `next_digit` or `take_digits`, and
+//! `read_suffix`, each where it is wanted.
 //!
 //! Contracts see a cursor as a record: the text, the format, the effective radix, where the numeral's region starts,
 //! the position, how many digits were read, whether the suffix was read, how many turns that took, and which cursor it

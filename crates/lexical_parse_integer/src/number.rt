@@ -45,9 +45,9 @@ fn has_digit<T: Integer>(bytes: &[u8], format: &NumberFormat) -> bool
 /// The number that stands in front of a text under a format, and the place at which reading stopped.
 ///
 /// It has a digit: where none was read, the fault is `Empty` at the place where reading stopped, whatever the format
-/// requires. So `x` is `Err(Empty(0))` and `+a` is `Err(Empty(1))`, which are 0 to `from_lexical_partial`. The zero of a
-/// prefix is no digit of the number: under a format with the prefix `x`, `0xg` is `Err(Empty(2))`. All else is answered
-/// as by `from_lexical_partial_with_options`; a format that breaks a rule is answered by that rule's fault.
+/// requires. So `x` is `Err(Empty(0))` and `+a` is `Err(Empty(1))`, which are 0 to `from_lexical_partial`. The zero of
+/// a prefix is no digit of the number: under a format with the prefix `x`, `0xg` is `Err(Empty(2))`. All else is
+/// answered as by `from_lexical_partial_with_options`; a format that breaks a rule is answered by that rule's fault.
 #[inline(always)]
 pub fn number_in_front<T: FromLexicalWithOptions<Options = Options>>(
     bytes: &[u8],

@@ -327,7 +327,8 @@ impl NumberFormat {
     /// 4. A suffix is such a byte; else `InvalidBaseSuffix`.
     /// 5. No two of the three are alike, that is the same byte or the same letter in two cases; else
     ///    `InvalidPunctuation`.
-    /// 6. Where literal prefixes or octal zeros are asked for, the radix is 10; and where literal prefixes are, the format
+    /// 6. Where literal prefixes or octal zeros are asked for, the radix is 10; and where literal prefixes are, the
+    /// format
     ///    has no prefix of its own, and separator and suffix are neither digits of radix 16 nor `x`, `o` or `b`, in
     ///    either case; else `InvalidLiteralPrefixes`.
     ///

@@ -1,7 +1,8 @@
-//! Integers of TOML, and a line that sets one: `+1_000` and `-17`, or `0xdead_beef`, `0o755` and `0b1101` without a sign.
+//! Integers of TOML, and a line that sets one: `+1_000` and `-17`, or `0xdead_beef`, `0o755` and `0b1101` without a
+//! sign.
 //!
-//! `lexical_formats::toml` says all of TOML's rules but one: that no sign comes before a prefix. So the reader asks that
-//! first.
+//! `lexical_formats::toml` says all of TOML's rules but one: that no sign comes before a prefix. So the reader asks
+//! that first.
 
 ghost use Rattle.std.specs.Prelude.{◌≡◌};
 ghost use Rattle.std.specs.Option.{option_map};

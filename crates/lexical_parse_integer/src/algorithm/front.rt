@@ -21,8 +21,8 @@ use lexical_util::format::NumberFormat;
 use lexical_util::num::Integer;
 use lexical_util::result::Result;
 
-// What stands before a numeral: whether there is a minus, whether a prefix or an octal zero stands behind the sign, where
-// the numeral starts, and the effective radix there.
+// What stands before a numeral: whether there is a minus, whether a prefix or an octal zero stands behind the sign,
+// where the numeral starts, and the effective radix there.
 #[derive(Clone, Copy)]
 pub(crate) struct Head {
     pub(crate) is_negative: bool,
@@ -143,8 +143,8 @@ fn zero_before_digit(bytes: &[u8], format: &NumberFormat, head: Head) -> Option<
     }
 }
 
-// The digits in a row from where reading has come, as long as they are so few that no value leaves the type: a step is one
-// look-up, with no test of the value and none for a separator.
+// The digits in a row from where reading has come, as long as they are so few that no value leaves the type: a step is
+// one look-up, with no test of the value and none for a separator.
 #[inline(always)]
 fn read_row<T: Integer>(
     bytes: &[u8],
@@ -185,8 +185,8 @@ fn read_row<T: Integer>(
     Digits { value, count, end }
 }
 
-// All digits of a numeral, or the fault of the first with which their value leaves the type: a row of digits, and the next
-// digit behind what ends it, again and again.
+// All digits of a numeral, or the fault of the first with which their value leaves the type: a row of digits, and the
+// next digit behind what ends it, again and again.
 #[inline(always)]
 fn read_digits<T: Integer>(bytes: &[u8], format: &NumberFormat, head: Head) -> Result<Digits<T>>
     requires sound { IsSound

@@ -1,8 +1,8 @@
-// Whole texts under formats with marks: digits alone, or decimal digits with a separator before each three, behind a sign
-// and a prefix.
+// Whole texts under formats with marks: digits alone, or decimal digits with a separator before each three, behind a
+// sign and a prefix.
 //
-// As under formats without marks, only what is sure is answered: a value that its type has. `None` says nothing: what is
-// left is read from its front.
+// As under formats without marks, only what is sure is answered: a value that its type has. `None` says nothing: what
+// is left is read from its front.
 ghost use Rattle.std.specs.Prelude.{◌≡◌, ◌<◌, ◌≤◌, IfSome, IsNone, IsTrue, None, Ok, Some, length, false};
 ghost use Rattle.lexical_util.specs.Ascii.{letter_x};
 ghost use Rattle.lexical_util.specs.Validity.{fault};
@@ -37,7 +37,8 @@ fn value_in_radix<T: Integer>(digits: &[u8], radix: u32, negative: bool) -> Opti
     }
 }
 
-// Whether a text begins behind the digit 0, where no sign is asked for: a sign is less, so neither it nor a prefix is there.
+// Whether a text begins behind the digit 0, where no sign is asked for: a sign is less, so neither it nor a prefix is
+// there.
 #[inline(always)]
 #[tactic(auto, unfolding(crate::specs::Head::sign, crate::specs::Affixes::prefix_radix, crate::specs::Affixes::octal_zero_at, crate::specs::Runs::are_same))]
 fn is_bare<T: Integer>(bytes: &[u8], format: &NumberFormat) -> bool
@@ -97,8 +98,8 @@ fn value_behind<T: Integer>(bytes: &[u8], format: &NumberFormat, head: Head) -> 
     value_in_radix::<T>(digits, head.radix, head.is_negative)
 }
 
-// The value of the whole text, where digits alone stand behind any head: out of line, for texts that don't begin as most
-// do.
+// The value of the whole text, where digits alone stand behind any head: out of line, for texts that don't begin as
+// most do.
 #[inline(never)]
 fn value_behind_any_head<T: Integer>(bytes: &[u8], format: &NumberFormat) -> Option<T>
     requires { IsNone (fault format.now) }
@@ -145,8 +146,8 @@ pub(crate) fn value_of_row<T: Integer>(bytes: &[u8], format: &NumberFormat) -> O
     value_behind_any_head::<T>(bytes, format)
 }
 
-// The value of the whole text under a format with a separator that may be invalid, where decimal digits with a separator
-// before each three stand behind its sign.
+// The value of the whole text under a format with a separator that may be invalid, where decimal digits with a
+// separator before each three stand behind its sign.
 #[inline(never)]
 pub(crate) fn value_of_groups<T: Integer>(
     bytes: &[u8],

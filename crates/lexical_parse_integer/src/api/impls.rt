@@ -18,16 +18,16 @@ use lexical_util::format::{self, NumberFormat};
 use lexical_util::num::Integer;
 use lexical_util::result::Result;
 
-// A text and its format, put down for the call that reads what others leave. Else they would stay in registers over these
-// calls, and a short text, for which none is made, would save those registers too.
+// A text and its format, put down for the call that reads what others leave. Else they would stay in registers over
+// these calls, and a short text, for which none is made, would save those registers too.
 #[derive(Clone, Copy)]
 struct Call<'a> {
     bytes: &'a [u8],
     format: &'a NumberFormat,
 }
 
-// The complete answer for a text that the quick ways leave. The place for its answer is made ready here, and so not for a
-// value.
+// The complete answer for a text that the quick ways leave. The place for its answer is made ready here, and so not for
+// a value.
 #[inline(always)]
 fn complete_otherwise<T: Integer>(call: &Call<'_>) -> Result<T>
     ensures { view_of T.number result
@@ -36,8 +36,8 @@ fn complete_otherwise<T: Integer>(call: &Call<'_>) -> Result<T>
     complete_if_valid::<T>(call)
 }
 
-// The complete answer under a format that may be invalid: a short decimal text is read in place, and else there is a reader
-// for the format's kind, and one call for what that leaves.
+// The complete answer under a format that may be invalid: a short decimal text is read in place, and else there is a
+// reader for the format's kind, and one call for what that leaves.
 #[inline(always)]
 fn complete<T: Integer>(bytes: &[u8], format: &NumberFormat) -> Result<T>
     ensures { view_of T.number result ≡ complete_if_valid format.now T.TYPE bytes.now }
@@ -52,8 +52,8 @@ fn complete<T: Integer>(bytes: &[u8], format: &NumberFormat) -> Result<T>
     }
 }
 
-// The value of the whole text, by a reader for each kind of format, where `value_if_short` has left it. Each is a call that
-// answers in registers: an answer through memory makes the caller wait for it.
+// The value of the whole text, by a reader for each kind of format, where `value_if_short` has left it. Each is a call
+// that answers in registers: an answer through memory makes the caller wait for it.
 #[inline(always)]
 fn value_by_kind<T: Integer>(bytes: &[u8], format: &NumberFormat) -> Option<T>
     ensures valid { IfSome result (λ value. IsNone (fault format.now)) }

@@ -77,8 +77,9 @@ pub fn front_end()
         → partial format type text ≡ Ok (value, place) → 0 < place }
 {}
 
-/// The front that is read of a text with neither a prefix nor an octal zero has a digit exactly where one is directly before its place,
-/// under a format without separator byte and suffix: what `stops_after_digit` answers is whether a digit was read.
+/// The front that is read of a text with neither a prefix nor an octal zero has a digit exactly where one is directly
+/// before its place, under a format without separator byte and suffix: what `stops_after_digit` answers is whether a
+/// digit was read.
 ///
 /// Under the standard format the front of `+a` stops at 1, after no digit, and has none.
 pub fn front_digits()

@@ -1,6 +1,6 @@
-// A reference implementation of the grammar (docs/GRAMMAR.md), for tests alone. It is written from the definitions in specs/, one by
-// one, and shares nothing with the parsers but the fields of formats: it looks at a whole text at once, judges each
-// separator by all of its run, takes the greatest end, and adds the digits up by their positions.
+// A reference implementation of the grammar (docs/GRAMMAR.md), for tests alone. It is written from the definitions in
+// specs/, one by one, and shares nothing with the parsers but the fields of formats: it looks at a whole text at once,
+// judges each separator by all of its run, takes the greatest end, and adds the digits up by their positions.
 use lexical_parse_integer::{Error, NumberFormat, Result};
 
 // The longest text that is read.

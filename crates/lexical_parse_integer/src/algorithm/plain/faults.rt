@@ -57,8 +57,8 @@ pub(in crate::algorithm) fn place_after_few<T: Integer>(bytes: &[u8]) -> Option<
     Some(start + count)
 }
 
-// The fault behind as many digits as the type has room for: at the digit with which the number leaves the type, or at the
-// first byte that is no digit.
+// The fault behind as many digits as the type has room for: at the digit with which the number leaves the type, or at
+// the first byte that is no digit.
 #[inline(never)]
 pub(in crate::algorithm) fn fault_after_many<T: Integer>(bytes: &[u8]) -> Option<Error>
     ensures { IfSome result (λ error. complete standard T.TYPE bytes.now ≡ Err error) }

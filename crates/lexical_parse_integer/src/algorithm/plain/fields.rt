@@ -19,8 +19,8 @@ pub fn is_separated(format: &NumberFormat, separator: u8) -> bool
     char_to_digit(separator, 10).is_none()
 }
 
-/// The number of a text's first field and the field's length, where the field is up to twenty-three decimal digits after
-/// an optional minus, and a separator comes after it.
+/// The number of a text's first field and the field's length, where the field is up to twenty-three decimal digits
+/// after an optional minus, and a separator comes after it.
 ///
 /// `None` says nothing of the field. Between commas the first field of `12,345678,x` is 12, of length 2.
 #[inline(always)]
