@@ -328,9 +328,8 @@ impl NumberFormat {
     /// 5. No two of the three are alike, that is the same byte or the same letter in two cases; else
     ///    `InvalidPunctuation`.
     /// 6. Where literal prefixes or octal zeros are asked for, the radix is 10; and where literal prefixes are, the
-    /// format
-    ///    has no prefix of its own, and separator and suffix are neither digits of radix 16 nor `x`, `o` or `b`, in
-    ///    either case; else `InvalidLiteralPrefixes`.
+    ///    format has no prefix of its own, and separator and suffix are neither digits of radix 16 nor `x`, `o` or
+    ///    `b`, in either case; else `InvalidLiteralPrefixes`.
     ///
     /// The first rule is that of the Rust crate `lexical-util`; the others, and which fault each has,
     /// are this crate's own.
