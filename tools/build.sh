@@ -1,7 +1,7 @@
 #!/bin/sh
 # Proves and builds a crate and those below it, and says on standard error how far it is.
 #
-#     tools/build.sh CRATE    a program, which is run over no input, or the library for C
+#     tools/build.sh CRATE    a program, which is run over its args and no input, or the library for C
 #     tools/build.sh          only fails where there is no toolchain, with a sentence
 #
 # What the toolchain says goes to out/build.log; its last lines are shown where a crate isn't proved.
@@ -31,7 +31,10 @@ for crate in $crates; do
     number=$((number + 1)) start=$(date +%s) command=lib
     where="$number of $count  $crate"
     echo "$where: proving and building .."
-    if [ -f "crates/$crate/src/main.rt" ]; then command=run; fi
+    if [ -f "crates/$crate/src/main.rt" ]; then
+        command="run -- $(cat "crates/$crate/args" 2> /dev/null || :)"
+    fi
+    # shellcheck disable=SC2086 # (a command and its words)
     (cd "crates/$crate" && "$rt" $command < /dev/null) >> "$log" 2>&1 || {
         tail -n 40 "$log"
         echo "$where: not built; $log has all that was said"
