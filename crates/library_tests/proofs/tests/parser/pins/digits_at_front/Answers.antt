@@ -1,4 +1,4 @@
-use Rattle.std.proofs.Common.{inl, inr, refl, ◌∙◌, arith}
+use Rattle.std.proofs.Common.{inl, inr, refl, ◌∙◌}
 use Rattle.lexical_parse_integer.proofs.ForCallers.{is_fresh, not_asked}
 use Rattle.library_tests.proofs.tests.parser.pins.digits_at_front.Goals as goal
 
@@ -10,9 +10,7 @@ returns-clause-turns c = (is_fresh c.args.c.now c.cursor.ensures.sound c.require
 
 pub returns-clause-radix : goal.returns-clause-radix
 returns-clause-radix c = λ off.
-    let after = c.cursor.ensures.sound.after_start in
-    let front = c.requires.front in
-    elim (c.cursor.ensures.sound.in_force (omega arith)) [
+    elim (is_fresh c.args.c.now c.cursor.ensures.sound c.requires.front).in_force [
       | inl own ↦ own
       | inr bare ↦ bare ∙ rw (not_asked c.args.c.now.format c.args.c.now.bytes c.args.c.now.start off) refl
     ]
