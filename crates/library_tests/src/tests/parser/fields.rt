@@ -1,8 +1,8 @@
 // The first number of a column, where it is read with its end in one pass.
 use crate::tests::answers_to;
 use lexical_parse_integer::NumberFormatBuilder;
-use lexical_parse_integer::quick::{field_in_front, is_separated};
 use lexical_parse_integer::format::{JSON, NumberFormat, STANDARD};
+use lexical_parse_integer::quick::{field_in_front, is_separated};
 use std::process::Abort;
 
 // The first field between these separators, where it may be read so.
