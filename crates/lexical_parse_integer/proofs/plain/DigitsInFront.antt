@@ -81,7 +81,7 @@ pub at_front : (r : ℕ) (text digits ds : List ℕ) (start n k : ℕ) → Stand
 unfolding digit_at
 at_front r text digits ds start n k on all l low = ap (option_and_then (λ byte. digit byte r)) (on k ∙ sym (slice_get-take n k digits low)) ∙ digit_there r (take n digits) ds k all l
 
-at_stop : (r : ℕ) (text digits : List ℕ) (start n : ℕ) → StandsFrom start text digits → n < length digits → is_some (digit (get_or digits n 0) r) ≡ false → has_digit r text (start + n) ≡ false
+pub at_stop : (r : ℕ) (text digits : List ℕ) (start n : ℕ) → StandsFrom start text digits → n < length digits → is_some (digit (get_or digits n 0) r) ≡ false → has_digit r text (start + n) ≡ false
 unfolding digit_at
 at_stop r text digits start n on low none = ap (λ (o : Option ℕ). is_some (option_and_then (λ byte. digit byte r) o)) (on n ∙ slice_get_there digits n low) ∙ none
 
