@@ -20,7 +20,7 @@ mod numeral;
 pub(crate) mod plain;
 mod zeros;
 
-use crate::algorithm::front::{complete_from_front, partial_from_front, standard_from_front};
+use crate::algorithm::front::{complete_from_front, partial_from_front};
 use crate::algorithm::head::{is_prefix_alone, read_head};
 use crate::algorithm::numeral::read_numeral;
 use crate::algorithm::plain::faults::{fault_after_many, place_after_few};
@@ -214,7 +214,7 @@ pub(crate) fn standard_complete<T: Integer>(bytes: &[u8]) -> Result<T>
     match place_after_few::<T>(bytes) {
         Some(place) if place < bytes.len() => Err(Error::InvalidDigit(place)),
         Some(place) => Err(Error::Empty(place)),
-        None => standard_from_front::<T>(bytes),
+        None => complete_from_front::<T>(bytes, &format::STANDARD),
     }
 }
 

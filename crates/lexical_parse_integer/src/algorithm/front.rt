@@ -2,7 +2,6 @@
 // them. Every text has its answer here under every valid format, so whatever a quick way isn't sure of is read here.
 ghost use Rattle.std.specs.Prelude.{◌≡◌, ◌≤◌, ◌&&◌, ◌||◌, ◌==◌, Err, IfErr, IfOk, IfSome, IsNone, Ok, Some, None, is_some, length, nat_lt, true, if◌then◌else◌, ◌+◌};
 ghost use Rattle.std.specs.Option.{option_or};
-ghost use Rattle.lexical_util.specs.Format.{standard};
 ghost use Rattle.lexical_util.specs.Validity.{fault};
 ghost use Rattle.lexical_util.specs.declared.error.Error.TheVariants.{InvalidLeadingZeros};
 ghost use Rattle.lexical_parse_integer.specs.Affixes.{suffix_at};
@@ -18,7 +17,7 @@ use crate::affixes::{octal_zero_at, prefix_radix, suffix_at};
 use crate::algorithm::digits::join_checked;
 use crate::seek::{Found, digit_at, seek};
 use lexical_util::error::Error;
-use lexical_util::format::{self, NumberFormat};
+use lexical_util::format::NumberFormat;
 use lexical_util::num::Integer;
 use lexical_util::result::Result;
 
@@ -309,12 +308,4 @@ pub(crate) fn complete_from_front<T: Integer>(bytes: &[u8], format: &NumberForma
     ensures { view_of T.number result ≡ complete format.now T.TYPE bytes.now }
 {
     completion::<T>(bytes, partial_from_front::<T>(bytes, format))
-}
-
-/// The integer that the whole text stands for under the standard format, whose fields the compiler folds into the code.
-#[inline(never)]
-pub(crate) fn standard_from_front<T: Integer>(bytes: &[u8]) -> Result<T>
-    ensures { view_of T.number result ≡ complete standard T.TYPE bytes.now }
-{
-    completion::<T>(bytes, partial_from_front::<T>(bytes, &format::STANDARD))
 }
