@@ -4,4 +4,3 @@ pub mod DecimalFronts
 pub mod TokenLists
 pub mod TokenRows
 pub mod TokenSteps
-pub mod WiderType
