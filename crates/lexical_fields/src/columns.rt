@@ -71,7 +71,9 @@ pub fn read_column<T: ParseInteger>(
     let mut count = 0;
     while count < values.len() && !rest.is_empty() {
         let start = text.len() - rest.len();
-        let (answer, behind) = read_first::<T>(start, rest, separator, format, options, separated);
+        let (answer, behind, has_marks) = read_first::<T>(
+            start, rest, separator, format, options, separated,
+        );
         match answer {
             Ok(value) => values[count] = value,
             Err(error) => {
@@ -82,7 +84,11 @@ pub fn read_column<T: ParseInteger>(
                 });
             }
         }
-        (count, rest) = read_marked::<T>(behind, separator, format, separated, values, count + 1);
+        rest = behind;
+        count += 1;
+        if has_marks {
+            (count, rest) = read_marked::<T>(rest, separator, format, values, count);
+        }
     }
     Ok(Column {
         count,

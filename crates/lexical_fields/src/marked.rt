@@ -129,18 +129,18 @@ fn split_marked(text: &[u8], marks: u64, separator: u8) -> (usize, &[u8], u64)
 }
 
 // Reads fields into a slice behind the numbers that it has, as long as their ends are marked and each is digits alone or
-// behind a minus: how many numbers it has then, and what is left of the text.
-#[inline(always)]
+// behind a minus: how many numbers it has then, and what is left of the text. It stays out of line, so that its loop has
+// the registers to itself.
+#[inline(never)]
 pub(crate) fn read_marked<'a, T: ParseInteger>(
     text: &'a [u8],
     separator: u8,
     format: &NumberFormat,
-    separated: bool,
     values: &mut [T],
     count: usize,
 ) -> (usize, &'a [u8])
     requires valid { IsNone (fault format.now) }
-    requires separated { IsTrue separated → IsSeparated format.now separator }
+    requires separated { IsSeparated format.now separator }
     requires room { count ≤ length values.old }
     ensures reading { (whole : List ℕ) (initial : List T)
         → IsReadSoFar T T.number format.now T.TYPE separator whole initial values.old count text.now
@@ -150,9 +150,6 @@ pub(crate) fn read_marked<'a, T: ParseInteger>(
     ensures room { result.0 ≤ length values.new }
     ensures size { length values.new ≡ length values.old }
 {
-    if !separated {
-        return (count, text);
-    }
     let mut rest = text;
     let mut marks = 0;
     for i in count..values.len() {

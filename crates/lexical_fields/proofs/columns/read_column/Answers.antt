@@ -50,6 +50,18 @@ loop-count-preserved g c =
     _ c.read_first-answer.result.1.now c.in-Ok.value room some refl
     c.read_first-answer.ensures.behind c.read_first-answer.ensures.shorter
     (ap (view_of g.T.Integer.number) (sym c.in-Ok.is) ∙ c.read_first-answer.ensures.answer) in
+    record { reading = more; room = omega arith }
+
+pub loop-count-preserved-then-has_marks : goal.loop-count-preserved-then-has_marks
+loop-count-preserved-then-has_marks g c =
+    let some : 0 < length c.loop-count.rest.now = grind (arith, nat_tests) in
+    let room : c.loop-count.count < length c.args.values.now = omega arith in
+    let more = reading_goes _ g.T.Integer.number c.args.format.now g.T.Integer.TYPE c.args.separator
+    c.args.text.now c.args.values.now c.loop-count.values c.loop-count.count c.loop-count.rest.now
+    c.loop-count.invariant.reading
+    _ c.read_first-answer.result.1.now c.in-Ok.value room some refl
+    c.read_first-answer.ensures.behind c.read_first-answer.ensures.shorter
+    (ap (view_of g.T.Integer.number) (sym c.in-Ok.is) ∙ c.read_first-answer.ensures.answer) in
     let all = c.read_marked.ensures.reading c.args.text.now c.args.values.now more in
     record { reading = all; room = omega (arith, c.read_marked.ensures.room, all.size) }
 
