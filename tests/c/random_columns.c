@@ -1,6 +1,6 @@
 /* Runs the column calls on random texts, beside a reading of each field by itself; and on short texts in all pieces.
  *
- *     random_columns COLUMNS TEXTS SEED
+ *     random_columns [COLUMNS TEXTS SEED]
  *
  * The text and the array of each call lie at a page that can't be read or written, right behind or in front of it. Half
  * of the texts have a fault. Each text of the second kind is cut in every way, and read block by block as the header
@@ -212,11 +212,12 @@ static void compare_cuts(void)
 
 int main(int count, char **words)
 {
-    if (count != 4) return 2;
+    if (count != 1 && count != 4) return 2;
     char *texts = guarded(PAGES), *arrays = guarded(PAGES);
-    state = strtoull(words[3], NULL, 10) * 2 + 1;
-    for (uint64_t left = strtoull(words[1], NULL, 10); left > 0; left--) compare_column(texts, arrays);
-    for (uint64_t left = strtoull(words[2], NULL, 10); left > 0; left--) compare_cuts();
+    state = count == 4 ? strtoull(words[3], NULL, 10) * 2 + 1 : 1;
+    for (uint64_t left = count == 4 ? strtoull(words[1], NULL, 10) : 20000; left > 0; left--)
+        compare_column(texts, arrays);
+    for (uint64_t left = count == 4 ? strtoull(words[2], NULL, 10) : 100; left > 0; left--) compare_cuts();
     printf("%llu columns, of which %llu have a fault, and %llu ways to cut a text: %llu differ\n",
            (unsigned long long)columns, (unsigned long long)faults, (unsigned long long)cuts, (unsigned long long)wrong);
     return wrong > 0;
