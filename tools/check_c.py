@@ -162,10 +162,9 @@ def messages(place: Place) -> str:
 
 def calls(place: Place) -> Iterator[Step]:
     """Each caller, by each of its compilers, with both libraries and under sanitizers."""
-    c_callers = ("tests/c/calls.c", "tests/c/columns.c")
-    for compiler, caller in product(C_COMPILERS, c_callers):
-        name = f"{os.path.basename(caller)}, {compiler}"
-        step = partial(call, place, caller, compiler)
+    c_callers = ("calls.c", "columns.c", "random_columns.c")
+    for compiler, name in product(C_COMPILERS, c_callers):
+        step, name = partial(call, place, f"tests/c/{name}", compiler), f"{name}, {compiler}"
         yield f"C99, {name}", partial(step, ["-std=c99", *OPTIMISED])
         yield f"C11 and the shared library, {name}", partial(step, ["-std=c11", *OPTIMISED], True)
         yield f"C99 under sanitizers, {name}", partial(step, ["-std=c99", *SANITIZED])
