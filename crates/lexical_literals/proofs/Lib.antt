@@ -2,6 +2,8 @@
 pub mod ByteKinds
 pub mod DecimalFronts
 pub mod JoinedTokens
+pub mod LiteralFronts
+pub mod LiteralRows
 pub mod TokenLists
 pub mod TokenRows
 pub mod TokenSteps
