@@ -123,6 +123,9 @@ public:
         return number_;
     }
 
+    // A part of it.
+    const T *operator->() const noexcept { return &**this; }
+
     // The number, or the other one where there is none.
     T value_or(T other) const noexcept { return has_value() ? number_ : other; }
     std::optional<T> optional() const noexcept
@@ -281,6 +284,25 @@ template <class T>
 [[nodiscard]] result<T> parse_partial(std::string_view text, const format &under) noexcept
 {
     return detail::called<T>(detail::calls_as<T>::partial_under, text, &under);
+}
+
+// The number of a literal, and its suffix, which is a part of the text.
+struct literal_parts {
+    jadvolni_uint128 value;
+    std::string_view suffix;
+};
+
+// The literal that the text begins with, under the format of its language: "0xFFull" has the suffix
+// "ull". Its place() is behind the suffix. docs/FORMATS.md has the suffixes of each language.
+[[nodiscard]] inline result<literal_parts> parse_literal(std::string_view text,
+                                                         const format &under) noexcept
+{
+    literal_parts parts{};
+    std::size_t suffix = 0;
+    auto answer = jadvolni_parse_literal(text.data(), text.size(), &under, &parts.value, &suffix);
+    if (answer.status == JADVOLNI_OK)
+        parts.suffix = std::string_view(text.data() + suffix, answer.place - suffix);
+    return {parts, answer};
 }
 
 // What was read of a column: a count of numbers, and where reading stopped or what is wrong there.

@@ -33,6 +33,9 @@ FRONT = (
     "or `Underflow`.\n"
     "- Where a sign is no part of the literal, a plus is refused. A minus is refused by an "
     "unsigned type, and read by a signed one.\n"
+    "- A language's suffixes, as the `u32` of `1u32`, are no part of its format. "
+    "`lexical_literals::literal_in_front` and `jadvolni_parse_literal` read the number and what "
+    "stands behind it as a suffix, of which the caller asks whether it is one of the language's.\n"
     "- A place counts the bytes of the text from 0. The faults are those of "
     "[GRAMMAR.md](GRAMMAR.md#faults-and-their-places).\n\n"
     "A format that reads more than its language, or less, says so under *What the fields can't "
@@ -94,9 +97,10 @@ def unsaid(group: Group) -> list[str]:
 def section(group: Group) -> list[str]:
     """What is said of a language."""
     reference = "; ".join(told(group, "reference"))
+    suffixes = " ".join(told(group, "suffixes")) or "None."
     return [
         f"## {group.shows}", "", f"`lexical_formats::{group.name}()`", "", *told(group, "rule"), "",
-        f"Reference: {reference}.", "", *chain(group), *table(group), *unsaid(group),
+        f"Reference: {reference}.", "", f"Suffixes: {suffixes}", "", *chain(group), *table(group), *unsaid(group),
     ]
 
 

@@ -32,7 +32,7 @@ FLAGS = {
 BYTES = {"separator": "digit_separator", "prefix": "base_prefix", "suffix": "base_suffix"}
 HEADING = re.compile(r"(={2,3}) (\w+): (.+)")
 # what a line of tools/languages.txt tells a user, before the rows of its language
-TOLD = re.compile(r"(reference|rule|more|less|otherwise) \| (.+)")
+TOLD = re.compile(r"(reference|rule|suffixes|more|less|otherwise) \| (.+)")
 TYPES = {sign + str(bits): (bits, sign == "i") for sign in "ui" for bits in (8, 16, 32, 64, 128)}
 TYPES.update(usize=(64, False), isize=(64, True))
 OF_TEXTS = [

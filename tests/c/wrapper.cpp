@@ -246,6 +246,23 @@ static void columns_beside_from_chars()
     }
 }
 
+static void literals()
+{
+    auto has = [](std::string_view text, const jadvolni::format &under, std::uint64_t value, std::string_view suffix,
+                  std::size_t place) {
+        auto read = jadvolni::parse_literal(text, under);
+        return read && read->value.low == value && read->value.high == 0 && read->suffix == suffix
+            && read.place() == place && read->suffix.data() == text.data() + place - suffix.size();
+    };
+    CHECK(has("0xFFull;", jadvolni::formats::c, 255, "ull", 7));
+    CHECK(has("1'0z", jadvolni::formats::cpp14, 10, "z", 4));
+    CHECK(has("1_000i64", jadvolni::formats::rust, 1000, "i64", 8));
+    CHECK(has("1", jadvolni::formats::rust, 1, "", 1));
+    auto none = jadvolni::parse_literal(std::string_view(), jadvolni::formats::c);
+    CHECK(!none && none.status() == status::empty && none.place() == 0);
+    CHECK(jadvolni::parse_literal("0xu", jadvolni::formats::c).status() == status::empty);
+}
+
 int main()
 {
     faults_of_texts();
@@ -255,6 +272,7 @@ int main()
     fronts_under_a_format();
     fronts_without_a_digit();
     wrong_bases();
+    literals();
     columns();
     columns_beside_from_chars();
     beside_from_chars(25000);

@@ -23,6 +23,7 @@ mod error;
 mod format;
 mod integer;
 mod languages;
+mod literal;
 
 pub use column::{
     field_start, parse_column, parse_column_with_format, Column, ColumnError, ColumnInteger,
@@ -30,6 +31,7 @@ pub use column::{
 pub use error::Error;
 pub use format::Format;
 pub use integer::Integer;
+pub use literal::{parse_literal, Literal};
 
 use jadvolni_sys as sys;
 
