@@ -26,7 +26,8 @@ mod languages;
 mod literal;
 
 pub use column::{
-    field_start, parse_column, parse_column_with_format, Column, ColumnError, ColumnInteger,
+    field_start, parse_column, parse_column_part, parse_column_part_with_format,
+    parse_column_with_format, Column, ColumnError, ColumnInteger,
 };
 pub use error::Error;
 pub use format::Format;
