@@ -12,7 +12,7 @@ SOVERSION := 0
 LIBRARIES := build/libjadvolni.a build/libjadvolni.so
 # The shared library, where there is a compiler that links it.
 SHARED := $(if $(shell command -v $(CC) 2>/dev/null),build/libjadvolni.so)
-LIBRARY_SOURCES := $(shell find crates/jadvolni crates/lexical_fields crates/lexical_literals crates/lexical_laws crates/lexical_parse_integer crates/lexical_digits crates/lexical_util -name out -prune -o -type f \( -name '*.rt' -o -name '*.antt' \) -print) crates.txt
+LIBRARY_SOURCES := $(shell find crates/jadvolni crates/lexical_fields crates/lexical_literals crates/lexical_parse_integer crates/lexical_digits crates/lexical_util -name out -prune -o -type f \( -name '*.rt' -o -name '*.antt' \) -print) crates.txt
 
 .PHONY: lib install-lib uninstall-lib test-c check-c
 
