@@ -1,6 +1,6 @@
 """The formats of languages in C and C++, field by field and row by row: a part of make test-c.
 
-A program is written that prints each format's bytes, and what a call answers to each row of
+tests/c/formats.c prints each format's bytes, and what a call answers to each row of
 tools/languages.txt under it. The fields are those that the crate rows proves of lexical_formats.
 """
 from __future__ import annotations
@@ -14,39 +14,6 @@ from callers import C_COMPILERS, CXX17, CXX_COMPILERS, OPTIMISED, Failed, Place,
 from row_data import LANGUAGES, Group, Row, groups_of
 from reference import STANDARD
 
-HEAD = """#ifdef __cplusplus
-#include "jadvolni.hpp"
-#define FORMAT(lower, upper) jadvolni::formats::lower
-#else
-#include "jadvolni.h"
-#define FORMAT(lower, upper) ((jadvolni_format)JADVOLNI_FORMAT_##upper)
-#endif
-#include <stdio.h>
-
-static void bytes(jadvolni_format format)
-{
-    for (size_t k = 0; k < sizeof format; k++)
-        printf("%d ", ((const unsigned char *)&format)[k]);
-    puts("");
-}
-
-static void answer(jadvolni_result r, long long value)
-{
-    printf("%s %d %lld\\n", jadvolni_status_name(r.status), (int)r.place, value);
-}
-
-#define ROW(type, kept, format, text)                                                           \\
-    do {                                                                                        \\
-        kept value = 77;                                                                        \\
-        jadvolni_format under = format;                                                         \\
-        jadvolni_result r =                                                                     \\
-            jadvolni_parse_##type##_with_format(text, sizeof text - 1, &under, &value);         \\
-        answer(r, (long long)value);                                                            \\
-    } while (0)
-
-int main(void)
-{
-"""
 KEPT = {"u32": "uint32_t", "u64": "uint64_t", "i32": "int32_t", "i64": "int64_t"}
 
 
@@ -80,10 +47,10 @@ def wanted(groups: list[Group]) -> Iterator[str]:
 def formats(place: Place, compiler: str, language: str, suffix: str) -> str:
     """The formats and rows, as a compiler has them."""
     groups = groups_of(LANGUAGES)
-    caller = place.path(f"formats.{suffix}")
-    with open(caller, "w", encoding="utf-8") as file:
-        file.write("\n".join([HEAD, *asked(groups), "return 0;", "}", ""]))
-    program = build(place, compiler, caller, [language, *OPTIMISED])
+    with open(place.path("formats.inc"), "w", encoding="utf-8") as file:
+        file.writelines(f"{line}\n" for line in asked(groups))
+    flags = [language, *OPTIMISED, f"-I{place.path('')}"]
+    program = build(place, compiler, f"tests/c/formats.{suffix}", flags)
     said, lines = run([program]).split("\n")[:-1], list(wanted(groups))
     wrong = [f"{one}, and not {other}" for one, other in zip(said, lines) if one != other]
     if wrong or len(said) != len(lines):
@@ -93,9 +60,6 @@ def formats(place: Place, compiler: str, language: str, suffix: str) -> str:
 
 def steps(place: Place) -> Iterator[Step]:
     """A step for each compiler."""
-    for compiler in C_COMPILERS:
-        step = partial(formats, place, compiler, "-std=c99", "c")
-        yield f"formats of languages, {compiler}", step
-    for compiler in CXX_COMPILERS:
-        step = partial(formats, place, compiler, CXX17, "cpp")
-        yield f"formats of languages, {compiler}", step
+    for compilers, *how in ((C_COMPILERS, "-std=c99", "c"), (CXX_COMPILERS, CXX17, "cpp")):
+        for compiler in compilers:
+            yield f"formats of languages, {compiler}", partial(formats, place, compiler, *how)

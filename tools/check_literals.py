@@ -108,9 +108,8 @@ def wrong_answers(library: Library, name: str) -> int:
                 read = answer(library, text, form)
                 if read != ("Ok", value, len(split[text][0]), len(text)):
                     wrong.append(f"{group.name}: {text}: {read}, and not {value}")
-    print(f"{name}: {len(found)} literals, {len(split)} different ones; {sources.judge.compile_by[0]} "
-          f"tells {len(told)} values of {len(sample)}, and refuses {sorted({*sample} - {*told})}; "
-          f"read otherwise: {len(wrong)}", flush=True)
+    print(f"{name}: {len(found)} literals, {len(split)} different ones; of {len(sample)} the compiler "
+          f"refuses {sorted({*sample} - {*told})}; read otherwise: {len(wrong)}", flush=True)
     print("\n".join(wrong[:20]), end="\n" if wrong else "")
     return len(wrong) if split and told else 1
 
