@@ -5,14 +5,12 @@ tools/languages.txt under it. The fields are those that the crate rows proves of
 """
 from __future__ import annotations
 
-from dataclasses import replace
 from functools import partial
 from typing import Iterator
 
-from c_calls import c_format
+from c_calls import answer_to, format_of
 from callers import C_COMPILERS, CXX17, CXX_COMPILERS, OPTIMISED, Failed, Place, Step, build, run
-from row_data import LANGUAGES, Group, Row, groups_of
-from reference import STANDARD
+from row_data import LANGUAGES, Group, groups_of
 
 KEPT = {"u32": "uint32_t", "u64": "uint64_t", "i32": "int32_t", "i64": "int64_t"}
 
@@ -27,21 +25,12 @@ def asked(groups: list[Group]) -> Iterator[str]:
             yield f'ROW({row.type}, {KEPT[row.type]}, {format}, "{text}");'
 
 
-def answer_to(row: Row) -> str:
-    """What has to be printed of a row."""
-    name, numbers = row.answer
-    if name != "Ok":
-        return f"{name} {numbers[0]} 77"
-    value = numbers[0] - 2 ** 64 if numbers[0] >= 2 ** 63 else numbers[0]
-    return f"Ok {len(row.text)} {value}"
-
-
 def wanted(groups: list[Group]) -> Iterator[str]:
     """What has to be printed."""
     for group in groups:
-        form = replace(STANDARD, **dict(group.fields or ()))
-        yield "".join(f"{byte} " for byte in bytes(c_format(form)))
-        yield from map(answer_to, group.rows)
+        yield "".join(f"{byte} " for byte in bytes(format_of(group)))
+        for answer in map(answer_to, group.rows):
+            yield f"{answer.status} {answer.place} {answer.number % 2 ** 64}"
 
 
 def formats(place: Place, compiler: str, language: str, suffix: str) -> str:

@@ -89,6 +89,12 @@ def in_display(statuses: list[Field]) -> str:
     return "".join(lines)
 
 
+def wrapped(text: str, first: str, more: str) -> str:
+    """A text in lines, with what the first and each further line begins with."""
+    return textwrap.fill(text, 100, initial_indent=first, subsequent_indent=more,
+                         break_on_hyphens=False)
+
+
 def in_c(fields: list[Field]) -> str:
     """The struct of the header."""
     lines = []
@@ -96,8 +102,7 @@ def in_c(fields: list[Field]) -> str:
         about = field.about
         if field.kind == "flag":
             about = f"Flag: {about[0].lower()}{about[1:]}"
-        lines.append(textwrap.fill(about + " */", 100, initial_indent="    /* ",
-                                   subsequent_indent="     * ", break_on_hyphens=False))
+        lines.append(wrapped(about + " */", "    /* ", "     * "))
         lines.append(f"    uint8_t {field.name};\n")
     return "\n".join(lines) + "\n"
 
@@ -131,33 +136,27 @@ def in_record(fields: list[Field]) -> str:
 
 def in_setters(kind: str, fields: list[Field]) -> str:
     """The setters of Rust's Format for the fields of a kind."""
-    bits = {1: "JADVOLNI_NUL_IS_SEPARATOR", 2: "JADVOLNI_NUL_IS_PREFIX",
-            4: "JADVOLNI_NUL_IS_SUFFIX"}
     lines = []
     for field in fields:
         if field.kind == kind:
-            lines.append(textwrap.fill(field.about, 100, initial_indent="        /// ",
-                                       subsequent_indent="        /// "))
-            lines.append(f"        {field.name} {bits.get(field.bit, '')}".rstrip())
+            lines.append(wrapped(field.about, "        /// ", "        /// "))
+            bit = f" JADVOLNI_NUL_IS_{field.word.upper()}" if field.bit else ""
+            lines.append(f"        {field.name}{bit}")
     return "\n".join(lines) + "\n"
 
 
 def in_help(fields: list[Field]) -> str:
     """What the help of Python's Format says of each field."""
-    return "\n".join(textwrap.fill(f"{field.name}: {field.about}", 100, initial_indent="    ",
-                                   subsequent_indent="        ", break_on_hyphens=False)
-                     for field in fields) + "\n"
+    return "".join(wrapped(f"{field.name}: {field.about}", "    ", "        ") + "\n"
+                   for field in fields)
 
 
 def in_dataclass(fields: list[Field]) -> str:
     """The fields of Python's Format, with their defaults."""
     kinds = {"radix": ("int", 0), "mark": ("Punctuation", None), "flag": ("bool", False)}
-
-    def line(field: Field) -> str:
-        kind, unset = kinds[field.kind]
-        return f"    {field.name}: {kind} = {STANDARD.get(field.name, unset)}\n"
-
-    return "".join(map(line, fields))
+    rows = [(it.name, *kinds[it.kind]) for it in fields]
+    return "".join(f"    {name}: {kind} = {STANDARD.get(name, unset)}\n"
+                   for name, kind, unset in rows)
 
 
 def in_grammar(fields: list[Field]) -> str:

@@ -6,7 +6,7 @@ import os
 import re
 
 import source
-from row_data import Answer, Group, escaped, groups_of
+from row_data import Group, escaped, groups_of
 
 DATA = os.path.join("tools", "languages.txt")
 # A wrong number harms more than a fault, so texts with another value come first.
@@ -41,18 +41,14 @@ def chain(group: Group) -> list[str]:
     return ["```rust", "NumberFormatBuilder::new()", *setters, "    .build_strict()", "```", ""]
 
 
-def answer_text(answer: Answer) -> str:
-    """An answer, as a call gives it."""
-    return f"`{answer.name}({', '.join(map(str, answer.numbers))})`"
-
-
 def table(group: Group) -> list[str]:
     """The rows of a language."""
     lines = ["| Text | Type | Answer | In the language, where that differs |", "|---|---|---|---|"]
     for row in group.rows:
         note = row.remark[len(UNLIKE):] if row.remark.startswith(UNLIKE) else ""
         text = escaped(row.text)
-        lines.append(f"| `\"{text}\"` | {row.type} | {answer_text(row.answer)} | {note} |")
+        answer = f"{row.answer.name}({', '.join(map(str, row.answer.numbers))})"
+        lines.append(f"| `\"{text}\"` | {row.type} | `{answer}` | {note} |")
     return [*lines, ""]
 
 

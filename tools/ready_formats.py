@@ -28,12 +28,6 @@ def in_c(groups: list[Group], fields: list[Field]) -> str:
     return "".join(row(group) for group in groups)
 
 
-def in_cpp(groups: list[Group]) -> str:
-    """A constant for each language."""
-    return "".join(f"inline constexpr format {group.name} = JADVOLNI_FORMAT_{group.name.upper()};\n"
-                   for group in groups)
-
-
 def in_rust(groups: list[Group]) -> str:
     """The module of Rust."""
     lines = ["//! The formats of languages and of data, by `make docs` from `tools/languages.txt`.",
@@ -67,7 +61,9 @@ def files(top: str, found: dict[str, str]) -> dict[str, str]:
     """The files that list formats, fields or statuses; `found` has what else changes them."""
     groups, fields = groups_of(os.path.join(top, LANGUAGES)), fields_of(top)
     found = field_lists.files(top, found)
+    constants = "".join(f"inline constexpr format {it.name} = JADVOLNI_FORMAT_{it.name.upper()};\n"
+                        for it in groups)
     fill(top, found, [Region("include/jadvolni.h", BEGIN_C, END_C, lambda it: in_c(groups, it)),
-                      Region("include/jadvolni.hpp", BEGIN_CPP, END_CPP, lambda _: in_cpp(groups))],
+                      Region("include/jadvolni.hpp", BEGIN_CPP, END_CPP, lambda _: constants)],
          fields)
     return {**found, RUST: in_rust(groups), PYTHON: in_python(groups)}

@@ -16,9 +16,9 @@ static void bytes(jadvolni_format format)
     puts("");
 }
 
-static void answer(jadvolni_result r, long long value)
+static void answer(jadvolni_result r, unsigned long long value)
 {
-    printf("%s %d %lld\n", jadvolni_status_name(r.status), (int)r.place, value);
+    printf("%s %d %llu\n", jadvolni_status_name(r.status), (int)r.place, value);
 }
 
 #define ROW(type, kept, format, text)                                                           \
@@ -27,7 +27,7 @@ static void answer(jadvolni_result r, long long value)
         jadvolni_format under = format;                                                         \
         jadvolni_result r =                                                                     \
             jadvolni_parse_##type##_with_format(text, sizeof text - 1, &under, &value);         \
-        answer(r, (long long)value);                                                            \
+        answer(r, (unsigned long long)(long long)value);                                        \
     } while (0)
 
 int main(void)
