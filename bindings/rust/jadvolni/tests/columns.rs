@@ -144,8 +144,7 @@ fn starts_of_fields() {
 /// The numbers of a text that comes in blocks of so many bytes, with room for so many, and the fault with its place.
 fn in_blocks(text: &[u8], size: usize, room: usize) -> (Vec<i16>, Option<(usize, Error)>) {
     let (mut found, mut kept, mut start) = (Vec::new(), Vec::new(), 0);
-    let mut blocks = text.chunks(size).chain([&b""[..]]);
-    while let Some(block) = blocks.next() {
+    for block in text.chunks(size).chain([&b""[..]]) {
         kept.extend_from_slice(block);
         loop {
             let mut values = vec![77; room];
