@@ -43,7 +43,8 @@ STRUCTS = {"result": "Outcome", "format": "FormatFields", "uint128": "Unsigned12
 OF_RUST = {"uint8_t": "u8", "uint32_t": "u32", "uint64_t": "u64", "int64_t": "i64",
            "size_t": "usize"}
 COLUMN_TYPES = [f"{sign}{size}" for sign in "ui" for size in (8, 16, 32, 64)]
-CALLS = sorted(["jadvolni_version", "jadvolni_format_error", "jadvolni_field_start"]
+CALLS = sorted(["jadvolni_version", "jadvolni_format_error", "jadvolni_field_start",
+                "jadvolni_parse_literal"]
                + [f"jadvolni_parse_{name}{form}" for name, form in product(TYPES, FORMS)]
                + [f"jadvolni_parse_{name}_column" for name in COLUMN_TYPES])
 
