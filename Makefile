@@ -49,13 +49,14 @@ install: install-programs install-lib ## puts the programs and the library where
 uninstall: uninstall-programs uninstall-lib ## takes them away
 
 install-programs: $(PROGRAM) $(FOR_SHELLS)
-	install -d $(DESTDIR)$(PREFIX)/bin $(DESTDIR)$(MANDIR)/man1
-	install -m 755 $^ $(DESTDIR)$(PREFIX)/bin
-	$(FILL) packaging/lexint.1.in > $(DESTDIR)$(MANDIR)/man1/lexint.1
-	$(FILL) packaging/jad.1.in > $(DESTDIR)$(MANDIR)/man1/jad.1
+	install -d "$(DESTDIR)$(PREFIX)/bin" "$(DESTDIR)$(MANDIR)/man1"
+	install -m 755 $^ "$(DESTDIR)$(PREFIX)/bin"
+	for program in lexint jad; do \
+	    $(FILL) packaging/$$program.1.in > "$(DESTDIR)$(MANDIR)/man1/$$program.1" || exit 1; done
 
 uninstall-programs:
-	rm -f $(foreach program,lexint jad,$(DESTDIR)$(PREFIX)/bin/$(program) $(DESTDIR)$(MANDIR)/man1/$(program).1)
+	for program in lexint jad; do \
+	    rm -f "$(DESTDIR)$(PREFIX)/bin/$$program" "$(DESTDIR)$(MANDIR)/man1/$$program.1" || exit 1; done
 
 vendor: ## copies the Rattle crates into your repository: DEST=../yours WITH="lexical_literals lexical_fields lexical_formats"
 	@packaging/vendor.sh
