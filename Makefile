@@ -7,7 +7,7 @@ FOR_SHELLS := crates/jad/out/jad
 SOURCES = $(shell find crates/$(1) crates/answer_lines crates/lexical_* -name out -prune -o -type f \( -name '*.rt' -o -name '*.antt' \) -print) crates.txt
 
 .PHONY: help toolchain run check test devices answers lexint jad install uninstall install-programs uninstall-programs rows
-.PHONY: docs vendor check-docs check-languages bench must-not-compile fuzz fuzz-edges
+.PHONY: docs dist test-dist tag vendor check-docs check-languages bench must-not-compile fuzz fuzz-edges
 
 # A target is listed by the words after its two number signs.
 help:
@@ -60,6 +60,16 @@ uninstall-programs:
 
 vendor: ## copies the Rattle crates into your repository: DEST=../yours WITH="lexical_literals lexical_fields lexical_formats"
 	@packaging/vendor.sh
+
+dist: lib lexint jad ## writes dist/, the archives of a release, from a clean tree: docs/RELEASING.md
+	@RT=$(RT) packaging/dist.sh
+
+test-dist: ## tries these as users get them, in a root without the toolchain; not a part of the gate
+	@packaging/test_dist.sh
+
+tag: ## makes the version's tag, whose message is dist/SHA256SUMS
+	@grep -q "commit $$(git rev-parse HEAD)" dist/*.spdx.json || { echo "make tag: dist is of another commit" >&2; exit 1; }
+	@cd dist && sha256sum --quiet -c SHA256SUMS && git tag -a v$(VERSION) -F SHA256SUMS
 
 include tools/lib.mk
 
