@@ -15,9 +15,9 @@ is() { # NAME COMMAND..: the command has to print what README shows
 has() { command -v "$1" > /dev/null || { echo "skipped: there is no $1"; return 1; }; }
 if command -v rt > /dev/null; then echo "rt is on the PATH, as on no user's machine" >&2; exit 1; fi
 
-tar xzf jadvolni-[0-9].*[0-9].tar.gz
-tar xzf jadvolni-*-linux-x86_64.tar.gz
-tree=$(echo "$PWD"/jadvolni-*-linux-x86_64) sources=$(find "$PWD" -maxdepth 1 -name 'jadvolni-*[0-9]' -type d ! -name '*x86_64')
+for file in *.tar.gz; do tar xzf "$file"; done
+tree=$(echo "$PWD"/jadvolni-*-linux-x86_64)
+sources=${tree%-linux-x86_64}
 printf 'c u64 18446744073709551616\n' > line
 cat > ten.cpp << 'END'
 #include <cstdint>
@@ -77,7 +77,7 @@ fi
 
 python3 -m venv venv
 venv/bin/pip -q install --no-index jadvolni-*.whl
-venv/bin/python -m unittest discover -s "$sources/bindings/python/tests" 2> wheel.log || { cat wheel.log; exit 1; }
+JADVOLNI_LIBRARY="$tree/lib/libjadvolni.a" venv/bin/python -m unittest discover -s "$sources/bindings/python/tests" 2> wheel.log || { cat wheel.log; exit 1; }
 echo "passed: wheel: $(sed -n '/^Ran/p' wheel.log)"
 
 [ "${2:-}" = packages ] || exit 0

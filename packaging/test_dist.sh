@@ -27,7 +27,7 @@ if [ "$(id -u)" != 0 ] || ! has debootstrap || ! has unshare; then
 fi
 if [ ! -e "$root/made" ]; then
     rm -rf "$root"
-    debootstrap --variant=minbase --include=g++,cargo,cmake,make,man-db,pkg-config,python3-venv "$suite" "$root" > build/debootstrap.log
+    debootstrap --variant=minbase --include=g++,cargo,cmake,make,man-db,pkg-config,python3-dev,python3-venv "$suite" "$root" > build/debootstrap.log
     # Debian's images of this kind leave manual pages out, and so would dpkg.
     rm -f "$root"/etc/dpkg/dpkg.cfg.d/*
     touch "$root/made"
