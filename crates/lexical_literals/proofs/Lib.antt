@@ -1,7 +1,6 @@
 -- The lemmas of the proofs, a file for each subject.
 pub mod ByteKinds
 pub mod DecimalFronts
-pub mod JoinedTokens
 pub mod TokenLists
 pub mod TokenRows
 pub mod TokenSteps

@@ -14,7 +14,6 @@
 
 mod bytes;
 mod decimal;
-pub mod laws;
 
 ghost use Rattle.std.specs.Prelude.{◌≡◌, ◌+◌, ◌<◌, ◌≤◌, ◌^◌, List, All, IfOk, IsNone, IsTrue, Ok, false, is_some, length, pos, slice_index, true};
 ghost use Rattle.std.specs.Iterator.{YieldsFirstBy, item_count};
