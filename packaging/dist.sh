@@ -32,7 +32,7 @@ mkdir dist
 packed() { # FILE FOLDER..: a tarball of folders of $work/tree, of one time and one owner
     file=$1
     shift
-    tar -C "$work/tree" --sort=name --owner=0 --group=0 --numeric-owner --mtime="@$SOURCE_DATE_EPOCH" \
+    tar -C "$work/tree" --sort=name --owner=0 --group=0 --numeric-owner --mode=u=rwX,go=rX --mtime="@$SOURCE_DATE_EPOCH" \
         -c "$@" | gzip -9n > "dist/$file"
 }
 

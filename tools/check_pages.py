@@ -27,7 +27,7 @@ from typing import Iterable
 import reference_lines
 import source
 
-MOST_WORDS = 10200
+MOST_WORDS = 10250
 BUDGETS = {
     "README.md": 720, "CONTRIBUTING.md": 820, "CHANGELOG.md": 300, "docs/ARCHITECTURE.md": 1100,
     "docs/DECISIONS.md": 2000, "docs/DIFFERENCES.md": 1200, "docs/GRAMMAR.md": 2000,
