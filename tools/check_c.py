@@ -78,8 +78,7 @@ def shared_library(place: Place) -> str:
     said = run(["readelf", "-d", library])
     if "NEEDED" in said or "TEXTREL" in said or "[libjadvolni.so.0]" not in said:
         raise Failed(said)
-    said = run(["nm", "-D", "--defined-only", library])
-    return exported(re.findall(r" T (\S+)@@JADVOLNI_[0-9.]+$", said, re.M))
+    return exported(re.findall(r" T (\S+)@@J", run(["nm", "-D", "--defined-only", library])))
 
 
 def flags_of_a_distribution(place: Place) -> str:

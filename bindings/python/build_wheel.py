@@ -33,8 +33,8 @@ NAME, VERSION = PROJECT["name"], PROJECT["version"]
 FLAGS = ["-std=c11", "-O2", "-Wall", "-Wextra", "-fPIC", "-fno-plt", "-shared",
          "-fvisibility=hidden"]
 # The extension exports nothing of the library: else the calls of another one of that name, loaded
-# before, would take the place of those that it was linked with. The loader refuses it on a processor
-# before x86-64-v2.
+# before, would take the place of those that it was linked with. The loader refuses it on a
+# processor before x86-64-v2.
 LINK_FLAGS = ["-Wl,--exclude-libs,ALL", "-Wl,-z,x86-64-v2"]
 MODULES = ["__init__.py", "_blocks.py", "_format.py", "formats.py", "_numpy.py", "_core.pyi",
            "py.typed"]
