@@ -2,8 +2,8 @@
 # What `make test-dist` does: tries the archives of dist/ as users get them.
 #
 # As root it does so in a system of Debian that debootstrap makes, once, in ROOT: without network, and
-# with no toolchain. Else the part that needs no root runs here. LAST is the folder of the libraries
-# of the release before, if there is one.
+# with no toolchain. Else the part that needs no root runs here. LAST is the folder of the library of
+# the release before, if there is one; FUZZ how many seconds the C++ wrapper is fuzzed.
 set -eu
 cd "$(dirname "$0")/.."
 root=${ROOT:-$PWD/build/root} suite=${SUITE:-trixie}
@@ -16,6 +16,13 @@ if [ -z "${LAST:-}" ]; then
     echo "skipped: abidiff has no release before, whose folder LAST would name"
 elif has abidiff; then
     abidiff "$LAST/libjadvolni.so" build/libjadvolni.so
+fi
+if has clang++; then
+    clang++ -std=c++17 -g -O1 -fsanitize=fuzzer,address,undefined -fno-sanitize-recover=all -Iinclude \
+        tests/c/fuzz_wrapper.cpp build/libjadvolni.a -o build/fuzz_wrapper
+    build/fuzz_wrapper -max_total_time="${FUZZ:-600}" -verbosity=0 -print_final_stats=1 -artifact_prefix=build/ 2> build/fuzz.log ||
+        { tail -n 20 build/fuzz.log >&2; exit 1; }
+    echo "passed: C++ wrapper, $(sed -n 's/^stat::number_of_executed_units: *//p' build/fuzz.log) inputs"
 fi
 given=$(mktemp -d)
 trap 'rm -rf "$given"' EXIT
