@@ -3,7 +3,7 @@
 #
 # As root it does so in a system of Debian that debootstrap makes, once, in ROOT: without network, and
 # with no toolchain. Else the part that needs no root runs here. LAST is the folder of the library of
-# the release before, if there is one; FUZZ how many seconds the C++ wrapper is fuzzed.
+# the release before, if there is one; FUZZ how many seconds each target of libFuzzer runs.
 set -eu
 cd "$(dirname "$0")/.."
 root=${ROOT:-$PWD/build/root} suite=${SUITE:-trixie}
@@ -17,12 +17,22 @@ if [ -z "${LAST:-}" ]; then
 elif has abidiff; then
     abidiff "$LAST/libjadvolni.so" build/libjadvolni.so
 fi
-if has clang++; then
-    clang++ -std=c++17 -g -O1 -fsanitize=fuzzer,address,undefined -fno-sanitize-recover=all -Iinclude \
-        tests/c/fuzz_wrapper.cpp build/libjadvolni.a -o build/fuzz_wrapper
-    build/fuzz_wrapper -max_total_time="${FUZZ:-600}" -verbosity=0 -print_final_stats=1 -artifact_prefix=build/ 2> build/fuzz.log ||
-        { tail -n 20 build/fuzz.log >&2; exit 1; }
-    echo "passed: C++ wrapper, $(sed -n 's/^stat::number_of_executed_units: *//p' build/fuzz.log) inputs"
+fuzzed() { # NAME COMPILER SOURCE..: a target of libFuzzer, over the archive
+    name=$1
+    shift
+    "$@" -g -O1 -fsanitize=fuzzer,address,undefined -fno-sanitize-recover=all -Iinclude build/libjadvolni.a -o build/fuzzed
+    # (Python keeps memory to its end)
+    ASAN_OPTIONS=detect_leaks=0 build/fuzzed -max_total_time="${FUZZ:-600}" -verbosity=0 -print_final_stats=1 \
+        -artifact_prefix=build/ 2> build/fuzz.log || { tail -n 20 build/fuzz.log >&2; exit 1; }
+    echo "passed: $name: $(sed -n 's/^stat::number_of_executed_units: *//p' build/fuzz.log) random inputs"
+}
+if has clang; then
+    fuzzed "C++ wrapper" clang++ -std=c++17 tests/c/fuzz_wrapper.cpp
+    if has python3-config; then
+        # shellcheck disable=SC2046 # (several words)
+        fuzzed "extension for Python" clang tests/c/fuzz_python.c bindings/python/src/*.c \
+            $(python3-config --embed --includes --ldflags)
+    fi
 fi
 given=$(mktemp -d)
 trap 'rm -rf "$given"' EXIT
