@@ -11,7 +11,7 @@ ghost use Rattle.jadvolni.specs.FormatFields.{are_known, format_of};
 use crate::format::FormatFields;
 use crate::outcome::{Outcome, UNKNOWN_FIELD};
 use crate::slot::Slot;
-use lexical_parse_integer::quick::{front_if_plain, value_if_short};
+use lexical_parse_integer::quick::{complete_if_not_short, front_if_plain, value_if_short};
 use lexical_parse_integer::{
     FromLexical, FromLexicalWithOptions, NumberFormatBuilder, Options, Result, format,
     number_in_front, options,
@@ -57,7 +57,7 @@ fn complete_any<T: FromLexical, S: Slot<T>>(text: &[u8], value: &mut S) -> Outco
     ensures { effect result (S.number value.new)
         ≡ complete_call T.TYPE text.now (S.number value.old) }
 {
-    give(T::from_lexical(text), text.len(), value)
+    give(complete_if_not_short::<T>(text), text.len(), value)
 }
 
 /// The whole text, under the standard format. A short one is read in place, so that an exported call keeps nothing.
@@ -147,7 +147,7 @@ pub fn complete_under<T: FromLexicalWithOptions<Options = Options>, S: Slot<T>>(
     complete_under_any::<T, S>(text, fields, value)
 }
 
-// The text's front, under a format that is made field by field, but where decimal digits alone stand there.
+// The text's front, under a format that is made field by field.
 #[inline(never)]
 fn partial_under_any<T: FromLexicalWithOptions<Options = Options>, S: Slot<T>>(
     text: &[u8],
@@ -160,14 +160,11 @@ fn partial_under_any<T: FromLexicalWithOptions<Options = Options>, S: Slot<T>>(
     if !fields.are_known() {
         return UNKNOWN;
     }
-    if let Some(found) = front_if_plain::<T>(text, &fields.format()) {
-        return give_front(Ok(found), value);
-    }
     let answer = T::from_lexical_partial_with_options(text, &fields.format(), &options::STANDARD);
     give_front(answer, value)
 }
 
-/// The text's front, under a format that may be invalid.
+/// The text's front, under a format that may be invalid. Decimal digits are read in place, as by [`complete_under`].
 #[inline(always)]
 pub fn partial_under<T: FromLexicalWithOptions<Options = Options>, S: Slot<T>>(
     text: &[u8],
@@ -177,6 +174,11 @@ pub fn partial_under<T: FromLexicalWithOptions<Options = Options>, S: Slot<T>>(
     ensures { effect result (S.number value.new)
         ≡ partial_call_under fields.now T.TYPE text.now (S.number value.old) }
 {
+    if fields.mantissa_radix == 10 && fields.are_known() {
+        if let Some(found) = front_if_plain::<T>(text, &fields.format()) {
+            return give_front(Ok(found), value);
+        }
+    }
     if !fields.differ_in_radix_alone() {
         return partial_under_any::<T, S>(text, fields, value);
     }

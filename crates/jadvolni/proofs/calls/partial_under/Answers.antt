@@ -5,7 +5,7 @@ use Rattle.lexical_parse_integer.specs.Grammar.{partial, partial_if_valid}
 use Rattle.jadvolni.specs.Effect.{partial_effect}
 use Rattle.jadvolni.specs.FormatFields.{are_known, format_of}
 use Rattle.jadvolni.proofs.SureAnswers.{if_all_known, if_sure}
-use Rattle.jadvolni.proofs.calls.partial_under_any.Goals as goal
+use Rattle.jadvolni.proofs.calls.partial_under.Goals as goal
 
 pub returns-in-Some : goal.returns-in-Some
 returns-in-Some g c =
