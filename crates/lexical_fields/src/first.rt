@@ -7,6 +7,7 @@ ghost use Rattle.lexical_fields.specs.Fields.{field_length};
 ghost use Rattle.lexical_fields.specs.ReadFields.{field_answer};
 
 use crate::places::field_answer;
+use crate::search::LEAST_MARKED;
 use crate::split::split_field;
 use lexical_parse_integer::parse::ParseInteger;
 use lexical_parse_integer::quick::field_in_front;
@@ -36,7 +37,7 @@ pub(crate) fn read_first<'a, T: ParseInteger>(
     if separated {
         if let Some((value, size)) = field_in_front::<T>(text, separator, format) {
             let behind = &text[size + 1..];
-            return (Ok(value), behind, behind.len() >= 80);
+            return (Ok(value), behind, behind.len() >= LEAST_MARKED);
         }
     }
     let (field, behind) = split_field(text, separator);
