@@ -6,4 +6,3 @@ pub mod LiteralRows
 pub mod TokenLists
 pub mod TokenRows
 pub mod TokenSteps
-pub mod WiderType
