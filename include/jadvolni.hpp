@@ -5,6 +5,8 @@
 //     else
 //         std::cerr << port.message() << " at byte " << port.place() << '\n';
 //
+//     auto literal = jadvolni::parse_literal("0xFFull;", jadvolni::formats::c); // 255 and "ull"
+//
 //     auto [ptr, ec] = jadvolni::from_chars(first, last, value); // as std::from_chars
 //
 //     std::vector<int> values(1000);
