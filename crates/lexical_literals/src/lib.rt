@@ -14,6 +14,7 @@
 
 mod bytes;
 mod decimal;
+mod literal;
 
 ghost use Rattle.std.specs.Prelude.{◌≡◌, ◌+◌, ◌<◌, ◌≤◌, ◌^◌, List, All, IfOk, IsNone, IsTrue, Ok, false, is_some, length, pos, slice_index, true};
 ghost use Rattle.std.specs.Iterator.{YieldsFirstBy, item_count};
@@ -31,6 +32,7 @@ use lexical_parse_integer::laws::grammar::{front_end, wider_types};
 use lexical_parse_integer::parse::ParseInteger;
 use lexical_parse_integer::{Error, NumberFormat, NumberFormatBuilder, Result, options};
 use lexical_util::digit::char_is_digit;
+pub use literal::{Literal, literal_in_front};
 use std::marker::Model;
 
 /// What a token is.
