@@ -34,7 +34,7 @@ from callers import (C_COMPILERS, CXX17, CXX_COMPILERS, OPTIMISED, SANITIZED, TO
 
 LIBDIR = "/usr/lib/x86_64-linux-gnu"
 INSTALLED = ["PREFIX=/usr", f"LIBDIR={LIBDIR}"]
-BUILT = ["-o", "build/libjadvolni.a", "-o", "build/libjadvolni.so"]
+BUILT = ["-o", "build/libjadvolni.a", "-o", "build/symbols.map", "-o", "build/libjadvolni.so"]
 TYPES = [f"{sign}{size}" for sign in "ui" for size in ("8", "16", "32", "64", "128", "size")]
 FORMS = [what + under for what in ("", "_front", "_partial") for under in ("", "_with_format")]
 # The structs of the header, by their names in the crate. jadvolni-sys has the header's names.
@@ -43,7 +43,8 @@ STRUCTS = {"result": "Outcome", "format": "FormatFields", "uint128": "Unsigned12
 OF_RUST = {"uint8_t": "u8", "uint32_t": "u32", "uint64_t": "u64", "int64_t": "i64",
            "size_t": "usize"}
 COLUMN_TYPES = [f"{sign}{size}" for sign in "ui" for size in (8, 16, 32, 64)]
-CALLS = sorted(["jadvolni_version", "jadvolni_format_error", "jadvolni_field_start"]
+CALLS = sorted(["jadvolni_version", "jadvolni_format_error", "jadvolni_field_start",
+                "jadvolni_parse_literal"]
                + [f"jadvolni_parse_{name}{form}" for name, form in product(TYPES, FORMS)]
                + [f"jadvolni_parse_{name}_column" for name in COLUMN_TYPES])
 
@@ -78,7 +79,7 @@ def shared_library(place: Place) -> str:
     said = run(["readelf", "-d", library])
     if "NEEDED" in said or "TEXTREL" in said or "[libjadvolni.so.0]" not in said:
         raise Failed(said)
-    return exported(re.findall(r" T (\S+)$", run(["nm", "-D", "--defined-only", library]), re.M))
+    return exported(re.findall(r" T (\S+)@@J", run(["nm", "-D", "--defined-only", library])))
 
 
 def flags_of_a_distribution(place: Place) -> str:
@@ -86,7 +87,7 @@ def flags_of_a_distribution(place: Place) -> str:
     needs("make", "cc", "readelf")
     tree = place.path("tree")
     os.makedirs(os.path.join(tree, "build"))
-    for name in ("Makefile", "crates", "crates.txt", "include", "tools"):
+    for name in ("Makefile", "crates", "crates.txt", "include", "packaging", "tools"):
         os.symlink(source(name), os.path.join(tree, name))
     shutil.copy(place.library("libjadvolni.a"), os.path.join(tree, "build"))
     library = os.path.join(tree, "build", "libjadvolni.so")
@@ -162,10 +163,9 @@ def messages(place: Place) -> str:
 
 def calls(place: Place) -> Iterator[Step]:
     """Each caller, by each of its compilers, with both libraries and under sanitizers."""
-    c_callers = ("tests/c/calls.c", "tests/c/columns.c")
-    for compiler, caller in product(C_COMPILERS, c_callers):
-        name = f"{os.path.basename(caller)}, {compiler}"
-        step = partial(call, place, caller, compiler)
+    c_callers = ("calls.c", "columns.c", "random_columns.c")
+    for compiler, name in product(C_COMPILERS, c_callers):
+        step, name = partial(call, place, f"tests/c/{name}", compiler), f"{name}, {compiler}"
         yield f"C99, {name}", partial(step, ["-std=c99", *OPTIMISED])
         yield f"C11 and the shared library, {name}", partial(step, ["-std=c11", *OPTIMISED], True)
         yield f"C99 under sanitizers, {name}", partial(step, ["-std=c99", *SANITIZED])

@@ -171,8 +171,8 @@ sixteen_more t k m text value next rest within s v is_rest step fits =
     let part : WritesDecimal 0 (take 16 (drop k text)) m = subst (λ (n : ℕ). WritesDecimal 0 (take n (drop k text)) m) size v in
     more_digits t 10 false k 16 m text value next (omega arith) s (decimal_front (take 16 (drop k text)) m part) (step ∙ ap (λ (z : ℤ). mul_add false value (pos 10000000000000000) z) is_rest) fits
 
--- types of more than 64 bits have all numbers of up to thirty-two digits
-long_is_number : (bits : ℕ) (signed : Bool) (n : ℕ) → IsWidth bits → 64 < bits → n < 100000000000000000000000000000000 → IsNumber (integer_type bits signed) (pos n)
+-- types of more than 64 bits have all numbers of up to thirty-eight digits
+long_is_number : (bits : ℕ) (signed : Bool) (n : ℕ) → IsWidth bits → 64 < bits → n < 100000000000000000000000000000000000000 → IsNumber (integer_type bits signed) (pos n)
 long_is_number _ signed n w8 long small = absurd (omega arith)
 long_is_number _ signed n w16 long small = absurd (omega arith)
 long_is_number _ signed n w32 long small = absurd (omega arith)
@@ -180,14 +180,14 @@ long_is_number _ signed n w64 long small = absurd (omega arith)
 long_is_number _ true n w128 long small = lt-ltb n (2 ^ 127) (omega arith)
 long_is_number _ false n w128 long small = lt-ltb n (2 ^ 128) (omega arith)
 
--- up to sixteen digits and sixteen more
-pub few_fit : (t : IntegerType) (k m : ℕ) (text : List ℕ) (value rest : ℤ) → IsWidth t.bits → 64 < t.bits → k ≤ 16 → StandsFor t 10 false (take k text) value → rest ≡ pos m → m < 10000000000000000 → IsNumber t (mul_add false value (pos 10000000000000000) rest)
+-- up to twenty-two digits and sixteen more
+pub few_fit : (t : IntegerType) (k m : ℕ) (text : List ℕ) (value rest : ℤ) → IsWidth t.bits → 64 < t.bits → k ≤ 22 → StandsFor t 10 false (take k text) value → rest ≡ pos m → m < 10000000000000000 → IsNumber t (mul_add false value (pos 10000000000000000) rest)
 few_fit t k m text value rest width long few s is_rest small =
     let w = s.writes in
     let n : ℕ = positional_value 10 w.values in
     let below : n < 10 ^ length (take k text) = w.below in
-    let most : 10 ^ length (take k text) ≤ 10 ^ 16 = pow-le-pow_right {n = 10} (omega arith) (length-take-most k 16 text few) in
-    let low : n < 10000000000000000 = omega arith in
+    let most : 10 ^ length (take k text) ≤ 10 ^ 22 = pow-le-pow_right {n = 10} (omega arith) (length-take-most k 22 text few) in
+    let low : n < 10000000000000000000000 = omega arith in
     rw (s.worth, w.worth, is_rest) (long_is_number t.bits t.is_signed (n * 10000000000000000 + m) width long (omega arith))
   where
     length-take-most : (k m : ℕ) (bytes : List ℕ) → k ≤ m → length (take k bytes) ≤ m

@@ -109,8 +109,8 @@ pub fn value_of<T: Integer>(digits: &[u8], negative: bool) -> Option<T>
     value_of_two::<T>(high, low, 100_000_000, negative)
 }
 
-// The value with sixteen digits more, from a place on, where the type has it. Behind so few digits no type of 128 bits
-// needs a test.
+// The value with sixteen digits more, from a place on, where the type has it. A type of 128 bits has all numbers of up
+// to thirty-eight digits.
 #[inline(always)]
 fn with_sixteen<T: Integer>(digits: &[u8], place: usize, value: T) -> Option<T>
     requires bits { 32 < T.TYPE.bits }
@@ -124,7 +124,7 @@ fn with_sixteen<T: Integer>(digits: &[u8], place: usize, value: T) -> Option<T>
     };
     let rest = joined::<T>(high, 100_000_000, low);
     let scale = joined::<T>(100_000_000, 100_000_000, 0);
-    if T::BITS > 64 && place <= 16 {
+    if T::BITS > 64 && place <= 22 {
         return Some(value.mul_add(scale, rest, false));
     }
     value.checked_mul_add(scale, rest, false)

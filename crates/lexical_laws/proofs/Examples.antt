@@ -1,5 +1,5 @@
 -- The laws at examples: their premises can be met, and without them they fail.
-use Rattle.std.proofs.Common.{◌≡◌, true, false, [], ◌∷◌, refl, Some, Ok, Err, inl}
+use Rattle.std.proofs.Common.{◌≡◌, ℕ, true, false, List, [], ◌∷◌, codes, map, refl, Some, Ok, Err, inl}
 use Rattle.std.proofs.Math.IntN.{pos, negsuc}
 use Rattle.lexical_util.specs.declared.error.Error.TheVariants.{Empty, InvalidDigit, InvalidLeadingZeros, Overflow}
 use Rattle.lexical_util.specs.Format.{Format, json, standard}
@@ -7,6 +7,9 @@ use Rattle.lexical_util.specs.Number.{IntegerType, integer_type}
 use Rattle.lexical_parse_integer.specs.Computed.{grammar}
 use Rattle.lexical_parse_integer.specs.Grammar.{complete, partial}
 use Rattle.lexical_parse_integer.specs.Fronts.{number_in_front}
+use Rattle.lexical_literals.specs.Tokens.{literals, number_of, tokens_under}
+use Rattle.lexical_literals.specs.declared.Kind.{Kind}
+use Rattle.lexical_literals.specs.declared.Kind.TheVariants.{Fault, Number}
 use Rattle.lexical_laws.specs.Integer.{IsInteger}
 use Rattle.lexical_laws.specs.Integer.IsPrefix.{no_prefix}
 use Rattle.lexical_laws.specs.Integer.IsSign.{no_sign as none}
@@ -207,3 +210,27 @@ prefixed = record standard { base_prefix = Some 120 }
 missing_end : (partial prefixed u8 (48 ∷ 120 ∷ []) ≡ Err (Empty 2)) × (partial prefixed u8 (48 ∷ 120 ∷ 59 ∷ []) ≡ Ok (pos 0, 2))
 unfolding grammar
 missing_end = (refl, refl)
+
+-- ---- tokens: those of two sources put together at a line feed are those of both
+
+-- what each token is, and where it starts and stops
+abbrev spans : Format → List ℕ → List (Kind × ℕ × ℕ)
+spans format source = map (λ token. (token.kind, token.start, token.stop)) (tokens_under format source)
+
+-- `0x` is the same fault in front of more, and the number behind it stands three bytes later
+lines_apart : (spans literals (codes "0x") ≡ (Fault (Empty 2), 0, 2) ∷ []) × (spans literals (codes "0x\n1") ≡ (Fault (Empty 2), 0, 2) ∷ (Number 1, 3, 4) ∷ [])
+unfolding grammar number_of
+lines_apart = (refl, refl)
+
+-- with a prefix and no separator it is a fault at the end of a source alone
+prefix_at_the_end : (spans prefixed (codes "0x") ≡ (Fault (Empty 2), 0, 2) ∷ []) × (spans prefixed (codes "0x\n1") ≡ (Number 0, 0, 2) ∷ (Number 1, 3, 4) ∷ [])
+unfolding grammar number_of
+prefix_at_the_end = (refl, refl)
+
+-- a line feed that separates digits parts no tokens
+abbrev parted_by_lines : Format
+parted_by_lines = record standard { digit_separator = Some 10; integer_internal_digit_separator = true }
+
+number_over_lines : spans parted_by_lines (codes "1\n2") ≡ (Number 12, 0, 3) ∷ []
+unfolding grammar number_of
+number_over_lines = refl

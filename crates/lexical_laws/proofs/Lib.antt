@@ -17,4 +17,5 @@ pub mod Canonical
 pub mod Cuts
 pub mod ForeignBytes
 pub mod LongestFronts
+pub mod JoinedTokens
 pub mod LetterCase

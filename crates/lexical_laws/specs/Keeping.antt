@@ -1,6 +1,6 @@
 -- What keeps a value, and what rules one out.
 use Rattle.std.specs.Char.{is_ascii_alphabetic}
-use Rattle.std.specs.Prelude.{false, map, Some, ◌≡◌, ◌≢◌, ◌⊎◌, ◌+◌, ◌<◌, ◌≤◌, ℕ, length, take, Bool, true, not, List, filter, None, ℤ, Result, Ok, Err}
+use Rattle.std.specs.Prelude.{false, map, Some, ◌≡◌, ◌≢◌, ◌⊎◌, ◌+◌, ◌<◌, ◌≤◌, ℕ, length, take, Bool, true, not, List, filter, IsNone, IsSome, None, ℤ, Result, Ok, Err}
 use Rattle.std.specs.Bool.{⊤}
 use Rattle.lexical_util.specs.Ascii.{minus, plus}
 use Rattle.lexical_util.specs.declared.error.Error.{Error}
@@ -10,8 +10,9 @@ use Rattle.lexical_util.specs.Format.{Format}
 use Rattle.lexical_util.specs.Number.{IntegerType}
 use Rattle.lexical_util.specs.Validity.{lower_case}
 use Rattle.lexical_parse_integer.specs.Affixes.{is_affix, marked_radix}
-use Rattle.lexical_parse_integer.specs.Grammar.{complete}
+use Rattle.lexical_parse_integer.specs.Grammar.{complete, digits_required}
 use Rattle.lexical_parse_integer.specs.Laws.{SameFront}
+use Rattle.lexical_literals.specs.Tokens.{TokenView, is_skipped}
 use Rattle.lexical_laws.specs.Integer.{IsInteger, is_separator}
 
 -- ---- types
@@ -75,6 +76,20 @@ pub record IsForeign (format : Format) (byte : ℕ) : Type 0 where
   pub separator : is_separator format byte ≡ false
   pub prefix : marked_radix format (Some byte) ≡ None
   pub suffix : is_affix format.case_sensitive_base_suffix format.base_suffix (Some byte) ≡ false
+
+-- ---- tokens of two sources
+
+-- a token that stands so many bytes later
+abbrev pub moved : ℕ → TokenView → TokenView
+moved count token = record token { start = count + token.start; stop = count + token.stop }
+
+-- A byte parts tokens: it is skipped and no part of a number, and a number that lacks its end is read before it as at
+-- the end of a source, since there is no prefix, or a digit is asked for and there is a separator.
+pub record PartsTokens (format : Format) (byte : ℕ) : Type 0 where
+  pub skipped : is_skipped byte ≡ true
+  pub foreign : IsForeign format byte
+  pub ends : (IsNone format.base_prefix × (format.literal_prefixes ≡ false))
+      ⊎ ((digits_required format ≡ true) × IsSome format.digit_separator)
 
 -- ---- separators
 

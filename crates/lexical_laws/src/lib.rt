@@ -3,10 +3,12 @@
 //! A law is a call whose contract says what always holds. A proof that needs one calls it and has its clauses.
 #![tactic(auto)]
 
-ghost use Rattle.std.specs.Prelude.{◌≡◌, ◌≢◌, ◌↔◌, ◌<◌, ◌≤◌, ◌⊎◌, ◌++◌, ◌∷◌, codes, Err, false, IsNone, IsSome, length, List, Ok, Some, take, true, ℕ, ℤ};
+ghost use Rattle.std.specs.Prelude.{◌≡◌, ◌≢◌, ◌↔◌, ◌+◌, ◌<◌, ◌≤◌, ◌⊎◌, ◌++◌, ◌∷◌, codes, Err, false, IsNone, IsSome, length, List, map, Ok, Some, take, true, ℕ, ℤ};
 ghost use Rattle.std.specs.Fmt.{signed_decimal};
 ghost use Rattle.lexical_laws.specs.Integer.{IsInteger};
-ghost use Rattle.lexical_laws.specs.Keeping.{AdmitsMore, AreAlike, IgnoresCase, Implies, IsDead, IsForeign, IsLongestFront, IsRangeFault, without_separators};
+ghost use Rattle.lexical_laws.specs.Keeping.{AdmitsMore, AreAlike, IgnoresCase, Implies, IsDead, IsForeign, IsLongestFront, IsRangeFault, PartsTokens, moved, without_separators};
+ghost use Rattle.lexical_literals.specs.Tokens.{tokens, tokens_under};
+ghost use Rattle.lexical_util.specs.Ascii.{line_feed};
 ghost use Rattle.lexical_util.specs.Faults.{place_of};
 ghost use Rattle.lexical_util.specs.declared.error.Error.{Error};
 ghost use Rattle.lexical_util.specs.declared.error.Error.TheVariants.{Empty};
@@ -111,6 +113,23 @@ pub fn foreign_bytes()
         → IsSome (digit_at format.mantissa_radix text 0)
         → partial format type (text ++ byte ∷ rest) ≡ partial format type text }
 {}
+
+/// The tokens of two sources put together at a line feed are the tokens of both, those of the second so many bytes
+/// later. So a source may be read line by line.
+///
+/// Under a format of your own the byte has to part tokens. With the prefix `x` and no separator none does: `0x` is the
+/// fault `Empty(2)`, but behind it a line feed makes it the number 0.
+pub fn joined_sources()
+    ensures lines { (first second : List ℕ)
+        → tokens (first ++ line_feed ∷ second)
+        ≡ tokens first ++ map (moved (length first + 1)) (tokens second) }
+    ensures parts { (format : Format) (byte : ℕ) (first second : List ℕ)
+        → IsNone (fault format) → PartsTokens format byte
+        → tokens_under format (first ++ byte ∷ second)
+        ≡ tokens_under format first ++ map (moved (length first + 1)) (tokens_under format second) }
+{
+    front_end();
+}
 
 /// Separators count for nothing: a text has the same value without them, under a valid format that asks for a digit and
 /// has no octal zeros.

@@ -120,26 +120,3 @@ sign_required : spans_under (record standard { required_mantissa_sign = true }) 
     ≡ (Byte, 0, 1) ∷ (Fault (MissingSign 0), 1, 3) ∷ []
 unfolding grammar number_of
 sign_required = refl
-
--- ---- two sources, put together at a line feed
-
--- `0x` is the same fault in front of more, and the number behind it stands three bytes later
-lines_apart : (spans (codes "0x") ≡ (Fault (Empty 2), 0, 2) ∷ []) × (spans (codes "0x\n1") ≡ (Fault (Empty 2), 0, 2) ∷ (Number 1, 3, 4) ∷ [])
-unfolding grammar number_of
-lines_apart = (refl, refl)
-
--- with a prefix and no separator it is a fault at the end of a source alone
-abbrev prefixed : Format
-prefixed = record standard { base_prefix = Some 120 }
-
-prefix_at_the_end : (spans_under prefixed (codes "0x") ≡ (Fault (Empty 2), 0, 2) ∷ []) × (spans_under prefixed (codes "0x\n1") ≡ (Number 0, 0, 2) ∷ (Number 1, 3, 4) ∷ [])
-unfolding grammar number_of
-prefix_at_the_end = (refl, refl)
-
--- a line feed that separates digits parts no tokens
-abbrev parted_by_lines : Format
-parted_by_lines = record standard { digit_separator = Some 10; integer_internal_digit_separator = true }
-
-number_over_lines : spans_under parted_by_lines (codes "1\n2") ≡ (Number 12, 0, 3) ∷ []
-unfolding grammar number_of
-number_over_lines = refl

@@ -1,5 +1,5 @@
 -- The tokens of a source: numbers, words and single bytes.
-use Rattle.std.specs.Prelude.{◌≡◌, ℕ, zero, suc, ◌+◌, ◌-◌, ◌<◌, ◌≤◌, Bool, true, false, ◌||◌, ◌==◌, if◌then◌else◌, List, [], ◌∷◌, length, take, drop, slice_range, slice_index, Some, is_some, IsNone, IsSome, ◌⊎◌, Result, Ok, Err, nat_abs}
+use Rattle.std.specs.Prelude.{◌≡◌, ℕ, zero, suc, ◌+◌, ◌-◌, ◌<◌, ◌≤◌, Bool, true, false, ◌||◌, ◌==◌, if◌then◌else◌, List, [], ◌∷◌, length, take, drop, slice_range, slice_index, Some, is_some, Result, Ok, Err, nat_abs}
 use Rattle.std.specs.Char.{is_ascii_alphanumeric}
 use Rattle.std.specs.List.{prefix_len}
 use lib.IntN.{ℤ}
@@ -9,8 +9,7 @@ use Rattle.lexical_util.specs.Digit.{digit}
 use Rattle.lexical_util.specs.Format.{Format, standard}
 use Rattle.lexical_util.specs.Number.{integer_type}
 use Rattle.lexical_util.specs.Validity.{fault}
-use Rattle.lexical_parse_integer.specs.Grammar.{digits_required, if_valid, partial}
-use Rattle.lexical_laws.specs.Keeping.{IsForeign}
+use Rattle.lexical_parse_integer.specs.Grammar.{if_valid, partial}
 use Rattle.lexical_literals.specs.declared.Kind.{Kind}
 use Rattle.lexical_literals.specs.declared.Kind.TheVariants.{Number, Word, Byte, Fault}
 use Rattle.lexical_literals.specs.declared.Token.{Token}
@@ -135,17 +134,3 @@ pub record IsPartOf (source : List ℕ) (token : TokenView) : Type 0 where
   pub some : token.start < token.stop
   pub within : token.stop ≤ length source
   pub bytes : token.text ≡ slice_range source token.start token.stop
-
--- ---- two sources
-
--- a token that stands so many bytes later
-abbrev pub moved : ℕ → TokenView → TokenView
-moved count token = record token { start = count + token.start; stop = count + token.stop }
-
--- A byte parts tokens: it is skipped and no part of a number, and a number that lacks its end is read before it as at
--- the end of a source, since there is no prefix, or a digit is asked for and there is a separator.
-pub record PartsTokens (format : Format) (byte : ℕ) : Type 0 where
-  pub skipped : is_skipped byte ≡ true
-  pub foreign : IsForeign format byte
-  pub ends : (IsNone format.base_prefix × (format.literal_prefixes ≡ false))
-      ⊎ ((digits_required format ≡ true) × IsSome format.digit_separator)

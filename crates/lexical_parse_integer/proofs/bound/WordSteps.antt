@@ -140,9 +140,9 @@ pub record ReadsWord (bits : ℕ) (s b : Bool) (u v : CursorView) (w : ℕ) (nex
   pub fits : IsNumber (integer_type bits s) next
   pub reads : Reads (integer_type bits s) b (numeral_of u) (v.digits + w) next
 
-pub reads_word : (bits : ℕ) (s b : Bool) (u v : CursorView) (w o : ℕ) (value scale word : ℤ) → 1 ≤ w → MovesOn u v → v.radix ≤ 10 → v.format.digit_separator ≡ None → HasRoom (integer_type bits s) v.radix o → (b ≡ true → s ≡ true) → v.digits + w ≤ o → AreDigitsAhead v w → Reads (integer_type bits s) b (numeral_of u) v.digits value
+pub reads_word : (bits : ℕ) (s b : Bool) (u v : CursorView) (w o : ℕ) (value scale word : ℤ) → 1 ≤ w → MovesOn u v → v.radix ≤ 10 → HasRoom (integer_type bits s) v.radix o → (b ≡ true → s ≡ true) → v.digits + w ≤ o → AreDigitsAhead v w → Reads (integer_type bits s) b (numeral_of u) v.digits value
     → scale ≡ pos (v.radix ^ w) → word ≡ pos (word_value v.radix (slice_range v.bytes v.position (v.position + w))) → ReadsWord bits s b u v w (mul_add b value scale word)
-reads_word bits s b u v w o value scale word some g ten none room may le ahead reads is_scale is_word =
+reads_word bits s b u v w o value scale word some g ten room may le ahead reads is_scale is_word =
     let sound = fact_of g.sound in
     let state = sound.while_open g.closed in
     let bs : List ℕ = slice_range v.bytes v.position (v.position + w) in

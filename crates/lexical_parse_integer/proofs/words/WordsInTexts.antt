@@ -78,24 +78,15 @@ word_small r n w bs ten size d e =
     omega arith
 
 -- a number below 10 to the power of a word's length is one of each type that takes such words
-pub word_number : (bits : ℕ) (s : Bool) (n : ℕ) → IsWidth bits → 64 ≤ bits → n < 10 ^ 8 + 1 → IsNumber (integer_type bits s) (pos n)
+pub word_number : (bits : ℕ) (s : Bool) (n : ℕ) → IsWidth bits → 32 ≤ bits → n < 10 ^ 8 + 1 → IsNumber (integer_type bits s) (pos n)
 word_number _ s n w8 h l = absurd (omega arith)
 word_number _ s n w16 h l = absurd (omega arith)
-word_number _ s n w32 h l = absurd (omega arith)
+word_number _ true n w32 h l = lt-ltb n (2 ^ 31) (omega arith)
+word_number _ false n w32 h l = lt-ltb n (2 ^ 32) (omega arith)
 word_number _ true n w64 h l = lt-ltb n (2 ^ 63) (omega arith)
 word_number _ false n w64 h l = lt-ltb n (2 ^ 64) (omega arith)
 word_number _ true n w128 h l = lt-ltb n (2 ^ 127) (omega arith)
 word_number _ false n w128 h l = lt-ltb n (2 ^ 128) (omega arith)
-
-pub half_word_number : (bits : ℕ) (s : Bool) (n : ℕ) → IsWidth bits → 32 ≤ bits → n < 10 ^ 4 + 1 → IsNumber (integer_type bits s) (pos n)
-half_word_number _ s n w8 h l = absurd (omega arith)
-half_word_number _ s n w16 h l = absurd (omega arith)
-half_word_number _ true n w32 h l = lt-ltb n (2 ^ 31) (omega arith)
-half_word_number _ false n w32 h l = lt-ltb n (2 ^ 32) (omega arith)
-half_word_number _ true n w64 h l = lt-ltb n (2 ^ 63) (omega arith)
-half_word_number _ false n w64 h l = lt-ltb n (2 ^ 64) (omega arith)
-half_word_number _ true n w128 h l = lt-ltb n (2 ^ 127) (omega arith)
-half_word_number _ false n w128 h l = lt-ltb n (2 ^ 128) (omega arith)
 
 -- ---- a word that was lent
 

@@ -33,7 +33,7 @@ the_word g c =
     let le : c.digits.result + digits_per_word g.T.Integer.BITS ≤ c.args.most = c.has_room.ensures.0 c.loop-scale-test.true in
     let count = c.digits.ensures in
     let ten = c.requires.radix in
-    reads_word _ _ c.args.negative c.args.c.now c.loop-scale.c (digits_per_word g.T.Integer.BITS) c.args.most _ _ _ (word_some g.T.Integer.BITS) i.goes_on (omega arith) none room c.requires.ready.minus (omega arith) (c.in-Some.ensures.digits.0 refl) i.reads
+    reads_word _ _ c.args.negative c.args.c.now c.loop-scale.c (digits_per_word g.T.Integer.BITS) c.args.most _ _ _ (word_some g.T.Integer.BITS) i.goes_on (omega arith) room c.requires.ready.minus (omega arith) (c.in-Some.ensures.digits.0 refl) i.reads
     (i.scale ∙ ap (λ r. pos (r ^ digits_per_word g.T.Integer.BITS)) (sym same)) c.in-Some.ensures.value
 
 pub mul_add-value-requires-clause-fits : goal.mul_add-value-requires-clause-fits

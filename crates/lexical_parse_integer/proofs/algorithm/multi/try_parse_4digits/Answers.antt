@@ -2,7 +2,7 @@ use Rattle.std.proofs.Common.{◌<◌, ◌^◌, ◌∙◌, ap, arith, pos, refl,
 use Rattle.std.proofs.lemmas.Bool.{false≢true}
 use Rattle.lexical_parse_integer.proofs.Folds.{fact_of}
 use Rattle.lexical_parse_integer.proofs.words.LentBytes.{are_lent, lanes_small, lent_size, none_told, some_told}
-use Rattle.lexical_parse_integer.proofs.words.WordsInTexts.{past_end, half_word_number}
+use Rattle.lexical_parse_integer.proofs.words.WordsInTexts.{past_end, word_number}
 use Rattle.lexical_parse_integer.proofs.algorithm.multi.try_parse_4digits.Goals as goal
 
 pub returns-in-None-clause-digits : goal.returns-in-None-clause-digits
@@ -22,7 +22,7 @@ from_u32-requires g c =
     let small : c.in-Some-value_of_4lanes.value < 10 ^ 4 = lanes_small c.radix.result _ 4 _ (omega arith) size told.0 told.1 in
     let wide = c.requires.bits in
     let bits = g.met.T.Integer.bits_law in
-    half_word_number _ _ _ g.met.T.Integer.width_law (omega arith) (omega arith)
+    word_number _ _ _ g.met.T.Integer.width_law (omega arith) (omega arith)
 
 pub returns-in-Some-value_of_4lanes-clause-digits : goal.returns-in-Some-value_of_4lanes-clause-digits
 returns-in-Some-value_of_4lanes-clause-digits g c =

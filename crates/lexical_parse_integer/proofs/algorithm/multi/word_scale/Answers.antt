@@ -1,6 +1,6 @@
 use Rattle.std.proofs.Common.{◌≤◌, ◌^◌, arith}
 use Rattle.std.proofs.Math.Nat.{pow-le-pow_left}
-use Rattle.lexical_parse_integer.proofs.words.WordsInTexts.{half_word_number}
+use Rattle.lexical_parse_integer.proofs.words.WordsInTexts.{word_number}
 use Rattle.lexical_parse_integer.proofs.algorithm.multi.word_scale.Goals as goal
 
 pub pow-requires : goal.pow-requires
@@ -15,4 +15,4 @@ from_u32-requires-else-BITS-ge64 g c =
     let power = c.pow-else-BITS-ge64.ensures in
     let wide = c.requires.bits in
     let bits = g.met.T.Integer.bits_law in
-    half_word_number _ _ _ g.met.T.Integer.width_law (omega arith) (omega arith)
+    word_number _ _ _ g.met.T.Integer.width_law (omega arith) (omega arith)

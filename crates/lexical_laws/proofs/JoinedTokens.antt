@@ -1,29 +1,21 @@
 -- The tokens of two sources put together at a byte that parts tokens are those of both.
-use Rattle.std.proofs.Common.{◌≡◌, ℕ, zero, suc, ◌+◌, ◌-◌, ◌≤◌, Bool, true, false, cond, List, [], ◌∷◌, ◌++◌, length, take, map, IsNone, IsSome, is_some, Result, Ok, Err, refl, ap, ◌∙◌, arith, inl, inr}
+use Rattle.std.proofs.Common.{◌≡◌, ℕ, zero, suc, ◌+◌, ◌-◌, ◌≤◌, Bool, true, false, cond, List, [], ◌∷◌, ◌++◌, length, take, map, IsNone, is_some, Result, Ok, Err, refl, ap, ◌∙◌, arith, inl, inr}
 use Rattle.std.proofs.lemmas.Bool.Decides.{nat_tests}
 use Rattle.std.proofs.Math.IntN.{ℤ}
 use Rattle.lexical_util.specs.declared.error.Error.{Error}
 use Rattle.lexical_util.specs.Digit.{digit}
 use Rattle.lexical_util.specs.Format.{Format}
-use Rattle.lexical_util.specs.Number.{IntegerType, integer_type}
+use Rattle.lexical_util.specs.Number.{integer_type}
 use Rattle.lexical_util.specs.Validity.{fault}
 use Rattle.lexical_parse_integer.specs.Affixes.{is_affix, literal_radix, marked_radix, matches}
-use Rattle.lexical_parse_integer.specs.Grammar.{digits_required, partial}
+use Rattle.lexical_parse_integer.specs.Grammar.{partial}
 use Rattle.lexical_parse_integer.specs.Runs.{are_same, digit_at}
-use Rattle.lexical_laws.specs.Keeping.{IsForeign}
+use Rattle.lexical_laws.specs.Keeping.{PartsTokens, moved}
+use Rattle.lexical_laws.proofs.ForeignBytes.{asked_is_same, digit_is_same}
 use Rattle.lexical_literals.proofs.TokenSteps.{FrontEnds, front_size}
-use Rattle.lexical_literals.specs.Tokens.{PartsTokens, TokenView, front_of, is_skipped, is_word_byte, literals, moved, number_by, number_of, token_at, token_of, tokens_from, tokens_under, word_length}
+use Rattle.lexical_literals.specs.Tokens.{TokenView, front_of, is_skipped, is_word_byte, literals, number_by, number_of, token_at, token_of, tokens_from, tokens_under, word_length}
 use Rattle.lexical_literals.specs.declared.Kind.{Kind}
 use Rattle.lexical_literals.specs.declared.Kind.TheVariants.{Byte, Fault, Word}
-
--- what the law of foreign bytes says of a front that begins with a digit
-pub record ReadsAlike : Type 0 where
-  pub asked : (f : Format) (t : IntegerType) (text rest : List ℕ) (byte : ℕ) → IsNone (fault f) → IsForeign f byte
-      → digits_required f ≡ true → IsSome f.digit_separator
-      → partial f t (text ++ byte ∷ rest) ≡ partial f t text
-  pub digit : (f : Format) (t : IntegerType) (text rest : List ℕ) (byte : ℕ) → IsNone (fault f) → IsForeign f byte
-      → IsNone f.base_prefix → f.literal_prefixes ≡ false → IsSome (digit_at f.mantissa_radix text 0)
-      → partial f t (text ++ byte ∷ rest) ≡ partial f t text
 
 -- ---- places
 
@@ -66,12 +58,12 @@ take_alike zero bs more low = refl
 take_alike (suc n) [] more low = absurd (omega arith)
 take_alike (suc n) (b ∷ bs) more low = ap (λ xs. b ∷ xs) (take_alike n bs more (omega arith))
 
-module _ (ends : FrontEnds) (alike : ReadsAlike) (f : Format) (byte : ℕ) (rest : List ℕ) (valid : IsNone (fault f)) (parts : PartsTokens f byte) where
+module _ (ends : FrontEnds) (f : Format) (byte : ℕ) (rest : List ℕ) (valid : IsNone (fault f)) (parts : PartsTokens f byte) where
   read_alike : (b : ℕ) (bs : List ℕ) → is_some (digit b f.mantissa_radix) ≡ true → partial f (integer_type 128 false) (b ∷ (bs ++ byte ∷ rest)) ≡ partial f (integer_type 128 false) (b ∷ bs)
   unfolding digit_at
   read_alike b bs first = elim parts.ends [
-    | inl w ↦ alike.digit f (integer_type 128 false) (b ∷ bs) rest byte valid parts.foreign w.0 w.1 first
-    | inr w ↦ alike.asked f (integer_type 128 false) (b ∷ bs) rest byte valid parts.foreign w.0 w.1
+    | inl w ↦ digit_is_same f (integer_type 128 false) (b ∷ bs) rest byte valid parts.foreign w.0 w.1 first
+    | inr w ↦ asked_is_same f (integer_type 128 false) (b ∷ bs) rest byte valid parts.foreign w.0 w.1
   ]
 
   number_alike : (b : ℕ) (bs : List ℕ) → is_some (digit b f.mantissa_radix) ≡ true → number_of f (b ∷ (bs ++ byte ∷ rest)) ≡ number_of f (b ∷ bs)
