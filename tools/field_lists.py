@@ -19,7 +19,7 @@ FORMAT_OF_PYTHON = "bindings/python/src/jadvolni/_format.py"
 
 
 class Field(NamedTuple):
-    """A field: its name, kind and meaning, the bit of a mark, and its word in test vectors."""
+    """A field: its name, kind and meaning, the bit of punctuation, and its word in test vectors."""
 
     name: str
     kind: str
@@ -47,8 +47,8 @@ def fields_of(top: str) -> list[Field]:
     """The fields in their order."""
     found, bit = [], 1
     for name, kind, word, about in rows_of(top, LIST, " | "):
-        found.append(Field(name, kind, about, bit if kind == "mark" else 0, word))
-        bit <<= kind == "mark"
+        found.append(Field(name, kind, about, bit if kind == "punctuation" else 0, word))
+        bit <<= kind == "punctuation"
     return found
 
 
@@ -113,20 +113,20 @@ def in_struct(fields: list[Field]) -> str:
 
 
 def in_builder(fields: list[Field]) -> str:
-    """The setters of Rattle's builder, marks last."""
+    """The setters of Rattle's builder, punctuation last."""
     def setter(field: Field) -> str:
-        if field.kind == "mark":
+        if field.kind == "punctuation":
             return f"punctuation(self.{field.name}, has_bit(nul, {field.bit}))"
         return f"flag(self.{field.name})" if field.kind == "flag" else f"self.{field.name}"
 
-    ordered = sorted(fields, key=lambda field: field.kind == "mark")
+    ordered = sorted(fields, key=lambda field: field.kind == "punctuation")
     return "".join(f"            .{field.name}({setter(field)})\n" for field in ordered)
 
 
 def in_record(fields: list[Field]) -> str:
     """The format that the fields stand for, as the definition has it."""
     def value(field: Field) -> str:
-        if field.kind == "mark":
+        if field.kind == "punctuation":
             nul = f"(has_bit {field.bit} fields.nul_is_punctuation)"
             return f"punctuation fields.{field.name} {nul}"
         return f"{'flag ' if field.kind == 'flag' else ''}fields.{field.name}"
@@ -153,7 +153,7 @@ def in_help(fields: list[Field]) -> str:
 
 def in_dataclass(fields: list[Field]) -> str:
     """The fields of Python's Format, with their defaults."""
-    kinds = {"radix": ("int", 0), "mark": ("Punctuation", None), "flag": ("bool", False)}
+    kinds = {"radix": ("int", 0), "punctuation": ("Punctuation", None), "flag": ("bool", False)}
     rows = [(it.name, *kinds[it.kind]) for it in fields]
     return "".join(f"    {name}: {kind} = {STANDARD.get(name, unset)}\n"
                    for name, kind, unset in rows)
@@ -161,7 +161,7 @@ def in_dataclass(fields: list[Field]) -> str:
 
 def in_grammar(fields: list[Field]) -> str:
     """The words of the test vectors, and the setters that they stand for."""
-    values = {"radix": "=N", "mark": "=B", "flag": ""}
+    values = {"radix": "=N", "punctuation": "=B", "flag": ""}
     return "".join(
         f"| `{field.word}{values[field.kind]}` | `{field.name}"
         f"{'(false)' if STANDARD.get(field.name) is True else ''}` |\n" for field in fields)
@@ -178,7 +178,7 @@ REGIONS = [
     Region("bindings/rust/jadvolni-sys/src/lib.rs", "pub struct jadvolni_format {\n",
            "    pub nul_is_punctuation", in_struct),
     Region("bindings/rust/jadvolni/src/format.rs", "    punctuation! {\n", "    }\n",
-           lambda fields: in_setters("mark", fields)),
+           lambda fields: in_setters("punctuation", fields)),
     Region("bindings/rust/jadvolni/src/format.rs", "    flags! {\n", "    }\n",
            lambda fields: in_setters("flag", fields)),
     Region(FORMAT_OF_PYTHON, "one that breaks a rule isn't made.\n\n", "\n    FormatError tells",

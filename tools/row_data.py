@@ -17,7 +17,7 @@ BUILT = [os.path.join(TOP, "crates", "lexint", "out", name)
          for name in ("lexint", "lexint.by-rattle")]
 
 FLAGS = {it.word: it.name for it in fields_of(TOP) if it.kind == "flag"}
-BYTES = {it.word: it.name for it in fields_of(TOP) if it.kind == "mark"}
+BYTES = {it.word: it.name for it in fields_of(TOP) if it.kind == "punctuation"}
 HEADING = re.compile(r"(={2,3}) (\w+): (.+)")
 # what a line of tools/languages.txt tells a user, before the rows of its language
 TOLD = re.compile(r"(reference|rule|suffixes|more|less|otherwise) \| (.+)")

@@ -184,7 +184,7 @@ pub fn algorithm_partial<T: Integer>(
     }
 }
 
-// What the quick way leaves stays out of line, so that the way of most texts is small enough to be held in place.
+// The partial answer for a text that the quick way leaves. Why out of line: docs/DECISIONS.md, code.
 #[inline(never)]
 fn partial_out_of_line<T: Integer>(bytes: &[u8], format: &NumberFormat) -> Result<(T, usize)>
     requires valid { IsNone (fault format.now) }
@@ -195,8 +195,7 @@ fn partial_out_of_line<T: Integer>(bytes: &[u8], format: &NumberFormat) -> Resul
 
 // ---- under the standard format
 
-// The complete answer for a text that isn't digits alone behind a minus or none. The place for an answer through memory
-// is made ready here, and so not for a value.
+// The complete answer for a text that isn't digits alone behind a minus or none.
 #[inline(always)]
 pub(crate) fn standard_complete<T: Integer>(bytes: &[u8]) -> Result<T>
     ensures { view_of T.number result ≡ complete standard T.TYPE bytes.now }

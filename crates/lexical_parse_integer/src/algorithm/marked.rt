@@ -98,8 +98,7 @@ fn value_behind<T: Integer>(bytes: &[u8], format: &NumberFormat, head: Head) -> 
     value_in_radix::<T>(digits, head.radix, head.is_negative)
 }
 
-// The value of the whole text, where digits alone stand behind any head: out of line, for texts that don't begin as
-// most do.
+// The value of the whole text, where digits alone stand behind any head. Why out of line: docs/DECISIONS.md, code.
 #[inline(never)]
 fn value_behind_any_head<T: Integer>(bytes: &[u8], format: &NumberFormat) -> Option<T>
     requires { IsNone (fault format.now) }

@@ -18,16 +18,14 @@ use lexical_util::format::{self, NumberFormat};
 use lexical_util::num::Integer;
 use lexical_util::result::Result;
 
-// A text and its format, put down for the call that reads what others leave. Else they would stay in registers over
-// these calls, and a short text, for which none is made, would save those registers too.
+// A text and its format for the call that reads what others leave. Why by reference: docs/DECISIONS.md, code.
 #[derive(Clone, Copy)]
 struct Call<'a> {
     bytes: &'a [u8],
     format: &'a NumberFormat,
 }
 
-// The complete answer for a text that the quick ways leave. The place for its answer is made ready here, and so not for
-// a value.
+// The complete answer for a text that the quick ways leave.
 #[inline(always)]
 fn complete_otherwise<T: Integer>(call: &Call<'_>) -> Result<T>
     ensures { view_of T.number result
@@ -52,8 +50,8 @@ fn complete<T: Integer>(bytes: &[u8], format: &NumberFormat) -> Result<T>
     }
 }
 
-// The value of the whole text, by a reader for each kind of format, where `value_if_short` has left it. Each is a call
-// that answers in registers: an answer through memory makes the caller wait for it.
+// The value of the whole text, by the reader for its format, where `value_if_short` has left it. Why each answers in
+// registers: docs/DECISIONS.md, code.
 #[inline(always)]
 fn value_by_kind<T: Integer>(bytes: &[u8], format: &NumberFormat) -> Option<T>
     ensures valid { IfSome result (λ value. IsNone (fault format.now)) }
@@ -69,7 +67,7 @@ fn value_by_kind<T: Integer>(bytes: &[u8], format: &NumberFormat) -> Option<T>
     value_of_plain::<T>(bytes, format)
 }
 
-// The complete answer in one call, out of line.
+// The complete answer for every text, in one call. Why out of line: docs/DECISIONS.md, code.
 #[inline(never)]
 fn complete_if_valid<T: Integer>(call: &Call<'_>) -> Result<T>
     ensures { view_of T.number result
