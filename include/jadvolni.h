@@ -36,8 +36,8 @@
  *
  *     r.status  JADVOLNI_OK, or what is wrong with the text or with the format.
  *     r.place   At JADVOLNI_OK how many bytes were read. At a fault of the text the place of the
- *               byte that it is about, where the first byte of the text has place 0; it may be
- *               `len`, where something is missing at the end. At a fault of the format 0.
+ *               offending byte, where the first byte of the text has place 0; it may be `len`,
+ *               where something is missing at the end. At a fault of the format 0.
  *     *value    The number at JADVOLNI_OK. At every other status it is as it was before the call.
  *
  * WHAT THE CALLER HAS TO KEEP
@@ -241,7 +241,7 @@ typedef struct jadvolni_format {
     uint8_t integer_consecutive_digit_separator;
 
     /* Flag: separators may come directly after a prefix, as in "0x_1F", as if they might come
-     * before all digits there. Elsewhere it changes nothing. */
+     * before all digits there. No effect without a prefix. */
     uint8_t integer_prefix_digit_separator;
 
     /* Flag: "0x", "0o" and "0b" choose the radix 16, 8 or 2 for the digits after them; so do "0X",
@@ -492,7 +492,7 @@ JADVOLNI_CALLS_(isize, ptrdiff_t);
  *     count     How many numbers were read. At a fault of a field that is the field's index, counted
  *               from 0. It is written by every call.
  *     values    The numbers, in order. From `values[count]` on the array is as it was, also after a
- *               fault, and the numbers before the fault stand.
+ *               fault; the numbers before it stay valid.
  *
  * So "12,7,x" with the separator ',' gives 12 and 7, count 2, and JADVOLNI_INVALID_DIGIT at 5. With
  * room for one it gives 12, count 1, and JADVOLNI_OK at 3: what has no room isn't looked at.

@@ -1,14 +1,14 @@
 #!/usr/bin/env python3
 """Writes the documents that are made from the source, or says where they aren't as written.
 
-    tools/documents.py           writes docs/CONTRACTS.md, docs/FORMATS.md, the marked code blocks
+    tools/documents.py           writes docs/CONTRACTS.md, docs/FORMATS.md, the named code blocks
                                  of other documents, the lists of fields and statuses, and the
                                  formats of languages in C, C++, Rust and Python
     tools/documents.py --check   writes nothing, and ends with status 1 where one of them isn't as
                                  it would write it, or where check_pages.py finds something wrong
     tools/documents.py --words   prints how many words of each page were written by hand
 
-A block is marked in a document by the line before it, which names a source file and what is taken
+A block is named in a document by the line before it, which names a source file and what is taken
 of it:
 
     <!-- block: crates/uses/src/ledger.rt: Entry::of, total -->
@@ -140,7 +140,7 @@ def block_text(top: str, file: str, what: str) -> str:
 
 
 def with_blocks(top: str, path: str, faults: list[str]) -> str:
-    """A document with its marked blocks as the source has them."""
+    """A document with its named blocks as the source has them."""
     def fill(marker: re.Match[str]) -> str:
         try:
             code = block_text(top, marker["file"], marker["what"].strip())

@@ -17,7 +17,7 @@ FORMAT_OF_PYTHON = "bindings/python/src/jadvolni/_format.py"
 
 
 class Field(NamedTuple):
-    """A field: its name, its kind, what it means, and of a mark its bit."""
+    """A field: its name, its kind, what it means, and of punctuation its bit."""
 
     name: str
     kind: str
@@ -39,10 +39,10 @@ def fields_of(top: str) -> list[Field]:
     found: list[Field] = []
     with open(os.path.join(top, LIST), encoding="utf-8") as file:
         rows = [line.strip().split(" | ") for line in file if not line.startswith("#")]
-    marks = 0
+    bits = 0
     for name, kind, about in rows:
-        found.append(Field(name, kind, about, 1 << marks if kind == "mark" else 0))
-        marks += kind == "mark"
+        found.append(Field(name, kind, about, 1 << bits if kind == "punctuation" else 0))
+        bits += kind == "punctuation"
     return found
 
 
@@ -104,20 +104,20 @@ def in_struct(fields: list[Field]) -> str:
 
 
 def in_builder(fields: list[Field]) -> str:
-    """The setters of Rattle's builder, marks last."""
+    """The setters of Rattle's builder, punctuation last."""
     def setter(field: Field) -> str:
-        if field.kind == "mark":
+        if field.kind == "punctuation":
             return f"punctuation(self.{field.name}, has_bit(nul, {field.bit}))"
         return f"flag(self.{field.name})" if field.kind == "flag" else f"self.{field.name}"
 
-    ordered = sorted(fields, key=lambda field: field.kind == "mark")
+    ordered = sorted(fields, key=lambda field: field.kind == "punctuation")
     return "".join(f"            .{field.name}({setter(field)})\n" for field in ordered)
 
 
 def in_record(fields: list[Field]) -> str:
     """The format that the fields stand for, as the definition has it."""
     def value(field: Field) -> str:
-        if field.kind == "mark":
+        if field.kind == "punctuation":
             nul = f"(has_bit {field.bit} fields.nul_is_punctuation)"
             return f"punctuation fields.{field.name} {nul}"
         return f"{'flag ' if field.kind == 'flag' else ''}fields.{field.name}"
@@ -147,7 +147,7 @@ def in_help(fields: list[Field]) -> str:
 
 def in_dataclass(fields: list[Field]) -> str:
     """The fields of Python's Format, with their defaults."""
-    kinds = {"radix": ("int", 0), "mark": ("Punctuation", None), "flag": ("bool", False)}
+    kinds = {"radix": ("int", 0), "punctuation": ("Punctuation", None), "flag": ("bool", False)}
 
     def line(field: Field) -> str:
         kind, unset = kinds[field.kind]
@@ -167,7 +167,7 @@ REGIONS = [
     Region("bindings/rust/jadvolni-sys/src/lib.rs", "pub struct jadvolni_format {\n",
            "    pub nul_is_punctuation", in_struct),
     Region("bindings/rust/jadvolni/src/format.rs", "    punctuation! {\n", "    }\n",
-           lambda fields: in_setters("mark", fields)),
+           lambda fields: in_setters("punctuation", fields)),
     Region("bindings/rust/jadvolni/src/format.rs", "    flags! {\n", "    }\n",
            lambda fields: in_setters("flag", fields)),
     Region(FORMAT_OF_PYTHON, "one that breaks a rule isn't made.\n\n", "\n    FormatError tells",

@@ -88,7 +88,7 @@ def unsaid(group: Group) -> list[str]:
     """In what a format and its language differ."""
     lines = [f"- {heading}: {text}"
              for word, heading in HEADINGS.items() for text in told(group, word)]
-    return ["What the fields can't say:", "", *(lines or ["- Nothing that is known."]), ""]
+    return ["Known deviations:", "", *(lines or ["- Nothing that is known."]), ""]
 
 
 def section(group: Group) -> list[str]:

@@ -99,7 +99,7 @@ def random_parses(comparison: Comparison, chance: random.Random, wanted: int) ->
                 comparison.parse(words[1], words[2], words[0] == b"p", form, made)
 
 
-def mark_of(made: CFormat, name: str) -> Optional[int]:
+def punctuation_of(made: CFormat, name: str) -> Optional[int]:
     """The byte of punctuation that a format asks for, by the words of the header."""
     byte: int = getattr(made, name)
     return byte if byte or made.nul_is_punctuation & NUL_BITS[name] else None
@@ -113,9 +113,9 @@ def random_format(chance: random.Random) -> Tuple[CFormat, Format]:
     made.nul_is_punctuation = chance.choice((0, chance.randrange(8)))
     for name in FLAG_FIELDS:
         setattr(made, name, chance.choice((0, 0, chance.randrange(256))))
-    marks = {name: mark_of(made, name) for name in BYTE_FIELDS}
+    punctuation = {name: punctuation_of(made, name) for name in BYTE_FIELDS}
     flags = {name: getattr(made, name) != 0 for name in FLAG_FIELDS}
-    return made, replace(Format(mantissa_radix=made.mantissa_radix, **flags), **marks)
+    return made, replace(Format(mantissa_radix=made.mantissa_radix, **flags), **punctuation)
 
 
 def random_formats(comparison: Comparison, chance: random.Random, wanted: int) -> None:
@@ -149,9 +149,9 @@ def classes_under(form: Format) -> Classes:
     class.
     """
     fields = (form.digit_separator, form.base_prefix, form.base_suffix)
-    marks = bytes(byte for byte in fields if byte is not None)
+    punctuation = bytes(byte for byte in fields if byte is not None)
     radix = 16 if form.literal_prefixes else form.mantissa_radix
-    known = set(b"+-" + SMALL[:radix] + CAPITALS[:radix] + marks + marks.swapcase())
+    known = set(b"+-" + SMALL[:radix] + CAPITALS[:radix] + punctuation + punctuation.swapcase())
     known |= set(b"xXoObB") if form.literal_prefixes else set()
     ranks = {byte: rank for rank, byte in enumerate(sorted(known), 1)}
     other = next(byte for byte in range(255, -1, -1) if byte not in known)

@@ -75,8 +75,8 @@ def in_python(groups: list[Group]) -> str:
 
 def replaced(text: str, begin: str, end: str, written: str) -> str:
     """A text with other words between two of its parts."""
-    before, mark, rest = text.partition(begin)
-    return before + mark + written + rest[rest.index(end):]
+    before, found, rest = text.partition(begin)
+    return before + found + written + rest[rest.index(end):]
 
 
 def files(top: str, found: dict[str, str]) -> dict[str, str]:

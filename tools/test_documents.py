@@ -162,7 +162,7 @@ class OfFields(unittest.TestCase):
 
     def test_each_list_has_each_field(self) -> None:
         fields = field_lists.fields_of(documents.TOP)
-        self.assertEqual([field.bit for field in fields if field.kind == "mark"], [1, 2, 4])
+        self.assertEqual([field.bit for field in fields if field.kind == "punctuation"], [1, 2, 4])
         files = field_lists.files(documents.TOP)
         for file in {region.file for region in field_lists.REGIONS}:
             for field in fields:

@@ -11,4 +11,4 @@ pub returns-then-length-gt0 : goal.returns-then-length-gt0
 unfolding number_of
 returns-then-length-gt0 c =
     ap (number_by c.args.text.now) (wider_read c.args.format.now c.args.text.now _ _
-    (sym (c.marked_number-value.ensures c.if-length-gt0.true)))
+    (sym (c.punctuated_number-value.ensures c.if-length-gt0.true)))

@@ -17,7 +17,7 @@ use Rattle.lexical_digits.proofs.WordsOfDigits.{digits_below, raised_none}
 use Rattle.lexical_parse_integer.specs.Grammar.{complete}
 use Rattle.lexical_parse_integer.specs.Head.{sign}
 use Rattle.lexical_parse_integer.specs.Plain.{BeginsWith}
-use Rattle.lexical_parse_integer.proofs.marked.MarkedAnswers.{signed_minus}
+use Rattle.lexical_parse_integer.proofs.punctuated.PunctuatedAnswers.{signed_minus}
 use Rattle.lexical_parse_integer.proofs.plain.DigitsInFront.{byte_after, signed_read}
 use Rattle.lexical_parse_integer.proofs.theorems.CompleteByPartial.{sign_within}
 

@@ -30,7 +30,7 @@ use Rattle.lexical_parse_integer.proofs.bound.WordSteps.{ReadsWord, reads_word}
 use Rattle.lexical_parse_integer.proofs.words.WordsInTexts.{all_ahead, length-ahead, stands_ahead}
 use Rattle.lexical_parse_integer.proofs.grammar.DigitCounts.{digits_between_none}
 use Rattle.lexical_parse_integer.proofs.grammar.NumeralEnd.{IsStop-end_of, finds_here}
-use Rattle.lexical_parse_integer.proofs.marked.MarkedAnswers.{fits_head}
+use Rattle.lexical_parse_integer.proofs.punctuated.PunctuatedAnswers.{fits_head}
 use Rattle.lexical_parse_integer.proofs.reading.DigitLoop.{reads_end, reads_leaves, reads_next}
 use Rattle.lexical_parse_integer.proofs.reading.FirstDigit.{few_no_fault, leading_zeros, no_digit_no_zeros, other_first}
 use Rattle.lexical_parse_integer.proofs.reading.NumeralSteps.{all_found, digit_found, places_count}

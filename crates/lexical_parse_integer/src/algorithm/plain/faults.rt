@@ -1,6 +1,6 @@
 // Faults of decimal texts under the standard format that begin with a digit, behind a sign or none: most faults.
 //
-// Each is a call of its own, which answers in registers. `None` says nothing.
+// `None` says nothing. Why each is a call of its own: docs/DECISIONS.md, code.
 ghost use Rattle.std.specs.Prelude.{◌≡◌, ◌<◌, ◌≤◌, Err, IfSome, IsNone, get_or, length, take};
 ghost use Rattle.lexical_util.specs.Digit.{digit};
 ghost use Rattle.lexical_util.specs.Format.{standard};
