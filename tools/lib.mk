@@ -12,7 +12,7 @@ SOVERSION := 0
 LIBRARIES := build/libjadvolni.a build/libjadvolni.so
 # The shared library, where there is a compiler that links it.
 SHARED := $(if $(shell command -v $(CC) 2>/dev/null),build/libjadvolni.so)
-LIBRARY_SOURCES := $(shell find crates/jadvolni crates/lexical_fields crates/lexical_parse_integer crates/lexical_digits crates/lexical_util -name out -prune -o -type f \( -name '*.rt' -o -name '*.antt' \) -print) crates.txt
+LIBRARY_SOURCES := $(shell find crates/jadvolni crates/lexical_fields crates/lexical_literals crates/lexical_parse_integer crates/lexical_digits crates/lexical_util -name out -prune -o -type f \( -name '*.rt' -o -name '*.antt' \) -print) crates.txt
 
 .PHONY: lib install-lib uninstall-lib test-c check-c
 
@@ -34,7 +34,7 @@ build/libjadvolni.so: build/libjadvolni.a
 PARSES := $(foreach sign,u i,$(addprefix jadvolni_parse_$(sign),8 16 32 64 128 size))
 FRONTS := $(PARSES) $(PARSES:=_front) $(PARSES:=_partial)
 CALLS := $(FRONTS) $(FRONTS:=_with_format) $(addsuffix _column,$(filter-out %128 %size,$(PARSES))) \
-    $(addprefix jadvolni_,parse version format_error format_of_radix field_start status_name status_text)
+    $(addprefix jadvolni_,parse version format_error format_of_radix field_start parse_literal status_name status_text)
 PAGES := $(addprefix $(DESTDIR)$(MANDIR)/man3/,$(CALLS:=.3))
 
 # What the templates of pkg-config, CMake and man leave open.

@@ -11,7 +11,7 @@ ghost use Rattle.jadvolni.specs.FormatFields.{are_known, format_of};
 use crate::format::FormatFields;
 use crate::outcome::{Outcome, UNKNOWN_FIELD};
 use crate::slot::Slot;
-use lexical_parse_integer::quick::value_if_short;
+use lexical_parse_integer::quick::{front_if_plain, value_if_short};
 use lexical_parse_integer::{
     FromLexical, FromLexicalWithOptions, NumberFormatBuilder, Options, Result, format,
     number_in_front, options,
@@ -87,8 +87,7 @@ pub(crate) const UNKNOWN: Outcome = Outcome {
     place: 0,
 };
 
-// The whole text, under a format that is made field by field. It stays a call: else its loads of single fields would
-// come before the test in `complete_under`.
+// The whole text, under a format that is made field by field.
 #[inline(never)]
 fn complete_under_any<T: FromLexicalWithOptions<Options = Options>, S: Slot<T>>(
     text: &[u8],
@@ -118,12 +117,16 @@ fn complete_in_radix<T: FromLexicalWithOptions<Options = Options>, S: Slot<T>>(
     ensures { effect result (S.number value.new)
         ≡ complete_call_under fields.now T.TYPE text.now (S.number value.old) }
 {
+    if fields.mantissa_radix == 10 {
+        return complete_any::<T, S>(text, value);
+    }
     let format = NumberFormatBuilder::from_radix(fields.mantissa_radix);
     let answer = T::from_lexical_with_options(text, &format, &options::STANDARD);
     store(answer, text.len(), value)
 }
 
-/// The whole text, under a format that may be invalid.
+/// The whole text, under a format that may be invalid. A short one is read in place where the format is decimal and has
+/// no punctuation: of its fields those alone are looked at that say so, and no format is made.
 #[inline(always)]
 pub fn complete_under<T: FromLexicalWithOptions<Options = Options>, S: Slot<T>>(
     text: &[u8],
@@ -133,16 +136,18 @@ pub fn complete_under<T: FromLexicalWithOptions<Options = Options>, S: Slot<T>>(
     ensures { effect result (S.number value.new)
         ≡ complete_call_under fields.now T.TYPE text.now (S.number value.old) }
 {
-    if !fields.is_standard_but_radix() {
-        return complete_under_any::<T, S>(text, fields, value);
+    if fields.mantissa_radix == 10 && fields.are_known() {
+        if let Some(number) = value_if_short::<T>(text, &fields.format()) {
+            return store(Ok(number), text.len(), value);
+        }
     }
-    if fields.mantissa_radix == 10 {
-        return complete::<T, S>(text, value);
+    if fields.is_standard_but_radix() {
+        return complete_in_radix::<T, S>(text, fields, value);
     }
-    complete_in_radix::<T, S>(text, fields, value)
+    complete_under_any::<T, S>(text, fields, value)
 }
 
-// The text's front, under a format that is made field by field.
+// The text's front, under a format that is made field by field, but where decimal digits alone stand there.
 #[inline(never)]
 fn partial_under_any<T: FromLexicalWithOptions<Options = Options>, S: Slot<T>>(
     text: &[u8],
@@ -154,6 +159,9 @@ fn partial_under_any<T: FromLexicalWithOptions<Options = Options>, S: Slot<T>>(
 {
     if !fields.are_known() {
         return UNKNOWN;
+    }
+    if let Some(found) = front_if_plain::<T>(text, &fields.format()) {
+        return give_front(Ok(found), value);
     }
     let answer = T::from_lexical_partial_with_options(text, &fields.format(), &options::STANDARD);
     give_front(answer, value)

@@ -14,6 +14,7 @@
 
 mod bytes;
 mod decimal;
+mod literal;
 
 ghost use Rattle.std.specs.Prelude.{◌≡◌, ◌+◌, ◌<◌, ◌≤◌, ◌^◌, List, All, IfOk, IsNone, IsTrue, Ok, false, is_some, length, pos, slice_index, true};
 ghost use Rattle.std.specs.Iterator.{YieldsFirstBy, item_count};
@@ -27,10 +28,11 @@ ghost use Rattle.lexical_literals.specs.Tokens.{FollowInTurn, FollowUnder, IsPar
 use bytes::{is_word_byte, skipped_length, word_length};
 use decimal::{decimal_front, is_decimal, seems_punctuated};
 use lexical_parse_integer::algorithm::algorithm_partial;
-use lexical_parse_integer::laws::grammar::front_end;
+use lexical_parse_integer::laws::grammar::{front_end, wider_types};
 use lexical_parse_integer::parse::ParseInteger;
 use lexical_parse_integer::{Error, NumberFormat, NumberFormatBuilder, Result, options};
 use lexical_util::digit::char_is_digit;
+pub use literal::{Literal, literal_in_front};
 use std::marker::Model;
 
 /// What a token is.
@@ -92,6 +94,7 @@ fn number(text: &[u8], format: &NumberFormat, decimal: bool) -> (Kind, usize)
             return (Kind::Number(value as u128), count);
         }
     }
+    wider_types();
     let (value, length) = punctuated_number(text, format);
     if length > 0 {
         return (Kind::Number(value as u128), length);

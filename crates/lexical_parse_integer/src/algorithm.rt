@@ -211,7 +211,8 @@ pub(crate) fn standard_complete<T: Integer>(bytes: &[u8]) -> Result<T>
         }
     }
     match place_after_few::<T>(bytes) {
-        Some(place) => Err(Error::InvalidDigit(place)),
+        Some(place) if place < bytes.len() => Err(Error::InvalidDigit(place)),
+        Some(place) => Err(Error::Empty(place)),
         None => standard_from_front::<T>(bytes),
     }
 }

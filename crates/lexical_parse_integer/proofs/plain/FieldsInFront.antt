@@ -1,6 +1,6 @@
 -- The first field of a column, where it is digits alone behind an optional minus.
 use Rattle.std.proofs.Common.{◌≡◌, ◌≢◌, ℕ, zero, suc, ◌+◌, ◌<◌, Bool, true, false, not, cond, eqb, List, [], ◌∷◌, length, get_or, map, take, refl, sym, ap, ◌∙◌, subst, arith, Option, Some, None, Ok, inl, inr}
-use Rattle.std.specs.Prelude.{is_some, ℤ, IsNone, IsSome}
+use Rattle.std.specs.Prelude.{ℤ, IsNone, IsSome}
 use Rattle.std.proofs.Math.Seq.{take-length}
 use Rattle.std.proofs.lemmas.Bool.{ne_eqb}
 use Rattle.std.proofs.lemmas.Bool.Decides.{eqb_tells}
