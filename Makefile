@@ -7,7 +7,7 @@ FOR_SHELLS := crates/jad/out/jad
 SOURCES = $(shell find crates/$(1) crates/answer_lines crates/lexical_* -name out -prune -o -type f \( -name '*.rt' -o -name '*.antt' \) -print) crates.txt
 
 .PHONY: help toolchain run check test devices answers lexint jad install uninstall install-programs uninstall-programs rows
-.PHONY: docs vendor check-docs check-languages bench must-not-compile fuzz fuzz-edges
+.PHONY: docs dist test-dist tag vendor check-docs check-languages bench must-not-compile fuzz fuzz-edges
 
 # A target is listed by the words after its two number signs.
 help:
@@ -49,16 +49,27 @@ install: install-programs install-lib ## puts the programs and the library where
 uninstall: uninstall-programs uninstall-lib ## takes them away
 
 install-programs: $(PROGRAM) $(FOR_SHELLS)
-	install -d $(DESTDIR)$(PREFIX)/bin $(DESTDIR)$(MANDIR)/man1
-	install -m 755 $^ $(DESTDIR)$(PREFIX)/bin
-	$(FILL) packaging/lexint.1.in > $(DESTDIR)$(MANDIR)/man1/lexint.1
-	$(FILL) packaging/jad.1.in > $(DESTDIR)$(MANDIR)/man1/jad.1
+	install -d "$(DESTDIR)$(PREFIX)/bin" "$(DESTDIR)$(MANDIR)/man1"
+	install -m 755 $^ "$(DESTDIR)$(PREFIX)/bin"
+	for program in lexint jad; do \
+	    $(FILL) packaging/$$program.1.in > "$(DESTDIR)$(MANDIR)/man1/$$program.1" || exit 1; done
 
 uninstall-programs:
-	rm -f $(foreach program,lexint jad,$(DESTDIR)$(PREFIX)/bin/$(program) $(DESTDIR)$(MANDIR)/man1/$(program).1)
+	for program in lexint jad; do \
+	    rm -f "$(DESTDIR)$(PREFIX)/bin/$$program" "$(DESTDIR)$(MANDIR)/man1/$$program.1" || exit 1; done
 
 vendor: ## copies the Rattle crates into your repository: DEST=../yours WITH="lexical_literals lexical_fields lexical_formats"
 	@packaging/vendor.sh
+
+dist: lib lexint jad ## writes dist/, the archives of a release, from a clean tree: docs/RELEASING.md
+	@RT=$(RT) packaging/dist.sh
+
+test-dist: ## tries these as users get them, in a root without the toolchain; not a part of the gate
+	@packaging/test_dist.sh
+
+tag: ## makes the version's tag, whose message is dist/SHA256SUMS
+	@grep -q "commit $$(git rev-parse HEAD)" dist/*.spdx.json || { echo "make tag: dist is of another commit" >&2; exit 1; }
+	@cd dist && sha256sum --quiet -c SHA256SUMS && git tag -a v$(VERSION) -F SHA256SUMS
 
 include tools/lib.mk
 

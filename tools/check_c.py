@@ -34,7 +34,7 @@ from callers import (C_COMPILERS, CXX17, CXX_COMPILERS, OPTIMISED, SANITIZED, TO
 
 LIBDIR = "/usr/lib/x86_64-linux-gnu"
 INSTALLED = ["PREFIX=/usr", f"LIBDIR={LIBDIR}"]
-BUILT = ["-o", "build/libjadvolni.a", "-o", "build/libjadvolni.so"]
+BUILT = ["-o", "build/libjadvolni.a", "-o", "build/symbols.map", "-o", "build/libjadvolni.so"]
 TYPES = [f"{sign}{size}" for sign in "ui" for size in ("8", "16", "32", "64", "128", "size")]
 FORMS = [what + under for what in ("", "_front", "_partial") for under in ("", "_with_format")]
 # The structs of the header, by their names in the crate. jadvolni-sys has the header's names.
@@ -79,7 +79,7 @@ def shared_library(place: Place) -> str:
     said = run(["readelf", "-d", library])
     if "NEEDED" in said or "TEXTREL" in said or "[libjadvolni.so.0]" not in said:
         raise Failed(said)
-    return exported(re.findall(r" T (\S+)$", run(["nm", "-D", "--defined-only", library]), re.M))
+    return exported(re.findall(r" T (\S+)@@J", run(["nm", "-D", "--defined-only", library])))
 
 
 def flags_of_a_distribution(place: Place) -> str:
@@ -87,7 +87,7 @@ def flags_of_a_distribution(place: Place) -> str:
     needs("make", "cc", "readelf")
     tree = place.path("tree")
     os.makedirs(os.path.join(tree, "build"))
-    for name in ("Makefile", "crates", "crates.txt", "include", "tools"):
+    for name in ("Makefile", "crates", "crates.txt", "include", "packaging", "tools"):
         os.symlink(source(name), os.path.join(tree, name))
     shutil.copy(place.library("libjadvolni.a"), os.path.join(tree, "build"))
     library = os.path.join(tree, "build", "libjadvolni.so")

@@ -6,15 +6,15 @@ LIBDIR ?= $(PREFIX)/lib
 MANDIR ?= $(PREFIX)/share/man
 DOCDIR := $(PREFIX)/share/doc/jadvolni
 LICENCES := $(wildcard LICENSE-APACHE LICENSE-MIT NOTICE)
-# The version stands in the header alone. Programs that were linked with one SOVERSION run with each library of it.
+# The version stands in the header alone. A program runs with every later library of its major version.
 VERSION := $(shell sed -n 's/.*JADVOLNI_VERSION_STRING "\(.*\)"/\1/p' include/jadvolni.h)
-SOVERSION := 0
+SOVERSION := $(firstword $(subst ., ,$(VERSION)))
 LIBRARIES := build/libjadvolni.a build/libjadvolni.so
 # The shared library, where there is a compiler that links it.
 SHARED := $(if $(shell command -v $(CC) 2>/dev/null),build/libjadvolni.so)
 LIBRARY_SOURCES := $(shell find crates/jadvolni crates/lexical_fields crates/lexical_literals crates/lexical_parse_integer crates/lexical_digits crates/lexical_util -name out -prune -o -type f \( -name '*.rt' -o -name '*.antt' \) -print) crates.txt
 
-.PHONY: lib install-lib uninstall-lib test-c check-c
+.PHONY: lib symbols install-lib uninstall-lib test-c check-c
 
 lib: build/libjadvolni.a $(SHARED) ## proves and builds the library for C, as build/libjadvolni.a and build/libjadvolni.so
 	$(if $(SHARED),,@echo "there is no $(CC): build/libjadvolni.so, the shared library, is left out")
@@ -24,44 +24,60 @@ build/libjadvolni.a: $(LIBRARY_SOURCES)
 	@RT=$(RT) tools/build.sh jadvolni
 	@cp crates/jadvolni/out/libjadvolni.a $@
 
+# What the archive exports, each call behind the version in which it came.
+EXPORTED = nm -g --defined-only $(1) | LC_ALL=C sort -k 3 | awk -v new=$(basename $(VERSION)) \
+    'FILENAME != "-" { came[$$1] = $$2; next } $$2 == "T" { print $$3, $$3 in came ? came[$$3] : new }' packaging/symbols.txt -
+
+symbols: build/libjadvolni.a ## writes packaging/symbols.txt, the calls that the library exports
+	@$(call EXPORTED,$<) > build/symbols.txt
+	@mv build/symbols.txt packaging/symbols.txt
+
+# The versions of the calls, as linkers read them: a program that needs a later library is told so as it starts.
+build/symbols.map: build/libjadvolni.a packaging/symbols.txt
+	@$(call EXPORTED,$<) | diff packaging/symbols.txt - || \
+	    { echo "packaging/symbols.txt isn't what the library exports: make symbols writes it anew" >&2; exit 1; }
+	@sort -s -k 2V packaging/symbols.txt | awk '$$2 != last { if (last) { print "}" below ";"; below = " JADVOLNI_" last } \
+	    last = $$2; print "JADVOLNI_" last " { global:" } { print $$1 ";" } END { print "local: *; }" below ";" }' > $@
+
 # It needs no other library, not even that of C: -nostdlib leaves it out, and -z defs fails if anything is missing.
-build/libjadvolni.so: build/libjadvolni.a
+# The loader reads -z x86-64-v2, and refuses the library on an older processor.
+build/libjadvolni.so: build/libjadvolni.a build/symbols.map
 	@command -v $(CC) >/dev/null || { echo "there is no $(CC) to link build/libjadvolni.so with" >&2; exit 1; }
 	@$(CC) $(CFLAGS) $(LDFLAGS) -shared -nostdlib -o $@ -Wl,-soname,libjadvolni.so.$(SOVERSION) \
-	    -Wl,-z,defs,-z,relro,-z,now,-z,noexecstack -Wl,--whole-archive $< -Wl,--no-whole-archive
+	    -Wl,-z,x86-64-v2,-z,defs,-z,relro,-z,now,-z,noexecstack,--version-script,build/symbols.map \
+	    -Wl,--whole-archive $< -Wl,--no-whole-archive
 
 # Each call has a page, which shows jadvolni(3): so `man jadvolni_parse_u64` finds what it looks for.
-PARSES := $(foreach sign,u i,$(addprefix jadvolni_parse_$(sign),8 16 32 64 128 size))
-FRONTS := $(PARSES) $(PARSES:=_front) $(PARSES:=_partial)
-CALLS := $(FRONTS) $(FRONTS:=_with_format) $(addsuffix _column,$(filter-out %128 %size,$(PARSES))) \
-    $(addprefix jadvolni_,parse version format_error format_of_radix field_start parse_literal status_name status_text)
-PAGES := $(addprefix $(DESTDIR)$(MANDIR)/man3/,$(CALLS:=.3))
+# In the header alone stand the first four; the library exports the others.
+CALLS := $(addprefix jadvolni_,parse format_of_radix status_name status_text) \
+    $(shell cut -d ' ' -f 1 packaging/symbols.txt)
+PAGES = $(DESTDIR)$(MANDIR)/man3
+TO = $(DESTDIR)$(LIBDIR)
 
-# What the templates of pkg-config, CMake and man leave open.
-FILL = sed -e 's|@PREFIX@|$(PREFIX)|; s|@LIBDIR@|$(LIBDIR)|; s|@INCLUDEDIR@|$(INCLUDEDIR)|' \
+# What the templates of pkg-config, CMake and man leave open. Everyone may read what is written.
+FILL = umask 022; sed -e 's|@PREFIX@|$(PREFIX)|; s|@LIBDIR@|$(LIBDIR)|; s|@INCLUDEDIR@|$(INCLUDEDIR)|' \
     -e 's|@VERSION@|$(VERSION)|; s|@SOVERSION@|$(SOVERSION)|'
 
 install-lib: $(LIBRARIES) ## puts the library where compilers look: PREFIX, LIBDIR, DESTDIR
-	install -d $(DESTDIR)$(INCLUDEDIR) $(DESTDIR)$(LIBDIR)/pkgconfig $(DESTDIR)$(LIBDIR)/cmake/jadvolni
-	install -d $(DESTDIR)$(MANDIR)/man3 $(DESTDIR)$(DOCDIR)
-	install -m 644 include/jadvolni.h include/jadvolni.hpp $(DESTDIR)$(INCLUDEDIR)
-	install -m 644 build/libjadvolni.a $(DESTDIR)$(LIBDIR)
-	install -m 755 build/libjadvolni.so $(DESTDIR)$(LIBDIR)/libjadvolni.so.$(VERSION)
-	ln -sf libjadvolni.so.$(VERSION) $(DESTDIR)$(LIBDIR)/libjadvolni.so.$(SOVERSION)
-	ln -sf libjadvolni.so.$(SOVERSION) $(DESTDIR)$(LIBDIR)/libjadvolni.so
-	$(FILL) packaging/jadvolni.pc.in > $(DESTDIR)$(LIBDIR)/pkgconfig/jadvolni.pc
-	$(FILL) packaging/jadvolniConfig.cmake.in > $(DESTDIR)$(LIBDIR)/cmake/jadvolni/jadvolniConfig.cmake
-	$(FILL) packaging/jadvolniConfigVersion.cmake.in > $(DESTDIR)$(LIBDIR)/cmake/jadvolni/jadvolniConfigVersion.cmake
-	$(FILL) packaging/jadvolni.3.in > $(DESTDIR)$(MANDIR)/man3/jadvolni.3
-	for page in $(PAGES); do echo .so man3/jadvolni.3 > $$page || exit 1; done
-	install -m 644 $(LICENCES) $(DESTDIR)$(DOCDIR)
+	install -d "$(DESTDIR)$(INCLUDEDIR)" "$(TO)/pkgconfig" "$(TO)/cmake/jadvolni" "$(PAGES)" "$(DESTDIR)$(DOCDIR)"
+	install -m 644 include/jadvolni.h include/jadvolni.hpp "$(DESTDIR)$(INCLUDEDIR)"
+	install -m 644 build/libjadvolni.a "$(TO)"
+	install -m 755 build/libjadvolni.so "$(TO)/libjadvolni.so.$(VERSION)"
+	ln -sf libjadvolni.so.$(VERSION) "$(TO)/libjadvolni.so.$(SOVERSION)"
+	ln -sf libjadvolni.so.$(SOVERSION) "$(TO)/libjadvolni.so"
+	$(FILL) packaging/jadvolni.pc.in > "$(TO)/pkgconfig/jadvolni.pc"
+	$(FILL) packaging/jadvolniConfig.cmake.in > "$(TO)/cmake/jadvolni/jadvolniConfig.cmake"
+	$(FILL) packaging/jadvolniConfigVersion.cmake.in > "$(TO)/cmake/jadvolni/jadvolniConfigVersion.cmake"
+	$(FILL) packaging/jadvolni.3.in > "$(PAGES)/jadvolni.3"
+	umask 022; for page in $(CALLS); do echo .so man3/jadvolni.3 > "$(PAGES)/$$page.3" || exit 1; done
+	install -m 644 $(LICENCES) "$(DESTDIR)$(DOCDIR)"
 
 uninstall-lib: ## takes the library away
-	rm -f $(DESTDIR)$(INCLUDEDIR)/jadvolni.h $(DESTDIR)$(INCLUDEDIR)/jadvolni.hpp
-	rm -f $(DESTDIR)$(LIBDIR)/libjadvolni.a $(DESTDIR)$(LIBDIR)/libjadvolni.so
-	rm -f $(DESTDIR)$(LIBDIR)/libjadvolni.so.$(SOVERSION) $(DESTDIR)$(LIBDIR)/libjadvolni.so.$(VERSION)
-	rm -f $(DESTDIR)$(LIBDIR)/pkgconfig/jadvolni.pc $(DESTDIR)$(MANDIR)/man3/jadvolni.3 $(PAGES)
-	rm -rf $(DESTDIR)$(LIBDIR)/cmake/jadvolni $(DESTDIR)$(DOCDIR)
+	rm -f "$(DESTDIR)$(INCLUDEDIR)/jadvolni.h" "$(DESTDIR)$(INCLUDEDIR)/jadvolni.hpp"
+	rm -f "$(TO)/libjadvolni.a" "$(TO)/libjadvolni.so" "$(TO)/libjadvolni.so.$(SOVERSION)" "$(TO)/libjadvolni.so.$(VERSION)"
+	rm -f "$(TO)/pkgconfig/jadvolni.pc"
+	for page in jadvolni $(CALLS); do rm -f "$(PAGES)/$$page.3" || exit 1; done
+	rm -rf "$(TO)/cmake/jadvolni" "$(DESTDIR)$(DOCDIR)"
 
 # Without a compiler of C there is no shared library; check_c.py says what it skips then.
 test-c: build/libjadvolni.a $(SHARED) ## runs the callers in C, C++, Rust and Python; a part of the gate

@@ -5,6 +5,7 @@ is a C compiler, Python's headers, and the library, which `make lib` at the repo
 
     JADVOLNI_INCLUDE   the folder of jadvolni.h, if not ../../include
     JADVOLNI_LIBRARY   the static library, if not ../../crates/jadvolni/out/libjadvolni.a
+    AUDITWHEEL_PLAT    the platform of the wheel's tag, if not that of this Python
     CC                 the compiler, if not cc
     CPPFLAGS, CFLAGS, LDFLAGS
                        further words for the compiler, which come after those of FLAGS
@@ -32,15 +33,17 @@ NAME, VERSION = PROJECT["name"], PROJECT["version"]
 FLAGS = ["-std=c11", "-O2", "-Wall", "-Wextra", "-fPIC", "-fno-plt", "-shared",
          "-fvisibility=hidden"]
 # The extension exports nothing of the library: else the calls of another one of that name, loaded
-# before, would take the place of those that it was linked with.
-LINK_FLAGS = ["-Wl,--exclude-libs,ALL"]
+# before, would take the place of those that it was linked with. The loader refuses it on a
+# processor before x86-64-v2.
+LINK_FLAGS = ["-Wl,--exclude-libs,ALL", "-Wl,-z,x86-64-v2"]
 MODULES = ["__init__.py", "_blocks.py", "_format.py", "formats.py", "_numpy.py", "_core.pyi",
            "py.typed"]
 
 
 def tag() -> str:
-    """The tag of the wheel: the stable ABI of 3.11 on this platform."""
-    return "cp311-abi3-" + sysconfig.get_platform().replace("-", "_").replace(".", "_")
+    """The tag of the wheel: the stable ABI of 3.11 on a platform."""
+    platform = os.environ.get("AUDITWHEEL_PLAT") or sysconfig.get_platform()
+    return "cp311-abi3-" + platform.replace("-", "_").replace(".", "_")
 
 
 def found(variable: str, default: Path) -> Path:
@@ -108,15 +111,16 @@ def information() -> dict[str, bytes]:
 
 
 def packed(wheel_directory: str, files: dict[str, bytes]) -> str:
-    """Writes a wheel with these files, and answers its name."""
+    """Writes a wheel with these files, all of one time, and answers its name."""
     files = {**files, **information()}
     record = f"{NAME}-{VERSION}.dist-info/RECORD"
     lines = "".join(line_of(name, content) for name, content in files.items())
     target = f"{NAME}-{VERSION}-{tag()}.whl"
     with zipfile.ZipFile(Path(wheel_directory) / target, "w", zipfile.ZIP_DEFLATED) as archive:
-        for name, content in files.items():
-            archive.writestr(name, content)
-        archive.writestr(record, f"{lines}{record},,\n")
+        for name, content in {**files, record: f"{lines}{record},,\n".encode()}.items():
+            entry = zipfile.ZipInfo(name)
+            entry.external_attr = 0o100644 << 16
+            archive.writestr(entry, content, zipfile.ZIP_DEFLATED)
     return target
 
 

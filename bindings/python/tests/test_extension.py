@@ -113,7 +113,7 @@ class Interpreters(unittest.TestCase):
 
 
 class Build(unittest.TestCase):
-    """How the wheel is built."""
+    """How the wheel is built. Where one is installed, -S keeps it out."""
 
     @unittest.skipUnless(shutil.which("cc"), "there is no cc")
     def test_an_editable_one_leads_to_the_sources(self):
@@ -131,7 +131,7 @@ class Build(unittest.TestCase):
             with module.open("a", encoding="utf-8") as file:
                 file.write("parse = 7\n")
             load = f"import site; site.addsitedir({str(site)!r}); import jadvolni as it; "
-            command = [sys.executable, "-c", load + "print(it.parse, it.parse_front('12px'))"]
+            command = [sys.executable, "-S", "-c", load + "print(it.parse, it.parse_front('12px'))"]
             run = subprocess.run(command, env=where, timeout=60, capture_output=True, text=True)
         self.assertEqual((run.stdout, run.stderr), ("7 (12, 2)\n", ""))
 

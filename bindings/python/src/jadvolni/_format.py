@@ -125,7 +125,8 @@ class Format:
         # A radix that is no byte is refused as 0 is.
         radix = self.mantissa_radix if 0 <= self.mantissa_radix <= 255 else 0
         values = {**numbers, **punctuation, "mantissa_radix": radix}.values()
-        nul_is_punctuation = sum(1 << bit for bit, byte in enumerate(punctuation.values()) if byte == 0)
+        given = enumerate(punctuation.values())
+        nul_is_punctuation = sum(1 << bit for bit, byte in given if byte == 0)
         return bytes([*(value or 0 for value in values), nul_is_punctuation, *bytes(13)])
 
     def __repr__(self) -> str:

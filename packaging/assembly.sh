@@ -1,0 +1,48 @@
+#!/bin/sh
+# Writes the assembly of the library, which any cc takes, and the last line of the library's proof.
+#
+#     packaging/assembly.sh jadvolni.S VERDICT
+#
+# The toolchain's clang makes the archive out of a module. Here it makes assembly of that module too.
+# That has to give the code and the constants of the archive again.
+set -eu
+cd "$(dirname "$0")/.."
+target=$1 verdict=$2 archive=$PWD/build/libjadvolni.a
+kit=$(dirname "$(dirname "$(readlink -f "$(command -v "${RT:-rt}")")")")
+work=$(mktemp -d)
+trap 'rm -rf "$work"' EXIT
+
+# The toolchain by links, but for a clang that is called twice, and what looks for it from its own place.
+mkdir -p "$work/kit/bin" "$work/kit/toolchain/bin"
+for path in "$kit"/* "$kit"/bin/* "$kit"/toolchain/* "$kit"/toolchain/bin/*; do
+    link=$work/kit/${path#"$kit"/}
+    [ -e "$link" ] || ln -s "$path" "$link"
+done
+rm "$work/kit/bin/rt" "$work/kit/bin/rtlib.py" "$work/kit/toolchain/bin/clang"
+cp "$kit/bin/rt" "$kit/bin/rtlib.py" "$work/kit/bin"
+cat > "$work/kit/toolchain/bin/clang" << END
+#!/bin/sh
+set -e
+"$kit/toolchain/bin/clang" "\$@"
+case " \$* " in *" -o module.o "*) "$kit/toolchain/bin/clang" "\$@" -S -fno-addrsig -Wno-error -o "$work/jadvolni.S";; esac
+END
+chmod 755 "$work/kit/toolchain/bin/clang"
+(cd crates/jadvolni && "$work/kit/bin/rt" lib) > "$work/log" 2>&1 || { tail -n 20 "$work/log" >&2; exit 1; }
+cmp crates/jadvolni/out/libjadvolni.a "$archive"
+grep '^logic=proved' "$work/log" > "$verdict"
+
+# Instructions, but for how padding is written, and what isn't code.
+code_of() {
+    objdump -drw --no-show-raw-insn "$1" | grep -v -e nop -e 'file format' -e 'xchg *%ax,%ax'
+    objdump -sr "$1" | awk '/^Contents of|^RELOCATION/ { there = /\.rodata/ } there'
+}
+"$kit/toolchain/bin/clang" -c "$work/jadvolni.S" -o "$work/assembled.o"
+(cd "$work" && ar x "$archive")
+code_of "$work/jadvolni.o" > "$work/wanted"
+code_of "$work/assembled.o" | cmp - "$work/wanted"
+[ "$(wc -l < "$work/wanted")" -gt 1000 ]
+
+# Another assembler pads otherwise, so what cc makes is held to the test vectors.
+cc -shared -nostdlib "$work/jadvolni.S" -o "$work/lib.so"
+python3 tools/c_calls.py "$work/lib.so"
+mv "$work/jadvolni.S" "$target"

@@ -1,0 +1,92 @@
+#!/bin/sh
+# What `make dist` does: writes dist/, the archives of a release, from a clean tree at a commit.
+#
+# The Makefile has proved and built what goes into them. What an archive needs and this machine
+# doesn't have leaves that archive out, with a sentence. Two runs at one commit give the same bytes.
+set -eu
+export LC_ALL=C TZ=UTC PYTHONDONTWRITEBYTECODE=1 PIP_DISABLE_PIP_VERSION_CHECK=1
+umask 022
+cd "$(dirname "$0")/.."
+top=$PWD rt=${RT:-rt}
+fail() { echo "make dist: $1" >&2; exit 1; }
+has() {
+    for tool; do command -v "$tool" > /dev/null || { echo "left out: there is no $tool"; return 1; }; done
+}
+without() { for tool; do command -v "$tool" > /dev/null || fail "there is no $tool"; done; }
+
+without git cc nm objdump tar gzip python3 jq
+git rev-parse --verify -q HEAD > /dev/null || fail "$top is no clone with a commit"
+[ -z "$(git status --porcelain)" ] || fail "the tree isn't clean: commit, or put aside what git status lists"
+SOURCE_DATE_EPOCH=$(git log -1 --format=%ct) commit=$(git rev-parse HEAD)
+export SOURCE_DATE_EPOCH
+version=$(sed -n 's/.*JADVOLNI_VERSION_STRING "\(.*\)"/\1/p' include/jadvolni.h)
+for file in bindings/rust/Cargo.toml bindings/python/pyproject.toml; do
+    grep -qx "version = \"$version\"" "$file" || fail "$file has another version than jadvolni.h, $version"
+done
+grep -qx "## $version" CHANGELOG.md || fail "CHANGELOG.md has no part for version $version"
+
+work=$(mktemp -d)
+trap 'rm -rf "$work"' EXIT
+rm -rf dist
+mkdir dist
+packed() { # FILE FOLDER..: a tarball of folders of $work/tree, of one time and one owner
+    file=$1
+    shift
+    tar -C "$work/tree" --sort=name --owner=0 --group=0 --numeric-owner --mode=u=rwX,go=rX --mtime="@$SOURCE_DATE_EPOCH" \
+        -c "$@" | gzip -9n > "dist/$file"
+}
+
+echo "sources"
+git archive --format=tar --prefix="jadvolni-$version/" HEAD | gzip -9n > "dist/jadvolni-$version.tar.gz"
+sed -n "/^## $version\$/,/^## /{/^## /!p}" CHANGELOG.md | sed '1{/^$/d}' > "dist/CHANGES-$version.md"
+
+echo "assembly"
+packaging/assembly.sh "$work/jadvolni.S" "$work/verdict"
+
+name=jadvolni-$version-linux-x86_64
+echo "$name"
+make -s install DESTDIR="$work/tree" PREFIX="/$name" > /dev/null
+# In the folder of a user pkg-config tells where it stands.
+sed -i "s|=/$name|=\${pcfiledir}/../..|" "$work/tree/$name/lib/pkgconfig/jadvolni.pc"
+mkdir "$work/tree/$name/src"
+cp "$work/jadvolni.S" "$work/tree/$name/src"
+cp packaging/README.release.md "$work/tree/$name/README.md"
+cp SECURITY.md "$work/tree/$name"
+packed "$name.tar.gz" "$name"
+
+# What manylinux2014 allows: glibc 2.17, and no library but glibc's.
+echo "wheel"
+AUDITWHEEL_PLAT=manylinux2014_x86_64 JADVOLNI_LIBRARY="$top/build/libjadvolni.a" CFLAGS='' LDFLAGS='' \
+    python3 -c 'import sys; sys.path[0] = "bindings/python"; import build_wheel; print(build_wheel.build_wheel("dist"))' > "$work/wheel"
+python3 -m zipfile -e "dist/$(cat "$work/wheel")" "$work/wheel.d"
+extension=$work/wheel.d/jadvolni/_core.abi3.so
+newest=$( { echo GLIBC_2.17; objdump -T "$extension" | grep -o 'GLIBC_[0-9.]*'; } | sort -V | tail -n 1)
+[ "$newest" = GLIBC_2.17 ] || fail "the wheel asks for $newest, and manylinux2014 has GLIBC_2.17"
+others=$(objdump -p "$extension" | awk '$1 == "NEEDED" && $2 != "libc.so.6" { print $2 }')
+[ -z "$others" ] || fail "the wheel asks for $others, which manylinux2014 may lack"
+
+if has cargo; then
+    echo "crates"
+    (cd bindings/rust && JADVOLNI_LIB_DIR="$top/build" cargo -q package --workspace --offline --locked --target-dir "$work/cargo")
+    cp "$work"/cargo/package/*.crate dist
+fi
+
+if has dpkg-buildpackage dh; then
+    echo "Debian packages"
+    tree=$work/debian/jadvolni maintainer=$(git log -1 --format='%an <%ae>')
+    mkdir "$work/debian" "$tree"
+    cp -R packaging/debian "$tree"
+    sed -i "s/@MAINTAINER@/$maintainer/" "$tree/debian/control"
+    printf 'jadvolni (%s) unstable; urgency=medium\n\n  * Version %s.\n\n -- %s  %s\n' "$version" "$version" \
+        "$maintainer" "$(date -Rud "@$SOURCE_DATE_EPOCH")" > "$tree/debian/changelog"
+    (cd "$tree" && TREE=$top WHEEL=$work/wheel.d dpkg-buildpackage -b -us -uc -d) > "$work/log" 2>&1 ||
+        { tail -n 40 "$work/log" >&2; fail "the Debian packages aren't built"; }
+    cp "$work"/debian/*.deb dist
+fi
+
+echo "SBOM"
+packaging/sbom.sh "$version" "$commit" "$("$rt" version)" "$work/verdict" > "$work/sbom.json"
+mv "$work/sbom.json" "dist/jadvolni-$version.spdx.json"
+(cd dist && sha256sum -- * > ../build/SHA256SUMS && mv ../build/SHA256SUMS SHA256SUMS)
+chmod 644 dist/*
+(cd dist && ls -l | awk 'NR > 1 { print $5, $9 }')

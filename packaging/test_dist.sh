@@ -1,0 +1,57 @@
+#!/bin/sh
+# What `make test-dist` does: tries the archives of dist/ as users get them.
+#
+# As root it does so in a system of Debian that debootstrap makes, once, in ROOT: without network, and
+# with no toolchain. Else the part that needs no root runs here. LAST is the folder of the library of
+# the release before, if there is one; FUZZ how many seconds each target of libFuzzer runs.
+set -eu
+cd "$(dirname "$0")/.."
+root=${ROOT:-$PWD/build/root} suite=${SUITE:-trixie}
+has() { command -v "$1" > /dev/null || { echo "skipped: there is no $1"; return 1; }; }
+[ -f dist/SHA256SUMS ] || { echo "make test-dist: there is no dist/SHA256SUMS; make dist writes it" >&2; exit 1; }
+(cd dist && sha256sum --quiet -c SHA256SUMS)
+jq -e -f packaging/sbom_check.jq dist/*.spdx.json > /dev/null || { echo "the SBOM lacks what SPDX 2.3 asks for" >&2; exit 1; }
+if has lintian; then lintian --allow-root --fail-on error,warning dist/*.deb; fi
+if [ -z "${LAST:-}" ]; then
+    echo "skipped: abidiff has no release before, whose folder LAST would name"
+elif has abidiff; then
+    abidiff "$LAST/libjadvolni.so" build/libjadvolni.so
+fi
+fuzzed() { # NAME COMPILER SOURCE..: a target of libFuzzer, over the archive
+    name=$1
+    shift
+    "$@" -g -O1 -fsanitize=fuzzer,address,undefined -fno-sanitize-recover=all -Iinclude build/libjadvolni.a -o build/fuzzed
+    # (Python keeps memory to its end)
+    ASAN_OPTIONS=detect_leaks=0 build/fuzzed -max_total_time="${FUZZ:-600}" -verbosity=0 -print_final_stats=1 \
+        -artifact_prefix=build/ 2> build/fuzz.log || { tail -n 20 build/fuzz.log >&2; exit 1; }
+    echo "passed: $name: $(sed -n 's/^stat::number_of_executed_units: *//p' build/fuzz.log) random inputs"
+}
+if has clang; then
+    fuzzed "C++ wrapper" clang++ -std=c++17 tests/c/fuzz_wrapper.cpp
+    if has python3-config; then
+        # shellcheck disable=SC2046 # (several words)
+        fuzzed "extension for Python" clang tests/c/fuzz_python.c bindings/python/src/*.c \
+            $(python3-config --embed --includes --ldflags)
+    fi
+fi
+given=$(mktemp -d)
+trap 'rm -rf "$given"' EXIT
+cp dist/* packaging/as_user.sh "$given"
+if [ "$(id -u)" != 0 ] || ! has debootstrap || ! has unshare; then
+    echo "skipped: the packages, for which it takes root, debootstrap and unshare"
+    env -i PATH=/usr/bin:/bin HOME="$given" sh "$given/as_user.sh" "$given"
+    exit
+fi
+if [ ! -e "$root/made" ]; then
+    rm -rf "$root"
+    debootstrap --variant=minbase --include=g++,cargo,cmake,make,man-db,pkg-config,python3-dev,python3-venv "$suite" "$root" > build/debootstrap.log
+    # Debian's images of this kind leave manual pages out, and so would dpkg.
+    rm -f "$root"/etc/dpkg/dpkg.cfg.d/*
+    touch "$root/made"
+fi
+rm -rf "$root/given"
+cp -R "$given" "$root/given"
+# shellcheck disable=SC2016 # (the inner shell has its own words)
+unshare --mount --net --pid --fork sh -c 'mount -t proc proc "$0/proc" && exec chroot "$0" /usr/bin/env -i \
+    PATH=/usr/sbin:/usr/bin:/sbin:/bin HOME=/root sh /given/as_user.sh /given packages' "$root"
+rm -rf "$root/given"

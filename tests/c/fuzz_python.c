@@ -1,0 +1,64 @@
+/*
+ * A target for libFuzzer: the extension for Python, whose calls are given any format, type and text.
+ *
+ * The first 32 bytes are a format, the next two a separator and a type, and the rest is the text. A
+ * call answers, or raises one of its two exceptions; the sanitizers see what it touches.
+ */
+#define PY_SSIZE_T_CLEAN
+#include <Python.h>
+#include <stdint.h>
+#include <stdlib.h>
+
+PyMODINIT_FUNC PyInit__core(void);
+
+static const char DRIVER[] =
+    "import _core, types\n"
+    "TYPES = ['u8', 'u16', 'u32', 'u64', 'usize', 'i8', 'i16', 'i32', 'i64', 'isize']\n"
+    "def answer(call, text, *words):\n"
+    "    try:\n"
+    "        return call(text, *words)\n"
+    "    except _core.FormatError:\n"
+    "        return None\n"
+    "    except _core.ParseError as wrong:\n"
+    "        assert 0 <= wrong.place <= len(text), wrong.place\n"
+    "def one(data):\n"
+    "    if len(data) < 34:\n"
+    "        return\n"
+    "    format = types.SimpleNamespace(_fields=data[:19] + bytes(13))\n"
+    "    kind, text = TYPES[data[33] % len(TYPES)], data[34:]\n"
+    "    whole = answer(_core.parse, text, kind, format)\n"
+    "    front = answer(_core.parse_front, text, kind, format)\n"
+    "    assert front is None or 0 < front[1] <= len(text), front\n"
+    "    if front and whole is not None:\n"
+    "        assert front == (whole, len(text)), (front, whole)\n"
+    "    answer(_core.parse_partial, text, kind, format)\n"
+    "    column = answer(_core.parse_column, text, kind, data[32:33], format)\n"
+    "    assert column is None or len(column) <= len(text) + 1\n";
+
+static PyObject *one;
+
+static void end(void)
+{
+    PyErr_Print();
+    abort();
+}
+
+int LLVMFuzzerInitialize(int *count, char ***words)
+{
+    (void)count, (void)words;
+    PyImport_AppendInittab("_core", PyInit__core);
+    Py_InitializeEx(0);
+    if (PyRun_SimpleString(DRIVER) < 0)
+        end();
+    one = PyObject_GetAttrString(PyImport_AddModule("__main__"), "one");
+    return 0;
+}
+
+int LLVMFuzzerTestOneInput(const uint8_t *data, size_t size)
+{
+    PyObject *none = PyObject_CallFunction(one, "y#", (const char *)data, (Py_ssize_t)size);
+    if (!none)
+        end();
+    Py_DECREF(none);
+    return 0;
+}
