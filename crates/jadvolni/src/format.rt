@@ -164,7 +164,7 @@ impl FormatFields {
     /// The fields are asked in their order, as four words of eight bytes.
     #[inline(always)]
     #[tactic(auto, using(crate::proofs::ZeroBytes::no_bits))]
-    pub fn differ_in_radix_alone(&self) -> bool
+    pub fn is_standard_but_radix(&self) -> bool
         ensures { IsTrue result ↔ (IsTrue (are_known self.now)
             × (format_of self.now ≡ record standard { mantissa_radix = self.now.mantissa_radix })) }
     {
@@ -177,7 +177,7 @@ impl FormatFields {
         ensures { result ≡ format_of self.now }
     {
         let nul = self.nul_is_punctuation;
-        // Marks come last: in front of the flags they made the call 3 ns slower.
+        // Punctuation comes last: in front of the flags they made the call 3 ns slower.
         NumberFormatBuilder::new()
             .mantissa_radix(self.mantissa_radix)
             .case_sensitive_base_prefix(flag(self.case_sensitive_base_prefix))

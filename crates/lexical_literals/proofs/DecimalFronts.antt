@@ -12,7 +12,7 @@ use Rattle.lexical_util.specs.declared.error.Error.{Error}
 use Rattle.lexical_util.specs.Digit.{digit}
 use Rattle.lexical_util.specs.Format.{Format, standard}
 use Rattle.lexical_util.specs.Number.{IntegerType, integer_type}
-use Rattle.lexical_parse_integer.specs.Affixes.{is_affix, literal_radix, marked_radix, matches, numeral_stop, prefix_radix, suffix_at}
+use Rattle.lexical_parse_integer.specs.Affixes.{is_affix, literal_radix, named_radix, matches, numeral_stop, prefix_radix, suffix_at}
 use Rattle.lexical_parse_integer.specs.Grammar.{first_fault_or, partial, range_fault}
 use Rattle.lexical_parse_integer.specs.Head.{Head, head_of}
 use Rattle.lexical_parse_integer.specs.Numeral.{Numeral, digit_count, numeral_in, numeral_value}
@@ -43,7 +43,7 @@ no_digit_letter false b is = grind (arith, nat_tests)
 
 no_prefix_read : (f : Format) (c : ℕ) (cs : List ℕ) → IsDecimal f → NoLetter f (slice_get cs 0)
     → prefix_radix f (c ∷ cs) 0 ≡ None
-unfolding prefix_radix marked_radix is_affix
+unfolding prefix_radix named_radix is_affix
 no_prefix_read f c cs decimal letter =
     rw (decimal.no_prefix, letter) (by_tests (are_same (Some 48) (Some c)) f.literal_prefixes)
   where

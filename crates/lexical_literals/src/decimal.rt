@@ -29,7 +29,7 @@ pub(crate) fn is_decimal(format: &NumberFormat) -> bool
 // Whether more than digits seems to follow, as the letter of a prefix does, or a separator behind at most three digits:
 // a guess, by which such a number is read once.
 #[inline(always)]
-pub(crate) fn seems_marked(text: &[u8]) -> bool {
+pub(crate) fn seems_punctuated(text: &[u8]) -> bool {
     if text.len() < 4 {
         return text.len() >= 2 && text[1] > b'9';
     }

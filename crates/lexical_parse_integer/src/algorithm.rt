@@ -14,10 +14,10 @@ ghost use Rattle.lexical_parse_integer.specs.Turns.{AsksWords, HasFewTurns};
 mod digits;
 pub(crate) mod front;
 mod head;
-pub(crate) mod marked;
 mod multi;
 mod numeral;
 pub(crate) mod plain;
+pub(crate) mod punctuated;
 mod zeros;
 
 use crate::algorithm::front::{complete_from_front, partial_from_front};
@@ -69,7 +69,7 @@ fn lacks_digits(c: &Cursor<'_>) -> bool
 
 // Whether missing digits are the partial parser's fault: at the text's end, or where separators may stand.
 #[inline(always)]
-fn is_settled(c: &Cursor<'_>) -> bool
+fn reports_empty(c: &Cursor<'_>) -> bool
     ensures { result ≡ (is_some c.now.format.digit_separator
         || (c.now.position == length c.now.bytes)) }
 {
@@ -127,7 +127,7 @@ pub fn algorithm_partial_on<T: Integer>(c: &mut Cursor<'_>, options: &Options) -
 {
     let front = read::<T>(c, options.get_no_multi_digit())?;
     if lacks_digits(c) {
-        if is_settled(c) {
+        if reports_empty(c) {
             return Err(Error::Empty(c.place()));
         }
         return Ok((front, c.place()));

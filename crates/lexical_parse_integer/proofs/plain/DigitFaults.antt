@@ -18,7 +18,7 @@ use Rattle.lexical_digits.proofs.WordsOfDigits.{digits_below, raised_none}
 use Rattle.lexical_parse_integer.specs.Grammar.{complete, range_fault}
 use Rattle.lexical_parse_integer.specs.Head.{sign}
 use Rattle.lexical_parse_integer.specs.Plain.{BeginsWith}
-use Rattle.lexical_parse_integer.proofs.marked.MarkedAnswers.{signed_minus}
+use Rattle.lexical_parse_integer.proofs.punctuated.PunctuatedAnswers.{signed_minus}
 use Rattle.lexical_parse_integer.proofs.grammar.DigitsInARow.{EndsRow, has_digit, row_numeral}
 use Rattle.lexical_parse_integer.proofs.grammar.NumeralEnd.{digit_at_past}
 use Rattle.lexical_parse_integer.proofs.plain.DigitsInFront.{StandsFrom, at_stop, byte_after, from_place, signed_read}

@@ -1,4 +1,4 @@
--- Digits alone at the front of a text, behind an optional minus, under formats without marks.
+-- Digits alone at the front of a text, behind an optional minus, under formats without punctuation.
 use Rattle.std.proofs.Common.{slice_get, ◌≡◌, ℕ, zero, suc, ◌+◌, ◌-◌, ◌<◌, ◌≤◌, Bool, true, false, ◌&&◌, not, List, [], ◌∷◌, length, get_or, map, take, drop, refl, sym, ap, ◌∙◌, subst, arith, Option, Some, None, Ok, Err, Result, ◌*◌, ◌^◌}
 use Rattle.std.specs.Prelude.{◌==◌, nat_le, is_some, slice_index, ℤ, neg_ℤ, if◌then◌else◌, IsNone, slice_range}
 use Rattle.std.specs.Option.{option_and_then, unwrap_or}

@@ -22,7 +22,7 @@ use Rattle.lexical_parse_integer.specs.declared.seek.Found.TheVariants.{Digit, E
 use Rattle.lexical_parse_integer.proofs.Folds.{folded}
 use Rattle.lexical_parse_integer.proofs.grammar.DigitCounts.{digits_between_none}
 use Rattle.lexical_parse_integer.proofs.grammar.NumeralEnd.{IsStop-end_of, finds_here}
-use Rattle.lexical_parse_integer.proofs.marked.MarkedAnswers.{fits_head}
+use Rattle.lexical_parse_integer.proofs.punctuated.PunctuatedAnswers.{fits_head}
 use Rattle.lexical_parse_integer.proofs.reading.DigitLoop.{reads_end, reads_leaves, reads_next}
 use Rattle.lexical_parse_integer.proofs.reading.FirstDigit.{few_no_fault, leading_zeros, no_digit_no_zeros, other_first}
 use Rattle.lexical_parse_integer.proofs.reading.NumeralSteps.{all_found, digit_found, places_count}

@@ -5,11 +5,11 @@ ghost use Rattle.lexical_parse_integer.specs.Answer.{with_place, view_of};
 ghost use Rattle.lexical_parse_integer.specs.Grammar.{complete, complete_if_valid, partial_if_valid};
 
 use crate::algorithm::front::{complete_from_front, partial_from_front};
-use crate::algorithm::marked::validity::fault_of;
-use crate::algorithm::marked::{value_of_groups, value_of_row};
 use crate::algorithm::plain::{
     front_if_plain, is_plain, value_if_plain, value_if_short, value_of_plain,
 };
+use crate::algorithm::punctuated::validity::fault_of;
+use crate::algorithm::punctuated::{value_of_groups, value_of_row};
 use crate::algorithm::{standard_complete, standard_partial};
 use crate::api::{FromLexical, FromLexicalWithOptions};
 use crate::options::Options;
@@ -27,7 +27,7 @@ struct Call<'a> {
 
 // The complete answer for a text that the quick ways leave.
 #[inline(always)]
-fn complete_otherwise<T: Integer>(call: &Call<'_>) -> Result<T>
+fn general_complete<T: Integer>(call: &Call<'_>) -> Result<T>
     ensures { view_of T.number result
         ≡ complete_if_valid call.now.format.now T.TYPE call.now.bytes.now }
 {
@@ -44,16 +44,16 @@ fn complete<T: Integer>(bytes: &[u8], format: &NumberFormat) -> Result<T>
         return Ok(value);
     }
     let call = Call { bytes, format };
-    match value_by_kind::<T>(bytes, format) {
+    match value_for_format::<T>(bytes, format) {
         Some(value) => Ok(value),
-        None => complete_otherwise::<T>(&call),
+        None => general_complete::<T>(&call),
     }
 }
 
 // The value of the whole text, by the reader for its format, where `value_if_short` has left it. Why each answers in
 // registers: docs/DECISIONS.md, code.
 #[inline(always)]
-fn value_by_kind<T: Integer>(bytes: &[u8], format: &NumberFormat) -> Option<T>
+fn value_for_format<T: Integer>(bytes: &[u8], format: &NumberFormat) -> Option<T>
     ensures valid { IfSome result (λ value. IsNone (fault format.now)) }
     ensures answer { IfSome result
         (λ value. complete format.now T.TYPE bytes.now ≡ Ok (T.number value)) }

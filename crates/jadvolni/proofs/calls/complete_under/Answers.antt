@@ -16,6 +16,6 @@ returns-in-Some g c =
     let number = g.T.Integer.number c.in-Some.number in
     let known = sym c.are_known.ensures ∙ c.if-are_known.true in
     let sure = if_sure (fault format) (complete format type text) (Ok number) c.in-Some.ensures.valid c.in-Some.ensures.answer in
-    c.give.ensures
+    c.store.ensures
     ∙ ap (complete_effect (length text) before) (sure ∙ ap (λ f. complete_if_valid f type text) c.format.ensures)
     ∙ if_all_known fields before (complete_effect (length text) before (complete_if_valid (format_of fields) type text)) known
