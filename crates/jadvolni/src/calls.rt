@@ -20,7 +20,7 @@ use lexical_util::num::Integer;
 
 // Hands over a complete answer of a text of so many bytes.
 #[inline(always)]
-fn give<T: Integer, S: Slot<T>>(answer: Result<T>, size: usize, value: &mut S) -> Outcome
+fn store<T: Integer, S: Slot<T>>(answer: Result<T>, size: usize, value: &mut S) -> Outcome
     ensures { effect result (S.number value.new)
         ≡ complete_effect size (S.number value.old) (view_of T.number answer) }
 {
@@ -57,7 +57,7 @@ fn complete_any<T: FromLexical, S: Slot<T>>(text: &[u8], value: &mut S) -> Outco
     ensures { effect result (S.number value.new)
         ≡ complete_call T.TYPE text.now (S.number value.old) }
 {
-    give(complete_if_not_short::<T>(text), text.len(), value)
+    store(complete_if_not_short::<T>(text), text.len(), value)
 }
 
 /// The whole text, under the standard format. A short one is read in place, so that an exported call keeps nothing.
@@ -67,7 +67,7 @@ pub fn complete<T: FromLexical, S: Slot<T>>(text: &[u8], value: &mut S) -> Outco
         ≡ complete_call T.TYPE text.now (S.number value.old) }
 {
     match value_if_short::<T>(text, &format::STANDARD) {
-        Some(number) => give(Ok(number), text.len(), value),
+        Some(number) => store(Ok(number), text.len(), value),
         None => complete_any::<T, S>(text, value),
     }
 }
@@ -101,7 +101,7 @@ fn complete_under_any<T: FromLexicalWithOptions<Options = Options>, S: Slot<T>>(
         return UNKNOWN;
     }
     let answer = T::from_lexical_with_options(text, &fields.format(), &options::STANDARD);
-    give(answer, text.len(), value)
+    store(answer, text.len(), value)
 }
 
 // The whole text, under a format that is standard but for its radix.
@@ -122,7 +122,7 @@ fn complete_in_radix<T: FromLexicalWithOptions<Options = Options>, S: Slot<T>>(
     }
     let format = NumberFormatBuilder::from_radix(fields.mantissa_radix);
     let answer = T::from_lexical_with_options(text, &format, &options::STANDARD);
-    give(answer, text.len(), value)
+    store(answer, text.len(), value)
 }
 
 /// The whole text, under a format that may be invalid. A short one is read in place where the format is decimal and has
@@ -138,10 +138,10 @@ pub fn complete_under<T: FromLexicalWithOptions<Options = Options>, S: Slot<T>>(
 {
     if fields.mantissa_radix == 10 && fields.are_known() {
         if let Some(number) = value_if_short::<T>(text, &fields.format()) {
-            return give(Ok(number), text.len(), value);
+            return store(Ok(number), text.len(), value);
         }
     }
-    if fields.differ_in_radix_alone() {
+    if fields.is_standard_but_radix() {
         return complete_in_radix::<T, S>(text, fields, value);
     }
     complete_under_any::<T, S>(text, fields, value)
@@ -179,7 +179,7 @@ pub fn partial_under<T: FromLexicalWithOptions<Options = Options>, S: Slot<T>>(
             return give_front(Ok(found), value);
         }
     }
-    if !fields.differ_in_radix_alone() {
+    if !fields.is_standard_but_radix() {
         return partial_under_any::<T, S>(text, fields, value);
     }
     let format = NumberFormatBuilder::from_radix(fields.mantissa_radix);
