@@ -42,7 +42,6 @@ devices: $(PROGRAM) ## runs the program over devices that refuse; a part of the 
 
 answers: $(PROGRAM) ## has the program answer every test vector and every stored input; a part of the gate
 	@tools/run_rows.py $(PROGRAM)
-	@tools/run_lines.py $(PROGRAM)
 
 install: install-programs install-lib ## puts the programs and the library where users look: PREFIX, DESTDIR
 

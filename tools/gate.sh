@@ -94,7 +94,6 @@ part vendor vendor
 part proofs proofs 3>&1
 part devices python3 tools/devices.py
 part answers python3 tools/run_rows.py
-part lines python3 tools/run_lines.py
 part shells tests/shell_snippet.sh crates/lexint/out/lexint
 part jad tests/jad.sh crates/jad/out/jad
 part libraries told libraries

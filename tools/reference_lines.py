@@ -14,7 +14,7 @@ from dataclasses import replace
 from typing import Iterator, List, NamedTuple, Optional, Tuple
 
 import row_data
-import run_lines
+import run_rows
 from reference import (BYTE_FIELDS, FLAG_FIELDS, JSON, STANDARD, TYPES, WORTH, Answer, Fault,
                        Format, Value, format_fault, parse)
 
@@ -182,7 +182,7 @@ def judged_rows() -> Iterator[Judged]:
 
 def judged_runs() -> Iterator[Judged]:
     """The runs of tools/lines.txt, as their input, the output here and the output there."""
-    runs = [run for run in run_lines.read_runs(run_lines.DATA) if len(run.input) <= LONGEST]
+    runs = [run for run in run_rows.read_runs() if len(run.input) <= LONGEST]
     return ((run.input, output_of(run.input), run.output.decode("latin-1")) for run in runs)
 
 

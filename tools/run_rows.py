@@ -1,23 +1,74 @@
 #!/usr/bin/env python3
-"""Has the built program answer the test vectors of tools/rows.txt and tools/languages.txt.
+"""Has the built program answer the test vectors, and whole inputs.
 
     tools/run_rows.py [PROGRAM..]
 
 With no PROGRAM it takes what a gate has built, crates/lexint/out/lexint and lexint.by-rattle. Each
-row is asked with `no_multi_digit` off and on. A row of a language is asked under its fields, and a
-format that breaks no rule has to read -0, as every valid format does. It prints each answer that
-isn't the row's, and last how many rows there were; where one is wrong, the status is 1.
+row of tools/rows.txt and tools/languages.txt is asked with `no_multi_digit` off and on. A row of a
+language is asked under its fields, and a format that breaks no rule has to read -0, as every valid
+format does. Each input of tools/lines.txt is a run of its own. It prints each answer that isn't as
+the data have it, and last how many there were; where one is wrong, the status is 1.
 """
 from __future__ import annotations
 
 import os
+import re
 import subprocess
 import sys
-from typing import Dict, Iterator, List, Tuple
+from typing import Dict, Iterator, List, NamedTuple, Tuple
 
-from row_data import BUILT, BYTES, DATA, LANGUAGES, Fields, Group, Row, groups_of
+from row_data import BUILT, BYTES, DATA, LANGUAGES, TOP, Fields, Group, Row, groups_of, read_text
 
 SECONDS = 60
+WHOLE_INPUTS = os.path.join(TOP, "tools", "lines.txt")
+
+PIECE = r'"(?:[^"\\]|\\.)*"(?:\*\d+)?'
+TEXT = rf"{PIECE}(?: {PIECE})*"
+INPUT = re.compile(rf"(  )?({TEXT}) +\| ({TEXT})")
+HEADING = re.compile(r"== (\w+)")
+
+
+class Run(NamedTuple):
+    """An input and what has to be written for it, and the line of the data where both begin."""
+
+    group: str
+    line: int
+    input: bytes
+    output: bytes
+
+
+def read_runs() -> List[Run]:
+    """The runs over whole inputs."""
+    group, runs = "", list[Run]()
+    with open(WHOLE_INPUTS, encoding="ascii") as data:
+        for number, line in enumerate(data, 1):
+            heading, row = HEADING.fullmatch(line.rstrip("\n")), INPUT.fullmatch(line.rstrip("\n"))
+            if heading:
+                group = heading[1]
+            elif row and row[1] and runs:
+                above = runs.pop()
+                runs.append(above._replace(input=above.input + read_text(row[2]),
+                                           output=above.output + read_text(row[3])))
+            elif row and not row[1]:
+                runs.append(Run(group, number, read_text(row[2]), read_text(row[3])))
+            elif line.strip() and not line.startswith("#"):
+                sys.exit(f"{WHOLE_INPUTS}:{number}: no row: {line.rstrip()}")
+    return runs
+
+
+def output_of(program: str, given: bytes) -> bytes:
+    """What the program writes for an input."""
+    ran = subprocess.run([program], input=given, stdout=subprocess.PIPE, timeout=SECONDS)
+    if ran.returncode:
+        sys.exit(f"{program} ended with status {ran.returncode}")
+    return ran.stdout
+
+
+def wrong_outputs(program: str, runs: List[Run]) -> List[str]:
+    """What the program writes otherwise than the data have it."""
+    written = [(run, output_of(program, run.input)) for run in runs]
+    return [f"{program}: line {run.line}, {run.group}: {output[:80]!r}, and not {run.output[:80]!r}"
+            for run, output in written if output != run.output]
 
 
 def ready_formats(groups: List[Group]) -> Dict[str, Fields]:
@@ -57,19 +108,10 @@ def lines_of(row: Row, ready: Dict[str, Fields]) -> Iterator[Tuple[bytes, bytes]
     yield from (question, (b"f no_multi_digit true", b"ok"), question)
 
 
-def answers_of(program: str, lines: List[bytes]) -> List[bytes]:
-    """What the program answers to these lines."""
-    source = b"\n".join(lines)
-    ran = subprocess.run([program], input=source, stdout=subprocess.PIPE, timeout=SECONDS)
-    if ran.returncode:
-        sys.exit(f"{program} ended with status {ran.returncode}")
-    return ran.stdout.split(b"\n")[:-1]
-
-
 def wrong_answers(program: str, rows: List[Row], ready: Dict[str, Fields]) -> List[str]:
     """What the program answers otherwise than the rows do."""
     asked = [(row, line, told) for row in rows for line, told in lines_of(row, ready)]
-    answers = answers_of(program, [line for _, line, _ in asked])
+    answers = output_of(program, b"\n".join(line for _, line, _ in asked)).split(b"\n")[:-1]
     if len(answers) != len(asked):
         return [f"{program}: {len(answers)} answers to {len(asked)} lines"]
     return [f"{program}: {row.format}: {line[:80]!r}: {answer!r}, and not {told!r}"
@@ -81,9 +123,11 @@ def main(programs: List[str]) -> int:
     groups = groups_of(DATA, LANGUAGES)
     rows = [row for group in groups for row in group.rows]
     ready = ready_formats(groups)
-    wrong = [said for program in programs for said in wrong_answers(program, rows, ready)]
-    print(*wrong, f"{len(rows)} rows asked of {len(programs)} programs, {len(wrong)} wrong answers",
-          sep="\n")
+    runs = read_runs()
+    wrong = [said for program in programs
+             for said in [*wrong_answers(program, rows, ready), *wrong_outputs(program, runs)]]
+    print(*wrong, f"{len(rows)} rows and {len(runs)} whole inputs of {len(programs)} programs, "
+          f"{len(wrong)} wrong answers", sep="\n")
     return 1 if wrong else 0
 
 
