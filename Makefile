@@ -87,8 +87,9 @@ check-docs: ## checks these, and every link, file name and word count; a part of
 must-not-compile: | toolchain ## checks that wrong programs over the libraries are refused; a part of the gate
 	@RT=$(RT) tools/must_not_compile.py
 
-check-languages: $(PROGRAM) ## compares the formats of languages with the compilers and interpreters that are there
+check-languages: $(PROGRAM) build/libjadvolni.so ## compares the formats of languages with the compilers and interpreters that are there
 	@python3 tools/check_languages.py $(LANGUAGES)
+	@$(if $(LANGUAGES),,python3 tools/check_literals.py)
 
 # What the fuzz run asks for: the seed that a run before has printed, and how many lines.
 SEED ?=

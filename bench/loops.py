@@ -47,7 +47,7 @@ pub struct Fields {
     pub literal_prefixes: bool,
 }
 
-fn mark(byte: u8) -> Option<u8> {
+fn punctuation(byte: u8) -> Option<u8> {
     if byte == 0 { None } else { Some(byte) }
 }
 
@@ -55,10 +55,10 @@ fn mark(byte: u8) -> Option<u8> {
 fn format(fields: &Fields) -> NumberFormat {
     NumberFormatBuilder::new()
         .mantissa_radix(fields.mantissa_radix)
-        .digit_separator(mark(fields.digit_separator))
+        .digit_separator(punctuation(fields.digit_separator))
         .integer_internal_digit_separator(fields.digit_separator != 0)
         .integer_consecutive_digit_separator(fields.consecutive)
-        .base_prefix(mark(fields.base_prefix))
+        .base_prefix(punctuation(fields.base_prefix))
         .no_positive_mantissa_sign(fields.json)
         .no_integer_leading_zeros(fields.json)
         .required_integer_digits(fields.json)

@@ -32,12 +32,14 @@
  *
  *     jadvolni_parse_u64_column(text, len, separator, &format, values, capacity, &count)
  *
+ * And jadvolni_parse_literal reads a literal with its suffix, as "0xFFull" or "1_000i64".
+ *
  * WHAT A CALL ANSWERS
  *
  *     r.status  JADVOLNI_OK, or what is wrong with the text or with the format.
  *     r.place   At JADVOLNI_OK how many bytes were read. At a fault of the text the place of the
- *               byte that it is about, where the first byte of the text has place 0; it may be
- *               `len`, where something is missing at the end. At a fault of the format 0.
+ *               offending byte, where the first byte of the text has place 0; it may be `len`,
+ *               where something is missing at the end. At a fault of the format 0.
  *     *value    The number at JADVOLNI_OK. At every other status it is as it was before the call.
  *
  * WHAT THE CALLER HAS TO KEEP
@@ -241,7 +243,7 @@ typedef struct jadvolni_format {
     uint8_t integer_consecutive_digit_separator;
 
     /* Flag: separators may come directly after a prefix, as in "0x_1F", as if they might come
-     * before all digits there. Elsewhere it changes nothing. */
+     * before all digits there. No effect without a prefix. */
     uint8_t integer_prefix_digit_separator;
 
     /* Flag: "0x", "0o" and "0b" choose the radix 16, 8 or 2 for the digits after them; so do "0X",
@@ -468,6 +470,33 @@ JADVOLNI_CALLS_(isize, ptrdiff_t);
         jadvolni_int128 *: jadvolni_parse_i128)(text, len, value)
 #endif
 
+/* ---- literals ---- */
+
+/*
+ * The integer literal that a text begins with, under the format of its language, and its suffix:
+ *
+ *     jadvolni_format rust = JADVOLNI_FORMAT_RUST;
+ *     jadvolni_uint128 value;
+ *     size_t suffix;
+ *     jadvolni_result r = jadvolni_parse_literal("1_000i64;", 9, &rust, &value, &suffix);
+ *
+ * gives 1000, JADVOLNI_OK at 8, and 5 as the place at which its suffix, "i64", begins. The suffix is
+ * all ASCII letters, digits 0 to 9 and "_" behind the number, and it is empty where `suffix` and
+ * `r.place` are one. A letter that is a digit of the number is none of it: "0xFFu" has the suffix
+ * "u", and "0xFFf" none.
+ *
+ * WHICH SUFFIXES A LANGUAGE HAS IS FOR THE CALLER TO ASK; docs/FORMATS.md lists them. "1e5" is 1 with
+ * the suffix "e5", and "0b102" is 2 with the suffix "2". What follows a literal is too: in "1.5" a
+ * point stands behind the 1.
+ *
+ * The number is that of jadvolni_parse_u128_front_with_format, and so are the faults. At a fault
+ * `*value` and `*suffix` are as they were. `suffix` is not NULL, and neither it nor `value` lies in the
+ * text, in the format or in the other.
+ */
+jadvolni_result jadvolni_parse_literal(const char *text, size_t len, const jadvolni_format *format,
+                                       jadvolni_uint128 *value, size_t *suffix)
+    JADVOLNI_CHECKED_(3, 4, 5) JADVOLNI_TEXT_ JADVOLNI_WRITES_(4) JADVOLNI_WRITES_(5);
+
 /* ---- columns ---- */
 
 /*
@@ -492,7 +521,7 @@ JADVOLNI_CALLS_(isize, ptrdiff_t);
  *     count     How many numbers were read. At a fault of a field that is the field's index, counted
  *               from 0. It is written by every call.
  *     values    The numbers, in order. From `values[count]` on the array is as it was, also after a
- *               fault, and the numbers before the fault stand.
+ *               fault; the numbers before it stay valid.
  *
  * So "12,7,x" with the separator ',' gives 12 and 7, count 2, and JADVOLNI_INVALID_DIGIT at 5. With
  * room for one it gives 12, count 1, and JADVOLNI_OK at 3: what has no room isn't looked at.

@@ -5,6 +5,8 @@
 //     else
 //         std::cerr << port.message() << " at byte " << port.place() << '\n';
 //
+//     auto literal = jadvolni::parse_literal("0xFFull;", jadvolni::formats::c); // 255 and "ull"
+//
 //     auto [ptr, ec] = jadvolni::from_chars(first, last, value); // as std::from_chars
 //
 //     std::vector<int> values(1000);
@@ -122,6 +124,9 @@ public:
         assert(has_value());
         return number_;
     }
+
+    // A part of it.
+    const T *operator->() const noexcept { return &**this; }
 
     // The number, or the other one where there is none.
     T value_or(T other) const noexcept { return has_value() ? number_ : other; }
@@ -283,6 +288,25 @@ template <class T>
     return detail::called<T>(detail::calls_as<T>::partial_under, text, &under);
 }
 
+// The number of a literal, and its suffix, which is a part of the text.
+struct literal_parts {
+    jadvolni_uint128 value;
+    std::string_view suffix;
+};
+
+// The literal that the text begins with, under the format of its language: "0xFFull" has the suffix
+// "ull". Its place() is behind the suffix. docs/FORMATS.md has the suffixes of each language.
+[[nodiscard]] inline result<literal_parts> parse_literal(std::string_view text,
+                                                         const format &under) noexcept
+{
+    literal_parts parts{};
+    std::size_t suffix = 0;
+    auto answer = jadvolni_parse_literal(text.data(), text.size(), &under, &parts.value, &suffix);
+    if (answer.status == JADVOLNI_OK)
+        parts.suffix = std::string_view(text.data() + suffix, answer.place - suffix);
+    return {parts, answer};
+}
+
 // What was read of a column: a count of numbers, and where reading stopped or what is wrong there.
 class column_result {
 public:
@@ -313,7 +337,7 @@ private:
 
 // The numbers of the text's fields between a separator, which may be any byte, read into an array, as
 // far as it has room. The numbers before a fault stand, and the rest of the array is as it was.
-// Of a file that is read in blocks hand over whole lines, as jadvolni.h shows.
+// Of a file that is read in blocks hand each to parse_column_part.
 template <class T>
 [[nodiscard]] column_result parse_column(std::string_view text, char separator, T *values,
                                    std::size_t capacity, const format &under = standard) noexcept
@@ -334,6 +358,28 @@ template <class Values>
     -> decltype(parse_column(text, separator, std::data(values), std::size(values), under))
 {
     return parse_column(text, separator, std::data(values), std::size(values), under);
+}
+
+// The column of a part of a text, as a block of a file: of its whole fields, and of all of it where it
+// is the last part. Put the bytes from place() on in front of the next part: read so, all parts have
+// the numbers of the whole text. Where the array is full, go on at place() as ever.
+template <class T>
+[[nodiscard]] column_result parse_column_part(std::string_view text, bool is_last, char separator,
+                                              T *values, std::size_t capacity,
+                                              const format &under = standard) noexcept
+{
+    auto whole = is_last ? text.size()
+                         : jadvolni_field_start(text.data(), text.size(),
+                                                static_cast<unsigned char>(separator));
+    return parse_column(text.substr(0, whole), separator, values, capacity, under);
+}
+
+template <class Values>
+[[nodiscard]] auto parse_column_part(std::string_view text, bool is_last, char separator,
+                                     Values &&values, const format &under = standard) noexcept
+    -> decltype(parse_column(text, separator, std::data(values), std::size(values), under))
+{
+    return parse_column_part(text, is_last, separator, std::data(values), std::size(values), under);
 }
 
 namespace detail {

@@ -11,10 +11,11 @@ import ctypes
 import os
 import re
 import sys
+from dataclasses import replace
 from typing import Callable, Iterator, NamedTuple, Optional
 
 import row_data
-from reference import BYTE_FIELDS, FLAG_FIELDS, TYPES, Fault, Format, Value
+from reference import BYTE_FIELDS, FLAG_FIELDS, STANDARD, TYPES, Fault, Format, Value
 from reference_lines import form_of
 
 TOP = row_data.TOP
@@ -90,6 +91,11 @@ def c_format(form: Format, flag: int = 1) -> CFormat:
     for name in FLAG_FIELDS:
         setattr(made, name, flag if getattr(form, name) else 0)
     return made
+
+
+def format_of(group: row_data.Group) -> CFormat:
+    """The format of a language."""
+    return c_format(replace(STANDARD, **dict(group.fields or ())))
 
 
 class Library:

@@ -43,7 +43,8 @@ STRUCTS = {"result": "Outcome", "format": "FormatFields", "uint128": "Unsigned12
 OF_RUST = {"uint8_t": "u8", "uint32_t": "u32", "uint64_t": "u64", "int64_t": "i64",
            "size_t": "usize"}
 COLUMN_TYPES = [f"{sign}{size}" for sign in "ui" for size in (8, 16, 32, 64)]
-CALLS = sorted(["jadvolni_version", "jadvolni_format_error", "jadvolni_field_start"]
+CALLS = sorted(["jadvolni_version", "jadvolni_format_error", "jadvolni_field_start",
+                "jadvolni_parse_literal"]
                + [f"jadvolni_parse_{name}{form}" for name, form in product(TYPES, FORMS)]
                + [f"jadvolni_parse_{name}_column" for name in COLUMN_TYPES])
 
@@ -162,10 +163,9 @@ def messages(place: Place) -> str:
 
 def calls(place: Place) -> Iterator[Step]:
     """Each caller, by each of its compilers, with both libraries and under sanitizers."""
-    c_callers = ("tests/c/calls.c", "tests/c/columns.c")
-    for compiler, caller in product(C_COMPILERS, c_callers):
-        name = f"{os.path.basename(caller)}, {compiler}"
-        step = partial(call, place, caller, compiler)
+    c_callers = ("calls.c", "columns.c", "random_columns.c")
+    for compiler, name in product(C_COMPILERS, c_callers):
+        step, name = partial(call, place, f"tests/c/{name}", compiler), f"{name}, {compiler}"
         yield f"C99, {name}", partial(step, ["-std=c99", *OPTIMISED])
         yield f"C11 and the shared library, {name}", partial(step, ["-std=c11", *OPTIMISED], True)
         yield f"C99 under sanitizers, {name}", partial(step, ["-std=c99", *SANITIZED])

@@ -16,7 +16,6 @@ from __future__ import annotations
 
 import argparse
 import collections
-import os
 import random
 import re
 import subprocess
@@ -26,9 +25,8 @@ from dataclasses import dataclass
 import formats_page
 import language_judges as judges
 from language_judges import Answers, Judge, c_compiler, postgres
-from row_data import LANGUAGES, TOP, Group, groups_of
-
-PROGRAM = os.path.join(TOP, "crates", "lexint", "out", "lexint")
+from row_data import BUILT, LANGUAGES, Group, groups_of
+from run_rows import field_line
 
 
 # ---- the languages
@@ -136,21 +134,14 @@ def literals(rng: random.Random, language: Language, count: int) -> list[str]:
 def ours(group: Group, texts: list[str], is_signed: bool) -> Answers:
     """What the program answers under the fields of a language."""
     fields = group.fields or ()
-    lines = [f"f {name} {program_value(name, value)}" for name, value in fields]
+    lines = [field_line(*field).decode() for field in fields]
     lines += [f"c {'i' if is_signed else 'u'}128 {text}" for text in texts]
     source = "\n".join(lines) + "\n"
-    ran = subprocess.run([PROGRAM], input=source, capture_output=True, text=True, check=True)
+    ran = subprocess.run(BUILT[:1], input=source, capture_output=True, text=True, check=True)
     answers = ran.stdout.split("\n")[:-1]
     if answers[:len(fields)] != ["ok"] * len(fields):
         sys.exit(f"{group.name}: the program refuses a field")
     return {text: number_of(answer) for text, answer in zip(texts, answers[len(fields):])}
-
-
-def program_value(name: str, value: int) -> str:
-    """The value of a field as an `f` line has it."""
-    if isinstance(value, bool):
-        return str(value).lower()
-    return str(value) if name == "mantissa_radix" else chr(value)
 
 
 def number_of(answer: str) -> int | None:

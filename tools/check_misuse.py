@@ -11,16 +11,14 @@ from typing import Dict, Iterator
 
 from callers import OPTIMISED, Failed, Place, Step, needs, source
 
-SHORT_TEXT, SHORT_COLUMN, UNUSED, NULL_VALUE, NULL_FORMAT, NULL_COUNT = range(1, 7)
-SHORT_ARRAY, NARROW_VALUE, NULL_TEXT, SHORT_START, UNUSED_START, UNUSED_ERROR = range(7, 13)
-SHORT = (SHORT_TEXT, SHORT_COLUMN, SHORT_START)
-# The warnings, by the words after -W. Room in arrays of numbers is checked by gcc alone.
-OF_BOTH = {**dict.fromkeys((UNUSED, UNUSED_START, UNUSED_ERROR), "unused-result"),
-           **dict.fromkeys((NULL_VALUE, NULL_FORMAT, NULL_COUNT), "nonnull")}
+# The warnings by the number of the misuse, in the words after -W. Room in arrays of numbers is
+# checked by gcc alone.
+OF_BOTH = {**dict.fromkeys((3, 11, 12, 13), "unused-result"),
+           **dict.fromkeys((4, 5, 6, 14), "nonnull")}
 WARNINGS: Dict[str, Dict[int, str]] = {
-    "gcc": {**OF_BOTH, **dict.fromkeys(SHORT, "stringop-overread"), NULL_TEXT: "nonnull",
-            SHORT_ARRAY: "stringop-overflow", NARROW_VALUE: "stringop-overflow"},
-    "clang": {**OF_BOTH, **dict.fromkeys(SHORT, "user-defined-warnings")},
+    "gcc": {**OF_BOTH, **dict.fromkeys((1, 2, 10, 15), "stringop-overread"), 9: "nonnull",
+            7: "stringop-overflow", 8: "stringop-overflow"},
+    "clang": {**OF_BOTH, **dict.fromkeys((1, 2, 10, 15), "user-defined-warnings")},
 }
 
 

@@ -133,10 +133,10 @@ def code_words(top: str, names: list[str]) -> set[str]:
     """The words of the code, but for those of comments."""
     found: set[str] = set()
     for name in names:
-        mark = CODE_COMMENTS.get(posixpath.splitext(name)[1])
-        if mark and name.startswith(CODE_FOLDERS):
+        comment = CODE_COMMENTS.get(posixpath.splitext(name)[1])
+        if comment and name.startswith(CODE_FOLDERS):
             with open(os.path.join(top, name), encoding="utf-8") as file:
-                found.update(re.findall(r"\w+", re.sub(f"{mark}.*", "", file.read())))
+                found.update(re.findall(r"\w+", re.sub(f"{comment}.*", "", file.read())))
     return found
 
 

@@ -11,7 +11,7 @@ VISIBLE = re.compile(r"\bpub\s+(?:(?:const|unsafe|extern\s+\"C\")\s+)*\Z")
 HEADER = re.compile(
     r"(?m)^[ \t]*((?:pub(?:\([a-z]+\))?\s+)?(?:unsafe\s+)?(?:impl|trait)\b[^{};]*)\{")
 # Of these crates the page has what others hand on: their other calls are the libraries' own.
-INNER = ("lexical_digits",)
+INNER = ("lexical_digits", "answer_lines", "uses")
 GHOST = re.compile(
     r"(?m)^    ((?:ghost (?!use\b)|const |type )[^{;]*(?:\{[^{}]*(?:\{[^{}]*\}[^{}]*)*\})?);")
 

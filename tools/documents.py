@@ -1,14 +1,14 @@
 #!/usr/bin/env python3
 """Writes the documents that are made from the source, or says where they aren't as written.
 
-    tools/documents.py           writes docs/CONTRACTS.md, docs/FORMATS.md, the marked code blocks
+    tools/documents.py           writes docs/CONTRACTS.md, docs/FORMATS.md, the named code blocks
                                  of other documents, the lists of fields and statuses, and the
                                  formats of languages in C, C++, Rust and Python
     tools/documents.py --check   writes nothing, and ends with status 1 where one of them isn't as
                                  it would write it, or where check_pages.py finds something wrong
     tools/documents.py --words   prints how many words of each page were written by hand
 
-A block is marked in a document by the line before it, which names a source file and what is taken
+A block is named in a document by the line before it, which names a source file and what is taken
 of it:
 
     <!-- block: crates/uses/src/ledger.rt: Entry::of, total -->
@@ -30,7 +30,6 @@ import sys
 
 import check_pages
 import contracts_page
-import field_lists
 import formats_page
 import ready_formats
 import source
@@ -140,7 +139,7 @@ def block_text(top: str, file: str, what: str) -> str:
 
 
 def with_blocks(top: str, path: str, faults: list[str]) -> str:
-    """A document with its marked blocks as the source has them."""
+    """A document with its named blocks as the source has them."""
     def fill(marker: re.Match[str]) -> str:
         try:
             code = block_text(top, marker["file"], marker["what"].strip())
@@ -191,7 +190,7 @@ def old_ones(top: str, found: dict[str, str]) -> list[str]:
 
 def checked(found: dict[str, str], faults: list[str]) -> str:
     """Adds what is wrong with the documents, and says in a line what was looked at."""
-    old = old_ones(TOP, {**found, **ready_formats.files(TOP, field_lists.files(TOP))})
+    old = old_ones(TOP, ready_formats.files(TOP, found))
     faults += [f"{path}: it isn't as the source has it: make docs writes it anew" for path in old]
     files = files_of(TOP)
     sources = [source.read(os.path.join(TOP, it)) for it in files if it.endswith(".rt")]
@@ -203,7 +202,7 @@ def checked(found: dict[str, str], faults: list[str]) -> str:
 
 def written(found: dict[str, str]) -> str:
     """Writes what is old, and says how many documents that were."""
-    wanted = {**found, **ready_formats.files(TOP, field_lists.files(TOP))}
+    wanted = ready_formats.files(TOP, found)
     old = old_ones(TOP, wanted)
     for path in old:
         with open(os.path.join(TOP, path), "w", encoding="utf-8") as file:

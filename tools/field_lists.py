@@ -9,6 +9,8 @@ import re
 import textwrap
 from typing import Callable, NamedTuple
 
+import source
+
 LIST = os.path.join("tools", "fields.txt")
 STATUSES = os.path.join("bindings", "errors.txt")
 # The fields of the standard format that aren't 0.
@@ -17,12 +19,13 @@ FORMAT_OF_PYTHON = "bindings/python/src/jadvolni/_format.py"
 
 
 class Field(NamedTuple):
-    """A field: its name, its kind, what it means, and of a mark its bit."""
+    """A field: its name, kind and meaning, the bit of punctuation, and its word in test vectors."""
 
     name: str
     kind: str
     about: str
-    bit: int
+    bit: int = 0
+    word: str = ""
 
 
 class Region(NamedTuple):
@@ -34,23 +37,24 @@ class Region(NamedTuple):
     written: Callable[[list[Field]], str]
 
 
+def rows_of(top: str, path: str, between: str) -> list[list[str]]:
+    """The lines of a list but its comments, each in parts."""
+    lines = source.read(os.path.join(top, path)).splitlines()
+    return [line.split(between) for line in lines if not line.startswith("#")]
+
+
 def fields_of(top: str) -> list[Field]:
     """The fields in their order."""
-    found: list[Field] = []
-    with open(os.path.join(top, LIST), encoding="utf-8") as file:
-        rows = [line.strip().split(" | ") for line in file if not line.startswith("#")]
-    marks = 0
-    for name, kind, about in rows:
-        found.append(Field(name, kind, about, 1 << marks if kind == "mark" else 0))
-        marks += kind == "mark"
+    found, bit = [], 1
+    for name, kind, word, about in rows_of(top, LIST, " | "):
+        found.append(Field(name, kind, about, bit if kind == "punctuation" else 0, word))
+        bit <<= kind == "punctuation"
     return found
 
 
 def statuses_of(top: str) -> list[Field]:
     """The statuses in their order, each with its text."""
-    with open(os.path.join(top, STATUSES), encoding="utf-8") as file:
-        rows = [line.strip().split(": ", 1) for line in file if not line.startswith("#")]
-    return [Field(name, "status", text, 0) for name, text in rows]
+    return [Field(name, "status", text) for name, text in rows_of(top, STATUSES, ": ")]
 
 
 def quoted(text: str, most: int, between: str) -> str:
@@ -85,6 +89,12 @@ def in_display(statuses: list[Field]) -> str:
     return "".join(lines)
 
 
+def wrapped(text: str, first: str, more: str) -> str:
+    """A text in lines, with what the first and each further line begins with."""
+    return textwrap.fill(text, 100, initial_indent=first, subsequent_indent=more,
+                         break_on_hyphens=False)
+
+
 def in_c(fields: list[Field]) -> str:
     """The struct of the header."""
     lines = []
@@ -92,8 +102,7 @@ def in_c(fields: list[Field]) -> str:
         about = field.about
         if field.kind == "flag":
             about = f"Flag: {about[0].lower()}{about[1:]}"
-        lines.append(textwrap.fill(about + " */", 100, initial_indent="    /* ",
-                                   subsequent_indent="     * ", break_on_hyphens=False))
+        lines.append(wrapped(about + " */", "    /* ", "     * "))
         lines.append(f"    uint8_t {field.name};\n")
     return "\n".join(lines) + "\n"
 
@@ -104,20 +113,20 @@ def in_struct(fields: list[Field]) -> str:
 
 
 def in_builder(fields: list[Field]) -> str:
-    """The setters of Rattle's builder, marks last."""
+    """The setters of Rattle's builder, punctuation last."""
     def setter(field: Field) -> str:
-        if field.kind == "mark":
+        if field.kind == "punctuation":
             return f"punctuation(self.{field.name}, has_bit(nul, {field.bit}))"
         return f"flag(self.{field.name})" if field.kind == "flag" else f"self.{field.name}"
 
-    ordered = sorted(fields, key=lambda field: field.kind == "mark")
+    ordered = sorted(fields, key=lambda field: field.kind == "punctuation")
     return "".join(f"            .{field.name}({setter(field)})\n" for field in ordered)
 
 
 def in_record(fields: list[Field]) -> str:
     """The format that the fields stand for, as the definition has it."""
     def value(field: Field) -> str:
-        if field.kind == "mark":
+        if field.kind == "punctuation":
             nul = f"(has_bit {field.bit} fields.nul_is_punctuation)"
             return f"punctuation fields.{field.name} {nul}"
         return f"{'flag ' if field.kind == 'flag' else ''}fields.{field.name}"
@@ -127,33 +136,35 @@ def in_record(fields: list[Field]) -> str:
 
 def in_setters(kind: str, fields: list[Field]) -> str:
     """The setters of Rust's Format for the fields of a kind."""
-    bits = {1: "JADVOLNI_NUL_IS_SEPARATOR", 2: "JADVOLNI_NUL_IS_PREFIX",
-            4: "JADVOLNI_NUL_IS_SUFFIX"}
     lines = []
     for field in fields:
         if field.kind == kind:
-            lines.append(textwrap.fill(field.about, 100, initial_indent="        /// ",
-                                       subsequent_indent="        /// "))
-            lines.append(f"        {field.name} {bits.get(field.bit, '')}".rstrip())
+            lines.append(wrapped(field.about, "        /// ", "        /// "))
+            bit = f" JADVOLNI_NUL_IS_{field.word.upper()}" if field.bit else ""
+            lines.append(f"        {field.name}{bit}")
     return "\n".join(lines) + "\n"
 
 
 def in_help(fields: list[Field]) -> str:
     """What the help of Python's Format says of each field."""
-    return "\n".join(textwrap.fill(f"{field.name}: {field.about}", 100, initial_indent="    ",
-                                   subsequent_indent="        ", break_on_hyphens=False)
-                     for field in fields) + "\n"
+    return "".join(wrapped(f"{field.name}: {field.about}", "    ", "        ") + "\n"
+                   for field in fields)
 
 
 def in_dataclass(fields: list[Field]) -> str:
     """The fields of Python's Format, with their defaults."""
-    kinds = {"radix": ("int", 0), "mark": ("Punctuation", None), "flag": ("bool", False)}
+    kinds = {"radix": ("int", 0), "punctuation": ("Punctuation", None), "flag": ("bool", False)}
+    rows = [(it.name, *kinds[it.kind]) for it in fields]
+    return "".join(f"    {name}: {kind} = {STANDARD.get(name, unset)}\n"
+                   for name, kind, unset in rows)
 
-    def line(field: Field) -> str:
-        kind, unset = kinds[field.kind]
-        return f"    {field.name}: {kind} = {STANDARD.get(field.name, unset)}\n"
 
-    return "".join(map(line, fields))
+def in_grammar(fields: list[Field]) -> str:
+    """The words of the test vectors, and the setters that they stand for."""
+    values = {"radix": "=N", "punctuation": "=B", "flag": ""}
+    return "".join(
+        f"| `{field.word}{values[field.kind]}` | `{field.name}"
+        f"{'(false)' if STANDARD.get(field.name) is True else ''}` |\n" for field in fields)
 
 
 REGIONS = [
@@ -167,13 +178,15 @@ REGIONS = [
     Region("bindings/rust/jadvolni-sys/src/lib.rs", "pub struct jadvolni_format {\n",
            "    pub nul_is_punctuation", in_struct),
     Region("bindings/rust/jadvolni/src/format.rs", "    punctuation! {\n", "    }\n",
-           lambda fields: in_setters("mark", fields)),
+           lambda fields: in_setters("punctuation", fields)),
     Region("bindings/rust/jadvolni/src/format.rs", "    flags! {\n", "    }\n",
            lambda fields: in_setters("flag", fields)),
     Region(FORMAT_OF_PYTHON, "one that breaks a rule isn't made.\n\n", "\n    FormatError tells",
            in_help),
     Region(FORMAT_OF_PYTHON, "    # The fields, in the order of their bytes.\n",
            "\n    def __post_init__", in_dataclass),
+    Region("docs/GRAMMAR.md", "| Field | Setter of `NumberFormatBuilder` |\n|---|---|\n",
+           "\n`required_digits` sets both", in_grammar),
 ]
 
 
@@ -188,15 +201,18 @@ OF_STATUSES = [
 ]
 
 
-def files(top: str) -> dict[str, str]:
-    """The text of each file that lists the fields or the statuses, as it has to be."""
-    found: dict[str, str] = {}
-    fields, statuses = fields_of(top), statuses_of(top)
-    for region in [*REGIONS, *OF_STATUSES]:
-        with open(os.path.join(top, region.file), encoding="utf-8") as file:
-            text = found.get(region.file) or file.read()
+def fill(top: str, found: dict[str, str], regions: list[Region], listed: list[Field]) -> None:
+    """Writes what is listed into regions of files, as `found` has these, or else the disk."""
+    for region in regions:
+        text = found.get(region.file) or source.read(os.path.join(top, region.file))
         before, begin, rest = text.partition(region.begin)
         behind = rest[rest.index(region.end):]
-        listed = statuses if region in OF_STATUSES else fields
         found[region.file] = before + begin + region.written(listed) + behind
+
+
+def files(top: str, found: dict[str, str]) -> dict[str, str]:
+    """The text of each file that lists the fields or the statuses, as it has to be."""
+    found = dict(found)
+    fill(top, found, REGIONS, fields_of(top))
+    fill(top, found, OF_STATUSES, statuses_of(top))
     return found

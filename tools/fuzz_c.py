@@ -1,13 +1,13 @@
 #!/usr/bin/env python3
 """Runs the C calls beside the reference of the grammar: make check-c.
 
-    python3 tools/fuzz_c.py [--parses N] [--formats N] [--seed N] [--lib FILE]
+    python3 tools/fuzz_c.py [--parses N] [--formats N] [--seed N]
 
-Three parts: random parses under random formats, with the texts of tools/fuzz_lines.py; formats of
-random bytes; and all texts of up to three bytes under the formats of SHORT, as i8 and as u64. Each
-call is compared in status, place and number, and at a fault the number has to be the one from
-before. Where some differ it prints the first of them, and ends with status 1. The seed that it
-prints first gives the same run again. It needs a C compiler.
+Four parts: random parses under random formats, with the texts of tools/fuzz_lines.py; formats of
+random bytes; all texts of up to three bytes under the formats of SHORT, as i8 and as u64; and
+columns, beside each field read by itself. Each call is compared in status, place and number, and at
+a fault the number has to be the one from before. Where some differ it prints the first of them, and
+ends with status 1. The seed that it prints first gives the same run again.
 """
 from __future__ import annotations
 
@@ -99,7 +99,7 @@ def random_parses(comparison: Comparison, chance: random.Random, wanted: int) ->
                 comparison.parse(words[1], words[2], words[0] == b"p", form, made)
 
 
-def mark_of(made: CFormat, name: str) -> Optional[int]:
+def punctuation_of(made: CFormat, name: str) -> Optional[int]:
     """The byte of punctuation that a format asks for, by the words of the header."""
     byte: int = getattr(made, name)
     return byte if byte or made.nul_is_punctuation & NUL_BITS[name] else None
@@ -113,9 +113,9 @@ def random_format(chance: random.Random) -> Tuple[CFormat, Format]:
     made.nul_is_punctuation = chance.choice((0, chance.randrange(8)))
     for name in FLAG_FIELDS:
         setattr(made, name, chance.choice((0, 0, chance.randrange(256))))
-    marks = {name: mark_of(made, name) for name in BYTE_FIELDS}
+    punctuation = {name: punctuation_of(made, name) for name in BYTE_FIELDS}
     flags = {name: getattr(made, name) != 0 for name in FLAG_FIELDS}
-    return made, replace(Format(mantissa_radix=made.mantissa_radix, **flags), **marks)
+    return made, replace(Format(mantissa_radix=made.mantissa_radix, **flags), **punctuation)
 
 
 def random_formats(comparison: Comparison, chance: random.Random, wanted: int) -> None:
@@ -149,9 +149,9 @@ def classes_under(form: Format) -> Classes:
     class.
     """
     fields = (form.digit_separator, form.base_prefix, form.base_suffix)
-    marks = bytes(byte for byte in fields if byte is not None)
+    punctuation = bytes(byte for byte in fields if byte is not None)
     radix = 16 if form.literal_prefixes else form.mantissa_radix
-    known = set(b"+-" + SMALL[:radix] + CAPITALS[:radix] + marks + marks.swapcase())
+    known = set(b"+-" + SMALL[:radix] + CAPITALS[:radix] + punctuation + punctuation.swapcase())
     known |= set(b"xXoObB") if form.literal_prefixes else set()
     ranks = {byte: rank for rank, byte in enumerate(sorted(known), 1)}
     other = next(byte for byte in range(255, -1, -1) if byte not in known)
@@ -174,21 +174,21 @@ def answers_to_short_texts(form: Format) -> bytes:
     return b"".join(tables)
 
 
-def short_texts(comparison: Comparison, library: str) -> None:
-    """All texts of up to three bytes under each of SHORT, by a program in C: there are many."""
-    words = [os.environ.get("CC", "cc"), "-std=c99", "-O2", "-Wall", "-Wextra"]
-    source = os.path.join(TOP, "tests", "c", "short_texts.c")
+def by_programs(comparison: Comparison, library: str, seed: int) -> None:
+    """What is too much for Python, by programs in C: short texts under SHORT, and columns."""
+    runs: List[Tuple[str, List[str], bytes]] = [
+        ("short_texts", [], answers_to_short_texts(form)) for form in SHORT]
     with tempfile.TemporaryDirectory() as folder:
-        program = os.path.join(folder, "short_texts")
-        words += [f"-I{TOP}/include", source, library, "-o", program]
-        subprocess.run(words, check=True)
-        for form in SHORT:
-            tables = answers_to_short_texts(form)
-            done = subprocess.run([program], input=tables, stdout=subprocess.PIPE)
-            said = done.stdout.decode().strip()
+        for name, words, given in [*runs, ("random_columns", ["2000000", "2000", str(seed)], b"")]:
+            program, source = os.path.join(folder, name), f"{TOP}/tests/c/{name}.c"
+            if not os.path.exists(program):
+                subprocess.run([os.environ.get("CC", "cc"), "-std=c99", "-O2", "-Wall", "-Wextra",
+                                f"-I{TOP}/include", source, library, "-o", program], check=True)
+            done = subprocess.run([program, *words], input=given, stdout=subprocess.PIPE)
+            said = done.stdout.decode(errors="replace").strip()
             print(f"fuzz_c: {said}", flush=True)
             if done.returncode != 0:
-                comparison.wrong.append(f"{form}: {said}")
+                comparison.wrong.append(f"{name}: {said}")
 
 
 def main() -> int:
@@ -198,16 +198,15 @@ def main() -> int:
     parser.add_argument("--parses", type=int, default=1_000_000)
     parser.add_argument("--formats", type=int, default=100_000)
     parser.add_argument("--seed", type=int, default=random.SystemRandom().randrange(10 ** 9))
-    parser.add_argument("--lib", default=os.path.join(TOP, "build", "libjadvolni.so"))
     asked = parser.parse_args()
     print(f"fuzz_c: seed {asked.seed}", flush=True)
-    comparison = Comparison(Library(os.path.abspath(asked.lib)))
+    library = os.path.join(TOP, "build", "libjadvolni")
+    comparison = Comparison(Library(f"{library}.so"))
     print(f"fuzz_c: {compare_rows(comparison.library)}", flush=True)
     chance = random.Random(asked.seed)
     random_parses(comparison, chance, asked.parses)
     random_formats(comparison, chance, asked.formats)
-    folder = os.path.dirname(os.path.abspath(asked.lib))
-    short_texts(comparison, os.path.join(folder, "libjadvolni.a"))
+    by_programs(comparison, f"{library}.a", asked.seed)
     print("".join(f"fuzz_c: {line}\n" for line in comparison.wrong), end="")
     print(f"fuzz_c: {comparison.parses} parses, of which {comparison.values} gave a number, and "
           f"{comparison.formats} formats: {len(comparison.wrong)} differ")

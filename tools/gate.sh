@@ -37,7 +37,7 @@ lint() {
 }
 
 # `rt ci` has to count every crate and every edit. An edit that is refused because a proof names what
-# it took away says nothing of a contract; `rt ci` marks most of these, and the rest break off at a
+# it took away says nothing of a contract; `rt ci` names most of these, and the rest break off at a
 # record or a module of proofs/.
 proofs() {
     edits=$(find crates/*/must-fail -name '*.edit' | wc -l)

@@ -12,7 +12,7 @@ SOVERSION := $(firstword $(subst ., ,$(VERSION)))
 LIBRARIES := build/libjadvolni.a build/libjadvolni.so
 # The shared library, where there is a compiler that links it.
 SHARED := $(if $(shell command -v $(CC) 2>/dev/null),build/libjadvolni.so)
-LIBRARY_SOURCES := $(shell find crates/jadvolni crates/lexical_fields crates/lexical_parse_integer crates/lexical_digits crates/lexical_util -name out -prune -o -type f \( -name '*.rt' -o -name '*.antt' \) -print) crates.txt
+LIBRARY_SOURCES := $(shell find crates/jadvolni crates/lexical_fields crates/lexical_literals crates/lexical_parse_integer crates/lexical_digits crates/lexical_util -name out -prune -o -type f \( -name '*.rt' -o -name '*.antt' \) -print) crates.txt
 
 .PHONY: lib symbols install-lib uninstall-lib test-c check-c
 
@@ -48,10 +48,9 @@ build/libjadvolni.so: build/libjadvolni.a build/symbols.map
 	    -Wl,--whole-archive $< -Wl,--no-whole-archive
 
 # Each call has a page, which shows jadvolni(3): so `man jadvolni_parse_u64` finds what it looks for.
-PARSES := $(foreach sign,u i,$(addprefix jadvolni_parse_$(sign),8 16 32 64 128 size))
-FRONTS := $(PARSES) $(PARSES:=_front) $(PARSES:=_partial)
-CALLS := $(FRONTS) $(FRONTS:=_with_format) $(addsuffix _column,$(filter-out %128 %size,$(PARSES))) \
-    $(addprefix jadvolni_,parse version format_error format_of_radix field_start status_name status_text)
+# In the header alone stand the first four; the library exports the others.
+CALLS := $(addprefix jadvolni_,parse format_of_radix status_name status_text) \
+    $(shell cut -d ' ' -f 1 packaging/symbols.txt)
 PAGES = $(DESTDIR)$(MANDIR)/man3
 TO = $(DESTDIR)$(LIBDIR)
 

@@ -261,8 +261,8 @@ def value_of(reading: Reading) -> int:
 
 def zero_fault(form: Format, reading: Reading) -> Optional[Fault]:
     """The fault of a zero in front of another digit."""
-    is_marked = reading.region.prefixed or reading.region.octal
-    if form.no_integer_leading_zeros and not is_marked and len(reading.digits) > 1:
+    is_chosen = reading.region.prefixed or reading.region.octal
+    if form.no_integer_leading_zeros and not is_chosen and len(reading.digits) > 1:
         place, worth = reading.digits[0]
         return Fault("InvalidLeadingZeros", place) if worth == 0 else None
     return None
@@ -304,8 +304,8 @@ def end_fault(form: Format, text: bytes, reading: Reading, stop: int,
     """The fault of where reading stopped."""
     if not is_partial and stop < len(text):
         return Fault("InvalidDigit", stop)
-    is_settled = stop == len(text) or form.digit_separator is not None
-    return Fault("Empty", stop) if lacks_digit(form, reading) and is_settled else None
+    reports_empty = stop == len(text) or form.digit_separator is not None
+    return Fault("Empty", stop) if lacks_digit(form, reading) and reports_empty else None
 
 
 def parse(form: Format, kind: IntegerType, text: bytes, is_partial: bool) -> Answer:

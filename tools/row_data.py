@@ -7,6 +7,8 @@ import sys
 from dataclasses import dataclass, field
 from typing import List, NamedTuple, Optional, Tuple, Union
 
+from field_lists import fields_of
+
 TOP = os.path.dirname(os.path.dirname(os.path.abspath(__file__)))
 DATA = os.path.join(TOP, "tools", "rows.txt")
 LANGUAGES = os.path.join(TOP, "tools", "languages.txt")
@@ -14,25 +16,11 @@ LANGUAGES = os.path.join(TOP, "tools", "languages.txt")
 BUILT = [os.path.join(TOP, "crates", "lexint", "out", name)
          for name in ("lexint", "lexint.by-rattle")]
 
-FLAGS = {
-    "internal": "integer_internal_digit_separator",
-    "leading": "integer_leading_digit_separator",
-    "trailing": "integer_trailing_digit_separator",
-    "consecutive": "integer_consecutive_digit_separator",
-    "prefix-case": "case_sensitive_base_prefix",
-    "suffix-case": "case_sensitive_base_suffix",
-    "integer-digits": "required_integer_digits",
-    "no-plus": "no_positive_mantissa_sign",
-    "sign-required": "required_mantissa_sign",
-    "no-leading-zeros": "no_integer_leading_zeros",
-    "behind-prefix": "integer_prefix_digit_separator",
-    "literal-prefixes": "literal_prefixes",
-    "octal-zero": "literal_octal_zero",
-}
-BYTES = {"separator": "digit_separator", "prefix": "base_prefix", "suffix": "base_suffix"}
+FLAGS = {it.word: it.name for it in fields_of(TOP) if it.kind == "flag"}
+BYTES = {it.word: it.name for it in fields_of(TOP) if it.kind == "punctuation"}
 HEADING = re.compile(r"(={2,3}) (\w+): (.+)")
 # what a line of tools/languages.txt tells a user, before the rows of its language
-TOLD = re.compile(r"(reference|rule|more|less|otherwise) \| (.+)")
+TOLD = re.compile(r"(reference|rule|suffixes|more|less|otherwise) \| (.+)")
 TYPES = {sign + str(bits): (bits, sign == "i") for sign in "ui" for bits in (8, 16, 32, 64, 128)}
 TYPES.update(usize=(64, False), isize=(64, True))
 OF_TEXTS = [

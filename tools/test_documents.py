@@ -162,14 +162,14 @@ class OfFields(unittest.TestCase):
 
     def test_each_list_has_each_field(self) -> None:
         fields = field_lists.fields_of(documents.TOP)
-        self.assertEqual([field.bit for field in fields if field.kind == "mark"], [1, 2, 4])
-        files = field_lists.files(documents.TOP)
+        self.assertEqual([field.bit for field in fields if field.kind == "punctuation"], [1, 2, 4])
+        files = field_lists.files(documents.TOP, {})
         for file in {region.file for region in field_lists.REGIONS}:
             for field in fields:
                 self.assertIn(field.name, files[file], file)
 
     def test_a_field_more_is_missed(self) -> None:
-        more = field_lists.Field("later_flag", "flag", "What is to come.", 0)
+        more = field_lists.Field("later_flag", "flag", "What is to come.")
         for region in field_lists.REGIONS[:5]:
             self.assertIn("later_flag", region.written([more]), region.file)
         self.assertIn("/* Flag: what is to come. */", field_lists.in_c([more]))

@@ -29,7 +29,7 @@ OPENING = ("integer_leading_digit_separator", "integer_internal_digit_separator"
 CLOSING = ("case_sensitive_base_prefix", "case_sensitive_base_suffix", "required_integer_digits",
            "required_mantissa_digits", "no_positive_mantissa_sign", "required_mantissa_sign",
            "no_integer_leading_zeros")
-MARKS = {"base_prefix": ord("x"), "base_suffix": ord("F"), "digit_separator": ord("_")}
+PUNCTUATION = {"base_prefix": ord("x"), "base_suffix": ord("F"), "digit_separator": ord("_")}
 
 
 class Case(NamedTuple):
@@ -109,8 +109,8 @@ def integers(form: Format, kind: IntegerType, text: bytes) -> Iterator[int]:
             continue
         worths = [digit(byte, radix) for byte in body if byte != form.digit_separator]
         digits = [worth for worth in worths if worth is not None]
-        unmarked = not prefix and not (form.literal_octal_zero and body[:1] == b"0")
-        zeros = form.no_integer_leading_zeros and unmarked and digits[:1] == [0] != digits
+        is_bare = not prefix and not (form.literal_octal_zero and body[:1] == b"0")
+        zeros = form.no_integer_leading_zeros and is_bare and digits[:1] == [0] != digits
         closes = form.base_suffix is not None and digits and suffix and matches(
             suffix[0], form.base_suffix, form.case_sensitive_base_suffix)
         lacks = (form.required_integer_digits or form.required_mantissa_digits) and not digits
@@ -149,7 +149,7 @@ def relaxing_keeps(case: Case, chance: Random) -> Optional[bool]:
         return None
     changes: Dict[str, Any] = {flag: True for flag in OPENING if chance.random() < 0.3}
     changes.update((flag, False) for flag in CLOSING if chance.random() < 0.3)
-    changes.update((field, byte) for field, byte in MARKS.items()
+    changes.update((field, byte) for field, byte in PUNCTUATION.items()
                    if getattr(case.form, field) is None and chance.random() < 0.5)
     loose = dataclasses.replace(case.form, **changes)
     if format_fault(loose):

@@ -100,7 +100,7 @@ fn other_types(sets: &mut Sets) {
     sets.add("i128, 30 to 38 digits", &peers, signed(digits_from_to(30, 38)));
 }
 
-// Formats that the compiler of the call doesn't know, but that have no mark.
+// Formats that the compiler of the call doesn't know, but that have no punctuation.
 fn at_run_time(sets: &mut Sets) {
     let peers: [Peer; 5] = [
         ("std", std_radix10),
@@ -150,7 +150,7 @@ fn fronts(sets: &mut Sets) {
 }
 
 // Separators and prefixes, at run time.
-fn marks(sets: &mut Sets) {
+fn punctuation(sets: &mut Sets) {
     let peers: [Peer; 4] = [
         ("std", std_separators),
         ("ours", ours_separators),
@@ -220,7 +220,7 @@ pub fn sets(count: usize, seed: u64) -> Vec<Set> {
     other_types(&mut sets);
     at_run_time(&mut sets);
     fronts(&mut sets);
-    marks(&mut sets);
+    punctuation(&mut sets);
     faults(&mut sets);
     sets.found
 }

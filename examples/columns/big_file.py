@@ -2,7 +2,7 @@
 
     python3 big_file.py FILE [THREADS]
 
-The file is read whole and cut at line feeds. `parse_column` lets go of Python's lock, so the pieces
+The file is read whole and cut at line feeds. `parse_column` releases the GIL, so the pieces
 are read side by side. The first wrong line of the whole file is told with its line and its byte,
 whichever piece finished first. There are 1 to 255 threads.
 """

@@ -319,6 +319,51 @@ static void names(void)
     CHECK(strcmp(jadvolni_status_name(UINT32_MAX), "Unknown") == 0);
 }
 
+/* A literal under a format: its value, and where its number and its suffix end; or its fault. */
+#define EXPECT_LITERAL(format, text, wanted_status, wanted_low, wanted_suffix, wanted_place)            \
+    do {                                                                                               \
+        jadvolni_uint128 value = {77, 77};                                                             \
+        size_t suffix = 77, len = sizeof(text) - 1;                                                    \
+        char *bytes = exactly(text, len);                                                              \
+        jadvolni_result r = jadvolni_parse_literal(bytes, len, &(format), &value, &suffix);            \
+        free(bytes);                                                                                   \
+        CHECK(r.status == (wanted_status) && r.place == (wanted_place));                               \
+        CHECK(value.low == (wanted_low) && value.high == (r.status ? 77u : 0u));                        \
+        CHECK(suffix == (wanted_suffix));                                                              \
+    } while (0)
+
+static void literals(void)
+{
+    jadvolni_format c = JADVOLNI_FORMAT_C, c23 = JADVOLNI_FORMAT_C23, rust = JADVOLNI_FORMAT_RUST;
+    jadvolni_uint128 value;
+    size_t suffix;
+    EXPECT_LITERAL(c, "0xFFull", JADVOLNI_OK, 255, 4, 7);
+    EXPECT_LITERAL(c, "0777L;", JADVOLNI_OK, 511, 4, 5);
+    EXPECT_LITERAL(c, "08", JADVOLNI_OK, 0, 1, 2);
+    EXPECT_LITERAL(c, "1'0", JADVOLNI_OK, 1, 1, 1);
+    EXPECT_LITERAL(c23, "1'0wb", JADVOLNI_OK, 10, 3, 5);
+    EXPECT_LITERAL(c23, "1'u", JADVOLNI_OK, 1, 1, 1);
+    EXPECT_LITERAL(rust, "1_000i64;", JADVOLNI_OK, 1000, 5, 8);
+    EXPECT_LITERAL(rust, "1__u8", JADVOLNI_OK, 1, 3, 5);
+    EXPECT_LITERAL(rust, "0b102", JADVOLNI_OK, 2, 4, 5);
+    EXPECT_LITERAL(rust, "1e5", JADVOLNI_OK, 1, 1, 3);
+    EXPECT_LITERAL(rust, "1.5", JADVOLNI_OK, 1, 1, 1);
+    EXPECT_LITERAL(rust, "1\0u8", JADVOLNI_OK, 1, 1, 1);
+    EXPECT_LITERAL(rust, "1\xff", JADVOLNI_OK, 1, 1, 1);
+    EXPECT_LITERAL(rust, "", JADVOLNI_EMPTY, 77, 77, 0);
+    EXPECT_LITERAL(rust, "u8", JADVOLNI_EMPTY, 77, 77, 0);
+    EXPECT_LITERAL(rust, "0xu8", JADVOLNI_EMPTY, 77, 77, 2);
+    EXPECT_LITERAL(rust, "+1", JADVOLNI_INVALID_POSITIVE_SIGN, 77, 77, 0);
+    EXPECT_LITERAL(rust, "340282366920938463463374607431768211456", JADVOLNI_OVERFLOW, 77, 77, 38);
+    CHECK(jadvolni_parse_literal("18446744073709551616u", 21, &c, &value, &suffix).status == JADVOLNI_OK);
+    CHECK(value.low == 0 && value.high == 1 && suffix == 20);
+    CHECK(jadvolni_parse_literal(NULL, 0, &c, &value, &suffix).status == JADVOLNI_EMPTY);
+    rust.mantissa_radix = 37;
+    EXPECT_LITERAL(rust, "1u8", JADVOLNI_INVALID_MANTISSA_RADIX, 77, 77, 0);
+    rust.reserved[0] = 1;
+    EXPECT_LITERAL(rust, "1u8", JADVOLNI_UNKNOWN_FIELD, 77, 77, 0);
+}
+
 /* The version is one, however it is written. */
 static void version(void)
 {
@@ -344,6 +389,7 @@ int main(void)
     halves();
     null_texts();
     by_type();
+    literals();
     names();
     return checked();
 }

@@ -96,7 +96,7 @@ static void faults_of_formats(void)
     expect_invalid(&format, JADVOLNI_UNKNOWN_FIELD);
 }
 
-/* Any byte parts fields, also a digit, a sign and the format's own mark. */
+/* Any byte parts fields, also a digit, a sign and the format's own separator. */
 static void separators(void)
 {
     jadvolni_format grouped = JADVOLNI_FORMAT_STANDARD, prefixed = JADVOLNI_FORMAT_STANDARD;

@@ -18,12 +18,14 @@ uint64_t misuse(void)
     uint64_t value = 0, values[2] = {0, 0};
     uint16_t narrow = 0;
     size_t count = 0;
-    (void)narrow, (void)count, (void)values, (void)text;
+    jadvolni_uint128 wide = {0, 0};
+    (void)narrow, (void)count, (void)values, (void)text, (void)wide;
 #if MISUSE == 0
     return used(jadvolni_parse_u64(text, 4, &value), value)
         + used(jadvolni_parse_u64_front_with_format(NULL, 0, FORMAT, &value), value)
         + used(jadvolni_parse_u64_column(text, 4, ',', FORMAT, values, 2, &count), values[0])
         + used(jadvolni_parse_u64_column(text, 4, ',', FORMAT, NULL, 0, &count), count)
+        + used(jadvolni_parse_literal(text, 4, FORMAT, &wide, &count), wide.low)
         + jadvolni_field_start(text, 4, ',') + jadvolni_field_start(NULL, 0, ',');
 #elif MISUSE == 1
     return used(jadvolni_parse_u64(text, 40, &value), value);
@@ -52,5 +54,12 @@ uint64_t misuse(void)
 #elif MISUSE == 12
     jadvolni_format_error(FORMAT);
     return value;
+#elif MISUSE == 13
+    jadvolni_parse_literal(text, 4, FORMAT, &wide, &count);
+    return wide.low;
+#elif MISUSE == 14
+    return used(jadvolni_parse_literal(text, 4, FORMAT, &wide, NULL), wide.low);
+#elif MISUSE == 15
+    return used(jadvolni_parse_literal(text, 40, FORMAT, &wide, &count), wide.low);
 #endif
 }

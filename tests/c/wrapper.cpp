@@ -229,6 +229,42 @@ static void column_beside_std(std::mt19937_64 &random)
     CHECK(read && read.count() == 1000 && read.place() == text.size() && ours == theirs);
 }
 
+// The numbers of a text that comes in blocks of so many bytes, with room for so many at once.
+static std::vector<int> in_blocks(std::string_view text, std::size_t size, std::size_t room)
+{
+    std::vector<int> found, values(room);
+    std::string kept;
+    for (std::size_t at = 0;;) {
+        auto block = text.substr(at, size);
+        at += block.size();
+        kept += block;
+        for (;;) {
+            auto read = jadvolni::parse_column_part(kept, block.empty(), ',', values);
+            if (!read) return {};
+            found.insert(found.end(), values.begin(), values.begin() + std::ptrdiff_t(read.count()));
+            kept.erase(0, read.place());
+            if (read.count() < room) break;
+        }
+        if (block.empty()) return found;
+    }
+}
+
+static void columns_in_parts()
+{
+    for (std::size_t size = 1; size < 12; ++size)
+        for (std::size_t room : {1u, 2u, 9u}) {
+            CHECK(in_blocks("12,-7,300,4", size, room) == std::vector<int>{12, -7, 300, 4});
+            CHECK(in_blocks("99,1,", size, room) == std::vector<int>{99, 1});
+            CHECK(in_blocks("", size, room).empty());
+        }
+    int value = 77;
+    auto read = jadvolni::parse_column_part("x", false, ',', &value, 1);
+    CHECK(read && read.count() == 0 && read.place() == 0 && value == 77);
+    read = jadvolni::parse_column_part("1,x,", false, ',', &value, 1);
+    CHECK(read && read.count() == 1 && read.place() == 2 && value == 1);
+    CHECK(jadvolni::parse_column_part("x,", false, ',', &value, 1).status() == status::invalid_digit);
+}
+
 static void columns_beside_from_chars()
 {
     std::mt19937_64 random(1);
@@ -246,6 +282,23 @@ static void columns_beside_from_chars()
     }
 }
 
+static void literals()
+{
+    auto has = [](std::string_view text, const jadvolni::format &under, std::uint64_t value, std::string_view suffix,
+                  std::size_t place) {
+        auto read = jadvolni::parse_literal(text, under);
+        return read && read->value.low == value && read->value.high == 0 && read->suffix == suffix
+            && read.place() == place && read->suffix.data() == text.data() + place - suffix.size();
+    };
+    CHECK(has("0xFFull;", jadvolni::formats::c, 255, "ull", 7));
+    CHECK(has("1'0z", jadvolni::formats::cpp14, 10, "z", 4));
+    CHECK(has("1_000i64", jadvolni::formats::rust, 1000, "i64", 8));
+    CHECK(has("1", jadvolni::formats::rust, 1, "", 1));
+    auto none = jadvolni::parse_literal(std::string_view(), jadvolni::formats::c);
+    CHECK(!none && none.status() == status::empty && none.place() == 0);
+    CHECK(jadvolni::parse_literal("0xu", jadvolni::formats::c).status() == status::empty);
+}
+
 int main()
 {
     faults_of_texts();
@@ -255,7 +308,9 @@ int main()
     fronts_under_a_format();
     fronts_without_a_digit();
     wrong_bases();
+    literals();
     columns();
+    columns_in_parts();
     columns_beside_from_chars();
     beside_from_chars(25000);
     std::printf("%d checks, %d wrong\n", checks, wrong);

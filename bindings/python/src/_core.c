@@ -86,6 +86,37 @@ static PyObject *parse_partial(PyObject *module, PyObject *const *args, Py_ssize
     return answer_of(module, &asked, asked.type->partial);
 }
 
+/* A number of 128 bits, the ASCII text behind it, and the place behind that. */
+static PyObject *parts(const jadvolni_uint128 *value, const char *suffix, size_t len, size_t stop)
+{
+    PyObject *number = wide_number(value);
+    if (!number)
+        return NULL;
+    return Py_BuildValue("(Ns#n)", number, suffix, (Py_ssize_t)len, (Py_ssize_t)stop);
+}
+
+static PyObject *parse_literal(PyObject *module, PyObject *const *args, Py_ssize_t count,
+                               PyObject *keywords)
+{
+    static const char *const names[] = {"text", "format"};
+    const core_state *state = PyModule_GetState(module);
+    jadvolni_format format;
+    jadvolni_uint128 value;
+    size_t suffix;
+    lent_text text;
+    PyObject *found[2], *result = NULL;
+    if (arguments("parse_literal", args, count, keywords, names, 2, found) < 0
+        || format_of(state, found[1], &format) < 0 || lend("text", found[0], &text) < 0)
+        return NULL;
+    jadvolni_result answer = jadvolni_parse_literal(text.bytes, text.len, &format, &value, &suffix);
+    if (answer.status == JADVOLNI_OK)
+        result = parts(&value, text.bytes + suffix, answer.place - suffix, answer.place);
+    else
+        raise_fault(state, answer, text.bytes, text.len, NULL);
+    give_back(&text);
+    return result;
+}
+
 /* ---- columns ---- */
 
 /* For how many numbers room is made: for one of each field. */
@@ -234,6 +265,12 @@ static PyMethodDef METHODS[] = {
          "parse_partial(text, type=\"i64\", format=None)\n--\n\n"
          "The number at the text's front, where no digit has to be there.\n\n"
          "Such a front is mostly 0: take parse_front where a number has to be there."),
+    CALL(parse_literal,
+         "parse_literal(text, format=None)\n--\n\n"
+         "The literal that the text begins with: its value, its suffix, and how many bytes of\n"
+         "the text it has.\n\n"
+         "The suffix is all ASCII letters, digits 0 to 9 and \"_\" behind the number; which ones\n"
+         "a language has is for the caller to ask. The value has up to 128 bits."),
     CALL(parse_column,
          "parse_column(text, type=\"i64\", separator=b\"\\n\", format=None)\n--\n\n"
          "The numbers of the text's fields, as an array.array.\n\n"

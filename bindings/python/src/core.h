@@ -61,6 +61,9 @@ extern const number_type types[TYPES];
  * is none. */
 const number_type *type_of(PyObject *type);
 
+/* high * 2^64 + low, as Python has it. */
+PyObject *wide_number(const jadvolni_uint128 *halves);
+
 /* ---- faults.c ---- */
 
 /* What a module keeps: each interpreter has its own. Making these anew would cost a call more than

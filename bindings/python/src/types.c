@@ -73,9 +73,14 @@ static PyObject *joined(PyObject *high, uint64_t low)
     return result;
 }
 
+PyObject *wide_number(const jadvolni_uint128 *halves)
+{
+    return joined(PyLong_FromUnsignedLongLong(halves->high), halves->low);
+}
+
 static PyObject *number_u128(const number *value)
 {
-    return joined(PyLong_FromUnsignedLongLong(value->u128.high), value->u128.low);
+    return wide_number(&value->u128);
 }
 
 static PyObject *number_i128(const number *value)

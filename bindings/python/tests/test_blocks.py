@@ -64,6 +64,11 @@ class Blocks(unittest.TestCase):
         with self.assertRaisesRegex(OSError, "the device is gone"):
             next(column)
 
+    def test_a_file_that_gives_less_than_is_asked(self):
+        file = io.BytesIO(TEXT)
+        file.read = lambda size: io.BytesIO.read(file, min(size, 2))
+        self.assertEqual([list(one) for one in iter_column(file, "u8")], [[12], [255], [0], [7]])
+
     def test_files_that_give_no_bytes(self):
         with self.assertRaisesRegex(TypeError, 'open it with "rb"'):
             list(iter_column(io.StringIO("1\n")))

@@ -10,7 +10,7 @@ import unittest
 
 EXAMPLES = pathlib.Path(__file__).resolve().parents[3] / "examples" / "columns"
 # Each example with the words after its file.
-COMMANDS = (("ledger.py",), ("csv_column.py", "2"), ("big_file.py", "3"))
+COMMANDS = (("ledger.py",), ("csv_column.py", "2"), ("big_file.py", "3"), ("total.py",))
 
 
 def answer_of(name, path, *words, **settings):
@@ -134,15 +134,29 @@ class BigFile(Case):
             (b"1\r2", (1, "", "line 1, byte 1: InvalidDigit\n")),
             (b"1\0\n2\n", (1, "", "line 1, byte 1: InvalidDigit\n")),
         ):
-            with self.subTest(content=content[:40]):
-                self.assertEqual(self.answer("big_file.py", content, "3"), answer)
+            for name, *words in COMMANDS[2:]:
+                with self.subTest(name=name, content=content[:40]):
+                    self.assertEqual(self.answer(name, content, *words), answer)
+
+
+class Total(Case):
+    """total.py."""
+
+    def test_files_of_several_blocks(self):
+        lines = b"12345\n" * 500_000
+        self.assertEqual(self.answer("total.py", lines + b"1"),
+                         (0, f"500001 numbers, sum {12345 * 500_000 + 1}\n", ""))
+        self.assertEqual(self.answer("total.py", lines + b"1\n2x"),
+                         (1, "", "line 500002, byte 3000003: InvalidDigit\n"))
+        self.assertEqual(self.answer("total.py", b"1\n" + b"0" * 3_000_000),
+                         (1, "", "the field at byte 2 has more than 1048576 bytes\n"))
 
 
 class Inputs(Case):
     """Inputs and outputs that aren't plain files."""
 
     def test_a_pipe(self):
-        contents = ("a 1\nb 2\n", "n,c\na,1\nb,2\n", "1\n2\n")
+        contents = ("a 1\nb 2\n", "n,c\na,1\nb,2\n", "1\n2\n", "1\n2\n")
         for (name, *words), content in zip(COMMANDS, contents):
             with self.subTest(name=name):
                 status, output, errors = answer_of(name, "/dev/stdin", *words, input=content)
@@ -205,6 +219,7 @@ class Inputs(Case):
             ("big_file.py", "²"),
             ("big_file.py", "256"),
             ("big_file.py", "3", "4"),
+            ("total.py", "more"),
         ):
             with self.subTest(name=name, words=words):
                 status, output, errors = answer_of(name, os.devnull, *words)

@@ -11,8 +11,8 @@ import threading
 import unittest
 
 import jadvolni
-from jadvolni import (Format, FormatError, ParseError, parse, parse_column, parse_front,
-                      parse_partial)
+from jadvolni import (Format, FormatError, ParseError, formats, parse, parse_column,
+                      parse_front, parse_literal, parse_partial)
 
 README = pathlib.Path(__file__).resolve().parents[1] / "README.md"
 
@@ -66,6 +66,25 @@ class Numbers(Case):
     def test_i64_where_no_type_is_given(self):
         self.assertEqual(parse("-9223372036854775808"), -(2**63))
         self.assertEqual(parse_partial("7"), (7, 1))
+
+    def test_literals(self):
+        greatest = 2**128 - 1
+        for text, format, literal in (
+            ("0xFFull;", formats.C, (255, "ull", 7)),
+            (b"1_000i64", formats.RUST, (1000, "i64", 8)),
+            (bytearray(b"0b102"), formats.RUST, (2, "2", 5)),
+            ("1'0wb", formats.C23, (10, "wb", 5)),
+            ("1.5", formats.C, (1, "", 1)),
+            (f"{greatest}u128", formats.RUST, (greatest, "u128", 43)),
+            ("12n\xe9", None, (12, "n", 3)),
+            ("12\0", None, (12, "", 2)),
+        ):
+            with self.subTest(text=text):
+                self.assertEqual(parse_literal(text, format), literal)
+        self.fault("Overflow", 39, parse_literal, f"{greatest}0", formats.RUST)
+        self.fault("Empty", 0, parse_literal, "u32", formats.RUST)
+        self.fault("Empty", 2, parse_literal, "0xu", format=formats.RUST)
+        self.fault("Empty", 0, parse_literal, "")
 
     def test_fronts(self):
         self.assertEqual(parse_partial(b"12, 13", "u8"), (12, 2))

@@ -6,8 +6,8 @@ use Rattle.std.specs.Str.{bytes_eq}
 use Rattle.answer_lines.proofs.AfterLast.{is_none, at_first, at_none, at_rest}
 use Rattle.answer_lines.specs.Change.{with_change}
 use Rattle.answer_lines.specs.Command.{Command, command_in, command_of, change_named, parts, parse_complete, parse_partial, list_tokens, change, reset, type_and_text}
-use Rattle.answer_lines.proofs.FieldChanges.{flag_by, mark_by, no_multi_digit_by, radix_by}
-use Rattle.answer_lines.specs.Given.{change_made, flag_given, flag_value, is_reset, last_of, mark_given, mark_value, no_multi_digit_given, radix_given, settings_left, IsAnsweredInTurn, LeavesLastGiven}
+use Rattle.answer_lines.proofs.FieldChanges.{flag_by, punctuation_by, no_multi_digit_by, radix_by}
+use Rattle.answer_lines.specs.Given.{change_made, flag_given, flag_value, is_reset, last_of, punctuation_given, punctuation_value, no_multi_digit_given, radix_given, settings_left, IsAnsweredInTurn, LeavesLastGiven}
 use Rattle.answer_lines.specs.Output.{answer_to, answers_to, command_effect, settings_after}
 use Rattle.answer_lines.specs.Settings.{Settings, standard_settings}
 use Rattle.answer_lines.specs.declared.command.TypeName.{TypeName}
@@ -189,7 +189,7 @@ in_turn before line after =
 pub leaves_last_given : (lines : List (List ℕ)) → LeavesLastGiven lines
 leaves_last_given lines = record {
   radix = holds_last (λ s. s.format.mantissa_radix) radix_given radix_by lines;
-  mark = λ m. holds_last (λ s. mark_value m s.format) (mark_given m) (mark_by m) lines;
+  punctuation = λ m. holds_last (λ s. punctuation_value m s.format) (punctuation_given m) (punctuation_by m) lines;
   flag = λ f. holds_last (λ s. flag_value f s.format) (flag_given f) (flag_by f) lines;
   no_multi_digit = holds_last (λ s. s.no_multi_digit) no_multi_digit_given no_multi_digit_by lines;
 }

@@ -2,18 +2,18 @@
 use Rattle.std.specs.Prelude.{ℕ, Bool, Option}
 use Rattle.lexical_util.specs.Format.{Format}
 use Rattle.answer_lines.specs.Settings.{Settings}
-use Rattle.answer_lines.specs.declared.field.Mark.{Mark}
-use Rattle.answer_lines.specs.declared.field.Mark.TheVariants.{DigitSeparator, BasePrefix, BaseSuffix}
+use Rattle.answer_lines.specs.declared.field.Punctuation.{Punctuation}
+use Rattle.answer_lines.specs.declared.field.Punctuation.TheVariants.{DigitSeparator, BasePrefix, BaseSuffix}
 use Rattle.answer_lines.specs.declared.field.Flag.{Flag}
 use Rattle.answer_lines.specs.declared.field.Flag.TheVariants.{CaseSensitiveBasePrefix, CaseSensitiveBaseSuffix, RequiredIntegerDigits, RequiredMantissaDigits, NoPositiveMantissaSign, RequiredMantissaSign, NoIntegerLeadingZeros, IntegerLeadingDigitSeparator, IntegerInternalDigitSeparator, IntegerTrailingDigitSeparator, IntegerConsecutiveDigitSeparator, IntegerPrefixDigitSeparator, LiteralPrefixes, LiteralOctalZero}
 use Rattle.answer_lines.specs.declared.field.Change.{Change}
 use Rattle.answer_lines.specs.declared.field.Change.TheVariants as change
 
 -- a format with one of its bytes set, or set to none
-abbrev pub with_mark : Mark → Option ℕ → Format → Format
-with_mark DigitSeparator value format = record format { digit_separator = value }
-with_mark BasePrefix value format = record format { base_prefix = value }
-with_mark BaseSuffix value format = record format { base_suffix = value }
+abbrev pub with_punctuation : Punctuation → Option ℕ → Format → Format
+with_punctuation DigitSeparator value format = record format { digit_separator = value }
+with_punctuation BasePrefix value format = record format { base_prefix = value }
+with_punctuation BaseSuffix value format = record format { base_suffix = value }
 
 -- a format with one of its flags set to true or false
 abbrev pub with_flag : Flag → Bool → Format → Format
@@ -43,8 +43,8 @@ with_flag LiteralOctalZero value format = record format { literal_octal_zero = v
 abbrev pub with_change : Change → Settings → Settings
 with_change (change.MantissaRadix value) settings =
     record settings { format = record settings.format { mantissa_radix = value } }
-with_change (change.Mark mark value) settings =
-    record settings { format = with_mark mark value settings.format }
+with_change (change.Punctuation punctuation value) settings =
+    record settings { format = with_punctuation punctuation value settings.format }
 with_change (change.Flag flag value) settings =
     record settings { format = with_flag flag value settings.format }
 with_change (change.RequiredDigits value) settings =

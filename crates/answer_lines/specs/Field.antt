@@ -6,8 +6,8 @@ use Rattle.lexical_util.specs.declared.error.Error.{Error}
 use Rattle.lexical_util.specs.Format.{standard}
 use Rattle.lexical_util.specs.Number.{integer_type}
 use Rattle.lexical_parse_integer.specs.Grammar.{complete}
-use Rattle.answer_lines.specs.declared.field.Mark.{Mark}
-use Rattle.answer_lines.specs.declared.field.Mark.TheVariants.{DigitSeparator, BasePrefix, BaseSuffix}
+use Rattle.answer_lines.specs.declared.field.Punctuation.{Punctuation}
+use Rattle.answer_lines.specs.declared.field.Punctuation.TheVariants.{DigitSeparator, BasePrefix, BaseSuffix}
 use Rattle.answer_lines.specs.declared.field.Flag.{Flag}
 use Rattle.answer_lines.specs.declared.field.Flag.TheVariants.{CaseSensitiveBasePrefix, CaseSensitiveBaseSuffix, RequiredIntegerDigits, RequiredMantissaDigits, NoPositiveMantissaSign, RequiredMantissaSign, NoIntegerLeadingZeros, IntegerLeadingDigitSeparator, IntegerInternalDigitSeparator, IntegerTrailingDigitSeparator, IntegerConsecutiveDigitSeparator, IntegerPrefixDigitSeparator, LiteralPrefixes, LiteralOctalZero}
 use Rattle.answer_lines.specs.declared.field.Field.{Field}
@@ -18,10 +18,10 @@ use Rattle.answer_lines.specs.declared.field.Change.TheVariants as change
 -- ---- names
 
 -- the name of a field that is one byte or none
-abbrev pub mark_name : Mark → List ℕ
-mark_name DigitSeparator = codes "digit_separator"
-mark_name BasePrefix = codes "base_prefix"
-mark_name BaseSuffix = codes "base_suffix"
+abbrev pub punctuation_name : Punctuation → List ℕ
+punctuation_name DigitSeparator = codes "digit_separator"
+punctuation_name BasePrefix = codes "base_prefix"
+punctuation_name BaseSuffix = codes "base_suffix"
 
 -- the name of a field that is true or false
 abbrev pub flag_name : Flag → List ℕ
@@ -43,7 +43,7 @@ flag_name LiteralOctalZero = codes "literal_octal_zero"
 -- the name of a field
 abbrev pub field_name : Field → List ℕ
 field_name field.MantissaRadix = codes "mantissa_radix"
-field_name (field.Mark mark) = mark_name mark
+field_name (field.Punctuation punctuation) = punctuation_name punctuation
 field_name (field.Flag flag) = flag_name flag
 field_name field.RequiredDigits = codes "required_digits"
 field_name field.NoMultiDigit = codes "no_multi_digit"
@@ -52,7 +52,7 @@ field_name field.NoMultiDigit = codes "no_multi_digit"
 abbrev pub all_fields : List Field
 all_fields =
     field.MantissaRadix
-    ∷ field.Mark DigitSeparator ∷ field.Mark BasePrefix ∷ field.Mark BaseSuffix
+    ∷ field.Punctuation DigitSeparator ∷ field.Punctuation BasePrefix ∷ field.Punctuation BaseSuffix
     ∷ field.Flag CaseSensitiveBasePrefix ∷ field.Flag CaseSensitiveBaseSuffix
     ∷ field.Flag RequiredIntegerDigits ∷ field.Flag RequiredMantissaDigits ∷ field.RequiredDigits
     ∷ field.Flag NoPositiveMantissaSign ∷ field.Flag RequiredMantissaSign
@@ -83,8 +83,9 @@ only_byte (byte ∷ []) = Some byte
 only_byte (byte ∷ next ∷ more) = None
 
 -- no byte for `none`, and the byte of a text of one byte
-abbrev pub mark_in : List ℕ → Option (Option ℕ)
-mark_in text = if bytes_eq text (codes "none") then Some None else option_map Some (only_byte text)
+abbrev pub punctuation_in : List ℕ → Option (Option ℕ)
+punctuation_in text =
+    if bytes_eq text (codes "none") then Some None else option_map Some (only_byte text)
 
 -- the number that an answer of an unsigned type has
 abbrev pub number_in : Result ℤ Error → Option ℕ
@@ -99,7 +100,8 @@ radix_in text = number_in (complete standard (integer_type 8 false) text)
 -- the change that sets a field to what a text stands for, where it stands for a value of that field
 abbrev pub change_in : Field → List ℕ → Option Change
 change_in field.MantissaRadix text = option_map change.MantissaRadix (radix_in text)
-change_in (field.Mark mark) text = option_map (change.Mark mark) (mark_in text)
+change_in (field.Punctuation punctuation) text =
+    option_map (change.Punctuation punctuation) (punctuation_in text)
 change_in (field.Flag flag) text = option_map (change.Flag flag) (truth_in text)
 change_in field.RequiredDigits text = option_map change.RequiredDigits (truth_in text)
 change_in field.NoMultiDigit text = option_map change.NoMultiDigit (truth_in text)

@@ -6,11 +6,11 @@ use Rattle.std.specs.Str.{bytes_eq}
 use Rattle.lexical_util.specs.Ascii.{line_feed}
 use Rattle.lexical_util.specs.Format.{Format, standard}
 use Rattle.answer_lines.specs.Command.{Command, command_in, parse_complete, parse_partial, list_tokens, change, reset}
-use Rattle.answer_lines.specs.Field.{flag_name, mark_name}
+use Rattle.answer_lines.specs.Field.{flag_name, punctuation_name}
 use Rattle.answer_lines.specs.Output.{answer_to, answers_to, settings_after}
 use Rattle.answer_lines.specs.Settings.{Settings, standard_settings}
-use Rattle.answer_lines.specs.declared.field.Mark.{Mark}
-use Rattle.answer_lines.specs.declared.field.Mark.TheVariants.{DigitSeparator, BasePrefix, BaseSuffix}
+use Rattle.answer_lines.specs.declared.field.Punctuation.{Punctuation}
+use Rattle.answer_lines.specs.declared.field.Punctuation.TheVariants.{DigitSeparator, BasePrefix, BaseSuffix}
 use Rattle.answer_lines.specs.declared.field.Flag.{Flag}
 use Rattle.answer_lines.specs.declared.field.Flag.TheVariants.{CaseSensitiveBasePrefix, CaseSensitiveBaseSuffix, RequiredIntegerDigits, RequiredMantissaDigits, NoPositiveMantissaSign, RequiredMantissaSign, NoIntegerLeadingZeros, IntegerLeadingDigitSeparator, IntegerInternalDigitSeparator, IntegerTrailingDigitSeparator, IntegerConsecutiveDigitSeparator, IntegerPrefixDigitSeparator, LiteralPrefixes, LiteralOctalZero}
 use Rattle.answer_lines.specs.declared.field.Change.{Change}
@@ -18,11 +18,11 @@ use Rattle.answer_lines.specs.declared.field.Change.TheVariants as set
 
 -- ---- fields
 
--- the value of a mark in a format
-abbrev pub mark_value : Mark → Format → Option ℕ
-mark_value DigitSeparator format = format.digit_separator
-mark_value BasePrefix format = format.base_prefix
-mark_value BaseSuffix format = format.base_suffix
+-- the value of a byte of punctuation in a format
+abbrev pub punctuation_value : Punctuation → Format → Option ℕ
+punctuation_value DigitSeparator format = format.digit_separator
+punctuation_value BasePrefix format = format.base_prefix
+punctuation_value BaseSuffix format = format.base_suffix
 
 -- the value of a flag in a format
 abbrev pub flag_value : Flag → Format → Bool
@@ -46,19 +46,19 @@ flag_value LiteralOctalZero format = format.literal_octal_zero
 -- the radix that a change gives
 abbrev pub radix_given : Change → Option ℕ
 radix_given (set.MantissaRadix value) = Some value
-radix_given (set.Mark mark value) = None
+radix_given (set.Punctuation punctuation value) = None
 radix_given (set.Flag flag value) = None
 radix_given (set.RequiredDigits value) = None
 radix_given (set.NoMultiDigit value) = None
 
--- the value that a change gives a mark
-abbrev pub mark_given : Mark → Change → Option (Option ℕ)
-mark_given mark (set.Mark other value) =
-    if bytes_eq (mark_name mark) (mark_name other) then Some value else None
-mark_given mark (set.MantissaRadix value) = None
-mark_given mark (set.Flag flag value) = None
-mark_given mark (set.RequiredDigits value) = None
-mark_given mark (set.NoMultiDigit value) = None
+-- the value that a change gives a byte of punctuation
+abbrev pub punctuation_given : Punctuation → Change → Option (Option ℕ)
+punctuation_given punctuation (set.Punctuation other value) =
+    if bytes_eq (punctuation_name punctuation) (punctuation_name other) then Some value else None
+punctuation_given punctuation (set.MantissaRadix value) = None
+punctuation_given punctuation (set.Flag flag value) = None
+punctuation_given punctuation (set.RequiredDigits value) = None
+punctuation_given punctuation (set.NoMultiDigit value) = None
 
 -- whether `required_digits` sets a flag
 abbrev pub is_required_digits : Flag → Bool
@@ -72,14 +72,14 @@ flag_given flag (set.Flag other value) =
     if bytes_eq (flag_name flag) (flag_name other) then Some value else None
 flag_given flag (set.RequiredDigits value) = if is_required_digits flag then Some value else None
 flag_given flag (set.MantissaRadix value) = None
-flag_given flag (set.Mark mark value) = None
+flag_given flag (set.Punctuation punctuation value) = None
 flag_given flag (set.NoMultiDigit value) = None
 
 -- the value that a change gives the options' `no_multi_digit`
 abbrev pub no_multi_digit_given : Change → Option Bool
 no_multi_digit_given (set.NoMultiDigit value) = Some value
 no_multi_digit_given (set.MantissaRadix value) = None
-no_multi_digit_given (set.Mark mark value) = None
+no_multi_digit_given (set.Punctuation punctuation value) = None
 no_multi_digit_given (set.Flag flag value) = None
 no_multi_digit_given (set.RequiredDigits value) = None
 
@@ -113,8 +113,9 @@ last_of value (next ∷ more) = last_of next more
 pub record HoldsLastGiven (changes : List Change) (settings : Settings) : Type 0 where
   pub radix : settings.format.mantissa_radix
       ≡ last_of standard.mantissa_radix (filter_map radix_given changes)
-  pub mark : (mark : Mark) → mark_value mark settings.format
-      ≡ last_of (mark_value mark standard) (filter_map (mark_given mark) changes)
+  pub punctuation : (punctuation : Punctuation) → punctuation_value punctuation settings.format
+      ≡ last_of (punctuation_value punctuation standard)
+      (filter_map (punctuation_given punctuation) changes)
   pub flag : (flag : Flag) → flag_value flag settings.format
       ≡ last_of (flag_value flag standard) (filter_map (flag_given flag) changes)
   pub no_multi_digit : settings.no_multi_digit

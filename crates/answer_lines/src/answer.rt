@@ -39,7 +39,7 @@ pub fn answer<W: Write>(
     let command = Command::of(line);
     tell(command, settings, batch, out)?;
     put(b"\n", batch, out)?;
-    obey(command, settings);
+    apply_command(command, settings);
     Ok(())
 }
 
@@ -72,7 +72,7 @@ fn tell<W: Write>(
 }
 
 // Sets what a command sets.
-fn obey(command: Option<Command<'_>>, settings: &mut Settings)
+fn apply_command(command: Option<Command<'_>>, settings: &mut Settings)
     ensures { settings.new
         ≡ command_effect settings.old (option_map view_of_command command.entry) }
 {

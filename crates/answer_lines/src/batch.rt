@@ -199,7 +199,7 @@ fn put_long<W: Write>(number: u128, batch: &mut Batch, out: &mut W) -> Result<()
         (batch.old ++ decimal_text number) }
     ensures fault { IsOkUnless result RunError.Write }
 {
-    let mut digits = [0u8; decimal::MOST];
+    let mut digits = [0u8; decimal::MOST_DIGITS];
     let start = decimal::write_decimal(number, &mut digits);
     put(&digits[start..], batch, out)
 }

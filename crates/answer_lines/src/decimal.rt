@@ -5,18 +5,18 @@ ghost use Rattle.lexical_util.specs.Ascii.{digit_zero};
 ghost use Rattle.answer_lines.specs.Decimal.{decimal_text};
 
 /// The room that the longest text takes.
-pub const MOST: usize = 40;
+pub const MOST_DIGITS: usize = 40;
 
 /// Writes the digits so that they end where the array does, and answers where they start. What is
 /// before them in the array stays.
-pub fn write_decimal(n: u128, place: &mut [u8; MOST]) -> usize
+pub fn write_decimal(n: u128, place: &mut [u8; MOST_DIGITS]) -> usize
     ensures within { result ≤ 40 }
     ensures room { 1 ≤ result }
     ensures written { drop result place.new ≡ decimal_text n }
     ensures kept { take result place.new ≡ take result place.old }
 {
     let mut rest = n;
-    let mut start = MOST;
+    let mut start = MOST_DIGITS;
     while rest > u64::MAX as u128 {
         start -= 1;
         place[start] = b'0' + (rest % 10) as u8;

@@ -2,13 +2,13 @@
 
 ghost use Rattle.std.specs.Prelude.{◌≡◌};
 ghost use Rattle.std.specs.Str.{bytes_eq};
-ghost use Rattle.answer_lines.specs.Field.{change_in, field_name, field_named, flag_name, mark_in, mark_name, radix_in, truth_in};
+ghost use Rattle.answer_lines.specs.Field.{change_in, field_name, field_named, flag_name, punctuation_in, punctuation_name, radix_in, truth_in};
 
 use lexical_parse_integer::FromLexical;
 
 /// A field of a format that is one byte or none.
 #[derive(Debug, Clone, Copy, PartialEq, Eq)]
-pub enum Mark {
+pub enum Punctuation {
     DigitSeparator,
     BasePrefix,
     BaseSuffix,
@@ -37,7 +37,7 @@ pub enum Flag {
 #[derive(Debug, Clone, Copy, PartialEq, Eq)]
 pub enum Field {
     MantissaRadix,
-    Mark(Mark),
+    Punctuation(Punctuation),
     Flag(Flag),
     /// Both flags that ask for digits.
     RequiredDigits,
@@ -49,21 +49,21 @@ pub enum Field {
 #[derive(Debug, Clone, Copy, PartialEq, Eq)]
 pub enum Change {
     MantissaRadix(u8),
-    Mark(Mark, Option<u8>),
+    Punctuation(Punctuation, Option<u8>),
     Flag(Flag, bool),
     RequiredDigits(bool),
     NoMultiDigit(bool),
 }
 
-impl Mark {
+impl Punctuation {
     // The setter's name.
     fn name(self) -> &'static str
-        ensures { result.now ≡ mark_name self }
+        ensures { result.now ≡ punctuation_name self }
     {
         match self {
-            Mark::DigitSeparator => "digit_separator",
-            Mark::BasePrefix => "base_prefix",
-            Mark::BaseSuffix => "base_suffix",
+            Punctuation::DigitSeparator => "digit_separator",
+            Punctuation::BasePrefix => "base_prefix",
+            Punctuation::BaseSuffix => "base_suffix",
         }
     }
 }
@@ -95,9 +95,9 @@ impl Flag {
 /// Every field.
 const FIELDS: [Field; 20] = [
     Field::MantissaRadix,
-    Field::Mark(Mark::DigitSeparator),
-    Field::Mark(Mark::BasePrefix),
-    Field::Mark(Mark::BaseSuffix),
+    Field::Punctuation(Punctuation::DigitSeparator),
+    Field::Punctuation(Punctuation::BasePrefix),
+    Field::Punctuation(Punctuation::BaseSuffix),
     Field::Flag(Flag::CaseSensitiveBasePrefix),
     Field::Flag(Flag::CaseSensitiveBaseSuffix),
     Field::Flag(Flag::RequiredIntegerDigits),
@@ -123,7 +123,7 @@ impl Field {
     {
         match self {
             Field::MantissaRadix => "mantissa_radix",
-            Field::Mark(mark) => mark.name(),
+            Field::Punctuation(punctuation) => punctuation.name(),
             Field::Flag(flag) => flag.name(),
             Field::RequiredDigits => "required_digits",
             Field::NoMultiDigit => "no_multi_digit",
@@ -151,7 +151,10 @@ impl Field {
     {
         match self {
             Field::MantissaRadix => radix_in(text).map(Change::MantissaRadix),
-            Field::Mark(mark) => mark_in(text).map(|value| Change::Mark(mark, value)),
+            Field::Punctuation(punctuation) => punctuation_in(text).map(|value| Change::Punctuation(
+                punctuation,
+                value,
+            )),
             Field::Flag(flag) => truth_in(text).map(|value| Change::Flag(flag, value)),
             Field::RequiredDigits => truth_in(text).map(Change::RequiredDigits),
             Field::NoMultiDigit => truth_in(text).map(Change::NoMultiDigit),
@@ -167,8 +170,8 @@ fn radix_in(text: &[u8]) -> Option<u8>
 }
 
 // `none`, or a text of one byte.
-fn mark_in(text: &[u8]) -> Option<Option<u8>>
-    ensures { result ≡ mark_in text.now }
+fn punctuation_in(text: &[u8]) -> Option<Option<u8>>
+    ensures { result ≡ punctuation_in text.now }
 {
     match text {
         b"none" => Some(None),

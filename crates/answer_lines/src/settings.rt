@@ -1,10 +1,10 @@
 //! What the lines so far have set.
 
 ghost use Rattle.std.specs.Prelude.{◌≡◌};
-ghost use Rattle.answer_lines.specs.Change.{with_change, with_flag, with_mark};
+ghost use Rattle.answer_lines.specs.Change.{with_change, with_flag, with_punctuation};
 ghost use Rattle.answer_lines.specs.Settings.{standard_settings};
 
-use crate::field::{Change, Flag, Mark};
+use crate::field::{Change, Flag, Punctuation};
 use lexical_parse_integer::{NumberFormat, NumberFormatBuilder, Options};
 use std::marker::Model;
 
@@ -56,7 +56,11 @@ impl Settings {
         let format = self.format;
         match change {
             Change::MantissaRadix(value) => self.format = format.mantissa_radix(value),
-            Change::Mark(mark, value) => self.format = with_mark(mark, value, format),
+            Change::Punctuation(punctuation, value) => self.format = with_punctuation(
+                punctuation,
+                value,
+                format,
+            ),
             Change::Flag(flag, value) => self.format = with_flag(flag, value, format),
             Change::RequiredDigits(value) => self.format = format.required_digits(value),
             Change::NoMultiDigit(value) => self.options.set_no_multi_digit(value),
@@ -65,13 +69,17 @@ impl Settings {
 }
 
 // The format with one of its bytes set.
-fn with_mark(mark: Mark, value: Option<u8>, format: NumberFormatBuilder) -> NumberFormatBuilder
-    ensures { result ≡ with_mark mark value format }
+fn with_punctuation(
+    punctuation: Punctuation,
+    value: Option<u8>,
+    format: NumberFormatBuilder,
+) -> NumberFormatBuilder
+    ensures { result ≡ with_punctuation punctuation value format }
 {
-    match mark {
-        Mark::DigitSeparator => format.digit_separator(value),
-        Mark::BasePrefix => format.base_prefix(value),
-        Mark::BaseSuffix => format.base_suffix(value),
+    match punctuation {
+        Punctuation::DigitSeparator => format.digit_separator(value),
+        Punctuation::BasePrefix => format.base_prefix(value),
+        Punctuation::BaseSuffix => format.base_suffix(value),
     }
 }
 

@@ -1,4 +1,5 @@
 -- The proofs beside the functions, a file for each idea.
 pub mod ColumnArrays
 pub mod ColumnRows
+pub mod SureAnswers
 pub mod ZeroBytes

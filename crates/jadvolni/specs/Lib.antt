@@ -3,3 +3,4 @@ pub mod Columns
 pub mod Effect
 pub mod FormatFields
 pub mod Halves
+pub mod Literals

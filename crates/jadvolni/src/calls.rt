@@ -11,7 +11,7 @@ ghost use Rattle.jadvolni.specs.FormatFields.{are_known, format_of};
 use crate::format::FormatFields;
 use crate::outcome::{Outcome, UNKNOWN_FIELD};
 use crate::slot::Slot;
-use lexical_parse_integer::quick::value_if_short;
+use lexical_parse_integer::quick::{complete_if_not_short, front_if_plain, value_if_short};
 use lexical_parse_integer::{
     FromLexical, FromLexicalWithOptions, NumberFormatBuilder, Options, Result, format,
     number_in_front, options,
@@ -20,7 +20,7 @@ use lexical_util::num::Integer;
 
 // Hands over a complete answer of a text of so many bytes.
 #[inline(always)]
-fn give<T: Integer, S: Slot<T>>(answer: Result<T>, size: usize, value: &mut S) -> Outcome
+fn store<T: Integer, S: Slot<T>>(answer: Result<T>, size: usize, value: &mut S) -> Outcome
     ensures { effect result (S.number value.new)
         ≡ complete_effect size (S.number value.old) (view_of T.number answer) }
 {
@@ -57,7 +57,7 @@ fn complete_any<T: FromLexical, S: Slot<T>>(text: &[u8], value: &mut S) -> Outco
     ensures { effect result (S.number value.new)
         ≡ complete_call T.TYPE text.now (S.number value.old) }
 {
-    give(T::from_lexical(text), text.len(), value)
+    store(complete_if_not_short::<T>(text), text.len(), value)
 }
 
 /// The whole text, under the standard format. A short one is read in place, so that an exported call keeps nothing.
@@ -67,7 +67,7 @@ pub fn complete<T: FromLexical, S: Slot<T>>(text: &[u8], value: &mut S) -> Outco
         ≡ complete_call T.TYPE text.now (S.number value.old) }
 {
     match value_if_short::<T>(text, &format::STANDARD) {
-        Some(number) => give(Ok(number), text.len(), value),
+        Some(number) => store(Ok(number), text.len(), value),
         None => complete_any::<T, S>(text, value),
     }
 }
@@ -87,8 +87,7 @@ pub(crate) const UNKNOWN: Outcome = Outcome {
     place: 0,
 };
 
-// The whole text, under a format that is made field by field. It stays a call: else its loads of single fields would
-// come before the test in `complete_under`.
+// The whole text, under a format that is made field by field.
 #[inline(never)]
 fn complete_under_any<T: FromLexicalWithOptions<Options = Options>, S: Slot<T>>(
     text: &[u8],
@@ -102,7 +101,7 @@ fn complete_under_any<T: FromLexicalWithOptions<Options = Options>, S: Slot<T>>(
         return UNKNOWN;
     }
     let answer = T::from_lexical_with_options(text, &fields.format(), &options::STANDARD);
-    give(answer, text.len(), value)
+    store(answer, text.len(), value)
 }
 
 // The whole text, under a format that is standard but for its radix.
@@ -118,12 +117,16 @@ fn complete_in_radix<T: FromLexicalWithOptions<Options = Options>, S: Slot<T>>(
     ensures { effect result (S.number value.new)
         ≡ complete_call_under fields.now T.TYPE text.now (S.number value.old) }
 {
+    if fields.mantissa_radix == 10 {
+        return complete_any::<T, S>(text, value);
+    }
     let format = NumberFormatBuilder::from_radix(fields.mantissa_radix);
     let answer = T::from_lexical_with_options(text, &format, &options::STANDARD);
-    give(answer, text.len(), value)
+    store(answer, text.len(), value)
 }
 
-/// The whole text, under a format that may be invalid.
+/// The whole text, under a format that may be invalid. A short one is read in place where the format is decimal and has
+/// no punctuation: of its fields those alone are looked at that say so, and no format is made.
 #[inline(always)]
 pub fn complete_under<T: FromLexicalWithOptions<Options = Options>, S: Slot<T>>(
     text: &[u8],
@@ -133,13 +136,15 @@ pub fn complete_under<T: FromLexicalWithOptions<Options = Options>, S: Slot<T>>(
     ensures { effect result (S.number value.new)
         ≡ complete_call_under fields.now T.TYPE text.now (S.number value.old) }
 {
-    if !fields.differ_in_radix_alone() {
-        return complete_under_any::<T, S>(text, fields, value);
+    if fields.mantissa_radix == 10 && fields.are_known() {
+        if let Some(number) = value_if_short::<T>(text, &fields.format()) {
+            return store(Ok(number), text.len(), value);
+        }
     }
-    if fields.mantissa_radix == 10 {
-        return complete::<T, S>(text, value);
+    if fields.is_standard_but_radix() {
+        return complete_in_radix::<T, S>(text, fields, value);
     }
-    complete_in_radix::<T, S>(text, fields, value)
+    complete_under_any::<T, S>(text, fields, value)
 }
 
 // The text's front, under a format that is made field by field.
@@ -159,7 +164,7 @@ fn partial_under_any<T: FromLexicalWithOptions<Options = Options>, S: Slot<T>>(
     give_front(answer, value)
 }
 
-/// The text's front, under a format that may be invalid.
+/// The text's front, under a format that may be invalid. Decimal digits are read in place, as by [`complete_under`].
 #[inline(always)]
 pub fn partial_under<T: FromLexicalWithOptions<Options = Options>, S: Slot<T>>(
     text: &[u8],
@@ -169,7 +174,12 @@ pub fn partial_under<T: FromLexicalWithOptions<Options = Options>, S: Slot<T>>(
     ensures { effect result (S.number value.new)
         ≡ partial_call_under fields.now T.TYPE text.now (S.number value.old) }
 {
-    if !fields.differ_in_radix_alone() {
+    if fields.mantissa_radix == 10 && fields.are_known() {
+        if let Some(found) = front_if_plain::<T>(text, &fields.format()) {
+            return give_front(Ok(found), value);
+        }
+    }
+    if !fields.is_standard_but_radix() {
         return partial_under_any::<T, S>(text, fields, value);
     }
     let format = NumberFormatBuilder::from_radix(fields.mantissa_radix);

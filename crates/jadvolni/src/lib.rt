@@ -6,6 +6,7 @@ pub mod columns;
 pub mod format;
 pub mod fronts;
 pub mod halves;
+pub mod literals;
 pub mod outcome;
 pub mod signed;
 pub mod slot;

@@ -81,7 +81,7 @@ fn value_of_blocks<T: Integer>(digits: &[u8], size: usize, negative: bool) -> Op
 }
 
 /// The value of hexadecimal digits, behind a minus where that is negative. Each range of lengths ends on its own, so
-/// that no text pays for what another one needs. It stays out of line, where it keeps all that it needs in registers.
+/// that no text pays for what another one needs. Why out of line: docs/DECISIONS.md, code.
 #[inline(never)]
 pub fn value_of_nibbles<T: Integer>(digits: &[u8], negative: bool) -> Option<T>
     requires some { 1 ≤ length digits.now }

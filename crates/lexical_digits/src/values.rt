@@ -131,7 +131,7 @@ fn with_sixteen<T: Integer>(digits: &[u8], place: usize, value: T) -> Option<T>
 }
 
 /// The value of seventeen digits and more, behind a minus where that is negative: a few digits, and then sixteen by
-/// sixteen. It stays out of line, so that the parser of shorter texts is small enough to be held in place.
+/// sixteen. Why out of line: docs/DECISIONS.md, code.
 #[inline(never)]
 pub fn value_of_long<T: Integer>(digits: &[u8], negative: bool) -> Option<T>
     requires bits { 32 < T.TYPE.bits }

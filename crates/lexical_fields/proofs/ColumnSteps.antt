@@ -13,31 +13,14 @@ use Rattle.lexical_fields.specs.declared.columns.ColumnError.TheVariants.{Invali
 use Rattle.std.specs.Prelude.{IfOk}
 use Rattle.std.proofs.lemmas.Bool.{cases_lt}
 use Rattle.lexical_fields.specs.Columns.{GoesOn, answer_by, answer_of, answers, column, column_numbers, first_fault, next_start, numbers_by, numbers_of, outcome_at, values_before_fault}
-use Rattle.lexical_fields.specs.Fields.{FieldView, field_length, fields, fields_from}
+use Rattle.lexical_fields.specs.Fields.{field_length, fields, fields_from}
 use Rattle.lexical_fields.specs.ReadFields.{field_answer}
+use Rattle.lexical_fields.specs.ReadSoFar.{IsReadSoFar, left_of}
 use Rattle.lexical_fields.proofs.FieldSteps.{next_field}
-
--- the fields of what is left of a text
-abbrev pub left_of : ℕ → List ℕ → List ℕ → List FieldView
-left_of s text rest = fields_from s (length text - length rest) rest
-
--- So many numbers were read into a slice, and what is read of what is left, with them, is what is read of the text.
-pub record IsReading (T : Type 0) (number : T → ℤ) (f : Format) (t : IntegerType) (s : ℕ)
-    (text : List ℕ) (old now : List T) (count : ℕ) (rest : List ℕ) : Type 0 where
-  pub size : length now ≡ length old
-  pub within : length rest ≤ length text
-  pub place : drop count (fields s text) ≡ left_of s text rest
-  pub numbers : map number (take count now)
-      ++ values_before_fault (answers f t (length old - count) (left_of s text rest))
-      ≡ column_numbers f t (length old) s text
-  pub first : first_fault (answers f t (length old - count) (left_of s text rest))
-      ≡ first_fault (answers f t (length old) (fields s text))
-  pub kept : drop count now ≡ drop count old
-  pub tail : rest ≡ drop (length text - length rest) text
 
 -- before the first field
 pub reading_starts : (T : Type 0) (number : T → ℤ) (f : Format) (t : IntegerType) (s : ℕ)
-    (text : List ℕ) (old : List T) → IsReading T number f t s text old old 0 text
+    (text : List ℕ) (old : List T) → IsReadSoFar T number f t s text old old 0 text
 reading_starts T number f t s text old =
     let start : length text - length text ≡ 0 = omega arith in
     let room : length old - 0 ≡ length old = omega arith in
@@ -109,7 +92,7 @@ read_invalid T number f t s text old error invalid =
 
 module _ (T : Type 0) (number : T → ℤ) (f : Format) (t : IntegerType) (s : ℕ) (text : List ℕ)
     (old now : List T) (count : ℕ) (rest : List ℕ)
-    (reading : IsReading T number f t s text old now count rest) where
+    (reading : IsReadSoFar T number f t s text old now count rest) where
   -- the next field, and what is left behind it
   next_left : (field behind : List ℕ) → 0 < length rest → field ≡ take (field_length s rest) rest
       → behind ≡ drop (field_length s rest + 1) rest → length behind ≤ length rest
@@ -136,7 +119,7 @@ module _ (T : Type 0) (number : T → ℤ) (f : Format) (t : IntegerType) (s : �
       → length behind ≤ length rest
       → Ok (number value) ≡ field_answer f t
       (record { start = length text - length rest; text = field })
-      → IsReading T number f t s text old (set now count value) (count + 1) behind
+      → IsReadSoFar T number f t s text old (set now count value) (count + 1) behind
   reading_goes field behind value room some front back shorter told =
       let next = next_answers field behind room some front back shorter in
       let more : answers f t (length old - count) (left_of s text rest)

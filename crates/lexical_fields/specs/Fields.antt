@@ -1,6 +1,7 @@
 -- The fields of a text between one separator byte.
-use Rattle.std.specs.Prelude.{ℕ, ◌+◌, not, if◌then◌else◌, ◌==◌, List, [], ◌∷◌}
-use Rattle.std.specs.List.{prefix_len, slice_split}
+use Rattle.std.specs.Prelude.{ℕ, ◌+◌, if◌then◌else◌, ◌==◌, List, [], ◌∷◌}
+use Rattle.std.specs.List.{slice_split}
+pub use Rattle.lexical_parse_integer.specs.Separated.{field_length}
 
 -- A field: the place in the text at which it starts, and its bytes.
 pub record FieldView : Type 0 where
@@ -24,10 +25,6 @@ fields_from separator place (byte ∷ rest) =
 -- the fields of a text
 abbrev pub fields : ℕ → List ℕ → List FieldView
 fields separator text = fields_from separator 0 text
-
--- how many bytes stand in front of the first separator, or are in the text where it has none
-abbrev pub field_length : ℕ → List ℕ → ℕ
-field_length separator text = prefix_len (λ byte. not (byte == separator)) text
 
 -- ---- pieces
 

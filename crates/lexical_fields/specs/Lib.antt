@@ -5,5 +5,6 @@ pub mod Fields
 pub mod Parts
 pub mod Places
 pub mod ReadFields
+pub mod ReadSoFar
 pub mod Search
 pub mod Threes

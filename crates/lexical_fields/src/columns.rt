@@ -3,7 +3,8 @@
 ghost use Rattle.std.specs.Prelude.{◌≡◌, length, take, drop, map, IfOk};
 ghost use Rattle.lexical_fields.specs.Columns.{GoesOn, answer_of, numbers_of};
 
-use crate::marked::read_next;
+use crate::first::read_first;
+use crate::marked::read_marked;
 use lexical_parse_integer::parse::ParseInteger;
 use lexical_parse_integer::quick::is_separated;
 use lexical_parse_integer::{Error, NumberFormat, Options};
@@ -67,14 +68,11 @@ pub fn read_column<T: ParseInteger>(
     }
     let separated = is_separated(format, separator);
     let mut rest = text;
-    let mut marks = 0;
-    for count in 0..values.len() {
+    let mut count = 0;
+    while count < values.len() && !rest.is_empty() {
         let start = text.len() - rest.len();
-        if rest.is_empty() {
-            return Ok(Column { count, stop: start });
-        }
-        let (answer, behind, more) = read_next::<T>(
-            start, rest, marks, separator, format, options, separated,
+        let (answer, behind, has_marks) = read_first::<T>(
+            start, rest, separator, format, options, separated,
         );
         match answer {
             Ok(value) => values[count] = value,
@@ -87,10 +85,13 @@ pub fn read_column<T: ParseInteger>(
             }
         }
         rest = behind;
-        marks = more;
+        count += 1;
+        if has_marks {
+            (count, rest) = read_marked::<T>(rest, separator, format, values, count);
+        }
     }
     Ok(Column {
-        count: values.len(),
+        count,
         stop: text.len() - rest.len(),
     })
 }

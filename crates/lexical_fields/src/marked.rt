@@ -1,22 +1,19 @@
-// The next field of a text, where marks of the separators in front say where it ends.
-ghost use Rattle.std.specs.Prelude.{◌≡◌, ◌≢◌, ◌+◌, ◌<◌, ◌≤◌, ◌^◌, IfSome, IsNone, IsTrue, Ok, length, take, drop};
+// Fields of digits, where marks of the separators in front say where each ends.
+ghost use Rattle.std.specs.Prelude.{◌≡◌, ◌≢◌, ◌+◌, ◌≤◌, ℕ, List, IfSome, IsNone, IsTrue, Ok, length, take, drop};
 ghost use Rattle.lexical_util.specs.Validity.{fault};
 ghost use Rattle.lexical_digits.specs.WrittenNumbers.{StandsFor};
-ghost use Rattle.lexical_parse_integer.specs.Answer.{view_of};
 ghost use Rattle.lexical_parse_integer.specs.Grammar.{complete};
 ghost use Rattle.lexical_parse_integer.specs.Plain.{IsBehind, keeps_zero_rule};
 ghost use Rattle.lexical_parse_integer.specs.Separated.{IsSeparated};
 ghost use Rattle.lexical_fields.specs.Fields.{field_length};
-ghost use Rattle.lexical_fields.specs.ReadFields.{field_answer};
+ghost use Rattle.lexical_fields.specs.ReadSoFar.{IsReadSoFar};
 ghost use Rattle.lexical_fields.specs.Search.{AreMarks};
 
-use crate::first::read_first;
-use crate::places::field_answer;
 use crate::search::{lowest, marks_in_front};
 use crate::threes::numbers_to_12;
 use lexical_digits::values::{joined, value_of_two};
+use lexical_parse_integer::NumberFormat;
 use lexical_parse_integer::parse::ParseInteger;
-use lexical_parse_integer::{NumberFormat, Options, Result};
 
 // What stands behind a minus that is a sign, and whether there is one.
 #[inline(always)]
@@ -104,32 +101,6 @@ fn value_with_room<T: ParseInteger>(
     value_of_few::<T>(digits, count, negative)
 }
 
-// The answer of a field of so many bytes, with room behind it.
-#[inline(always)]
-fn marked_answer<T: ParseInteger>(
-    start: usize,
-    text: &[u8],
-    size: usize,
-    separator: u8,
-    format: &NumberFormat,
-    options: &Options,
-    separated: bool,
-) -> Result<T>
-    requires valid { IsNone (fault format.now) }
-    requires fits { start + length text.now < 2 ^ 64 }
-    requires room { size + 17 ≤ length text.now }
-    requires separated { IsTrue separated → IsSeparated format.now separator }
-    ensures { view_of T.number result ≡ field_answer format.now T.TYPE
-        (record { start = start; text = take size text.now }) }
-{
-    if separated {
-        if let Some(value) = value_with_room::<T>(text, size, separator, format) {
-            return Ok(value);
-        }
-    }
-    field_answer::<T>(start, &text[..size], format, options)
-}
-
 // The marks that are left, or new ones where none is.
 #[inline(always)]
 fn next_marks(text: &[u8], marks: u64, separator: u8) -> u64
@@ -143,33 +114,56 @@ fn next_marks(text: &[u8], marks: u64, separator: u8) -> u64
     }
 }
 
-// The answer of the first field, which starts at a place, what is behind its separator, and the marks that are left.
+// How many bytes the first field has where its end is marked, what is behind its separator, and the marks of that.
 #[inline(always)]
-pub(crate) fn read_next<'a, T: ParseInteger>(
-    start: usize,
-    text: &'a [u8],
-    marks: u64,
-    separator: u8,
-    format: &NumberFormat,
-    options: &Options,
-    separated: bool,
-) -> (Result<T>, &'a [u8], u64)
-    requires valid { IsNone (fault format.now) }
-    requires fits { start + length text.now < 2 ^ 64 }
-    requires separated { IsTrue separated → IsSeparated format.now separator }
+fn split_marked(text: &[u8], marks: u64, separator: u8) -> (usize, &[u8], u64)
+    requires some { marks ≢ 0 }
     requires marks { AreMarks separator text.now marks }
-    ensures answer { view_of T.number result.0 ≡ field_answer format.now T.TYPE
-        (record { start = start; text = take (field_length separator text.now) text.now }) }
-    ensures behind { result.1.now ≡ drop (field_length separator text.now + 1) text.now }
-    ensures shorter { length result.1.now ≤ length text.now }
+    ensures size { result.0 ≡ field_length separator text.now }
+    ensures room { result.0 + 17 ≤ length text.now }
+    ensures behind { result.1.now ≡ drop (result.0 + 1) text.now }
     ensures marks { AreMarks separator result.1.now result.2 }
 {
-    let marks = next_marks(text, marks, separator);
-    if marks == 0 {
-        let (answer, behind) = read_first::<T>(start, text, separator, format, options, separated);
-        return (answer, behind, 0);
-    }
     let size = lowest(marks);
-    let answer = marked_answer::<T>(start, text, size, separator, format, options, separated);
-    (answer, &text[size + 1..], marks >> size >> 1)
+    (size, &text[size + 1..], marks >> size >> 1)
+}
+
+// Reads fields into a slice behind the numbers that it has, as long as their ends are marked and each is digits alone or
+// behind a minus: how many numbers it has then, and what is left of the text. It stays out of line, so that its loop has
+// the registers to itself.
+#[inline(never)]
+pub(crate) fn read_marked<'a, T: ParseInteger>(
+    text: &'a [u8],
+    separator: u8,
+    format: &NumberFormat,
+    values: &mut [T],
+    count: usize,
+) -> (usize, &'a [u8])
+    requires valid { IsNone (fault format.now) }
+    requires separated { IsSeparated format.now separator }
+    requires room { count ≤ length values.old }
+    ensures reading { (whole : List ℕ) (initial : List T)
+        → IsReadSoFar T T.number format.now T.TYPE separator whole initial values.old count text.now
+        → IsReadSoFar T T.number format.now T.TYPE separator whole initial values.new
+        result.0 result.1.now }
+    ensures more { count ≤ result.0 }
+    ensures room { result.0 ≤ length values.new }
+    ensures size { length values.new ≡ length values.old }
+{
+    let mut rest = text;
+    let mut marks = 0;
+    for i in count..values.len() {
+        marks = next_marks(rest, marks, separator);
+        if marks == 0 {
+            return (i, rest);
+        }
+        let (size, behind, more) = split_marked(rest, marks, separator);
+        let Some(value) = value_with_room::<T>(rest, size, separator, format) else {
+            return (i, rest);
+        };
+        values[i] = value;
+        rest = behind;
+        marks = more;
+    }
+    (values.len(), rest)
 }

@@ -28,12 +28,15 @@ fn marks_of_64(bytes: &[u8], byte: u8) -> u64
         .to_bitmask()
 }
 
+// A text of so many bytes has marks: of its first 64, since sixteen more have to stand behind each.
+pub(crate) const LEAST_MARKED: usize = 80;
+
 // The separators among the first bytes of a text, a bit for each, and none where the text is short.
 #[inline(always)]
 pub(crate) fn marks_in_front(text: &[u8], separator: u8) -> u64
     ensures { AreMarks separator text.now result }
 {
-    if text.len() < 80 {
+    if text.len() < LEAST_MARKED {
         return 0;
     }
     marks_of_64(&text[..64], separator)

@@ -10,7 +10,7 @@ use Rattle.std.specs.Prelude.{◌≢◌, nat_lt, slice_get}
 use Rattle.lexical_util.specs.Digit.{IsRadix, digit, is_between, value_if_below}
 use Rattle.lexical_util.specs.Format.{json}
 use Rattle.lexical_util.specs.Number.{IntegerType, IsNumber}
-use Rattle.lexical_parse_integer.specs.Affixes.{is_affix, marked_radix, octal_zero_at}
+use Rattle.lexical_parse_integer.specs.Affixes.{is_affix, named_radix, octal_zero_at}
 use Rattle.lexical_parse_integer.specs.Grammar.{complete}
 use Rattle.lexical_parse_integer.specs.Laws.{IsNumeralOf, Writes, WritesShortest}
 use Rattle.lexical_parse_integer.specs.Runs.{are_same}
@@ -102,9 +102,9 @@ json_sign t _ _ (a_plus off) = absurd (false≢true (sym off))
 json_sign t _ _ (a_minus on) = inr (refl, refl)
 
 json_prefix : (body prefix : List ℕ) (r : ℕ) → IsPrefix json body prefix r → (prefix ≡ []) × (r ≡ 10)
-unfolding octal_zero_at marked_radix is_affix
+unfolding octal_zero_at named_radix is_affix
 json_prefix body _ _ no_prefix = (refl, refl)
-json_prefix body _ _ (a_prefix c r marked some) = cc
+json_prefix body _ _ (a_prefix c r named some) = cc
 
 json_suffix : (ds suffix : List ℕ) → IsSuffix json ds suffix → suffix ≡ []
 unfolding is_affix

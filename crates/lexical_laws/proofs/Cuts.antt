@@ -8,7 +8,7 @@ use Rattle.lexical_util.specs.declared.error.Error.{Error}
 use Rattle.lexical_util.specs.Digit.{digit}
 use Rattle.lexical_util.specs.Format.{Format}
 use Rattle.lexical_util.specs.Number.{IntegerType}
-use Rattle.lexical_parse_integer.specs.Affixes.{marked_radix, numeral_stop, octal_zero_at, prefix_radix, suffix_at}
+use Rattle.lexical_parse_integer.specs.Affixes.{named_radix, numeral_stop, octal_zero_at, prefix_radix, suffix_at}
 use Rattle.lexical_parse_integer.specs.Head.{head_after, head_behind, head_of, sign}
 use Rattle.lexical_parse_integer.specs.Numeral.{numeral_in}
 use Rattle.lexical_parse_integer.specs.Runs.{are_same, digit_at, digits_between, end_of, is_in_numeral, is_in_passing_run, places, run_passes, separator_at}
@@ -191,28 +191,28 @@ behind_alike : (f : Format) (a b : List ℕ) (s : Bool × ℕ) (p : Option ℕ) 
 behind_alike f a b s None same = ap (λ o. record { is_negative = s.0; is_prefixed = false; is_octal = o; start = s.1; radix = cond o 8 f.mantissa_radix }) same
 behind_alike f a b s (Some r) same = refl
 
--- Two texts have the same zero at a place, and behind it what marks the same radix.
-pub record AreMarkedAlike (f : Format) (a b : List ℕ) (k : ℕ) : Type 0 where
+-- Two texts have the same zero at a place, and behind it what names the same radix.
+pub record ArePrefixedAlike (f : Format) (a b : List ℕ) (k : ℕ) : Type 0 where
   pub zero : are_same (Some 48) (slice_get a k) ≡ are_same (Some 48) (slice_get b k)
-  pub mark : are_same (Some 48) (slice_get b k) ≡ true → marked_radix f (slice_get a (k + 1)) ≡ marked_radix f (slice_get b (k + 1))
+  pub letter : are_same (Some 48) (slice_get b k) ≡ true → named_radix f (slice_get a (k + 1)) ≡ named_radix f (slice_get b (k + 1))
 
-prefix_alike : (f : Format) (a b : List ℕ) (k : ℕ) → AreMarkedAlike f a b k → prefix_radix f a k ≡ prefix_radix f b k
+prefix_alike : (f : Format) (a b : List ℕ) (k : ℕ) → ArePrefixedAlike f a b k → prefix_radix f a k ≡ prefix_radix f b k
 unfolding prefix_radix
 prefix_alike f a b k w = elim (true_or_false (are_same (Some 48) (slice_get b k))) [
-  | inl on ↦ (let m = w.mark on in let z = w.zero in rw (z, on, m) refl)
+  | inl on ↦ (let m = w.letter on in let z = w.zero in rw (z, on, m) refl)
   | inr off ↦ (let z = w.zero in rw (z, off) refl)
 ]
 
-octal_alike : (f : Format) (a b : List ℕ) (k : ℕ) → AreMarkedAlike f a b k → octal_zero_at f a k ≡ octal_zero_at f b k
+octal_alike : (f : Format) (a b : List ℕ) (k : ℕ) → ArePrefixedAlike f a b k → octal_zero_at f a k ≡ octal_zero_at f b k
 unfolding octal_zero_at
 octal_alike f a b k w = ap (λ z. f.literal_octal_zero && z) w.zero
 
-pub head_alike : (f : Format) (t : IntegerType) (a b : List ℕ) → sign f t a ≡ sign f t b → ((s : Bool × ℕ) → sign f t b ≡ Ok s → AreMarkedAlike f a b s.1) → head_of f t a ≡ head_of f t b
+pub head_alike : (f : Format) (t : IntegerType) (a b : List ℕ) → sign f t a ≡ sign f t b → ((s : Bool × ℕ) → sign f t b ≡ Ok s → ArePrefixedAlike f a b s.1) → head_of f t a ≡ head_of f t b
 unfolding head_of
-head_alike f t a b same marks = ap (head_after f a) same ∙ by_sign (sign f t b) refl
+head_alike f t a b same prefixed = ap (head_after f a) same ∙ by_sign (sign f t b) refl
   where
     by_sign : (s : Result (Bool × ℕ) Error) → sign f t b ≡ s → head_after f a s ≡ head_after f b s
     by_sign (Err e) is = refl
     by_sign (Ok s) is =
-        ap (λ p. Ok (head_behind f a s p)) (prefix_alike f a b s.1 (marks s is))
-        ∙ ap Ok (behind_alike f a b s (prefix_radix f b s.1) (octal_alike f a b s.1 (marks s is)))
+        ap (λ p. Ok (head_behind f a s p)) (prefix_alike f a b s.1 (prefixed s is))
+        ∙ ap Ok (behind_alike f a b s (prefix_radix f b s.1) (octal_alike f a b s.1 (prefixed s is)))

@@ -15,7 +15,7 @@ use Rattle.lexical_util.specs.Format.{Format}
 use Rattle.lexical_util.specs.Number.{IntegerType, is_number}
 use Rattle.lexical_util.specs.Validity.{fault}
 use Rattle.lexical_util.proofs.Valid.{digit_below}
-use Rattle.lexical_parse_integer.specs.Affixes.{bare_radix, is_affix, marked_radix, numeral_stop, octal_zero_at, prefix_radix, suffix_at}
+use Rattle.lexical_parse_integer.specs.Affixes.{bare_radix, is_affix, named_radix, numeral_stop, octal_zero_at, prefix_radix, suffix_at}
 use Rattle.lexical_parse_integer.specs.Grammar.{common_faults, digits_required, fault_if, first_fault_or, first_outside, lacks_digits, partial, partial_faults, range_error, range_fault, zero_fault}
 use Rattle.lexical_parse_integer.specs.Head.{Head, chooses_radix, head_after, head_behind, head_of, no_sign, sign, sign_by}
 use Rattle.lexical_parse_integer.specs.Numeral.{Numeral, digit_count, front_value, numeral_in, numeral_value}
@@ -23,9 +23,9 @@ use Rattle.lexical_parse_integer.specs.Runs.{are_same, digit_at, digits_between,
 use Rattle.lexical_parse_integer.proofs.ForCallers.{IsFit, IsStop-end_of, belongs_other, true_or_false}
 use Rattle.lexical_laws.specs.Keeping.{IsForeign}
 use Rattle.lexical_laws.proofs.Bodies.{digit_at-some}
-use Rattle.lexical_laws.proofs.Cuts.{AreMarkedAlike, IsCut, head_alike, numeral_same, places_same, same_end}
+use Rattle.lexical_laws.proofs.Cuts.{ArePrefixedAlike, IsCut, head_alike, numeral_same, places_same, same_end}
 use Rattle.lexical_laws.proofs.Heads.{head_split, no_prefix_radix, sign_split}
-use Rattle.lexical_laws.proofs.Marks.{no_sign_byte, none_marked}
+use Rattle.lexical_laws.proofs.Punctuation.{no_sign_byte, none_named}
 use Rattle.lexical_laws.proofs.MadeIsRead.{no_affix}
 use Rattle.lexical_laws.proofs.Parts.{get_behind, get_within}
 use Rattle.lexical_laws.proofs.ReadIsMade.{head_fit, suffix_here}
@@ -136,32 +136,32 @@ module _ (f : Format) (t : IntegerType) (text rest : List ℕ) (byte : ℕ) (val
           rw (plus, minus) refl
       by_text (c ∷ cs) = refl
 
-  marks : (k : ℕ) → k ≤ length text → AreMarkedAlike f longer text k
-  marks k low = elim (cases_lt k (length text)) [
+  prefixed : (k : ℕ) → k ≤ length text → ArePrefixedAlike f longer text k
+  prefixed k low = elim (cases_lt k (length text)) [
     | inl lt ↦ record {
       zero = ap (are_same (Some 48)) (within k lt);
-      mark = λ on. next_mark (k + 1) (omega arith);
+      letter = λ on. next_named (k + 1) (omega arith);
     }
     | inr ge ↦
         let e : k ≡ length text = omega arith in
         let none : are_same (Some 48) (slice_get text k) ≡ false = ap (λ j. are_same (Some 48) (slice_get text j)) e ∙ ap (are_same (Some 48)) ended ∙ no_byte in
         record {
           zero = ap (λ j. are_same (Some 48) (slice_get longer j)) e ∙ ap (are_same (Some 48)) next ∙ no_zero ∙ sym none;
-          mark = λ on. absurd (false≢true (sym none ∙ on));
+          letter = λ on. absurd (false≢true (sym none ∙ on));
         }
   ]
     where
-      next_mark : (j : ℕ) → j ≤ length text → marked_radix f (slice_get longer j) ≡ marked_radix f (slice_get text j)
-      next_mark j low = elim (cases_lt j (length text)) [
-        | inl lt ↦ ap (marked_radix f) (within j lt)
+      next_named : (j : ℕ) → j ≤ length text → named_radix f (slice_get longer j) ≡ named_radix f (slice_get text j)
+      next_named j low = elim (cases_lt j (length text)) [
+        | inl lt ↦ ap (named_radix f) (within j lt)
         | inr ge ↦
             let e : j ≡ length text = omega arith in
-            ap (λ i. marked_radix f (slice_get longer i)) e ∙ ap (marked_radix f) next ∙ other.prefix
-            ∙ sym (ap (λ i. marked_radix f (slice_get text i)) e ∙ ap (marked_radix f) ended ∙ none_marked f)
+            ap (λ i. named_radix f (slice_get longer i)) e ∙ ap (named_radix f) next ∙ other.prefix
+            ∙ sym (ap (λ i. named_radix f (slice_get text i)) e ∙ ap (named_radix f) ended ∙ none_named f)
       ]
 
   same_head : head_of f t longer ≡ head_of f t text
-  same_head = head_alike f t longer text same_sign (λ s is. marks s.1 (let w = sign_split f t text s is in omega (arith, ap length w.parts, length-append w.front w.rest, w.size)))
+  same_head = head_alike f t longer text same_sign (λ s is. prefixed s.1 (let w = sign_split f t text s is in omega (arith, ap length w.parts, length-append w.front w.rest, w.size)))
 
   -- ---- the numeral
 
@@ -172,7 +172,7 @@ module _ (f : Format) (t : IntegerType) (text rest : List ℕ) (byte : ℕ) (val
         omega (arith, ap length w.parts, length-append w.front (w.prefix ++ w.more), length-append w.prefix w.more, w.start)
 
     fit : IsFit f h.radix
-    fit = let w = head_split f t text h head in head_fit f w.prefix w.more h valid w.marks
+    fit = let w = head_split f t text h head in head_fit f w.prefix w.more h valid w.prefixed
 
     no_digit : digit byte h.radix ≡ None
     no_digit = digit_below 36 h.radix byte (fit.is_radix.high) other.digit
@@ -318,10 +318,10 @@ some_digit f pre r c cs first = by_end (end_of f pre r (c ∷ cs) 0) refl
         absurd (false≢true (sym off ∙ ap (is_in_numeral f pre r (c ∷ cs) 0) e ∙ here))
     by_end (suc n) e = let size : suc n - 0 ≡ suc n = omega arith in rw size (rw first (ne_eqb (suc _) 0 (λ e. omega arith)))
 
--- no byte marks a radix
-unmarked : (f : Format) (c : ℕ) → f.base_prefix ≡ None → f.literal_prefixes ≡ false → marked_radix f (Some c) ≡ None
-unfolding marked_radix is_affix
-unmarked f c none unasked = rw (none, unasked) refl
+-- no byte names a radix
+unprefixed : (f : Format) (c : ℕ) → f.base_prefix ≡ None → f.literal_prefixes ≡ false → named_radix f (Some c) ≡ None
+unfolding named_radix is_affix
+unprefixed f c none unasked = rw (none, unasked) refl
 
 -- what can be wrong with a numeral that has a digit
 faults_are : (f : Format) (t : IntegerType) (text : List ℕ) (h : Head) (x : Numeral) → (h.start == length text) ≡ false → (digit_count x == 0) ≡ false →
@@ -348,7 +348,7 @@ digit_read f t c cs valid first none unasked = by_flag f.required_mantissa_sign 
         let both = sym faulty ∙ e in cc
     by_flag false off e =
         let sign_is : sign f t (c ∷ cs) ≡ Ok (false, 0) = unsigned ∙ ap (λ b. cond b (Err (MissingSign 0)) (Ok (false, 0))) off in
-        let prefix : prefix_radix f (c ∷ cs) 0 ≡ None = no_prefix_radix f (c ∷ cs) (λ b here. unmarked f b none unasked) in
+        let prefix : prefix_radix f (c ∷ cs) 0 ≡ None = no_prefix_radix f (c ∷ cs) (λ b here. unprefixed f b none unasked) in
         let h : Head = head_behind f (c ∷ cs) (false, 0) None in
         let head : head_of f t (c ∷ cs) ≡ Ok h = ap (head_after f (c ∷ cs)) sign_is ∙ ap (λ p. Ok (head_behind f (c ∷ cs) (false, 0) p)) prefix in
         let x : Numeral = numeral_in f false (bare_radix f (c ∷ cs) 0) (c ∷ cs) 0 in

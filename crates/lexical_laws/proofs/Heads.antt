@@ -7,12 +7,12 @@ use Rattle.lexical_util.specs.declared.error.Error.{Error}
 use Rattle.lexical_util.specs.declared.error.Error.TheVariants.{InvalidPositiveSign, MissingSign}
 use Rattle.lexical_util.specs.Format.{Format}
 use Rattle.lexical_util.specs.Number.{IntegerType}
-use Rattle.lexical_parse_integer.specs.Affixes.{bare_radix, marked_radix, octal_zero_at, prefix_radix}
+use Rattle.lexical_parse_integer.specs.Affixes.{bare_radix, named_radix, octal_zero_at, prefix_radix}
 use Rattle.lexical_parse_integer.specs.Head.{Head, head_after, head_behind, head_of, no_sign, sign, sign_by}
 use Rattle.lexical_parse_integer.specs.Runs.{are_same}
 use Rattle.lexical_laws.specs.Integer.{IsSign}
 use Rattle.lexical_laws.specs.Integer.IsSign.{no_sign as none, a_plus, a_minus}
-use Rattle.lexical_laws.proofs.Marks.{none_marked}
+use Rattle.lexical_laws.proofs.Punctuation.{none_named}
 use Rattle.lexical_laws.proofs.Parts.{get_behind}
 
 -- ---- the sign
@@ -95,41 +95,41 @@ octal_at f front rest =
     let here : slice_get (front ++ rest) (length front) ≡ slice_get rest 0 = ap (slice_get (front ++ rest)) (sym e) ∙ get_behind front rest 0 in
     rw here refl
 
--- no prefix is where no byte behind a zero marks a radix
-pub no_prefix_radix : (f : Format) (rest : List ℕ) → ((c : ℕ) → slice_get rest 1 ≡ Some c → marked_radix f (Some c) ≡ None) → prefix_radix f rest 0 ≡ None
+-- no prefix is where no byte behind a zero names a radix
+pub no_prefix_radix : (f : Format) (rest : List ℕ) → ((c : ℕ) → slice_get rest 1 ≡ Some c → named_radix f (Some c) ≡ None) → prefix_radix f rest 0 ≡ None
 unfolding prefix_radix
-no_prefix_radix f rest unmarked = by_zero (are_same (Some 48) (slice_get rest 0))
+no_prefix_radix f rest unprefixed = by_zero (are_same (Some 48) (slice_get rest 0))
   where
-    by_next : (o : Option ℕ) → slice_get rest 1 ≡ o → marked_radix f o ≡ None
-    by_next None e = none_marked f
-    by_next (Some c) e = unmarked c e
+    by_next : (o : Option ℕ) → slice_get rest 1 ≡ o → named_radix f o ≡ None
+    by_next None e = none_named f
+    by_next (Some c) e = unprefixed c e
 
-    by_zero : (b : Bool) → cond b (marked_radix f (slice_get rest 1)) None ≡ None
+    by_zero : (b : Bool) → cond b (named_radix f (slice_get rest 1)) None ≡ None
     by_zero true = by_next (slice_get rest 1) refl
     by_zero false = refl
 
-pub prefix_told : (f : Format) (rest : List ℕ) (r : ℕ) → prefix_radix f rest 0 ≡ Some r → (byte : ℕ) × (more : List ℕ) × (rest ≡ 48 ∷ byte ∷ more) × (marked_radix f (Some byte) ≡ Some r)
+pub prefix_told : (f : Format) (rest : List ℕ) (r : ℕ) → prefix_radix f rest 0 ≡ Some r → (byte : ℕ) × (more : List ℕ) × (rest ≡ 48 ∷ byte ∷ more) × (named_radix f (Some byte) ≡ Some r)
 unfolding prefix_radix are_same
 prefix_told f [] r e = cc
 prefix_told f (b ∷ []) r e = by_zero (b == 48) e
   where
-    by_zero : (z : Bool) → cond z (marked_radix f None) None ≡ Some r → (byte : ℕ) × (more : List ℕ) × (b ∷ [] ≡ 48 ∷ byte ∷ more) × (marked_radix f (Some byte) ≡ Some r)
-    by_zero true e = let none = none_marked f in absurd (cc)
+    by_zero : (z : Bool) → cond z (named_radix f None) None ≡ Some r → (byte : ℕ) × (more : List ℕ) × (b ∷ [] ≡ 48 ∷ byte ∷ more) × (named_radix f (Some byte) ≡ Some r)
+    by_zero true e = let none = none_named f in absurd (cc)
     by_zero false e = cc
 prefix_told f (b ∷ c ∷ more) r e = by_zero (b == 48) refl e
   where
-    by_zero : (z : Bool) → (b == 48) ≡ z → cond z (marked_radix f (Some c)) None ≡ Some r → (byte : ℕ) × (more' : List ℕ) × (b ∷ c ∷ more ≡ 48 ∷ byte ∷ more') × (marked_radix f (Some byte) ≡ Some r)
+    by_zero : (z : Bool) → (b == 48) ≡ z → cond z (named_radix f (Some c)) None ≡ Some r → (byte : ℕ) × (more' : List ℕ) × (b ∷ c ∷ more ≡ 48 ∷ byte ∷ more') × (named_radix f (Some byte) ≡ Some r)
     by_zero true is e = let here : b ≡ 48 = grind (arith, nat_tests) in (c, more, ap (λ x. x ∷ c ∷ more) here, e)
     by_zero false is e = cc
 
 -- ---- the head
 
-pub head_marked : (f : Format) (t : IntegerType) (front more : List ℕ) (minus : Bool) (byte r : ℕ) → IsSign f t front minus → marked_radix f (Some byte) ≡ Some r →
+pub head_named : (f : Format) (t : IntegerType) (front more : List ℕ) (minus : Bool) (byte r : ℕ) → IsSign f t front minus → named_radix f (Some byte) ≡ Some r →
     head_of f t (front ++ 48 ∷ byte ∷ more) ≡ Ok (record { is_negative = minus; is_prefixed = true; is_octal = false; start = length front + 2; radix = r })
 unfolding head_of prefix_radix are_same
-head_marked f t front more minus byte r may marked =
+head_named f t front more minus byte r may named =
     let sign' = sign_is f t front (48 ∷ byte ∷ more) minus may (λ b e. (λ is. absurd (let first : 48 ≡ b = cc in omega arith), λ is. absurd (let first : 48 ≡ b = cc in omega arith))) in
-    let prefix : prefix_radix f (front ++ 48 ∷ byte ∷ more) (length front) ≡ Some r = prefix_at f front (48 ∷ byte ∷ more) ∙ marked in
+    let prefix : prefix_radix f (front ++ 48 ∷ byte ∷ more) (length front) ≡ Some r = prefix_at f front (48 ∷ byte ∷ more) ∙ named in
     rw (sign', prefix) refl
 
 pub head_bare : (f : Format) (t : IntegerType) (front rest : List ℕ) (minus : Bool) → IsSign f t front minus → BeginsUnsigned rest → prefix_radix f rest 0 ≡ None →
@@ -141,10 +141,10 @@ head_bare f t front rest minus may unsigned none_here =
     rw (sign', prefix, octal_at f front rest) refl
 
 -- What a prefix, or none, says of a head.
-abbrev pub MarksHead : Format → List ℕ → List ℕ → Head → Type 0
-MarksHead f prefix more h =
+abbrev pub HasPrefix : Format → List ℕ → List ℕ → Head → Type 0
+HasPrefix f prefix more h =
     ((prefix ≡ []) × (h.radix ≡ bare_radix f more 0) × (h.is_octal ≡ octal_zero_at f more 0) × (h.is_prefixed ≡ false))
-    ⊎ ((byte : ℕ) × (prefix ≡ 48 ∷ byte ∷ []) × (marked_radix f (Some byte) ≡ Some h.radix) × (h.is_prefixed ≡ true))
+    ⊎ ((byte : ℕ) × (prefix ≡ 48 ∷ byte ∷ []) × (named_radix f (Some byte) ≡ Some h.radix) × (h.is_prefixed ≡ true))
 
 -- A text is a sign, a prefix and more, as its head says.
 pub record HeadSplit (f : Format) (t : IntegerType) (text : List ℕ) (h : Head) : Type 0 where
@@ -155,7 +155,7 @@ pub record HeadSplit (f : Format) (t : IntegerType) (text : List ℕ) (h : Head)
   pub may : IsSign f t front h.is_negative
   pub start : h.start ≡ length front + length prefix
   pub short : length front ≤ 1
-  pub marks : MarksHead f prefix more h
+  pub prefixed : HasPrefix f prefix more h
 
 pub head_split : (f : Format) (t : IntegerType) (text : List ℕ) (h : Head) → head_of f t text ≡ Ok h → HeadSplit f t text h
 unfolding head_of
@@ -185,7 +185,7 @@ head_split f t text h e = by_sign (sign f t text) refl e
               may = w.may;
               start = w.size ∙ omega arith;
               short = w.short;
-              marks = inl (refl, ap (λ o. cond o 8 f.mantissa_radix) same_octal, same_octal, refl);
+              prefixed = inl (refl, ap (λ o. cond o 8 f.mantissa_radix) same_octal, same_octal, refl);
             })
         by_prefix (Some r) some =
             let told = prefix_told f w.rest r some in
@@ -198,5 +198,5 @@ head_split f t text h e = by_sign (sign f t text) refl e
               may = w.may;
               start = omega (arith, w.size);
               short = w.short;
-              marks = inr (told.0, refl, told.3, refl);
+              prefixed = inr (told.0, refl, told.3, refl);
             })

@@ -7,7 +7,7 @@ use Rattle.lexical_util.specs.Digit.{digit}
 use Rattle.lexical_util.specs.Format.{Format}
 use Rattle.lexical_util.specs.Number.{integer_type}
 use Rattle.lexical_util.specs.Validity.{fault}
-use Rattle.lexical_parse_integer.specs.Affixes.{is_affix, literal_radix, marked_radix, matches}
+use Rattle.lexical_parse_integer.specs.Affixes.{is_affix, literal_radix, named_radix, matches}
 use Rattle.lexical_parse_integer.specs.Grammar.{partial}
 use Rattle.lexical_parse_integer.specs.Runs.{are_same, digit_at}
 use Rattle.lexical_laws.specs.Keeping.{PartsTokens, moved}
@@ -134,7 +134,7 @@ module _ (ends : FrontEnds) (f : Format) (byte : ℕ) (rest : List ℕ) (valid :
 
 -- a line feed parts their tokens
 pub line_feed_parts : PartsTokens literals 10
-unfolding marked_radix literal_radix is_affix matches are_same
+unfolding named_radix literal_radix is_affix matches are_same
 line_feed_parts = record {
   skipped = refl;
   foreign = record { digit = refl; plus = λ e. omega arith; minus = λ e. omega arith; separator = refl; prefix = refl; suffix = refl };

@@ -11,7 +11,7 @@ use Rattle.lexical_util.specs.Format.{Format}
 use Rattle.lexical_util.specs.Number.{IntegerType}
 use Rattle.lexical_util.specs.Validity.{fault, lower_case}
 use Rattle.lexical_util.proofs.Valid.{digit-alike}
-use Rattle.lexical_parse_integer.specs.Affixes.{bare_radix, is_affix, literal_radix, marked_radix, matches, octal_zero_at}
+use Rattle.lexical_parse_integer.specs.Affixes.{bare_radix, is_affix, literal_radix, named_radix, matches, octal_zero_at}
 use Rattle.lexical_parse_integer.specs.Grammar.{complete}
 use Rattle.lexical_parse_integer.specs.Runs.{are_same}
 use Rattle.lexical_laws.specs.Integer.{HasRun, IsInteger, IsPrefix, IsSign, IsSuffix, is_separator, may_lead, may_part}
@@ -94,9 +94,9 @@ module _ (f : Format) (case : IgnoresCase f) where
   unfolding literal_radix
   same_letter c b alike = rw (same_affix (Some 120) c b alike, same_affix (Some 111) c b alike, same_affix (Some 98) c b alike) refl
 
-  same_marked : (c b : ℕ) → lower_case c ≡ lower_case b → marked_radix f (Some c) ≡ marked_radix f (Some b)
-  unfolding marked_radix
-  same_marked c b alike = rw (case.prefix, same_affix f.base_prefix c b alike, same_letter c b alike) refl
+  same_named : (c b : ℕ) → lower_case c ≡ lower_case b → named_radix f (Some c) ≡ named_radix f (Some b)
+  unfolding named_radix
+  same_named c b alike = rw (case.prefix, same_affix f.base_prefix c b alike, same_letter c b alike) refl
 
   other_sign : (t : IntegerType) (front xs : List ℕ) (m : Bool) → AreAlike xs front → IsSign f t front m → IsSign f t xs m
   other_sign t _ xs _ alike (none off) = subst (λ ys. IsSign f t ys false) (sym (empty_alike xs alike)) (none off)
@@ -137,13 +137,13 @@ module _ (f : Format) (case : IgnoresCase f) where
   other_prefix : (body prefix ys xs : List ℕ) (r : ℕ) → AreAlike ys body → AreAlike xs prefix → IsPrefix f body prefix r → IsPrefix f ys xs r
   other_prefix body _ ys xs _ same alike no_prefix =
       subst (λ zs. IsPrefix f ys zs (bare_radix f body 0)) (sym (empty_alike xs alike)) (subst (IsPrefix f ys []) (ap (λ o. cond o 8 f.mantissa_radix) (same_octal body ys same)) no_prefix)
-  other_prefix body _ ys xs _ same alike (a_prefix c r marked some) =
+  other_prefix body _ ys xs _ same alike (a_prefix c r named some) =
       let two = split_alike xs (48 ∷ []) (c ∷ []) alike in
       let zero' = one_alike two.0 48 two.3 in
       let letter = one_alike two.1 c two.4 in
       let is_zero : zero'.0 ≡ 48 = kept zero'.0 48 refl zero'.2 in
       let whole : xs ≡ 48 ∷ letter.0 ∷ [] = two.2 ∙ ap (λ zs. zs ++ two.1) (zero'.1 ∙ ap (λ z. z ∷ []) is_zero) ∙ ap (λ zs. 48 ∷ zs) letter.1 in
-      subst (λ zs. IsPrefix f ys zs r) (sym whole) (a_prefix letter.0 r (same_marked letter.0 c letter.2 ∙ marked) (λ is. some (empty_alike body (sym same ∙ ap (map lower_case) is))))
+      subst (λ zs. IsPrefix f ys zs r) (sym whole) (a_prefix letter.0 r (same_named letter.0 c letter.2 ∙ named) (λ is. some (empty_alike body (sym same ∙ ap (map lower_case) is))))
 
   other_bytes : (body xs ds : List ℕ) (r : ℕ) → AreAlike xs body → BytesAre f r body ds → BytesAre f r xs ds
   other_bytes body xs ds r alike bytes = same_digits body xs alike ∙ bytes

@@ -1,7 +1,7 @@
 -- The lemmas of the proofs, a file for each subject.
 pub mod Bodies
 pub mod Heads
-pub mod Marks
+pub mod Punctuation
 pub mod Parts
 pub mod RunParts
 pub mod Runs

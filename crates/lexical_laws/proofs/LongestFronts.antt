@@ -12,7 +12,7 @@ use Rattle.lexical_util.specs.declared.error.Error.{Error}
 use Rattle.lexical_util.specs.Format.{Format}
 use Rattle.lexical_util.specs.Number.{IntegerType}
 use Rattle.lexical_util.specs.Validity.{fault}
-use Rattle.lexical_parse_integer.specs.Affixes.{is_affix, marked_radix, numeral_stop, prefix_radix, suffix_at}
+use Rattle.lexical_parse_integer.specs.Affixes.{is_affix, named_radix, numeral_stop, prefix_radix, suffix_at}
 use Rattle.lexical_parse_integer.specs.Fronts.{has_digit, has_digit_behind, if_digit, number_in_front}
 use Rattle.lexical_parse_integer.specs.Grammar.{complete, digits_required, first_fault_or, partial, range_fault, zero_fault}
 use Rattle.lexical_parse_integer.specs.Head.{Head, chooses_radix, head_after, head_behind, head_of, sign, sign_by}
@@ -26,7 +26,7 @@ use Rattle.lexical_laws.proofs.DeadPlaces.{inside_other, settled_dead}
 use Rattle.lexical_laws.proofs.ForeignBytes.{partial_is, partial_fault}
 use Rattle.lexical_laws.proofs.Heads.{head_split}
 use Rattle.lexical_laws.proofs.MadeIsRead.{complete_is, integer_is_read, no_affix}
-use Rattle.lexical_laws.proofs.Marks.{none_marked}
+use Rattle.lexical_laws.proofs.Punctuation.{none_named}
 use Rattle.lexical_laws.proofs.Parts.{get_within}
 use Rattle.lexical_laws.proofs.ReadIsMade.{head_fit, read_is_integer, suffix_here}
 use Rattle.lexical_laws.proofs.Runs.{run_at, run_in_numeral, run_of}
@@ -143,7 +143,7 @@ module _ (f : Format) (t : IntegerType) (text : List ℕ) (p : ℕ) (h : Head) (
       omega (arith, ap length w.parts, length-append w.front (w.prefix ++ w.more), length-append w.prefix w.more, w.start)
 
   fit : IsFit f h.radix
-  fit = let w = head_split f t text h head in head_fit f w.prefix w.more h valid w.marks
+  fit = let w = head_split f t text h head in head_fit f w.prefix w.more h valid w.prefixed
 
   begins : h.start < end
   begins = some_end f h.is_prefixed h.radix text h.start start_low some
@@ -187,12 +187,12 @@ module _ (f : Format) (t : IntegerType) (text : List ℕ) (p : ℕ) (h : Head) (
   start_behind s is None e = let told : ◌≡◌ {A = Result Head Error} (Ok (head_behind f text s None)) (Ok h) = sym (ap (head_after f text) is ∙ ap (λ q. Ok (head_behind f text s q)) e) ∙ head in let same : head_behind f text s None ≡ h = cc in sym (ap (λ (g : Head). g.start) same)
   start_behind s is (Some r) e = let told : ◌≡◌ {A = Result Head Error} (Ok (head_behind f text s (Some r))) (Ok h) = sym (ap (head_after f text) is ∙ ap (λ q. Ok (head_behind f text s q)) e) ∙ head in let same : head_behind f text s (Some r) ≡ h = cc in sym (ap (λ (g : Head). g.start) same)
 
-  mark_at : (s : Bool × ℕ) → (o : Option ℕ) → prefix_radix f text s.1 ≡ o → h.start ≡ cond (is_some o) (s.1 + 2) s.1 → end ≤ p → are_same (Some 48) (slice_get text s.1) ≡ true → marked_radix f (slice_get front (s.1 + 1)) ≡ marked_radix f (slice_get text (s.1 + 1))
+  same_prefix : (s : Bool × ℕ) → (o : Option ℕ) → prefix_radix f text s.1 ≡ o → h.start ≡ cond (is_some o) (s.1 + 2) s.1 → end ≤ p → are_same (Some 48) (slice_get text s.1) ≡ true → named_radix f (slice_get front (s.1 + 1)) ≡ named_radix f (slice_get text (s.1 + 1))
   unfolding prefix_radix
-  mark_at s (Some r) e at inside on = let b = begins in ap (marked_radix f) (bytes (s.1 + 1) (omega arith))
-  mark_at s None e at inside on = elim (cases_lt (s.1 + 1) p) [
-    | inl lt ↦ ap (marked_radix f) (bytes (s.1 + 1) lt)
-    | inr ge ↦ (let none = slice_get_past front (s.1 + 1) (omega (arith, size)) in ap (marked_radix f) none ∙ none_marked f ∙ sym (rw on at e))
+  same_prefix s (Some r) e at inside on = let b = begins in ap (named_radix f) (bytes (s.1 + 1) (omega arith))
+  same_prefix s None e at inside on = elim (cases_lt (s.1 + 1) p) [
+    | inl lt ↦ ap (named_radix f) (bytes (s.1 + 1) lt)
+    | inr ge ↦ (let none = slice_get_past front (s.1 + 1) (omega (arith, size)) in ap (named_radix f) none ∙ none_named f ∙ sym (rw on at e))
   ]
 
   same_head : end ≤ p → head_of f t front ≡ Ok h
@@ -203,7 +203,7 @@ module _ (f : Format) (t : IntegerType) (text : List ℕ) (p : ℕ) (h : Head) (
       let first : s.1 ≤ h.start = before (prefix_radix f text s.1) s.1 at in
       record {
         zero = ap (are_same (Some 48)) (bytes s.1 (omega arith));
-        mark = mark_at s (prefix_radix f text s.1) refl at inside;
+        letter = same_prefix s (prefix_radix f text s.1) refl at inside;
       })) ∙ head
     where
       before : (o : Option ℕ) (n : ℕ) → h.start ≡ cond (is_some o) (n + 2) n → n ≤ h.start

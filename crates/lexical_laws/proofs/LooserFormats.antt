@@ -9,7 +9,7 @@ use Rattle.lexical_util.specs.Format.{Format}
 use Rattle.lexical_util.specs.Number.{IntegerType}
 use Rattle.lexical_util.specs.Validity.{fault, has_unfit_literals, lower_case}
 use Rattle.lexical_util.proofs.Valid.{passes_rules}
-use Rattle.lexical_parse_integer.specs.Affixes.{bare_radix, is_affix, literal_radix, marked_radix, matches, octal_zero_at}
+use Rattle.lexical_parse_integer.specs.Affixes.{bare_radix, is_affix, literal_radix, named_radix, matches, octal_zero_at}
 use Rattle.lexical_parse_integer.specs.Grammar.{complete}
 use Rattle.lexical_parse_integer.specs.Runs.{are_same}
 use Rattle.lexical_laws.specs.Integer.{HasRun, IsInteger, IsPrefix, IsSign, IsSuffix, is_separator, may_lead, may_part}
@@ -19,7 +19,7 @@ use Rattle.lexical_laws.specs.Integer.IsSuffix.{no_suffix, a_suffix}
 use Rattle.lexical_laws.specs.Keeping.{AdmitsMore, Implies}
 use Rattle.lexical_laws.proofs.Bodies.{BytesAre, bytes_fit, bytes_values, fitting_bytes}
 use Rattle.lexical_laws.proofs.MadeIsRead.{integer_is_read}
-use Rattle.lexical_laws.proofs.Marks.{separator_is}
+use Rattle.lexical_laws.proofs.Punctuation.{separator_is}
 use Rattle.lexical_laws.proofs.Parts.{get_behind, get_replicate, get_within}
 use Rattle.lexical_laws.proofs.ReadIsMade.{read_is_integer}
 use Rattle.lexical_laws.proofs.WhatIsRead.{no_digit, none_of, prefix_fit}
@@ -53,9 +53,9 @@ set_affix s None p c same t = absurd (false≢true t)
 set_affix s (Some m) p c (inl e) t = cc
 set_affix s (Some m) p c (inr e) t = rw e t
 
-no_mark : (s : Bool) (c : Option ℕ) → is_affix s None c ≡ false
+no_affix : (s : Bool) (c : Option ℕ) → is_affix s None c ≡ false
 unfolding is_affix
-no_mark s c = refl
+no_affix s c = refl
 
 same_byte : (s : ℕ) → are_same (Some s) (Some s) ≡ true
 unfolding are_same
@@ -95,19 +95,19 @@ no_own f valid asked =
         by_prefix (Some m) e = absurd (false≢true (sym e))
 
 module _ (f g : Format) (valid_f : IsNone (fault f)) (valid : IsNone (fault g)) (more : AdmitsMore f g) where
-  marked_loose : (c r : ℕ) → marked_radix f (Some c) ≡ Some r → marked_radix g (Some c) ≡ Some r
-  unfolding marked_radix
-  marked_loose c r e = by_own (is_affix f.case_sensitive_base_prefix f.base_prefix (Some c)) refl e
+  named_loose : (c r : ℕ) → named_radix f (Some c) ≡ Some r → named_radix g (Some c) ≡ Some r
+  unfolding named_radix
+  named_loose c r e = by_own (is_affix f.case_sensitive_base_prefix f.base_prefix (Some c)) refl e
     where
-      by_asked : (asked : Bool) → f.literal_prefixes ≡ asked → cond asked (literal_radix f.case_sensitive_base_prefix (Some c)) None ≡ Some r → marked_radix g (Some c) ≡ Some r
+      by_asked : (asked : Bool) → f.literal_prefixes ≡ asked → cond asked (literal_radix f.case_sensitive_base_prefix (Some c)) None ≡ Some r → named_radix g (Some c) ≡ Some r
       by_asked false a e = cc
       by_asked true a e =
           let asked : g.literal_prefixes ≡ true = more.literals ∙ a in
-          let own : is_affix g.case_sensitive_base_prefix g.base_prefix (Some c) ≡ false = ap (λ o. is_affix g.case_sensitive_base_prefix o (Some c)) (no_own g (none_of (fault g) valid) asked) ∙ no_mark g.case_sensitive_base_prefix (Some c) in
+          let own : is_affix g.case_sensitive_base_prefix g.base_prefix (Some c) ≡ false = ap (λ o. is_affix g.case_sensitive_base_prefix o (Some c)) (no_own g (none_of (fault g) valid) asked) ∙ no_affix g.case_sensitive_base_prefix (Some c) in
           let letter = literal_loose f.case_sensitive_base_prefix g.case_sensitive_base_prefix c r more.prefix_case e in
           rw (own, asked) letter
 
-      by_own : (own : Bool) → is_affix f.case_sensitive_base_prefix f.base_prefix (Some c) ≡ own → cond own (Some f.mantissa_radix) (cond f.literal_prefixes (literal_radix f.case_sensitive_base_prefix (Some c)) None) ≡ Some r → marked_radix g (Some c) ≡ Some r
+      by_own : (own : Bool) → is_affix f.case_sensitive_base_prefix f.base_prefix (Some c) ≡ own → cond own (Some f.mantissa_radix) (cond f.literal_prefixes (literal_radix f.case_sensitive_base_prefix (Some c)) None) ≡ Some r → named_radix g (Some c) ≡ Some r
       by_own false o e = by_asked f.literal_prefixes refl e
       by_own true o e =
           let own : is_affix g.case_sensitive_base_prefix g.base_prefix (Some c) ≡ true = affix_loose f.case_sensitive_base_prefix g.case_sensitive_base_prefix g.base_prefix c more.prefix_case (set_affix f.case_sensitive_base_prefix f.base_prefix g.base_prefix c more.prefix o) in
@@ -122,7 +122,7 @@ module _ (f g : Format) (valid_f : IsNone (fault f)) (valid : IsNone (fault g)) 
 
   loose_prefix : (body prefix : List ℕ) (r : ℕ) → IsPrefix f body prefix r → IsPrefix g body prefix r
   loose_prefix body _ _ no_prefix = subst (IsPrefix g body []) (same_bare body) no_prefix
-  loose_prefix body _ _ (a_prefix c r marked some) = a_prefix c r (marked_loose c r marked) some
+  loose_prefix body _ _ (a_prefix c r named some) = a_prefix c r (named_loose c r named) some
 
   loose_sign : (t : IntegerType) (front : List ℕ) (m : Bool) → IsSign f t front m → IsSign g t front m
   loose_sign t _ _ (none off) = none (unset f.required_mantissa_sign g.required_mantissa_sign more.sign off)

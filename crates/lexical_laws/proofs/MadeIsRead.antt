@@ -25,8 +25,8 @@ use Rattle.lexical_laws.specs.Integer.IsPrefix.{no_prefix, a_prefix}
 use Rattle.lexical_laws.specs.Integer.IsSuffix.{no_suffix, a_suffix}
 use Rattle.lexical_laws.specs.Keeping.{IsRangeFault}
 use Rattle.lexical_laws.proofs.Bodies.{BytesAre, StandsAt, bytes_fit, bytes_values, digit_at-some, values_at}
-use Rattle.lexical_laws.proofs.Heads.{BeginsUnsigned, head_bare, head_marked, no_prefix_radix}
-use Rattle.lexical_laws.proofs.Marks.{MayFollow, no_sign_byte, not_marked}
+use Rattle.lexical_laws.proofs.Heads.{BeginsUnsigned, head_bare, head_named, no_prefix_radix}
+use Rattle.lexical_laws.proofs.Punctuation.{MayFollow, no_sign_byte, not_named}
 use Rattle.lexical_laws.proofs.Parts.{get_behind, get_within}
 use Rattle.lexical_laws.proofs.RunParts.{runs_pass, some_in}
 use Rattle.lexical_laws.proofs.Runs.{IsRegion, region_end}
@@ -76,7 +76,7 @@ record HeadMade (f : Format) (t : IntegerType) (text prefix body : List ℕ) (m 
   octal : Bool
   head : head_of f t text ≡ Ok (record { is_negative = m; is_prefixed = some_in prefix; is_octal = octal; start = start; radix = r })
   some : some_in prefix ≡ true → body ≢ []
-  unmarked : (some_in prefix || octal) ≡ false → (prefix ≡ []) × (octal_zero_at f body 0 ≡ false)
+  unprefixed : (some_in prefix || octal) ≡ false → (prefix ≡ []) × (octal_zero_at f body 0 ≡ false)
 
 module _ (f : Format) (t : IntegerType) (body suffix ds : List ℕ) (valid : IsNone (fault f)) (may_close : IsSuffix f ds suffix) where
   suffix_byte : (sfx : List ℕ) → IsSuffix f ds sfx → (k c : ℕ) → slice_get sfx k ≡ Some c → is_affix f.case_sensitive_base_suffix f.base_suffix (Some c) ≡ true
@@ -106,7 +106,7 @@ module _ (f : Format) (t : IntegerType) (body suffix ds : List ℕ) (valid : IsN
   head_made : (front prefix : List ℕ) (m : Bool) (r : ℕ) → IsSign f t front m → BytesAre f r body ds → IsPrefix f body prefix r → HeadMade f t (front ++ (prefix ++ (body ++ suffix))) prefix body m (length front + length prefix) r
   head_made front _ m _ may bytes no_prefix =
       let radix = none_of (fault f) valid in
-      let none_here = no_prefix_radix f (body ++ suffix) (λ c e. not_marked f c radix (may_follow bytes 1 c e)) in
+      let none_here = no_prefix_radix f (body ++ suffix) (λ c e. not_named f c radix (may_follow bytes 1 c e)) in
       let bare = head_bare f t front (body ++ suffix) m may (unsigned (bare_radix f body 0) bytes) none_here in
       let octal = octal_of_body f (bare_radix f body 0) body ds suffix bytes may_close in
       let place : length front + 0 ≡ length front = omega arith in
@@ -115,13 +115,13 @@ module _ (f : Format) (t : IntegerType) (body suffix ds : List ℕ) (valid : IsN
         head = bare ∙ ap (λ o. Ok (record { is_negative = m; is_prefixed = false; is_octal = o; start = length front; radix = cond o 8 f.mantissa_radix })) octal
             ∙ ap (λ n. Ok (record { is_negative = m; is_prefixed = false; is_octal = octal_zero_at f body 0; start = n; radix = bare_radix f body 0 })) (sym place);
         some = λ e. absurd (false≢true e);
-        unmarked = λ e. (refl, e);
+        unprefixed = λ e. (refl, e);
       }
-  head_made front _ m _ may bytes (a_prefix byte r marked some) = record {
+  head_made front _ m _ may bytes (a_prefix byte r named some) = record {
     octal = false;
-    head = head_marked f t front (body ++ suffix) m byte r may marked;
+    head = head_named f t front (body ++ suffix) m byte r may named;
     some = λ _. some;
-    unmarked = λ e. absurd (false≢true (sym e));
+    unprefixed = λ e. absurd (false≢true (sym e));
   }
 
 -- ---- the whole text
@@ -148,7 +148,7 @@ unfolding numeral_in
 radix_kept f pre text start r low = low
 
 module _ (f : Format) (t : IntegerType) (front prefix body suffix ds : List ℕ) (m : Bool) (r : ℕ) (valid : IsNone (fault f))
-    (may : IsSign f t front m) (marks : IsPrefix f body prefix r) (made : IsBody f prefix r body ds) (close : IsSuffix f ds suffix) where
+    (may : IsSign f t front m) (prefixed : IsPrefix f body prefix r) (made : IsBody f prefix r body ds) (close : IsSuffix f ds suffix) where
   abbrev text : List ℕ
   text = front ++ (prefix ++ (body ++ suffix))
 
@@ -162,7 +162,7 @@ module _ (f : Format) (t : IntegerType) (front prefix body suffix ds : List ℕ)
   end = start + length body
 
   fit : IsFit f r
-  fit = prefix_fit f body prefix r valid marks
+  fit = prefix_fit f body prefix r valid prefixed
 
   at_more : (k : ℕ) → slice_get text (start + k) ≡ slice_get (body ++ suffix) k
   at_more k =
@@ -233,7 +233,7 @@ module _ (f : Format) (t : IntegerType) (front prefix body suffix ds : List ℕ)
           rw (here, there) (omega (arith, ends))
 
   head : HeadMade f t text prefix body m start r
-  head = head_made f t body suffix ds valid close front prefix m r may made.bytes marks
+  head = head_made f t body suffix ds valid close front prefix m r may made.bytes prefixed
 
   prefixed : (some_in prefix && (start == length text)) ≡ false
   prefixed = elim (true_or_false (some_in prefix)) [
@@ -246,7 +246,7 @@ module _ (f : Format) (t : IntegerType) (front prefix body suffix ds : List ℕ)
   KeepsZeros = f.no_integer_leading_zeros ≡ true → prefix ≡ [] → octal_zero_at f body 0 ≡ false → (d : ℕ) (rest : List ℕ) → ds ≢ 0 ∷ d ∷ rest
 
   zeros_kept : KeepsZeros → f.no_integer_leading_zeros ≡ true → (some_in prefix || head.octal) ≡ false → (d : ℕ) (rest : List ℕ) → ds ≢ 0 ∷ d ∷ rest
-  zeros_kept zeros on off = let bare = head.unmarked off in zeros on bare.0 bare.1
+  zeros_kept zeros on off = let bare = head.unprefixed off in zeros on bare.0 bare.1
 
   pub made_is_read : (v : ℤ) → (digits_required f ≡ true → ds ≢ []) → KeepsZeros → v ≡ with_sign m (positional_value r ds) → is_number t v ≡ true → complete f t text ≡ Ok v
   made_is_read v enough zeros worth fits =

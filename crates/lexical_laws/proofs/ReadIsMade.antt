@@ -18,12 +18,12 @@ use Rattle.lexical_parse_integer.specs.Head.{Head, head_of, chooses_radix}
 use Rattle.lexical_parse_integer.specs.Numeral.{Numeral, digit_count, numeral_in, numeral_value, numeral_behind}
 use Rattle.lexical_parse_integer.specs.Runs.{digit_at, digits_between, end_of, is_in_numeral, places, separator_at}
 use Rattle.lexical_parse_integer.specs.Value.{positional_value, with_sign}
-use Rattle.lexical_parse_integer.proofs.ForCallers.{IsFit, IsStop, IsStop-end_of, complete_by, fits_marked, fits_told, zero_is_number}
+use Rattle.lexical_parse_integer.proofs.ForCallers.{IsFit, IsStop, IsStop-end_of, complete_by, fits_named, fits_told, zero_is_number}
 use Rattle.lexical_laws.specs.Integer.{IsBody, IsInteger, IsPrefix, IsSuffix}
 use Rattle.lexical_laws.specs.Integer.IsPrefix.{no_prefix, a_prefix}
 use Rattle.lexical_laws.specs.Integer.IsSuffix.{no_suffix, a_suffix}
 use Rattle.lexical_laws.proofs.Bodies.{EachFits, StandsAt, digit_at-some, fitting_bytes, values, values_at}
-use Rattle.lexical_laws.proofs.Heads.{HeadSplit, MarksHead, head_split}
+use Rattle.lexical_laws.proofs.Heads.{HeadSplit, HasPrefix, head_split}
 use Rattle.lexical_laws.proofs.MadeIsRead.{complete_is, no_affix, octal_of_body, radix_is}
 use Rattle.lexical_laws.proofs.Parts.{get_behind, get_within}
 use Rattle.lexical_laws.proofs.RunParts.{runs_may, some_in}
@@ -65,11 +65,11 @@ faultless f t text h x v read =
       value = w.5;
     }
 
-pub head_fit : (f : Format) (prefix more : List ℕ) (h : Head) → IsNone (fault f) → MarksHead f prefix more h → IsFit f h.radix
+pub head_fit : (f : Format) (prefix more : List ℕ) (h : Head) → IsNone (fault f) → HasPrefix f prefix more h → IsFit f h.radix
 head_fit f prefix more h valid (inl w) = subst (IsFit f) (sym w.1) (bare_fit f more valid)
-head_fit f prefix more h valid (inr w) = fits_marked f (Some w.0) h.radix valid w.2
+head_fit f prefix more h valid (inr w) = fits_named f (Some w.0) h.radix valid w.2
 
-behind_head : (f : Format) (prefix more : List ℕ) (h : Head) → MarksHead f prefix more h → h.is_prefixed ≡ some_in prefix
+behind_head : (f : Format) (prefix more : List ℕ) (h : Head) → HasPrefix f prefix more h → h.is_prefixed ≡ some_in prefix
 behind_head f prefix more h (inl w) = w.3 ∙ ap some_in (sym w.0)
 behind_head f prefix more h (inr w) = w.3 ∙ ap some_in (sym w.1)
 
@@ -115,7 +115,7 @@ module _ (f : Format) (t : IntegerType) (text : List ℕ) (h : Head) (v : ℤ) (
   suffix = drop (end - start) w.more
 
   fit : IsFit f r
-  fit = head_fit f w.prefix w.more h valid w.marks
+  fit = head_fit f w.prefix w.more h valid w.prefixed
 
   size : length text ≡ start + length w.more
   size = omega (arith, ap length w.parts, length-append w.front (w.prefix ++ w.more), length-append w.prefix w.more, w.start)
@@ -196,7 +196,7 @@ module _ (f : Format) (t : IntegerType) (text : List ℕ) (h : Head) (v : ℤ) (
   body_may : IsBody f w.prefix r body (values r body)
   body_may =
       let passes = numeral_runs f pre r text start (omega (arith, size)) (separator_no_digit f r text fit) in
-      let behind : pre ≡ some_in w.prefix = behind_head f w.prefix w.more h w.marks in
+      let behind : pre ≡ some_in w.prefix = behind_head f w.prefix w.more h w.prefixed in
       let each_run = runs_may f pre r text body start end region (omega (arith, body_size, stop.low)) at w.prefix behind passes in
       record {
         bytes = fitting_bytes f r body (no_digit f r fit) each;
@@ -219,7 +219,7 @@ module _ (f : Format) (t : IntegerType) (text : List ℕ) (h : Head) (v : ℤ) (
   ]
 
   prefix_may : IsPrefix f body w.prefix r
-  prefix_may = elim w.marks [
+  prefix_may = elim w.prefixed [
     | inl m ↦ subst (λ p. IsPrefix f body p r) (sym m.0) (subst (IsPrefix f body []) (sym (m.1 ∙ ap (λ o. cond o 8 f.mantissa_radix) same_octal)) no_prefix)
     | inr m ↦ subst (λ p. IsPrefix f body p r) (sym m.1) (a_prefix m.0 r m.2 (some_body m.3))
   ]
@@ -227,7 +227,7 @@ module _ (f : Format) (t : IntegerType) (text : List ℕ) (h : Head) (v : ℤ) (
   zeros : f.no_integer_leading_zeros ≡ true → w.prefix ≡ [] → octal_zero_at f body 0 ≡ false → (d : ℕ) (rest : List ℕ) → values r body ≢ 0 ∷ d ∷ rest
   zeros on none octal d rest is =
       let digits : (numeral_in f pre r text start).digits ≡ 0 ∷ d ∷ rest = digits_are ∙ is in
-      let off : chooses_radix h ≡ false = elim w.marks [
+      let off : chooses_radix h ≡ false = elim w.prefixed [
         | inl m ↦ (let bare = m.3 in let plain = m.2 ∙ same_octal ∙ octal in rw (bare, plain) refl)
         | inr m ↦ (let both = sym none ∙ m.1 in cc)
       ] in

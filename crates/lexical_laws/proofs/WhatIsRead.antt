@@ -14,12 +14,12 @@ use Rattle.lexical_parse_integer.specs.Head.{Head, chooses_radix}
 use Rattle.lexical_parse_integer.specs.Numeral.{Numeral, digit_count, numeral_value}
 use Rattle.lexical_parse_integer.specs.Runs.{are_same, digit_at, separator_at}
 use Rattle.lexical_parse_integer.specs.Value.{positional_value, with_sign}
-use Rattle.lexical_parse_integer.proofs.ForCallers.{IsFit, complete_by, fits, fits_marked, fits_octal, fits_told, fitting_fault, shorter_fronts_fit, zero_is_number}
+use Rattle.lexical_parse_integer.proofs.ForCallers.{IsFit, complete_by, fits, fits_named, fits_octal, fits_told, fitting_fault, shorter_fronts_fit, zero_is_number}
 use Rattle.lexical_laws.specs.Integer.{IsPrefix, is_separator}
 use Rattle.lexical_laws.specs.Integer.IsPrefix.{no_prefix, a_prefix}
 use Rattle.lexical_laws.specs.Keeping.{IsRangeFault}
 use Rattle.lexical_laws.proofs.Bodies.{NoDigit, digit_at-some}
-use Rattle.lexical_laws.proofs.Marks.{affix_matches, separator_is}
+use Rattle.lexical_laws.proofs.Punctuation.{affix_matches, separator_is}
 use Rattle.lexical_laws.proofs.Runs.{separator_told}
 
 pub none_of : {A : Type 0} (o : Option A) → IsNone o → o ≡ None
@@ -37,7 +37,7 @@ bare_fit f body valid = by_zero (octal_zero_at f body 0) refl
 
 pub prefix_fit : (f : Format) (body prefix : List ℕ) (r : ℕ) → IsNone (fault f) → IsPrefix f body prefix r → IsFit f r
 prefix_fit f body _ _ valid no_prefix = bare_fit f body valid
-prefix_fit f body _ _ valid (a_prefix byte r marked some) = fits_marked f (Some byte) r valid marked
+prefix_fit f body _ _ valid (a_prefix byte r named some) = fits_named f (Some byte) r valid named
 
 pub no_digit : (f : Format) (r : ℕ) → IsFit f r → NoDigit f r
 no_digit f r fit b s = fit.separator b (separator_is f b s)
@@ -71,8 +71,8 @@ suffix_stops f r text k c fit e t =
 
 -- ---- the answer, by the numeral
 
-zeros_pass : (forbidden marked : Bool) (ds : List ℕ) → (forbidden ≡ true → marked ≡ false → (d : ℕ) (rest : List ℕ) → ds ≢ 0 ∷ d ∷ rest) → (((forbidden && not marked) && nat_le 2 (length ds)) && (slice_index ds 0 == 0)) ≡ false
-zeros_pass false marked ds keeps = refl
+zeros_pass : (forbidden named : Bool) (ds : List ℕ) → (forbidden ≡ true → named ≡ false → (d : ℕ) (rest : List ℕ) → ds ≢ 0 ∷ d ∷ rest) → (((forbidden && not named) && nat_le 2 (length ds)) && (slice_index ds 0 == 0)) ≡ false
+zeros_pass false named ds keeps = refl
 zeros_pass true true ds keeps = refl
 zeros_pass true false [] keeps = refl
 zeros_pass true false (d ∷ []) keeps = refl
@@ -82,12 +82,12 @@ zeros_pass true false (d ∷ c ∷ ds) keeps = by_zero (d == 0) refl
     by_zero true e = let is : d ≡ 0 = grind (arith, nat_tests) in absurd (keeps refl refl c ds (ap (λ x. x ∷ c ∷ ds) is))
     by_zero false e = and-false (nat_le 2 (length (d ∷ c ∷ ds)))
 
-pub zeros_told : (forbidden marked : Bool) (d : ℕ) (rest : List ℕ) → (((forbidden && not marked) && nat_le 2 (length (0 ∷ d ∷ rest))) && (0 == 0)) ≡ false → forbidden ≡ true → marked ≡ false → ⊥
+pub zeros_told : (forbidden named : Bool) (d : ℕ) (rest : List ℕ) → (((forbidden && not named) && nat_le 2 (length (0 ∷ d ∷ rest))) && (0 == 0)) ≡ false → forbidden ≡ true → named ≡ false → ⊥
 zeros_told true false d rest e on off =
     let two : nat_le 2 (length (0 ∷ d ∷ rest)) ≡ true = grind (arith, nat_tests) in
     let e' = rw two at e in false≢true (sym e')
 zeros_told true true d rest e on off = false≢true (sym off)
-zeros_told false marked d rest e on off = false≢true on
+zeros_told false named d rest e on off = false≢true on
 
 lacks_none : (f : Format) (ds : List ℕ) → (digits_required f ≡ true → ds ≢ []) → (digits_required f && (length ds == 0)) ≡ false
 lacks_none f [] enough = by_flag (digits_required f) refl

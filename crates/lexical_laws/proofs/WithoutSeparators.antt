@@ -20,7 +20,7 @@ use Rattle.lexical_laws.specs.Integer.IsSuffix.{no_suffix, a_suffix}
 use Rattle.lexical_laws.specs.Keeping.{without_separators}
 use Rattle.lexical_laws.proofs.Bodies.{BytesAre}
 use Rattle.lexical_laws.proofs.MadeIsRead.{integer_is_read}
-use Rattle.lexical_laws.proofs.Marks.{affix_matches, no_sign_byte, not_marked, separator_is}
+use Rattle.lexical_laws.proofs.Punctuation.{affix_matches, no_sign_byte, not_named, separator_is}
 use Rattle.lexical_laws.proofs.Parts.{get_behind, get_replicate, get_within}
 use Rattle.lexical_laws.proofs.ReadIsMade.{read_is_integer}
 use Rattle.lexical_laws.proofs.WhatIsRead.{none_of, prefix_fit}
@@ -47,9 +47,9 @@ module _ (f : Format) (valid : IsNone (fault f)) where
 
   prefix_stays : (body prefix : List ℕ) (r : ℕ) → IsPrefix f body prefix r → without_separators f prefix ≡ prefix
   prefix_stays body _ _ no_prefix = refl
-  prefix_stays body _ _ (a_prefix c r marked some) =
-      let zero' = zero_stays r (prefix_fit f body (48 ∷ c ∷ []) r valid (a_prefix c r marked some)) in
-      let other : is_separator f c ≡ false = no_separator c (λ s. (let none' = not_marked f c (none_of (fault f) valid) (inl s) in cc)) in
+  prefix_stays body _ _ (a_prefix c r named some) =
+      let zero' = zero_stays r (prefix_fit f body (48 ∷ c ∷ []) r valid (a_prefix c r named some)) in
+      let other : is_separator f c ≡ false = no_separator c (λ s. (let none' = not_named f c (none_of (fault f) valid) (inl s) in cc)) in
       stays 48 (c ∷ []) zero' ∙ ap (λ xs. 48 ∷ xs) (stays c [] other)
 
   suffix_stays : (ds suffix : List ℕ) (r : ℕ) → IsFit f r → IsSuffix f ds suffix → without_separators f suffix ≡ suffix
@@ -101,7 +101,7 @@ module _ (f : Format) (valid : IsNone (fault f)) where
 
   less_prefix : (body prefix ds : List ℕ) (r : ℕ) → f.literal_octal_zero ≡ false → BytesAre f r body ds → ds ≢ [] → IsPrefix f body prefix r → IsPrefix f (without_separators f body) prefix r
   less_prefix body _ ds _ off bytes enough no_prefix = subst (IsPrefix f (without_separators f body) []) (same_bare (without_separators f body) body off) no_prefix
-  less_prefix body _ ds _ off bytes enough (a_prefix c r marked some) = a_prefix c r marked (λ empty. enough (no_digits body ds r empty bytes))
+  less_prefix body _ ds _ off bytes enough (a_prefix c r named some) = a_prefix c r named (λ empty. enough (no_digits body ds r empty bytes))
 
   less_integer : (t : IntegerType) (text : List ℕ) (v : ℤ) → f.literal_octal_zero ≡ false → digits_required f ≡ true → IsInteger f t text v → IsInteger f t (without_separators f text) v
   less_integer t text v off required i =

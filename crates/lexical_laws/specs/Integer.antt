@@ -5,7 +5,7 @@ use Rattle.lexical_util.specs.Ascii.{digit_zero, minus, plus}
 use Rattle.lexical_util.specs.Digit.{digit}
 use Rattle.lexical_util.specs.Format.{Format}
 use Rattle.lexical_util.specs.Number.{IntegerType, IsNumber}
-use Rattle.lexical_parse_integer.specs.Affixes.{bare_radix, is_affix, marked_radix, octal_zero_at}
+use Rattle.lexical_parse_integer.specs.Affixes.{bare_radix, is_affix, named_radix, octal_zero_at}
 use Rattle.lexical_parse_integer.specs.Runs.{are_same}
 use Rattle.lexical_parse_integer.specs.Value.{positional_value, with_sign}
 
@@ -18,7 +18,7 @@ pub data IsSign (format : Format) (type : IntegerType) : List ℕ → Bool → T
 -- what may stand as a prefix of a body, and the radix behind it
 pub data IsPrefix (format : Format) (body : List ℕ) : List ℕ → ℕ → Type 0 where
   no_prefix : IsPrefix format body [] (bare_radix format body 0)
-  a_prefix : (byte radix : ℕ) → marked_radix format (Some byte) ≡ Some radix → body ≢ []
+  a_prefix : (byte radix : ℕ) → named_radix format (Some byte) ≡ Some radix → body ≢ []
       → IsPrefix format body (digit_zero ∷ byte ∷ []) radix
 
 -- what may stand as a suffix behind digits
@@ -85,7 +85,7 @@ pub record IsInteger (format : Format) (type : IntegerType) (text : List ℕ) (v
     -- a digit is there, where one has to be
     pub enough : (format.required_integer_digits || format.required_mantissa_digits) ≡ true
         → digits ≢ []
-    -- no zero is in front of another digit, where that is forbidden and nothing marks the radix
+    -- no zero is in front of another digit, where that is forbidden and nothing names the radix
     pub zeros : format.no_integer_leading_zeros ≡ true → prefix ≡ []
         → octal_zero_at format body 0 ≡ false → (digit : ℕ) (rest : List ℕ)
         → digits ≢ 0 ∷ digit ∷ rest

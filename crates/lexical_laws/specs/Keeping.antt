@@ -9,7 +9,7 @@ use Rattle.lexical_util.specs.Digit.{digit}
 use Rattle.lexical_util.specs.Format.{Format}
 use Rattle.lexical_util.specs.Number.{IntegerType}
 use Rattle.lexical_util.specs.Validity.{lower_case}
-use Rattle.lexical_parse_integer.specs.Affixes.{is_affix, marked_radix}
+use Rattle.lexical_parse_integer.specs.Affixes.{is_affix, named_radix}
 use Rattle.lexical_parse_integer.specs.Grammar.{complete, digits_required}
 use Rattle.lexical_parse_integer.specs.Laws.{SameFront}
 use Rattle.lexical_literals.specs.Tokens.{TokenView, is_skipped}
@@ -29,7 +29,7 @@ IsRangeFault answer = ⊥
 abbrev pub Implies : Bool → Bool → Type 0
 Implies flag other = flag ≡ true → other ≡ true
 
--- A format admits what a strict one does: it may have a mark where that has none, let separators stand in more places,
+-- A format admits what a strict one does: it may have punctuation where that has none, let separators stand in more places,
 -- and ask for less. Both choose radixes alike.
 pub record AdmitsMore (strict loose : Format) : Type 0 where
   pub radix : loose.mantissa_radix ≡ strict.mantissa_radix
@@ -68,13 +68,13 @@ IsDead format type text place =
 
 -- ---- later bytes
 
--- A byte is no part of a number: no digit of any radix, no sign, and none of the format's marks.
+-- A byte is no part of a number: no digit of any radix, no sign, and none of the format's punctuation.
 pub record IsForeign (format : Format) (byte : ℕ) : Type 0 where
   pub digit : digit byte 36 ≡ None
   pub plus : byte ≢ plus
   pub minus : byte ≢ minus
   pub separator : is_separator format byte ≡ false
-  pub prefix : marked_radix format (Some byte) ≡ None
+  pub prefix : named_radix format (Some byte) ≡ None
   pub suffix : is_affix format.case_sensitive_base_suffix format.base_suffix (Some byte) ≡ false
 
 -- ---- tokens of two sources

@@ -65,7 +65,7 @@ pub fn fronts()
     front_end();
 }
 
-/// A text keeps its value under a format that admits more: a mark where there was none, separators in more places, or
+/// A text keeps its value under a format that admits more: punctuation where there was none, separators in more places, or
 /// less that is asked for.
 ///
 /// So a program may relax its format, and what it has read before stays as it was. Octal zeros and literal prefixes

@@ -1,9 +1,8 @@
 -- Decimal digits at the front of a text, behind which neither a separator nor a word goes on: read as under the standard
 -- format.
-use Rattle.std.proofs.Common.{◌≡◌, ℕ, zero, suc, ◌+◌, ◌<◌, Bool, true, false, not, cond, List, [], ◌∷◌, length, refl, sym, ap, ◌∙◌, subst, arith, Option, Some, None, is_some, Ok}
-use Rattle.std.specs.Prelude.{◌==◌, ◌^◌, nat_lt, find, slice_get, slice_index, ℤ}
-use Rattle.std.specs.List.{range_with_len}
-use Rattle.std.specs.Option.{option_map, unwrap_or}
+use Rattle.std.proofs.Common.{◌≡◌, ℕ, zero, suc, ◌+◌, ◌<◌, Bool, true, false, cond, List, [], ◌∷◌, length, refl, sym, ap, ◌∙◌, subst, arith, Option, Some, None, is_some, Ok}
+use Rattle.std.specs.Prelude.{◌==◌, slice_get, slice_index, ℤ}
+use Rattle.std.specs.Option.{unwrap_or}
 use Rattle.std.proofs.Math.Bool.{and-false}
 use Rattle.std.proofs.lemmas.Bool.{ne_eqb, false≢true}
 use Rattle.std.proofs.lemmas.Bool.Decides.{nat_tests}
@@ -12,11 +11,11 @@ use Rattle.std.proofs.lemmas.List.FromFn.{length-map-range_with_len}
 use Rattle.lexical_util.specs.declared.error.Error.{Error}
 use Rattle.lexical_util.specs.Digit.{digit}
 use Rattle.lexical_util.specs.Format.{Format, standard}
-use Rattle.lexical_util.specs.Number.{IntegerType, integer_type, is_number}
-use Rattle.lexical_parse_integer.specs.Affixes.{is_affix, literal_radix, marked_radix, matches, numeral_stop, prefix_radix, suffix_at}
-use Rattle.lexical_parse_integer.specs.Grammar.{first_fault_or, partial, range_error, range_fault}
+use Rattle.lexical_util.specs.Number.{IntegerType, integer_type}
+use Rattle.lexical_parse_integer.specs.Affixes.{is_affix, literal_radix, named_radix, matches, numeral_stop, prefix_radix, suffix_at}
+use Rattle.lexical_parse_integer.specs.Grammar.{first_fault_or, partial, range_fault}
 use Rattle.lexical_parse_integer.specs.Head.{Head, head_of}
-use Rattle.lexical_parse_integer.specs.Numeral.{Numeral, digit_count, front_value, numeral_in, numeral_value}
+use Rattle.lexical_parse_integer.specs.Numeral.{Numeral, digit_count, numeral_in, numeral_value}
 use Rattle.lexical_parse_integer.specs.Runs.{are_same, digit_at, end_of, is_in_numeral, separator_at}
 use Rattle.lexical_parse_integer.proofs.ForCallers.{EndsRow, end_of_row, has_digit, numeral_in_a_row, row_numeral, IsStop-end_of, IsStop-unique, sign_of_digit_under, not_asked, head_is}
 use Rattle.lexical_literals.specs.Decimal.{IsDecimal}
@@ -44,7 +43,7 @@ no_digit_letter false b is = grind (arith, nat_tests)
 
 no_prefix_read : (f : Format) (c : ℕ) (cs : List ℕ) → IsDecimal f → NoLetter f (slice_get cs 0)
     → prefix_radix f (c ∷ cs) 0 ≡ None
-unfolding prefix_radix marked_radix is_affix
+unfolding prefix_radix named_radix is_affix
 no_prefix_read f c cs decimal letter =
     rw (decimal.no_prefix, letter) (by_tests (are_same (Some 48) (Some c)) f.literal_prefixes)
   where
@@ -92,36 +91,6 @@ same_numeral : (f : Format) (text : List ℕ) → f.base_suffix ≡ None
 unfolding numeral_in numeral_stop suffix_at is_affix
 same_numeral f text none same = rw (same, none) refl
 
--- ---- its value
-
-find_none : (p q : ℕ → Bool) (xs : List ℕ) → ((i : ℕ) → q i ≡ true → p i ≡ true) → find p xs ≡ None → find q xs ≡ None
-find_none p q [] fewer none = refl
-find_none p q (x ∷ xs) fewer none = by_tests (p x) (q x) (fewer x) none (find_none p q xs fewer)
-  where
-    by_tests : (a b : Bool) → (b ≡ true → a ≡ true) → cond a (Some x) (find p xs) ≡ None
-        → (find p xs ≡ None → find q xs ≡ None) → cond b (Some x) (find q xs) ≡ None
-    by_tests true b both none more = absurd (cc)
-    by_tests false true both none more = absurd (false≢true (both refl))
-    by_tests false false both none more = more none
-
-unmapped : {A B : Type 0} (g : A → B) (found : Option A) → option_map g found ≡ None → found ≡ None
-unmapped g None e = refl
-unmapped g (Some x) e = cc
-
-greater_type : (n : ℕ) → not (nat_lt n (2 ^ 128)) ≡ true → not (nat_lt n (2 ^ 64)) ≡ true
-greater_type n out = grind (arith, nat_tests)
-
-pub no_range : (x : Numeral) → range_fault (integer_type 64 false) false x ≡ None
-    → range_fault (integer_type 128 false) false x ≡ None
-unfolding range_fault
-no_range x none =
-    let found = unmapped (λ index. range_error false (slice_index x.places index)) _ none in
-    let none_wider = find_none (λ index. not
-    (is_number (integer_type 64 false) (front_value false x (index + 1))))
-    (λ index. not (is_number (integer_type 128 false) (front_value false x (index + 1))))
-    (range_with_len 0 (digit_count x)) (λ i out. greater_type _ out) found in
-    rw none_wider refl
-
 -- ---- the answer
 
 ok_parts : {A : Type 0} (a b : Option Error) (w z : A) → first_fault_or (a ∷ b ∷ []) w ≡ Ok z → (a ≡ None) × (w ≡ z)
@@ -129,12 +98,12 @@ ok_parts None None w z e = (refl, cc)
 ok_parts None (Some x) w z e = cc
 ok_parts (Some x) b w z e = cc
 
--- what the standard answer of `u64` says: its value and place are those of the numeral, whose value no digit takes out of
+-- what the standard answer says: its value and place are those of the numeral, whose value no digit takes out of
 -- the type
 record IsStandard (text : List ℕ) (v : ℤ) (n : ℕ) : Type 0 where
   row : EndsRow 10 text 0 n
   end : end_of standard false 10 text 0 ≡ n
-  fits : range_fault (integer_type 64 false) false (numeral_in standard false 10 text 0) ≡ None
+  fits : range_fault (integer_type 128 false) false (numeral_in standard false 10 text 0) ≡ None
   value : numeral_value false (numeral_in standard false 10 text 0) ≡ v
   stop : (numeral_in standard false 10 text 0).stop ≡ n
 
@@ -148,13 +117,13 @@ unfolding numeral_in numeral_stop suffix_at is_affix
 stop_is text = rw and-false refl
 
 standard_told : (c d : ℕ) (cs : List ℕ) (v : ℤ) (n : ℕ) → digit c 10 ≡ Some d
-    → partial standard (integer_type 64 false) (c ∷ cs) ≡ Ok (v, n) → IsStandard (c ∷ cs) v n
+    → partial standard (integer_type 128 false) (c ∷ cs) ≡ Ok (v, n) → IsStandard (c ∷ cs) v n
 unfolding partial
 standard_told c d cs v n first read =
     let text : List ℕ = c ∷ cs in
     let x : Numeral = numeral_in standard false 10 text 0 in
-    let head = standard_head (integer_type 64 false) c d cs first in
-    let parts = ok_parts (range_fault (integer_type 64 false) false x) _
+    let head = standard_head (integer_type 128 false) c d cs first in
+    let parts = ok_parts (range_fault (integer_type 128 false) false x) _
     (numeral_value false x, x.stop) (v, n) (rw head at read) in
     let stop : x.stop ≡ n = ap (λ (w : ℤ × ℕ). w.1) parts.1 in
     let end : end_of standard false 10 text 0 ≡ n = sym (stop_is text) ∙ stop in
@@ -195,10 +164,10 @@ count_told text n s some =
     (numeral_in_a_row standard false text 0 10 n refl (omega arith)
     (subst (λ (k : ℕ). EndsRow 10 text 0 k) at_zero s)) ∙ there
 
--- a text that the standard format reads as `u64`, and whose digits end at a byte that is neither a separator nor one of
+-- a text that the standard format reads, and whose digits end at a byte that is neither a separator nor one of
 -- a word
 decimal_digits : (f : Format) (c d : ℕ) (cs : List ℕ) (v : ℤ) (n : ℕ) → IsDecimal f
-    → digit c 10 ≡ Some d → partial standard (integer_type 64 false) (c ∷ cs) ≡ Ok (v, n)
+    → digit c 10 ≡ Some d → partial standard (integer_type 128 false) (c ∷ cs) ≡ Ok (v, n)
     → (n < length (c ∷ cs) → is_word_byte (slice_index (c ∷ cs) n) ≡ false)
     → (n < length (c ∷ cs) → separator_at f (c ∷ cs) n ≡ false)
     → partial f (integer_type 128 false) (c ∷ cs) ≡ Ok (v, n)
@@ -208,13 +177,12 @@ decimal_digits f c d cs v n decimal first read other apart =
     let s = standard_told c d cs v n first read in
     let some = some_digits c d cs n first s.row in
     let same = same_numeral f text decimal.no_suffix (end_is f text n s.row apart ∙ sym s.end) in
-    let range = no_range (numeral_in standard false 10 text 0) s.fits in
     let there = count_told text n s.row some in
     rw (
       head_is_bare f (integer_type 128 false) c d cs decimal first
           (letter_told f c cs n some s.row other),
       same,
-      range,
+      s.fits,
       decimal.zeros,
       there,
       and-false,
@@ -227,7 +195,7 @@ decimal_digits f c d cs v n decimal first read other apart =
 -- the same of any text that begins with a digit
 pub decimal_read : (f : Format) (text : List ℕ) (v : ℤ) (n : ℕ) → IsDecimal f
     → is_some (digit (slice_index text 0) 10) ≡ true
-    → Ok (v, n) ≡ partial standard (integer_type 64 false) text
+    → partial standard (integer_type 128 false) text ≡ Ok (v, n)
     → (n < length text → is_word_byte (slice_index text n) ≡ false)
     → (n < length text → separator_at f text n ≡ false)
     → partial f (integer_type 128 false) text ≡ Ok (v, n)
@@ -237,7 +205,7 @@ decimal_read f (c ∷ cs) v n decimal first read other apart = by_digit (digit c
     by_digit : (found : Option ℕ) → digit c 10 ≡ found → is_some found ≡ true
         → partial f (integer_type 128 false) (c ∷ cs) ≡ Ok (v, n)
     by_digit None none some = absurd (false≢true some)
-    by_digit (Some d) is some = decimal_digits f c d cs v n decimal is (sym read) other apart
+    by_digit (Some d) is some = decimal_digits f c d cs v n decimal is read other apart
 
 -- the byte at a place is no separator
 pub no_separator_at : (f : Format) (text : List ℕ) (n : ℕ)

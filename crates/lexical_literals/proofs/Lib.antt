@@ -1,7 +1,8 @@
 -- The lemmas of the proofs, a file for each subject.
 pub mod ByteKinds
 pub mod DecimalFronts
+pub mod LiteralFronts
+pub mod LiteralRows
 pub mod TokenLists
 pub mod TokenRows
 pub mod TokenSteps
-pub mod WiderType

@@ -1,4 +1,5 @@
 -- The definitions that contracts name, a file for each subject.
 pub mod Decimal
+pub mod Literals
 pub mod TokenCallers
 pub mod Tokens

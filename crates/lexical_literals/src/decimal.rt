@@ -11,6 +11,7 @@ ghost use Rattle.lexical_literals.specs.Decimal.{IsDecimal};
 ghost use Rattle.lexical_literals.specs.Tokens.{is_word_byte};
 
 use crate::bytes::is_word_byte;
+use lexical_parse_integer::laws::grammar::wider_types;
 use lexical_parse_integer::{FromLexical, NumberFormat};
 
 // Whether the format reads decimal digits alone as the standard one does.
@@ -28,7 +29,7 @@ pub(crate) fn is_decimal(format: &NumberFormat) -> bool
 // Whether more than digits seems to follow, as the letter of a prefix does, or a separator behind at most three digits:
 // a guess, by which such a number is read once.
 #[inline(always)]
-pub(crate) fn seems_marked(text: &[u8]) -> bool {
+pub(crate) fn seems_punctuated(text: &[u8]) -> bool {
     if text.len() < 4 {
         return text.len() >= 2 && text[1] > b'9';
     }
@@ -70,6 +71,8 @@ pub(crate) fn decimal_front(text: &[u8], format: &NumberFormat) -> (u64, usize)
     ensures { 0 < result.1
         → partial format.now (integer_type 128 false) text.now ≡ Ok (pos result.0, result.1) }
 {
+    // The law by which a number of 64 bits is read alike as one of 128.
+    wider_types();
     match u64::from_lexical_partial(text) {
         Ok((value, count)) => {
             if stand_alone(text, count, format) {

@@ -14,6 +14,7 @@
 
 mod bytes;
 mod decimal;
+mod literal;
 
 ghost use Rattle.std.specs.Prelude.{◌≡◌, ◌+◌, ◌<◌, ◌≤◌, ◌^◌, List, All, IfOk, IsNone, IsTrue, Ok, false, is_some, length, pos, slice_index, true};
 ghost use Rattle.std.specs.Iterator.{YieldsFirstBy, item_count};
@@ -25,12 +26,13 @@ ghost use Rattle.lexical_literals.specs.Decimal.{IsDecimal};
 ghost use Rattle.lexical_literals.specs.Tokens.{FollowInTurn, FollowUnder, IsPartOf, TokenView, front_of, literals, number_of, view_of_token, tokens, tokens_from, tokens_if_valid};
 
 use bytes::{is_word_byte, skipped_length, word_length};
-use decimal::{decimal_front, is_decimal, seems_marked};
+use decimal::{decimal_front, is_decimal, seems_punctuated};
 use lexical_parse_integer::algorithm::algorithm_partial;
-use lexical_parse_integer::laws::grammar::front_end;
+use lexical_parse_integer::laws::grammar::{front_end, wider_types};
 use lexical_parse_integer::parse::ParseInteger;
 use lexical_parse_integer::{Error, NumberFormat, NumberFormatBuilder, Result, options};
 use lexical_util::digit::char_is_digit;
+pub use literal::{Literal, literal_in_front};
 use std::marker::Model;
 
 /// What a token is.
@@ -86,13 +88,14 @@ fn number(text: &[u8], format: &NumberFormat, decimal: bool) -> (Kind, usize)
     requires decimal { IsTrue decimal → IsDecimal format.now }
     ensures { result ≡ number_of format.now text.now }
 {
-    if decimal && !seems_marked(text) {
+    if decimal && !seems_punctuated(text) {
         let (value, count) = decimal_front(text, format);
         if count > 0 {
             return (Kind::Number(value as u128), count);
         }
     }
-    let (value, length) = marked_number(text, format);
+    wider_types();
+    let (value, length) = punctuated_number(text, format);
     if length > 0 {
         return (Kind::Number(value as u128), length);
     }
@@ -103,7 +106,7 @@ fn number(text: &[u8], format: &NumberFormat, decimal: bool) -> (Kind, usize)
 // what calls `next` has it in place, and in two registers. Where there is a separator the compiler leaves out what
 // reads digits alone.
 #[inline(never)]
-fn marked_number(text: &[u8], format: &NumberFormat) -> (u64, usize)
+fn punctuated_number(text: &[u8], format: &NumberFormat) -> (u64, usize)
     requires valid { IsNone (fault format.now) }
     ensures { 0 < result.1
         → partial format.now (integer_type 64 false) text.now ≡ Ok (pos result.0, result.1) }

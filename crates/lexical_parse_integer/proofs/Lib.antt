@@ -3,7 +3,7 @@ pub mod bound
 pub mod Folds
 pub mod ForCallers
 pub mod grammar
-pub mod marked
+pub mod punctuated
 pub mod plain
 pub mod reading
 pub mod theorems

@@ -1,4 +1,4 @@
--- Texts of digits alone under formats without marks: for the answers of `algorithm::plain`.
+-- Texts of digits alone under formats without punctuation: for the answers of `algorithm::plain`.
 pub mod DigitFaults
 pub mod DigitsAlone
 pub mod DigitsByTable

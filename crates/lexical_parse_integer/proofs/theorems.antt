@@ -13,4 +13,5 @@ pub mod ReadBack
 pub mod SameFronts
 pub mod SettledAnswers
 pub mod WholeByFront
+pub mod WiderTypes
 pub mod ZerosInFront

@@ -26,8 +26,8 @@ literal_radix is_case_sensitive byte =
     else None))
 
 -- the effective radix behind a zero and a byte, where the two are a prefix: the format's own leaves its radix
-unfoldable pub marked_radix : Format → Option ℕ → Option ℕ
-marked_radix format byte =
+unfoldable pub named_radix : Format → Option ℕ → Option ℕ
+named_radix format byte =
     if is_affix format.case_sensitive_base_prefix format.base_prefix byte
     then Some format.mantissa_radix
     else (if format.literal_prefixes then literal_radix format.case_sensitive_base_prefix byte
@@ -37,7 +37,7 @@ marked_radix format byte =
 unfoldable pub prefix_radix : Format → List ℕ → ℕ → Option ℕ
 prefix_radix format text place =
     if are_same (Some digit_zero) (slice_get text place)
-    then marked_radix format (slice_get text (place + 1)) else None
+    then named_radix format (slice_get text (place + 1)) else None
 
 -- whether a zero stands at a place, and the format says that one in front makes a numeral octal
 unfoldable pub octal_zero_at : Format → List ℕ → ℕ → Bool

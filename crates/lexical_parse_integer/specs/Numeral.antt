@@ -9,8 +9,7 @@ use Rattle.lexical_digits.specs.Value.{positional_value, with_sign}
 
 -- A numeral in the region of a text.
 pub record Numeral : Type 0 where
-  -- where the region starts, and the effective radix
-  pub start : ℕ
+  -- the effective radix
   pub radix : ℕ
   -- the places of its digits, and their values
   pub places : List ℕ
@@ -22,7 +21,6 @@ pub record Numeral : Type 0 where
 -- the numeral of a text in the region from start on
 unfoldable pub numeral_in : Format → Bool → ℕ → List ℕ → ℕ → Numeral
 numeral_in format is_prefixed radix text start = record {
-  start = start;
   radix = radix;
   places = places format is_prefixed radix text start;
   digits = map (λ place. unwrap_or (digit_at radix text place) 0)

@@ -6,7 +6,7 @@ use Rattle.lexical_util.specs.Digit.{digit}
 use Rattle.lexical_util.specs.Format.{Format}
 use Rattle.lexical_parse_integer.specs.Plain.{IsPlain}
 
--- A format without marks in radix 10, and a separator that is neither a digit nor a minus.
+-- A format without punctuation in radix 10, and a separator that is neither a digit nor a minus.
 pub record IsSeparated (format : Format) (separator : ℕ) : Type 0 where
   pub plain : IsPlain format
   pub decimal : format.mantissa_radix ≡ 10
@@ -14,5 +14,5 @@ pub record IsSeparated (format : Format) (separator : ℕ) : Type 0 where
   pub no_minus : separator ≢ minus
 
 -- how many bytes stand before the first separator, or are in the text where it has none
-abbrev pub bytes_before : ℕ → List ℕ → ℕ
-bytes_before separator text = prefix_len (λ byte. not (byte == separator)) text
+abbrev pub field_length : ℕ → List ℕ → ℕ
+field_length separator text = prefix_len (λ byte. not (byte == separator)) text

@@ -1,6 +1,6 @@
 // Prefix, octal zero and suffix at a place of a text.
 ghost use Rattle.std.specs.Prelude.{◌≡◌};
-ghost use Rattle.lexical_parse_integer.specs.Affixes.{is_affix, literal_radix, marked_radix, matches, octal_zero_at, prefix_radix, suffix_at};
+ghost use Rattle.lexical_parse_integer.specs.Affixes.{is_affix, literal_radix, named_radix, matches, octal_zero_at, prefix_radix, suffix_at};
 
 use lexical_util::format::NumberFormat;
 
@@ -67,9 +67,9 @@ fn literal_radix(is_case_sensitive: bool, byte: Option<u8>) -> Option<u32>
 
 // The effective radix behind a zero and a byte, where the two are a prefix.
 #[inline(always)]
-#[tactic(auto, unfolding(crate::specs::Affixes::marked_radix))]
-fn marked_radix(format: &NumberFormat, byte: Option<u8>) -> Option<u32>
-    ensures { result ≡ marked_radix format.now byte }
+#[tactic(auto, unfolding(crate::specs::Affixes::named_radix))]
+fn named_radix(format: &NumberFormat, byte: Option<u8>) -> Option<u32>
+    ensures { result ≡ named_radix format.now byte }
 {
     if is_affix(
         format.case_sensitive_base_prefix(),
@@ -91,7 +91,7 @@ pub(crate) fn prefix_radix(bytes: &[u8], format: &NumberFormat, place: usize) ->
     ensures { result ≡ prefix_radix format.now bytes.now place }
 {
     if place < bytes.len() && bytes[place] == b'0' {
-        marked_radix(format, bytes.get(place + 1).copied())
+        named_radix(format, bytes.get(place + 1).copied())
     } else {
         None
     }

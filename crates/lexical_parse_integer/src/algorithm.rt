@@ -14,13 +14,13 @@ ghost use Rattle.lexical_parse_integer.specs.Turns.{AsksWords, HasFewTurns};
 mod digits;
 pub(crate) mod front;
 mod head;
-pub(crate) mod marked;
 mod multi;
 mod numeral;
 pub(crate) mod plain;
+pub(crate) mod punctuated;
 mod zeros;
 
-use crate::algorithm::front::{complete_from_front, partial_from_front, standard_from_front};
+use crate::algorithm::front::{complete_from_front, partial_from_front};
 use crate::algorithm::head::{is_prefix_alone, read_head};
 use crate::algorithm::numeral::read_numeral;
 use crate::algorithm::plain::faults::{fault_after_many, place_after_few};
@@ -69,7 +69,7 @@ fn lacks_digits(c: &Cursor<'_>) -> bool
 
 // Whether missing digits are the partial parser's fault: at the text's end, or where separators may stand.
 #[inline(always)]
-fn is_settled(c: &Cursor<'_>) -> bool
+fn reports_empty(c: &Cursor<'_>) -> bool
     ensures { result ≡ (is_some c.now.format.digit_separator
         || (c.now.position == length c.now.bytes)) }
 {
@@ -127,7 +127,7 @@ pub fn algorithm_partial_on<T: Integer>(c: &mut Cursor<'_>, options: &Options) -
 {
     let front = read::<T>(c, options.get_no_multi_digit())?;
     if lacks_digits(c) {
-        if is_settled(c) {
+        if reports_empty(c) {
             return Err(Error::Empty(c.place()));
         }
         return Ok((front, c.place()));
@@ -184,7 +184,7 @@ pub fn algorithm_partial<T: Integer>(
     }
 }
 
-// What the quick way leaves stays out of line, so that the way of most texts is small enough to be held in place.
+// The partial answer for a text that the quick way leaves. Why out of line: docs/DECISIONS.md, code.
 #[inline(never)]
 fn partial_out_of_line<T: Integer>(bytes: &[u8], format: &NumberFormat) -> Result<(T, usize)>
     requires valid { IsNone (fault format.now) }
@@ -195,8 +195,7 @@ fn partial_out_of_line<T: Integer>(bytes: &[u8], format: &NumberFormat) -> Resul
 
 // ---- under the standard format
 
-// The complete answer for a text that isn't digits alone behind a minus or none. The place for an answer through memory
-// is made ready here, and so not for a value.
+// The complete answer for a text that isn't digits alone behind a minus or none.
 #[inline(always)]
 pub(crate) fn standard_complete<T: Integer>(bytes: &[u8]) -> Result<T>
     ensures { view_of T.number result ≡ complete standard T.TYPE bytes.now }
@@ -212,8 +211,9 @@ pub(crate) fn standard_complete<T: Integer>(bytes: &[u8]) -> Result<T>
         }
     }
     match place_after_few::<T>(bytes) {
-        Some(place) => Err(Error::InvalidDigit(place)),
-        None => standard_from_front::<T>(bytes),
+        Some(place) if place < bytes.len() => Err(Error::InvalidDigit(place)),
+        Some(place) => Err(Error::Empty(place)),
+        None => complete_from_front::<T>(bytes, &format::STANDARD),
     }
 }
 

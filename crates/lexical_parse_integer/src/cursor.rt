@@ -117,7 +117,7 @@ impl<'a> Cursor<'a> {
         self.position
     }
 
-    // What is true of each cursor. It does nothing: the proofs of the calls above lean on its contract.
+    // Does nothing at run time: its contract says what is true of each cursor, for the proofs of callers.
     #[inline(always)]
     pub(crate) fn sound(&self)
         ensures { Folded (IsSound self.now) }

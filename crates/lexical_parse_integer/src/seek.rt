@@ -101,7 +101,7 @@ fn run_passes(
 // What stands behind the run of separators at `position`, where there is one and no digit stands there. A run is
 // looked over once: where it passes, what is sought stands behind it, and else the numeral ends before it.
 //
-// It stays out of line and takes the format by value, so that texts without separators don't pay for it.
+// Why out of line, and the format by value: docs/DECISIONS.md, code.
 #[inline(never)]
 fn seek_behind_run(
     bytes: &[u8],

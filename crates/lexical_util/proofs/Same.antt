@@ -8,11 +8,11 @@ use Rattle.std.proofs.Math.Bool.{beq}
 use Rattle.std.proofs.lemmas.Bool.Decides.{Decides-and, Decides-eqb, Decides-like}
 use Rattle.lexical_util.specs.Format.{Format}
 
-mark_Decides : (mark other : Option ℕ) → Decides (option_eq ◌==◌ mark other) (mark ≡ other)
-mark_Decides None None = ((λ _. refl), (λ _. refl))
-mark_Decides None (Some other) = ((λ e. cc), (λ e. cc))
-mark_Decides (Some mark) None = ((λ e. cc), (λ e. cc))
-mark_Decides (Some mark) (Some other) = Decides-like (mark == other) (ap Some) (λ e. cc) (Decides-eqb mark other)
+byte_Decides : (punctuation other : Option ℕ) → Decides (option_eq ◌==◌ punctuation other) (punctuation ≡ other)
+byte_Decides None None = ((λ _. refl), (λ _. refl))
+byte_Decides None (Some other) = ((λ e. cc), (λ e. cc))
+byte_Decides (Some punctuation) None = ((λ e. cc), (λ e. cc))
+byte_Decides (Some punctuation) (Some other) = Decides-like (punctuation == other) (ap Some) (λ e. cc) (Decides-eqb punctuation other)
 
 both : {P Q : Type 0} {x y : Bool} → Decides x P → Decides y Q → Decides (x && y) (P × Q)
 both {x = x} {y = y} = Decides-and x y
@@ -170,6 +170,6 @@ format_eq_decides format other =
     (both (booleans_Decides _ _)
     (both (booleans_Decides _ _)
     (both (booleans_Decides _ _)
-    (both (mark_Decides _ _)
-    (both (mark_Decides _ _)
-    (mark_Decides _ _))))))))))))))))))
+    (both (byte_Decides _ _)
+    (both (byte_Decides _ _)
+    (byte_Decides _ _))))))))))))))))))

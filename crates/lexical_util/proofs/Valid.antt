@@ -1,5 +1,5 @@
 -- What a format's validity says of its radix, and of the bytes that separator, prefix and suffix match. A byte
--- matches a mark where it is the same but for ASCII case, and so in particular where it is the mark.
+-- matches punctuation where it is the same but for ASCII case, and so in particular where it is that byte.
 use Rattle.std.proofs.Common.{◌≡◌, ◌∙◌, ℕ, Bool, true, false, not, is_some, leb, Option, Some, None, if◌then◌else◌, refl, sym, ap, arith}
 use Rattle.std.specs.Prelude.{◌==◌, ◌≢◌, ◌≤◌, ◌||◌, ◌&&◌, nat_lt}
 use Rattle.std.proofs.lemmas.Bool.{eq-eqb, false≢true, ltb-false, ltb-true, or_parts}
@@ -44,31 +44,31 @@ passes_rules format valid =
 digit_value-lower : (byte : ℕ) → digit_value (lower_case byte) ≡ digit_value byte
 digit_value-lower byte = grind (arith, nat_tests)
 
-pub digit-alike : (radix byte mark : ℕ) → lower_case byte ≡ lower_case mark → digit byte radix ≡ digit mark radix
-digit-alike radix byte mark alike =
-    ap (value_if_below radix) (sym (digit_value-lower byte) ∙ ap digit_value alike ∙ digit_value-lower mark)
+pub digit-alike : (radix byte punctuation : ℕ) → lower_case byte ≡ lower_case punctuation → digit byte radix ≡ digit punctuation radix
+digit-alike radix byte punctuation alike =
+    ap (value_if_below radix) (sym (digit_value-lower byte) ∙ ap digit_value alike ∙ digit_value-lower punctuation)
 
 none_from_is_some : (found : Option ℕ) → is_some found ≡ false → found ≡ None
 none_from_is_some None h = refl
 none_from_is_some (Some value) h = absurd (false≢true (sym h))
 
-fit_byte_no_digit : (radix mark : ℕ) → is_unfit_byte radix mark ≡ false → digit mark radix ≡ None
-fit_byte_no_digit radix mark fit =
-    let not_high = (or_parts (leb 128 mark) _ fit).1 in
-    let not_plus = (or_parts (mark == 43) _ not_high).1 in
-    none_from_is_some _ (or_parts (mark == 45) _ not_plus).1
+fit_byte_no_digit : (radix punctuation : ℕ) → is_unfit_byte radix punctuation ≡ false → digit punctuation radix ≡ None
+fit_byte_no_digit radix punctuation fit =
+    let not_high = (or_parts (leb 128 punctuation) _ fit).1 in
+    let not_plus = (or_parts (punctuation == 43) _ not_high).1 in
+    none_from_is_some _ (or_parts (punctuation == 45) _ not_plus).1
 
-pub fit_no_digit : (radix : ℕ) (set : Option ℕ) (mark byte : ℕ) → is_unfit radix set ≡ false
-    → set ≡ Some mark → lower_case byte ≡ lower_case mark → digit byte radix ≡ None
-fit_no_digit radix set mark byte fit is_set alike =
+pub fit_no_digit : (radix : ℕ) (set : Option ℕ) (punctuation byte : ℕ) → is_unfit radix set ≡ false
+    → set ≡ Some punctuation → lower_case byte ≡ lower_case punctuation → digit byte radix ≡ None
+fit_no_digit radix set punctuation byte fit is_set alike =
     let fit' = rw is_set at fit in
-    digit-alike radix byte mark alike ∙ fit_byte_no_digit radix mark fit'
+    digit-alike radix byte punctuation alike ∙ fit_byte_no_digit radix punctuation fit'
 
-pub not_alike : (set other : Option ℕ) (mark byte : ℕ) → are_alike set other ≡ false → other ≡ Some mark
-    → lower_case byte ≡ lower_case mark → set ≢ Some byte
-not_alike set other mark byte apart is_mark alike is_byte =
-    let apart' = rw (is_byte, is_mark, alike) at apart in
-    false≢true (sym apart' ∙ eq-eqb (lower_case mark) (lower_case mark) refl)
+pub not_alike : (set other : Option ℕ) (punctuation byte : ℕ) → are_alike set other ≡ false → other ≡ Some punctuation
+    → lower_case byte ≡ lower_case punctuation → set ≢ Some byte
+not_alike set other punctuation byte apart is_punctuation alike is_byte =
+    let apart' = rw (is_byte, is_punctuation, alike) at apart in
+    false≢true (sym apart' ∙ eq-eqb (lower_case punctuation) (lower_case punctuation) refl)
 
 -- the radix of a valid format is from 2 to 36
 pub valid_radix : (format : Format) → fault format ≡ None → IsRadix format.mantissa_radix
@@ -117,11 +117,11 @@ digit_below most radix byte small none = by_value (digit_value byte) none
             absurd (omega arith)
         by_tests false false w n e = refl
 
-fit_beside_literals : (set : Option ℕ) (mark byte : ℕ) → is_unfit_beside_literals set ≡ false
-    → set ≡ Some mark → lower_case byte ≡ lower_case mark → digit byte 16 ≡ None
-fit_beside_literals set mark byte fit is_set alike =
+fit_beside_literals : (set : Option ℕ) (punctuation byte : ℕ) → is_unfit_beside_literals set ≡ false
+    → set ≡ Some punctuation → lower_case byte ≡ lower_case punctuation → digit byte 16 ≡ None
+fit_beside_literals set punctuation byte fit is_set alike =
     let fit' = rw is_set at fit in
-    digit-alike 16 byte mark alike ∙ none_from_is_some _ (or_parts (is_some (digit mark 16)) _ fit').0
+    digit-alike 16 byte punctuation alike ∙ none_from_is_some _ (or_parts (is_some (digit punctuation 16)) _ fit').0
 
 -- the separator and the suffix beside literal prefixes
 pub literals_fit : (format : Format) → fault format ≡ None → format.literal_prefixes ≡ true

@@ -1,2 +1,7 @@
--- How many turns texts take, worked out.
+-- What texts are read as, and how many turns they take, worked out.
+mod Digits
+mod Fields
+mod Readers
+mod Tables
+mod Tokens
 pub mod WorkedTurns

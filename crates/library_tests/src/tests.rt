@@ -12,10 +12,5 @@ use std::process::Abort;
 
 // An answer is as expected. Each assertion takes the prover seconds, and a call of this a tenth of one.
 fn answers<A: PartialEq + Debug + Drop>(rt: &impl Abort, answer: A, expected: A) {
-    answers_to(rt, b"", answer, expected);
-}
-
-// The answer to a text, which a failure shows.
-fn answers_to<A: PartialEq + Debug + Drop>(rt: &impl Abort, text: &[u8], answer: A, expected: A) {
-    assert_eq!(rt; answer, expected, "{}", text.escape_ascii());
+    assert_eq!(rt; answer, expected);
 }

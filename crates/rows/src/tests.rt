@@ -4,7 +4,6 @@ mod broken;
 mod bytes;
 mod compare;
 mod formats;
-mod languages;
 mod lengths;
 mod parted;
 mod ready;

@@ -7,6 +7,8 @@
     255
     >>> jadvolni.parse_front(b"12px", "u16")
     (12, 2)
+    >>> jadvolni.parse_literal("0xFFull;", jadvolni.formats.C)
+    (255, 'ull', 7)
     >>> list(jadvolni.parse_column(b"12,7,", "u64", b","))
     [12, 7]
     >>> jadvolni.parse(b"18446744073709551616", "u64")
@@ -25,6 +27,7 @@ from ._core import (
     parse,
     parse_column,
     parse_front,
+    parse_literal,
     parse_partial,
 )
 from . import formats
@@ -43,5 +46,6 @@ __all__ = [
     "parse",
     "parse_column",
     "parse_front",
+    "parse_literal",
     "parse_partial",
 ]

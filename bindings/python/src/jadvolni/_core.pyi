@@ -35,6 +35,7 @@ def parse_front(
 def parse_partial(
     text: Text, type: NumberType = "i64", format: Optional[Format] = None
 ) -> tuple[int, int]: ...
+def parse_literal(text: Text, format: Optional[Format] = None) -> tuple[int, str, int]: ...
 def parse_column(
     text: Text,
     type: ColumnType = "i64",

@@ -11,7 +11,7 @@ from ._core import _check_format
 # A byte of punctuation, as `b"_"` or `"_"`.
 Punctuation = Union[bytes, str, None]
 
-_MARKS = ("digit_separator", "base_prefix", "base_suffix")
+_PUNCTUATION = ("digit_separator", "base_prefix", "base_suffix")
 _PREFIXES = ("base_prefix", "literal_prefixes")
 _PLACES = tuple(f"integer_{place}_digit_separator" for place in ("leading", "internal", "trailing"))
 _BEHIND_PREFIX = "integer_prefix_digit_separator"
@@ -53,7 +53,7 @@ class Format:
     integer_trailing_digit_separator: Separators may come after all digits: "12_".
     integer_consecutive_digit_separator: Where one separator may be, more may: "1__2".
     integer_prefix_digit_separator: Separators may come directly after a prefix, as in "0x_1F", as
-        if they might come before all digits there. Elsewhere it changes nothing.
+        if they might come before all digits there. No effect without a prefix.
     literal_prefixes: "0x", "0o" and "0b" choose the radix 16, 8 or 2 for the digits after them; so
         do "0X", "0O" and "0B", unless the prefix is matched exactly. The radix of the format has to
         be 10, and is that of a text without one of them.
@@ -121,11 +121,12 @@ class Format:
     def _bytes(self) -> bytes:
         """The format as the library has it: the bytes of a `jadvolni_format`."""
         numbers = {name: getattr(self, name) for name in _DEFAULTS}
-        marks = {name: self._byte(name) for name in _MARKS}
+        punctuation = {name: self._byte(name) for name in _PUNCTUATION}
         # A radix that is no byte is refused as 0 is.
         radix = self.mantissa_radix if 0 <= self.mantissa_radix <= 255 else 0
-        values = {**numbers, **marks, "mantissa_radix": radix}.values()
-        nul_is_punctuation = sum(1 << bit for bit, mark in enumerate(marks.values()) if mark == 0)
+        values = {**numbers, **punctuation, "mantissa_radix": radix}.values()
+        given = enumerate(punctuation.values())
+        nul_is_punctuation = sum(1 << bit for bit, byte in given if byte == 0)
         return bytes([*(value or 0 for value in values), nul_is_punctuation, *bytes(13)])
 
     def __repr__(self) -> str:

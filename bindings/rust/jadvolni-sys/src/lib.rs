@@ -174,5 +174,6 @@ extern "C" {
     pub fn jadvolni_parse_i16_column(text: *const c_char, len: usize, separator: u8, format: *const jadvolni_format, values: *mut i16, capacity: usize, count: *mut usize) -> jadvolni_result;
     pub fn jadvolni_parse_i32_column(text: *const c_char, len: usize, separator: u8, format: *const jadvolni_format, values: *mut i32, capacity: usize, count: *mut usize) -> jadvolni_result;
     pub fn jadvolni_parse_i64_column(text: *const c_char, len: usize, separator: u8, format: *const jadvolni_format, values: *mut i64, capacity: usize, count: *mut usize) -> jadvolni_result;
+    pub fn jadvolni_parse_literal(text: *const c_char, len: usize, format: *const jadvolni_format, value: *mut jadvolni_uint128, suffix: *mut usize) -> jadvolni_result;
     pub fn jadvolni_field_start(text: *const c_char, len: usize, separator: u8) -> usize;
 }

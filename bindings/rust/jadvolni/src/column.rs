@@ -128,6 +128,49 @@ pub fn parse_column_with_format<T: ColumnInteger>(
     }
 }
 
+/// Reads the numbers in the whole fields of a part of a text, as a block of a file, and in all of it where it is the
+/// last part.
+///
+/// Put the bytes from `stop` on in front of the next part: read so, all parts give the numbers of the whole text.
+/// Where the slice is full, `stop` is the start of the next field, as ever. Places count from the part's start.
+///
+/// ```
+/// use jadvolni::{parse_column_part, Column};
+/// let mut values = [0u8; 4];
+/// let part = parse_column_part("12,7", false, b',', &mut values);
+/// assert_eq!((part, values[0]), (Ok(Column { count: 1, stop: 3 }), 12));
+/// let last = parse_column_part("75", true, b',', &mut values);
+/// assert_eq!((last, values[0]), (Ok(Column { count: 1, stop: 2 }), 75));
+/// ```
+pub fn parse_column_part<T: ColumnInteger>(
+    text: impl AsRef<[u8]>,
+    is_last: bool,
+    separator: u8,
+    values: &mut [T],
+) -> Result<Column, ColumnError> {
+    parse_column_part_with_format(text, is_last, separator, &Format::STANDARD, values)
+}
+
+/// Reads the numbers of a part of a text under a format, which is looked at first.
+///
+/// ```
+/// use jadvolni::{parse_column_part_with_format, Column, Format};
+/// let mut values = [0u16; 2];
+/// let read = parse_column_part_with_format("0xFF 1_", false, b' ', &Format::LITERAL, &mut values);
+/// assert_eq!((read, values), (Ok(Column { count: 1, stop: 5 }), [255, 0]));
+/// ```
+pub fn parse_column_part_with_format<T: ColumnInteger>(
+    text: impl AsRef<[u8]>,
+    is_last: bool,
+    separator: u8,
+    format: &Format,
+    values: &mut [T],
+) -> Result<Column, ColumnError> {
+    let text = text.as_ref();
+    let whole = if is_last { text.len() } else { field_start(text, separator) };
+    parse_column_with_format(&text[..whole], separator, format, values)
+}
+
 /// Where the field starts that a text ends in: behind its last separator, or at 0. Of a block that more
 /// follows it is how many bytes are whole fields.
 ///

@@ -104,7 +104,7 @@ impl Format {
         /// Where one separator may be, more may: "1__2".
         integer_consecutive_digit_separator
         /// Separators may come directly after a prefix, as in "0x_1F", as if they might come before
-        /// all digits there. Elsewhere it changes nothing.
+        /// all digits there. No effect without a prefix.
         integer_prefix_digit_separator
         /// "0x", "0o" and "0b" choose the radix 16, 8 or 2 for the digits after them; so do "0X",
         /// "0O" and "0B", unless the prefix is matched exactly. The radix of the format has to be

@@ -102,7 +102,7 @@ macro_rules! integer {
     };
 }
 
-fn unsigned(halves: sys::jadvolni_uint128) -> u128 {
+pub(crate) fn unsigned(halves: sys::jadvolni_uint128) -> u128 {
     (halves.high as u128) << 64 | halves.low as u128
 }
 

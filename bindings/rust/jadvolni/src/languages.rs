@@ -24,13 +24,13 @@ impl Format {
     pub const C_HEXADECIMAL: Format = Format::STANDARD
         .no_positive_mantissa_sign(true)
         .mantissa_radix(16)
-        .base_prefix(Some(120));
+        .base_prefix(Some(b'x'));
 
     /// C23.
     pub const C23: Format = Format::STANDARD
         .no_positive_mantissa_sign(true)
         .literal_prefixes(true)
-        .digit_separator(Some(39))
+        .digit_separator(Some(b'\''))
         .integer_internal_digit_separator(true)
         .literal_octal_zero(true);
 
@@ -38,7 +38,7 @@ impl Format {
     pub const CPP14: Format = Format::STANDARD
         .no_positive_mantissa_sign(true)
         .literal_prefixes(true)
-        .digit_separator(Some(39))
+        .digit_separator(Some(b'\''))
         .integer_internal_digit_separator(true)
         .literal_octal_zero(true);
 
@@ -46,7 +46,7 @@ impl Format {
     pub const CSHARP: Format = Format::STANDARD
         .no_positive_mantissa_sign(true)
         .literal_prefixes(true)
-        .digit_separator(Some(95))
+        .digit_separator(Some(b'_'))
         .integer_internal_digit_separator(true)
         .integer_consecutive_digit_separator(true)
         .integer_prefix_digit_separator(true);
@@ -55,9 +55,9 @@ impl Format {
     pub const JAVA: Format = Format::STANDARD
         .no_positive_mantissa_sign(true)
         .literal_prefixes(true)
-        .digit_separator(Some(95))
+        .digit_separator(Some(b'_'))
         .integer_internal_digit_separator(true)
-        .base_suffix(Some(108))
+        .base_suffix(Some(b'l'))
         .integer_consecutive_digit_separator(true)
         .literal_octal_zero(true);
 
@@ -65,9 +65,9 @@ impl Format {
     pub const KOTLIN: Format = Format::STANDARD
         .no_positive_mantissa_sign(true)
         .literal_prefixes(true)
-        .digit_separator(Some(95))
+        .digit_separator(Some(b'_'))
         .integer_internal_digit_separator(true)
-        .base_suffix(Some(76))
+        .base_suffix(Some(b'L'))
         .case_sensitive_base_suffix(true)
         .integer_consecutive_digit_separator(true)
         .no_integer_leading_zeros(true);
@@ -76,7 +76,7 @@ impl Format {
     pub const RUST: Format = Format::STANDARD
         .no_positive_mantissa_sign(true)
         .literal_prefixes(true)
-        .digit_separator(Some(95))
+        .digit_separator(Some(b'_'))
         .integer_internal_digit_separator(true)
         .integer_trailing_digit_separator(true)
         .integer_consecutive_digit_separator(true)
@@ -87,7 +87,7 @@ impl Format {
     pub const GO: Format = Format::STANDARD
         .no_positive_mantissa_sign(true)
         .literal_prefixes(true)
-        .digit_separator(Some(95))
+        .digit_separator(Some(b'_'))
         .integer_internal_digit_separator(true)
         .integer_prefix_digit_separator(true)
         .literal_octal_zero(true);
@@ -96,7 +96,7 @@ impl Format {
     pub const SWIFT: Format = Format::STANDARD
         .no_positive_mantissa_sign(true)
         .literal_prefixes(true)
-        .digit_separator(Some(95))
+        .digit_separator(Some(b'_'))
         .integer_internal_digit_separator(true)
         .integer_trailing_digit_separator(true)
         .integer_consecutive_digit_separator(true)
@@ -105,26 +105,26 @@ impl Format {
     /// Ada, decimal literals.
     pub const ADA: Format = Format::STANDARD
         .no_positive_mantissa_sign(true)
-        .digit_separator(Some(95))
+        .digit_separator(Some(b'_'))
         .integer_internal_digit_separator(true);
 
     /// VHDL, decimal literals.
     pub const VHDL: Format = Format::STANDARD
         .no_positive_mantissa_sign(true)
-        .digit_separator(Some(95))
+        .digit_separator(Some(b'_'))
         .integer_internal_digit_separator(true);
 
     /// assemblers, hexadecimal numbers with an `h`.
     pub const ASSEMBLER_HEXADECIMAL: Format = Format::STANDARD
         .no_positive_mantissa_sign(true)
         .mantissa_radix(16)
-        .base_suffix(Some(104));
+        .base_suffix(Some(b'h'));
 
     /// Python 3.
     pub const PYTHON: Format = Format::STANDARD
         .no_positive_mantissa_sign(true)
         .literal_prefixes(true)
-        .digit_separator(Some(95))
+        .digit_separator(Some(b'_'))
         .integer_internal_digit_separator(true)
         .integer_prefix_digit_separator(true)
         .no_integer_leading_zeros(true);
@@ -132,7 +132,7 @@ impl Format {
     /// Ruby.
     pub const RUBY: Format = Format::STANDARD
         .literal_prefixes(true)
-        .digit_separator(Some(95))
+        .digit_separator(Some(b'_'))
         .integer_internal_digit_separator(true)
         .literal_octal_zero(true);
 
@@ -140,9 +140,9 @@ impl Format {
     pub const JAVASCRIPT: Format = Format::STANDARD
         .no_positive_mantissa_sign(true)
         .literal_prefixes(true)
-        .digit_separator(Some(95))
+        .digit_separator(Some(b'_'))
         .integer_internal_digit_separator(true)
-        .base_suffix(Some(110))
+        .base_suffix(Some(b'n'))
         .case_sensitive_base_suffix(true)
         .no_integer_leading_zeros(true);
 
@@ -150,7 +150,7 @@ impl Format {
     pub const JULIA: Format = Format::STANDARD
         .no_positive_mantissa_sign(true)
         .literal_prefixes(true)
-        .digit_separator(Some(95))
+        .digit_separator(Some(b'_'))
         .integer_internal_digit_separator(true)
         .case_sensitive_base_prefix(true);
 
@@ -158,7 +158,7 @@ impl Format {
     pub const HASKELL: Format = Format::STANDARD
         .no_positive_mantissa_sign(true)
         .literal_prefixes(true)
-        .digit_separator(Some(95))
+        .digit_separator(Some(b'_'))
         .integer_internal_digit_separator(true)
         .integer_consecutive_digit_separator(true)
         .integer_prefix_digit_separator(true);
@@ -167,7 +167,7 @@ impl Format {
     pub const OCAML: Format = Format::STANDARD
         .no_positive_mantissa_sign(true)
         .literal_prefixes(true)
-        .digit_separator(Some(95))
+        .digit_separator(Some(b'_'))
         .integer_internal_digit_separator(true)
         .integer_trailing_digit_separator(true)
         .integer_consecutive_digit_separator(true);
@@ -186,7 +186,7 @@ impl Format {
     /// TOML.
     pub const TOML: Format = Format::STANDARD
         .literal_prefixes(true)
-        .digit_separator(Some(95))
+        .digit_separator(Some(b'_'))
         .integer_internal_digit_separator(true)
         .case_sensitive_base_prefix(true)
         .no_integer_leading_zeros(true);
@@ -202,7 +202,7 @@ impl Format {
     /// SQL:2023.
     pub const SQL_2023: Format = Format::STANDARD
         .literal_prefixes(true)
-        .digit_separator(Some(95))
+        .digit_separator(Some(b'_'))
         .integer_internal_digit_separator(true)
         .integer_prefix_digit_separator(true);
 

@@ -23,13 +23,16 @@ mod error;
 mod format;
 mod integer;
 mod languages;
+mod literal;
 
 pub use column::{
-    field_start, parse_column, parse_column_with_format, Column, ColumnError, ColumnInteger,
+    field_start, parse_column, parse_column_part, parse_column_part_with_format,
+    parse_column_with_format, Column, ColumnError, ColumnInteger,
 };
 pub use error::Error;
 pub use format::Format;
 pub use integer::Integer;
+pub use literal::{parse_literal, Literal};
 
 use jadvolni_sys as sys;
 

@@ -1,7 +1,7 @@
 //! Each fault of each call, and the calls beside those of std.
 use jadvolni::{
-    parse, parse_front, parse_front_with_format, parse_partial, parse_partial_with_format,
-    parse_with_format, Error, Format, Integer,
+    parse, parse_front, parse_front_with_format, parse_literal, parse_partial,
+    parse_partial_with_format, parse_with_format, Error, Format, Integer, Literal,
 };
 
 #[test]
@@ -29,6 +29,30 @@ fn fronts_without_a_digit() {
     assert_eq!(parse_front_with_format::<i64>("- 5]", &Format::JSON), Err(Error::Empty(1)));
     assert_eq!(parse_front_with_format::<i64>("-5]", &Format::JSON), Ok((-5, 2)));
     assert_eq!(parse_front_with_format::<i64>("0xg", &Format::LITERAL), Err(Error::Empty(2)));
+}
+
+/// The value of a literal of Rust, and its suffix.
+fn literal(text: &str) -> Result<(u128, &str), Error> {
+    let Literal { value, number_stop, stop } = parse_literal(text, &Format::RUST)?;
+    Ok((value, &text[number_stop..stop]))
+}
+
+#[test]
+fn literals() {
+    assert_eq!(literal("1u32+2"), Ok((1, "u32")));
+    assert_eq!(literal("0xFFu8"), Ok((255, "u8")));
+    assert_eq!(literal("1_usize)"), Ok((1, "usize")));
+    assert_eq!(literal("0b102"), Ok((2, "2")));
+    assert_eq!(literal("1.5"), Ok((1, "")));
+    assert_eq!(literal("1\u{e9}"), Ok((1, "")));
+    let greatest = u128::MAX.to_string();
+    assert_eq!(literal(&greatest), Ok((u128::MAX, "")));
+    assert_eq!(literal(&(greatest + "0")), Err(Error::Overflow(39)));
+    assert_eq!(literal(""), Err(Error::Empty(0)));
+    assert_eq!(literal("0xu8"), Err(Error::Empty(2)));
+    assert_eq!(literal("+1"), Err(Error::InvalidPositiveSign(0)));
+    let broken = Format::RUST.mantissa_radix(37);
+    assert_eq!(parse_literal("1u8", &broken), Err(Error::InvalidMantissaRadix));
 }
 
 #[test]

@@ -1,7 +1,7 @@
 //! Columns of each type, and what hostile texts, slices and separators give.
 use jadvolni::{
-    field_start, parse_column, parse_column_with_format, Column, ColumnError, ColumnInteger, Error,
-    Format,
+    field_start, parse_column, parse_column_part, parse_column_part_with_format,
+    parse_column_with_format, Column, ColumnError, ColumnInteger, Error, Format,
 };
 
 /// What a column of `i16` answers, with what is then in a slice of three, where 77 was.
@@ -139,4 +139,50 @@ fn starts_of_fields() {
     assert_eq!(field_start("1,2", b','), 2);
     assert_eq!(field_start("1,2,", b','), 4);
     assert_eq!(field_start(b"1\x002", 0), 2);
+}
+
+/// The numbers of a text that comes in blocks of so many bytes, with room for so many, and the fault with its place.
+fn in_blocks(text: &[u8], size: usize, room: usize) -> (Vec<i16>, Option<(usize, Error)>) {
+    let (mut found, mut kept, mut start) = (Vec::new(), Vec::new(), 0);
+    for block in text.chunks(size).chain([&b""[..]]) {
+        kept.extend_from_slice(block);
+        loop {
+            let mut values = vec![77; room];
+            match parse_column_part(&kept, block.is_empty(), b',', &mut values) {
+                Ok(Column { count, stop }) => {
+                    found.extend_from_slice(&values[..count]);
+                    kept.drain(..stop);
+                    start += stop;
+                    if count < room {
+                        break;
+                    }
+                }
+                Err(ColumnError::InvalidField { field, error, .. }) => {
+                    found.extend_from_slice(&values[..field]);
+                    return (found, Some((start, error)));
+                }
+                Err(other) => panic!("{other}"),
+            }
+        }
+    }
+    (found, None)
+}
+
+#[test]
+fn parts_give_the_numbers_of_the_whole() {
+    for (text, numbers) in
+        [("12,-7,300,4", &[12, -7, 300, 4][..]), ("1,", &[1]), ("", &[]), ("99,1,", &[99, 1])]
+    {
+        for (size, room) in (1..12).flat_map(|size| [(size, 1), (size, 2), (size, 9)]) {
+            assert_eq!(
+                in_blocks(text.as_bytes(), size, room),
+                (numbers.to_vec(), None),
+                "{text} {size}"
+            );
+        }
+    }
+    assert_eq!(in_blocks(b"1,2,x,4", 3, 9), (vec![1, 2], Some((2, Error::InvalidDigit(2)))));
+    let radix = Format::STANDARD.mantissa_radix(37);
+    let refused = parse_column_part_with_format("1", false, b',', &radix, &mut [0u8]);
+    assert_eq!(refused, Err(ColumnError::InvalidFormat(Error::InvalidMantissaRadix)));
 }

@@ -1,6 +1,6 @@
 //! The answer to a line that asks for tokens.
 
-ghost use Rattle.std.specs.Prelude.{◌++◌, codes, OnOk, IsOkUnless};
+ghost use Rattle.std.specs.Prelude.{◌++◌, OnOk, IsOkUnless};
 ghost use Rattle.answer_lines.specs.Gather.{GainsFront, Gathers};
 ghost use Rattle.answer_lines.specs.Decimal.{decimal_text};
 ghost use Rattle.answer_lines.specs.Output.{kind_text, token_text, tokens_text};
@@ -49,21 +49,26 @@ fn put_kind<W: Write>(kind: &Kind, batch: &mut Batch, out: &mut W) -> Result<(),
     ensures fault { IsOkUnless result RunError.Write }
 {
     match kind {
-        Kind::Number(value) => put_number(*value, batch, out),
+        Kind::Number(value) => put_number(b"number ", *value, batch, out),
         Kind::Word => put(b"word", batch, out),
         Kind::Byte => put(b"byte", batch, out),
         Kind::Fault(fault) => put_fault(b"fault ", *fault, batch, out),
     }
 }
 
-// `number V`.
-fn put_number<W: Write>(value: u128, batch: &mut Batch, out: &mut W) -> Result<(), RunError>
+// The word and the number.
+fn put_number<W: Write>(
+    word: &[u8],
+    value: u128,
+    batch: &mut Batch,
+    out: &mut W,
+) -> Result<(), RunError>
     ensures ok { OnOk result (Gathers (W.contents out.old) batch.old (W.contents out.new) batch.new
-        (codes "number " ++ decimal_text value)) }
+        (word.now ++ decimal_text value)) }
     ensures front { GainsFront (W.contents out.old) (W.contents out.new)
-        (batch.old ++ (codes "number " ++ decimal_text value)) }
+        (batch.old ++ (word.now ++ decimal_text value)) }
     ensures fault { IsOkUnless result RunError.Write }
 {
-    put(b"number ", batch, out)?;
+    put(word, batch, out)?;
     put_decimal(value, batch, out)
 }

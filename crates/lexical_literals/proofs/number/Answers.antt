@@ -1,6 +1,6 @@
-use Rattle.std.proofs.Common.{ap, sym}
+use Rattle.std.proofs.Common.{ap, arith, false, refl, sym}
+use Rattle.lexical_util.specs.Number.{integer_type}
 use Rattle.lexical_literals.specs.Tokens.{number_by, number_of}
-use Rattle.lexical_literals.proofs.WiderType.{wider_read}
 use Rattle.lexical_literals.proofs.number.Goals as goal
 
 pub returns-then-count-gt0 : goal.returns-then-count-gt0
@@ -10,5 +10,5 @@ returns-then-count-gt0 c = sym (ap (number_by c.args.text.now) (c.decimal_front-
 pub returns-then-length-gt0 : goal.returns-then-length-gt0
 unfolding number_of
 returns-then-length-gt0 c =
-    ap (number_by c.args.text.now) (wider_read c.args.format.now c.args.text.now _ _
-    (sym (c.marked_number-value.ensures c.if-length-gt0.true)))
+    sym (ap (number_by c.args.text.now) (c.wider_types.ensures c.args.format.now (integer_type 64 false)
+    (integer_type 128 false) c.args.text.now _ refl (omega arith) (c.punctuated_number-value.ensures c.if-length-gt0.true)))

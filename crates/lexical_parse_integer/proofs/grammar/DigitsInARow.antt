@@ -31,7 +31,6 @@ row_stop f text start count = cond (nat_lt 0 count && suffix_at f text (start + 
 -- the numeral of so many digits in a row
 abbrev pub row_numeral : Format → List ℕ → ℕ → ℕ → ℕ → Numeral
 row_numeral f text start r count = record {
-  start = start;
   radix = r;
   places = range_with_len start count;
   digits = row r text start count;

@@ -1,8 +1,9 @@
 -- Digits at the front of a text, and the byte behind them: for the answers of `algorithm::plain::faults`.
-use Rattle.std.proofs.Common.{◌≡◌, ℕ, ◌+◌, ◌-◌, ◌^◌, ◌<◌, ◌≤◌, Bool, List, length, get_or, take, refl, ap, ◌∙◌, subst, arith, Ok, Err}
-use Rattle.std.specs.Prelude.{slice_range, ℤ, IsNone}
+use Rattle.std.proofs.Common.{◌≡◌, ℕ, ◌+◌, ◌-◌, ◌^◌, ◌<◌, ◌≤◌, Bool, true, false, List, length, get_or, take, refl, sym, ap, ◌∙◌, subst, arith, Ok, Err, inl, inr}
+use Rattle.std.specs.Prelude.{slice_range, ℤ, IsNone, is_some, nat_lt}
+use Rattle.std.proofs.lemmas.Bool.{cases_lt, false≢true, le-ltb, lt-ltb}
 use Rattle.std.proofs.lemmas.List.{get_or-drop, length-drop, length-take-le}
-use Rattle.lexical_util.specs.declared.error.Error.TheVariants.{InvalidDigit}
+use Rattle.lexical_util.specs.declared.error.Error.TheVariants.{Empty, InvalidDigit}
 use Rattle.lexical_util.specs.Digit.{digit}
 use Rattle.lexical_util.specs.Format.{standard}
 use Rattle.lexical_util.specs.Number.{HasRoom, IntegerType, IsNumber}
@@ -14,11 +15,14 @@ use Rattle.lexical_digits.proofs.RadixFronts.{few_fit}
 use Rattle.lexical_digits.proofs.ShiftedWords.{writes_text}
 use Rattle.lexical_digits.proofs.WordsInFront.{joined, rest_is}
 use Rattle.lexical_digits.proofs.WordsOfDigits.{digits_below, raised_none}
-use Rattle.lexical_parse_integer.specs.Grammar.{complete}
+use Rattle.lexical_parse_integer.specs.Grammar.{complete, range_fault}
 use Rattle.lexical_parse_integer.specs.Head.{sign}
 use Rattle.lexical_parse_integer.specs.Plain.{BeginsWith}
-use Rattle.lexical_parse_integer.proofs.marked.MarkedAnswers.{signed_minus}
-use Rattle.lexical_parse_integer.proofs.plain.DigitsInFront.{byte_after, signed_read}
+use Rattle.lexical_parse_integer.proofs.punctuated.PunctuatedAnswers.{signed_minus}
+use Rattle.lexical_parse_integer.proofs.grammar.DigitsInARow.{EndsRow, has_digit, row_numeral}
+use Rattle.lexical_parse_integer.proofs.grammar.NumeralEnd.{digit_at_past}
+use Rattle.lexical_parse_integer.proofs.plain.DigitsInFront.{StandsFrom, at_stop, byte_after, from_place, signed_read}
+use Rattle.lexical_parse_integer.proofs.theorems.DigitTexts.{complete_by, complete_row, head_is}
 use Rattle.lexical_parse_integer.proofs.theorems.CompleteByPartial.{sign_within}
 
 -- ---- how many digits stand in front
@@ -60,3 +64,49 @@ module _ (t : IntegerType) (text : List ℕ) (s : Bool × ℕ) (count : ℕ) (si
       let low : n < 10 ^ count = subst (λ (k : ℕ). n < 10 ^ k) taken (digits_below (take count digits) n all refl) in
       let fits : IsNumber t (with_sign s.0 n) = few_fit t s.0 10 most n count room (signed_minus standard t text s sign_is) (omega arith) few low in
       byte_behind (with_sign s.0 n) some more none (stands t s.0 (take count digits) n (with_sign s.0 n) (writes_text (take count digits) n all refl) refl fits)
+
+  -- ---- no digit behind the sign
+
+  -- reading stops there
+  stops_there : has_digit 10 text s.1 ≡ false → complete standard t text ≡ complete_by standard t text (record { is_negative = s.0; is_prefixed = false; is_octal = false; start = s.1; radix = 10 }) (row_numeral standard text s.1 10 0)
+  stops_there none =
+      let low = sign_within standard t text s sign_is in
+      let place : s.1 ≡ s.1 + 0 = omega arith in
+      let ends : EndsRow 10 text s.1 (s.1 + 0) = record { low = omega arith; high = omega arith; holds = λ k from to. absurd (omega arith); fails = λ l. ap (has_digit 10 text) (sym place) ∙ none } in
+      complete_row standard t text (record { is_negative = s.0; is_prefixed = false; is_octal = false; start = s.1; radix = 10 }) 0 refl (head_is standard t text s refl refl refl sign_is) low ends
+
+  pub no_digit : has_digit 10 text s.1 ≡ false → s.1 < length text → complete standard t text ≡ Err (InvalidDigit s.1)
+  unfolding range_fault
+  no_digit none more =
+      let place : s.1 + 0 ≡ s.1 = omega arith in
+      let over : nat_lt (s.1 + 0) (length text) ≡ true = lt-ltb (s.1 + 0) (length text) (omega arith) in
+      stops_there none ∙ rw (over, place) refl
+
+  pub no_byte : has_digit 10 text s.1 ≡ false → length text ≤ s.1 → complete standard t text ≡ Err (Empty s.1)
+  unfolding range_fault
+  no_byte none end =
+      let low = sign_within standard t text s sign_is in
+      let over : nat_lt (s.1 + 0) (length text) ≡ false = le-ltb (s.1 + 0) (length text) (omega arith) in
+      let place : length text ≡ s.1 = omega arith in
+      stops_there none ∙ rw over (ap (λ k. Err (Empty k)) place)
+
+  pub within_text : has_digit 10 text s.1 ≡ true → s.1 < length text
+  within_text there = elim (cases_lt s.1 (length text)) [ inl l ↦ l | inr past ↦ absurd (false≢true (sym (ap is_some (digit_at_past 10 text s.1 past)) ∙ there)) ]
+
+  -- where a digit stands there, one is counted
+  pub some_digit : has_digit 10 text s.1 ≡ true → count ≤ length digits → (count < length digits → IsNone (digit (get_or digits count 0) 10)) → 1 ≤ count
+  some_digit there within stops =
+      elim (cases_lt 0 count) [
+        | inl some ↦ some
+        | inr few ↦ absurd (by_place (let none : count ≡ 0 = omega arith in none))
+      ]
+    where
+      by_place : count ≡ 0 → ⊥
+      by_place none =
+          let low = sign_within standard t text s sign_is in
+          let place : s.1 + count ≡ s.1 = omega arith in
+          let size : length digits ≡ length text - s.1 = ap length (rest_is text s.1) ∙ length-drop s.1 text in
+          let inside : s.1 < length text = within_text there in
+          let on : StandsFrom s.1 text digits = subst (λ (ds : List ℕ). StandsFrom s.1 text ds) (sym (rest_is text s.1)) (from_place s.1 text) in
+          let fails : has_digit 10 text (s.1 + count) ≡ false = at_stop 10 text digits s.1 count on (omega arith) (stops (omega arith)) in
+          false≢true (sym fails ∙ ap (has_digit 10 text) place ∙ there)

@@ -1,6 +1,6 @@
--- Digits alone at the front of a text, behind an optional minus, under formats without marks.
-use Rattle.std.proofs.Common.{slice_get, ◌≡◌, ℕ, zero, suc, ◌+◌, ◌-◌, ◌%◌, ◌<◌, ◌≤◌, Bool, true, false, ◌&&◌, not, List, [], ◌∷◌, length, get_or, map, take, drop, refl, sym, ap, ◌∙◌, subst, arith, Option, Some, None, Ok, Err, Result, ◌*◌, ◌^◌}
-use Rattle.std.specs.Prelude.{◌==◌, nat_le, is_some, slice_index, ℤ, pos, neg_ℤ, if◌then◌else◌, IsNone, slice_range}
+-- Digits alone at the front of a text, behind an optional minus, under formats without punctuation.
+use Rattle.std.proofs.Common.{slice_get, ◌≡◌, ℕ, zero, suc, ◌+◌, ◌-◌, ◌<◌, ◌≤◌, Bool, true, false, ◌&&◌, not, List, [], ◌∷◌, length, get_or, map, take, drop, refl, sym, ap, ◌∙◌, subst, arith, Option, Some, None, Ok, Err, Result, ◌*◌, ◌^◌}
+use Rattle.std.specs.Prelude.{◌==◌, nat_le, is_some, slice_index, ℤ, neg_ℤ, if◌then◌else◌, IsNone, slice_range}
 use Rattle.std.specs.Option.{option_and_then, unwrap_or}
 use Rattle.std.proofs.Math.Bool.{and-false, and-true}
 use Rattle.std.proofs.lemmas.Bool.{le-leb, le-ltb, lt-ltb, ne_eqb}
@@ -21,8 +21,6 @@ use Rattle.lexical_parse_integer.specs.Plain.{BeginsWith, IsBehind, IsPlain, kee
 use Rattle.lexical_digits.specs.WrittenNumbers.{StandsFor, WritesDecimal, WritesFirst}
 use Rattle.lexical_parse_integer.specs.Runs.{digit_at}
 use Rattle.lexical_digits.specs.Value.{positional_value, with_sign}
-use Rattle.lexical_digits.specs.Words.{AreDigits, word_value}
-use Rattle.lexical_digits.proofs.AsciiDigits.{ascii_from_digits}
 use Rattle.lexical_parse_integer.proofs.theorems.DigitTexts.{head_is, stop_plain, take_row}
 use Rattle.lexical_parse_integer.proofs.grammar.FrontValues.{fitting_fault}
 use Rattle.lexical_parse_integer.proofs.grammar.DigitsInARow.{EndsRow, has_digit, row, row_numeral}
@@ -81,7 +79,7 @@ pub at_front : (r : ℕ) (text digits ds : List ℕ) (start n k : ℕ) → Stand
 unfolding digit_at
 at_front r text digits ds start n k on all l low = ap (option_and_then (λ byte. digit byte r)) (on k ∙ sym (slice_get-take n k digits low)) ∙ digit_there r (take n digits) ds k all l
 
-at_stop : (r : ℕ) (text digits : List ℕ) (start n : ℕ) → StandsFrom start text digits → n < length digits → is_some (digit (get_or digits n 0) r) ≡ false → has_digit r text (start + n) ≡ false
+pub at_stop : (r : ℕ) (text digits : List ℕ) (start n : ℕ) → StandsFrom start text digits → n < length digits → is_some (digit (get_or digits n 0) r) ≡ false → has_digit r text (start + n) ≡ false
 unfolding digit_at
 at_stop r text digits start n on low none = ap (λ (o : Option ℕ). is_some (option_and_then (λ byte. digit byte r) o)) (on n ∙ slice_get_there digits n low) ∙ none
 

@@ -8,7 +8,7 @@ use Rattle.lexical_util.specs.Digit.{IsRadix, digit}
 use Rattle.lexical_util.specs.Format.{Format}
 use Rattle.lexical_util.specs.Validity.{fault, lower_case}
 use Rattle.lexical_util.proofs.Valid.{digit_below, octal_zero_radix, separator_no_digit, separator_no_literal_digit, suffix_no_digit, suffix_no_literal_digit, suffix_no_separator, valid_radix}
-use Rattle.lexical_parse_integer.specs.Affixes.{is_affix, literal_radix, marked_radix, matches, octal_zero_at, prefix_radix}
+use Rattle.lexical_parse_integer.specs.Affixes.{is_affix, literal_radix, named_radix, matches, octal_zero_at, prefix_radix}
 use Rattle.lexical_parse_integer.specs.Runs.{are_same}
 use Rattle.lexical_parse_integer.proofs.reading.OctalZeros.{octal_asked}
 
@@ -73,9 +73,9 @@ fits_letter f byte r valid asked found = by_letter (is_affix s (Some 120) byte) 
     by_letter false false false e = cc
 
 -- the radix behind a prefix
-pub fits_marked : (f : Format) (byte : Option ℕ) (r : ℕ) → IsNone (fault f) → marked_radix f byte ≡ Some r → IsFit f r
-unfolding marked_radix
-fits_marked f byte r valid marked = by_own (is_affix f.case_sensitive_base_prefix f.base_prefix byte) f.literal_prefixes refl marked
+pub fits_named : (f : Format) (byte : Option ℕ) (r : ℕ) → IsNone (fault f) → named_radix f byte ≡ Some r → IsFit f r
+unfolding named_radix
+fits_named f byte r valid named = by_own (is_affix f.case_sensitive_base_prefix f.base_prefix byte) f.literal_prefixes refl named
   where
     by_own : (own asked : Bool) → f.literal_prefixes ≡ asked → cond own (Some f.mantissa_radix) (cond asked (literal_radix f.case_sensitive_base_prefix byte) None) ≡ Some r → IsFit f r
     by_own true asked a e = let same : f.mantissa_radix ≡ r = cc in subst (IsFit f) same (fits f valid)
@@ -86,8 +86,8 @@ pub fits_prefix : (f : Format) (text : List ℕ) (place r : ℕ) → IsNone (fau
 unfolding prefix_radix
 fits_prefix f text place r valid here = by_zero (are_same (Some 48) (slice_get text place)) here
   where
-    by_zero : (zero : Bool) → cond zero (marked_radix f (slice_get text (place + 1))) None ≡ Some r → IsFit f r
-    by_zero true e = fits_marked f (slice_get text (place + 1)) r valid e
+    by_zero : (zero : Bool) → cond zero (named_radix f (slice_get text (place + 1))) None ≡ Some r → IsFit f r
+    by_zero true e = fits_named f (slice_get text (place + 1)) r valid e
     by_zero false e = cc
 
 -- the radix that an octal zero puts in force

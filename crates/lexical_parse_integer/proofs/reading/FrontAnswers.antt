@@ -1,6 +1,6 @@
 -- What is read of a text from its front, as a cursor there would have it: for `algorithm::front`.
-use Rattle.std.proofs.Common.{◌≡◌, ◌≢◌, ℕ, zero, suc, ◌+◌, ◌-◌, ◌^◌, take, drop, ◌≤◌, ◌<◌, Bool, false, true, cond, ◌&&◌, ◌||◌, List, [], ◌∷◌, length, Option, Some, None, IsNone, is_some, Ok, Err, Result, refl, sym, ap, ◌∙◌, subst, arith, inr, ◌⊎◌}
-use Rattle.std.specs.Prelude.{ℤ, pos, nat_le, nat_lt, slice_range, ◌==◌}
+use Rattle.std.proofs.Common.{◌≡◌, ◌≢◌, ℕ, ◌+◌, ◌≤◌, ◌<◌, Bool, false, true, cond, ◌&&◌, ◌||◌, List, [], ◌∷◌, length, Option, Some, None, IsNone, is_some, Ok, Err, Result, refl, sym, ap, ◌∙◌, subst, arith, inr, ◌⊎◌}
+use Rattle.std.specs.Prelude.{ℤ, pos, nat_le, nat_lt, ◌==◌}
 use Rattle.std.specs.Option.{option_or}
 use Rattle.std.proofs.lemmas.Bool.{lt-ltb, false≢true}
 use Rattle.std.proofs.lemmas.Bool.Decides.{nat_tests}
@@ -10,7 +10,7 @@ use Rattle.lexical_util.specs.Format.{Format}
 use Rattle.lexical_util.specs.Number.{HasRoom, IntegerType, is_number, mul_add}
 use Rattle.lexical_util.specs.Validity.{fault}
 use Rattle.lexical_parse_integer.specs.Affixes.{bare_radix, octal_zero_at, numeral_stop, prefix_radix, suffix_at}
-use Rattle.lexical_parse_integer.specs.CursorView.{AreDigitsAhead, CursorView, IsSound, ReachesEnd, TakesDigit}
+use Rattle.lexical_parse_integer.specs.CursorView.{CursorView, IsSound, ReachesEnd, TakesDigit}
 use Rattle.lexical_parse_integer.specs.Grammar.{digits_required, fault_if, first_fault_or, partial, range_error, range_fault, zero_fault}
 use Rattle.lexical_parse_integer.specs.Head.{Head, head_after, head_behind, head_of, sign, chooses_radix}
 use Rattle.lexical_parse_integer.specs.Numeral.{Numeral, digit_count, numeral_in, numeral_value, numeral_behind}
@@ -19,18 +19,10 @@ use Rattle.lexical_parse_integer.specs.Runs.{digit_at, end_of, places}
 use Rattle.lexical_parse_integer.specs.Seeking.{Finds, starts_behind_prefix}
 use Rattle.lexical_parse_integer.specs.declared.seek.Found.{Found}
 use Rattle.lexical_parse_integer.specs.declared.seek.Found.TheVariants.{Digit, End}
-use Rattle.std.proofs.lemmas.List.{length-drop}
-use Rattle.lexical_digits.specs.Words.{AreDigits, word_value}
-use Rattle.lexical_digits.specs.WrittenNumbers.{WritesFirst}
-use Rattle.lexical_digits.proofs.AsciiDigits.{ascii_from_digits}
-use Rattle.lexical_digits.proofs.WordsInFront.{rest_is}
-use Rattle.lexical_digits.proofs.WordsOfDigits.{raised_none}
 use Rattle.lexical_parse_integer.proofs.Folds.{folded}
-use Rattle.lexical_parse_integer.proofs.bound.WordSteps.{ReadsWord, reads_word}
-use Rattle.lexical_parse_integer.proofs.words.WordsInTexts.{all_ahead, length-ahead, stands_ahead}
 use Rattle.lexical_parse_integer.proofs.grammar.DigitCounts.{digits_between_none}
 use Rattle.lexical_parse_integer.proofs.grammar.NumeralEnd.{IsStop-end_of, finds_here}
-use Rattle.lexical_parse_integer.proofs.marked.MarkedAnswers.{fits_head}
+use Rattle.lexical_parse_integer.proofs.punctuated.PunctuatedAnswers.{fits_head}
 use Rattle.lexical_parse_integer.proofs.reading.DigitLoop.{reads_end, reads_leaves, reads_next}
 use Rattle.lexical_parse_integer.proofs.reading.FirstDigit.{few_no_fault, leading_zeros, no_digit_no_zeros, other_first}
 use Rattle.lexical_parse_integer.proofs.reading.NumeralSteps.{all_found, digit_found, places_count}
@@ -99,12 +91,6 @@ sound_head f t text h valid is =
       once_closed = λ e. absurd (false≢true e);
     }
 
--- the first bytes of a rest, so many
-first_bytes : (text : List ℕ) (k w : ℕ) → take w (slice_range text k (length text)) ≡ slice_range text k (k + w)
-first_bytes text k w =
-    let size : w ≡ k + w - k = omega arith in
-    ap (take w) (rest_is text k) ∙ ap (λ j. take j (drop k text)) size
-
 -- ---- one digit more, or the end
 
 module _ (f : Format) (pre : Bool) (text : List ℕ) (r start : ℕ) where
@@ -154,42 +140,6 @@ module _ (f : Format) (pre : Bool) (text : List ℕ) (r start : ℕ) where
   pub all_read : (t : IntegerType) (b : Bool) (k n stop : ℕ) (value : ℤ) → IsSound (at k n) → Finds f (starts_behind_prefix start) r text start k (End stop) → Reads t b x n value → ReadsAll t b (at start 0) (at stop n) value
   all_read t b k n stop value s found reads = reads_end t b (at start 0) (at k n) (at stop n) value (on start 0 k n s) (ends k n stop (found_here k n (End stop) s found)) reads
 
-  -- ---- digits in a row
-
-  -- digits of a word, so many, where reading has come
-  pub row_sound : (k n w : ℕ) → IsSound (at k n) → AreDigitsAhead (at k n) w → IsSound (at (k + w) (n + w))
-  row_sound k n zero s ahead =
-      let place : k ≡ k + 0 = omega arith in
-      let count : n ≡ n + 0 = omega arith in
-      subst (λ j. IsSound (at j (n + 0))) place (subst (λ m. IsSound (at k m)) count s)
-  row_sound k n (suc w) s ahead = by_digit (digit_at r text k) refl (ahead k (omega arith) (omega arith)) (λ next. row_sound (k + 1) (n + 1) w next (λ j low high. ahead j (omega arith) (omega arith)))
-    where
-      by_digit : (found : Option ℕ) → digit_at r text k ≡ found → is_some found ≡ true → (IsSound (at (k + 1) (n + 1)) → IsSound (at (k + 1 + w) (n + 1 + w))) → IsSound (at (k + suc w) (n + suc w))
-      by_digit (Some d) is some more =
-          let place : k + 1 + w ≡ k + suc w = omega arith in
-          let count : n + 1 + w ≡ n + suc w = omega arith in
-          subst (λ j. IsSound (at j (n + suc w))) place (subst (λ m. IsSound (at (k + 1 + w) m)) count (more (next_sound k n k d s (digit_here k n d s is))))
-      by_digit None is some more = cc
-
-  pub word_ahead : (k n w m : ℕ) → r ≡ 10 → k ≤ length text → WritesFirst (slice_range text k (length text)) m w → AreDigitsAhead (at k n) w
-  word_ahead k n w m ten low first =
-      let same = first_bytes text k w in
-      let size = length-drop k text in
-      let rest : length (slice_range text k (length text)) ≡ length text - k = ap length (rest_is text k) ∙ size in
-      let within : k + w ≤ length text = omega (arith, first.within) in
-      let part = length-ahead text k w within in
-      let digits : AreDigits 10 (slice_range text k (k + w)) = subst (λ (bs : List ℕ). AreDigits 10 bs) (raised_none (take w (slice_range text k (length text))) ∙ same) first.writes.digits in
-      λ j from to. rw ten (all_ahead 10 text (slice_range text k (k + w)) k (omega arith) (stands_ahead text k w within) (ascii_from_digits 10 (slice_range text k (k + w)) (omega arith) digits) j from (omega arith))
-
-  -- the value with a word's digits more
-  pub word_joined : (t : IntegerType) (b : Bool) (room k n w m : ℕ) (value scale word : ℤ) → r ≡ 10 → 1 ≤ w → k ≤ length text → IsSound (at start 0) → IsSound (at k n) → HasRoom t 10 room → (b ≡ true → t.is_signed ≡ true) → n + w ≤ room → Reads t b x n value → WritesFirst (slice_range text k (length text)) m w → scale ≡ pos (10 ^ w) → word ≡ pos m →
-      ReadsWord t.bits t.is_signed b (at start 0) (at k n) w (mul_add b value scale word)
-  word_joined t b room k n w m value scale word ten some low first s has signed le reads writes is_scale is_word =
-      let power : scale ≡ pos (r ^ w) = is_scale ∙ ap (λ q. pos (q ^ w)) (sym ten) in
-      let number : word ≡ pos (word_value r (slice_range text k (k + w))) =
-      is_word ∙ ap pos (writes.writes.worth ∙ ap (word_value 10) (raised_none (take w (slice_range text k (length text))) ∙ first_bytes text k w)) ∙ ap (λ q. pos (word_value q (slice_range text k (k + w)))) (sym ten) in
-      reads_word t.bits t.is_signed b (at start 0) (at k n) w room value scale word some (on start 0 k n s) (omega arith) (rw ten has) signed le (word_ahead k n w m ten low writes) reads power number
-
   -- ---- the rule on zeros
 
   pub none_first : (p : Bool) (stop : ℕ) → IsSound (at start 0) → Finds f (starts_behind_prefix start) r text start start (End stop) → zero_fault f p x ≡ None
@@ -205,10 +155,10 @@ module _ (f : Format) (pre : Bool) (text : List ℕ) (r start : ℕ) where
       few_no_fault f p x (omega arith)
 
   pub zero_before : (p : Bool) (place d q e : ℕ) → IsSound (at start 0) → Finds f (starts_behind_prefix start) r text start start (Digit place d) → d ≡ 0 → Finds f (starts_behind_prefix start) r text start (place + 1) (Digit q e) → f.no_integer_leading_zeros ≡ true → p ≡ false → zero_fault f p x ≡ Some (InvalidLeadingZeros place)
-  zero_before p place d q e s first null found forbids bare =
+  zero_before p place d q e s first zero found forbids bare =
       let next = next_sound start 0 place d s first in
       let second = digit_found (at (place + 1) 1) (at (q + 1) 2) e next refl (takes (place + 1) 1 q e (found_here (place + 1) 1 (Digit q e) next found)) in
-      leading_zeros (at start 0) (at (place + 1) 1) d s refl refl (takes start 0 place d (found_here start 0 (Digit place d) s first)) (folded next) p place null forbids bare refl (sym (lt-ltb 1 (digit_count x) second.more))
+      leading_zeros (at start 0) (at (place + 1) 1) d s refl refl (takes start 0 place d (found_here start 0 (Digit place d) s first)) (folded next) p place zero forbids bare refl (sym (lt-ltb 1 (digit_count x) second.more))
 
   -- ---- where reading stops
 

@@ -4,7 +4,7 @@ use Rattle.std.proofs.lemmas.Bool.{false≢true, cases_lt, ltb-false, ltb-true}
 use Rattle.std.proofs.lemmas.Bool.Decides.{nat_tests}
 use Rattle.std.specs.Prelude.{nat_le, nat_lt}
 use Rattle.std.proofs.lemmas.Option.{slice_get_past}
-use Rattle.lexical_parse_integer.specs.Affixes.{bare_radix, is_affix, literal_radix, marked_radix, matches, numeral_stop, octal_zero_at, prefix_radix, suffix_at}
+use Rattle.lexical_parse_integer.specs.Affixes.{bare_radix, is_affix, literal_radix, named_radix, matches, numeral_stop, octal_zero_at, prefix_radix, suffix_at}
 use Rattle.lexical_parse_integer.specs.CursorView.{CursorView, IsSound, IsSuffixNoDigit, IsSuffixNoSeparator, ReachesEnd, TakesDigit, closes, numeral_end}
 use Rattle.lexical_parse_integer.specs.Runs.{are_same, is_in_numeral, digit_at, digits_between, end_of, places, separator_at}
 use Rattle.lexical_parse_integer.specs.Seeking.{Finds, HasNoDigit, IsSeparatorNoDigit, starts_behind_prefix}
@@ -43,19 +43,19 @@ pub separator_no_digit : (f : Format) (r : ℕ) (b : List ℕ) → ((s : ℕ) �
 unfolding separator_at are_same digit_at
 separator_no_digit f r b fit k t = by_option r f.digit_separator (slice_get b k) fit t
 
-by_mark : (sensitive : Bool) (mark c : Option ℕ) (P : Option ℕ → Type 0) → ((m x : ℕ) → mark ≡ Some m → matches sensitive m x ≡ true → P (Some x)) → is_affix sensitive mark c ≡ true → P c
+by_affix : (sensitive : Bool) (affix c : Option ℕ) (P : Option ℕ → Type 0) → ((m x : ℕ) → affix ≡ Some m → matches sensitive m x ≡ true → P (Some x)) → is_affix sensitive affix c ≡ true → P c
 unfolding is_affix
-by_mark sensitive (Some m) (Some x) P fit t = fit m x refl t
-by_mark sensitive (Some m) None P fit t = absurd (false≢true t)
-by_mark sensitive None c P fit t = absurd (false≢true t)
+by_affix sensitive (Some m) (Some x) P fit t = fit m x refl t
+by_affix sensitive (Some m) None P fit t = absurd (false≢true t)
+by_affix sensitive None c P fit t = absurd (false≢true t)
 
 pub suffix_no_digit : (f : Format) (r : ℕ) (b : List ℕ) → ((m x : ℕ) → f.base_suffix ≡ Some m → matches f.case_sensitive_base_suffix m x ≡ true → digit x r ≡ None) → IsSuffixNoDigit f r b
 unfolding suffix_at digit_at
-suffix_no_digit f r b fit k t = by_mark f.case_sensitive_base_suffix f.base_suffix (slice_get b k) (λ o. option_and_then (λ c. digit c r) o ≡ None) fit t
+suffix_no_digit f r b fit k t = by_affix f.case_sensitive_base_suffix f.base_suffix (slice_get b k) (λ o. option_and_then (λ c. digit c r) o ≡ None) fit t
 
 pub suffix_no_separator : (f : Format) (b : List ℕ) → ((m x : ℕ) → f.base_suffix ≡ Some m → matches f.case_sensitive_base_suffix m x ≡ true → are_same f.digit_separator (Some x) ≡ false) → IsSuffixNoSeparator f b
 unfolding suffix_at separator_at
-suffix_no_separator f b fit k t = by_mark f.case_sensitive_base_suffix f.base_suffix (slice_get b k) (λ c. are_same f.digit_separator c ≡ false) fit t
+suffix_no_separator f b fit k t = by_affix f.case_sensitive_base_suffix f.base_suffix (slice_get b k) (λ c. are_same f.digit_separator c ≡ false) fit t
 
 pub IsSound-digit : (v : CursorView) (turns place value : ℕ) → IsSound v → v.closed ≡ false → turns ≡ v.turns + 1 → Finds v.format v.is_prefixed v.radix v.bytes v.start v.position (Digit place value) → IsSound (record v { position = place + 1; digits = v.digits + 1; turns = turns })
 IsSound-digit v turns place value s open_now one_more found =
@@ -232,16 +232,16 @@ word_fits v n s open_now some all =
     let last : v.position + n - 1 < length v.bytes = some_within v.radix v.bytes (v.position + n - 1) (all (v.position + n - 1) (omega arith) (omega arith)) in
     omega (arith, digits_bound v s open_now)
 
-mark_within : (sensitive : Bool) (mark : Option ℕ) (b : List ℕ) (k : ℕ) → is_affix sensitive mark (slice_get b k) ≡ true → k < length b
-mark_within sensitive mark b k t =
+affix_within : (sensitive : Bool) (affix : Option ℕ) (b : List ℕ) (k : ℕ) → is_affix sensitive affix (slice_get b k) ≡ true → k < length b
+affix_within sensitive affix b k t =
     elim (cases_lt k (length b)) [
       | inl lt ↦ lt
-      | inr ge ↦ let e = slice_get_past b k ge in let t' = rw e at t in absurd (by_mark sensitive mark None (λ c. c ≡ None → ⊥) (λ m x _ _ h. (cc)) t' refl)
+      | inr ge ↦ let e = slice_get_past b k ge in let t' = rw e at t in absurd (by_affix sensitive affix None (λ c. c ≡ None → ⊥) (λ m x _ _ h. (cc)) t' refl)
     ]
 
 pub suffix_at_within : (f : Format) (b : List ℕ) (k : ℕ) → suffix_at f b k ≡ true → k < length b
 unfolding suffix_at
-suffix_at_within f b k t = mark_within f.case_sensitive_base_suffix f.base_suffix b k t
+suffix_at_within f b k t = affix_within f.case_sensitive_base_suffix f.base_suffix b k t
 
 letter_within : (sensitive : Bool) (b : List ℕ) (k r : ℕ) → literal_radix sensitive (slice_get b k) ≡ Some r → k < length b
 unfolding literal_radix
@@ -249,18 +249,18 @@ letter_within sensitive b k r e = by_letter (is_affix sensitive (Some 120) (slic
   where
     by_letter : (x o c : Bool) → is_affix sensitive (Some 120) (slice_get b k) ≡ x → is_affix sensitive (Some 111) (slice_get b k) ≡ o → is_affix sensitive (Some 98) (slice_get b k) ≡ c
         → cond x (Some 16) (cond o (Some 8) (cond c (Some 2) None)) ≡ Some r → k < length b
-    by_letter true o c t u v h = mark_within sensitive (Some 120) b k t
-    by_letter false true c t u v h = mark_within sensitive (Some 111) b k u
-    by_letter false false true t u v h = mark_within sensitive (Some 98) b k v
+    by_letter true o c t u v h = affix_within sensitive (Some 120) b k t
+    by_letter false true c t u v h = affix_within sensitive (Some 111) b k u
+    by_letter false false true t u v h = affix_within sensitive (Some 98) b k v
     by_letter false false false t u v h = cc
 
-marked_within : (f : Format) (b : List ℕ) (k r : ℕ) → marked_radix f (slice_get b k) ≡ Some r → k < length b
-unfolding marked_radix
-marked_within f b k r e = by_own (is_affix f.case_sensitive_base_prefix f.base_prefix (slice_get b k)) f.literal_prefixes refl e
+named_within : (f : Format) (b : List ℕ) (k r : ℕ) → named_radix f (slice_get b k) ≡ Some r → k < length b
+unfolding named_radix
+named_within f b k r e = by_own (is_affix f.case_sensitive_base_prefix f.base_prefix (slice_get b k)) f.literal_prefixes refl e
   where
     by_own : (own asked : Bool) → is_affix f.case_sensitive_base_prefix f.base_prefix (slice_get b k) ≡ own
         → cond own (Some f.mantissa_radix) (cond asked (literal_radix f.case_sensitive_base_prefix (slice_get b k)) None) ≡ Some r → k < length b
-    by_own true asked t h = mark_within f.case_sensitive_base_prefix f.base_prefix b k t
+    by_own true asked t h = affix_within f.case_sensitive_base_prefix f.base_prefix b k t
     by_own false true t h = letter_within f.case_sensitive_base_prefix b k r h
     by_own false false t h = cc
 
@@ -268,13 +268,13 @@ pub prefix_within : (f : Format) (b : List ℕ) (k r : ℕ) → prefix_radix f b
 unfolding prefix_radix
 prefix_within f b k r e = by_zero (are_same (Some 48) (slice_get b k)) e
   where
-    by_zero : (zero : Bool) → cond zero (marked_radix f (slice_get b (k + 1))) None ≡ Some r → k + 1 < length b
-    by_zero true h = marked_within f b (k + 1) r h
+    by_zero : (zero : Bool) → cond zero (named_radix f (slice_get b (k + 1))) None ≡ Some r → k + 1 < length b
+    by_zero true h = named_within f b (k + 1) r h
     by_zero false h = cc
 
 -- without literal prefixes, a prefix leaves the format's radix
 pub prefix_own : (f : Format) (b : List ℕ) (k r : ℕ) → f.literal_prefixes ≡ false → prefix_radix f b k ≡ Some r → r ≡ f.mantissa_radix
-unfolding prefix_radix marked_radix
+unfolding prefix_radix named_radix
 prefix_own f b k r off e = by_zero (are_same (Some 48) (slice_get b k)) (is_affix f.case_sensitive_base_prefix f.base_prefix (slice_get b (k + 1))) f.literal_prefixes off e
   where
     by_zero : (zero own asked : Bool) → asked ≡ false

@@ -13,7 +13,7 @@ use Rattle.lexical_util.specs.declared.error.Error.{Error}
 use Rattle.lexical_util.specs.declared.error.Error.TheVariants.{InvalidDigit, Empty}
 use Rattle.lexical_util.specs.Format.{Format}
 use Rattle.lexical_util.specs.Number.{IntegerType, is_number}
-use Rattle.lexical_parse_integer.specs.Affixes.{is_affix, marked_radix, octal_zero_at, prefix_radix, suffix_at}
+use Rattle.lexical_parse_integer.specs.Affixes.{is_affix, named_radix, octal_zero_at, prefix_radix, suffix_at}
 use Rattle.lexical_parse_integer.specs.Grammar.{common_faults, complete, complete_faults, fault_if, first_fault_or, first_outside, lacks_digits, prefix_fault, range_error, range_fault, zero_fault}
 use Rattle.lexical_parse_integer.specs.Head.{Head, head_of, sign, head_behind}
 use Rattle.lexical_parse_integer.specs.Laws.{with_radix}
@@ -43,7 +43,7 @@ complete_row f t text h count none head low ends = rw (head, numeral_in_a_row f 
 
 -- without a prefix the head is the sign
 pub head_is : (f : Format) (t : IntegerType) (text : List ℕ) (s : Bool × ℕ) → f.base_prefix ≡ None → f.literal_prefixes ≡ false → f.literal_octal_zero ≡ false → sign f t text ≡ Ok s → head_of f t text ≡ Ok (record { is_negative = s.0; is_prefixed = false; is_octal = false; start = s.1; radix = f.mantissa_radix })
-unfolding head_of octal_zero_at prefix_radix marked_radix is_affix
+unfolding head_of octal_zero_at prefix_radix named_radix is_affix
 head_is f t text s none unasked plain sign_is =
     rw (sign_is, none, unasked) (by_zero (are_same (Some 48) (slice_get text s.1)))
   where
@@ -60,7 +60,7 @@ stop_plain f text start r count none = rw (none, and-false) refl
 pub take_row : (r : ℕ) (text : List ℕ) (start count : ℕ) → take (length (row r text start count)) (row r text start count) ≡ row r text start count
 take_row r text start count = take_all (length (row r text start count)) (row r text start count) (omega arith)
 
--- digits alone behind the sign are read, under each format without marks whose zero rule they keep
+-- digits alone behind the sign are read, under each format without punctuation whose zero rule they keep
 pub digits_read_under : (f : Format) (t : IntegerType) (text : List ℕ) (s : Bool × ℕ) → IsPlain f → 1 ≤ f.mantissa_radix → sign f t text ≡ Ok s → s.1 < length text → HoldsBetween (has_digit f.mantissa_radix text) s.1 (length text) →
     zero_fault f false (row_numeral f text s.1 f.mantissa_radix (length text - s.1)) ≡ None →
     is_number t (with_sign s.0 (rest_value f.mantissa_radix text s.1)) ≡ true → complete f t text ≡ Ok (with_sign s.0 (rest_value f.mantissa_radix text s.1))
@@ -82,7 +82,7 @@ digits_read_under f t text s plain positive sign_is some all no_zeros fits =
     let answer : complete_by f t text h x ≡ Ok (numeral_value s.0 x) = rw (zeros, no_range, over, digits_there, and-false) refl in
     complete_row f t text h n plain.no_separator (head_is f t text s plain.no_prefix plain.no_literals plain.no_octal_zeros sign_is) (omega arith) ends ∙ answer ∙ ap (λ (z : ℤ). Ok z) value
 
--- a format of another radix has no marks
+-- a format of another radix has no punctuation
 plain_with_radix : (r : ℕ) → IsPlain (with_radix r)
 plain_with_radix r = record { no_separator = refl; no_prefix = refl; no_suffix = refl; no_literals = refl; no_octal_zeros = refl; no_sign = refl }
 

@@ -63,6 +63,15 @@ empty_front : (digit_at 10 (120 ∷ []) 0 ≡ None) × (partial standard u8 (120
 unfolding grammar
 empty_front = (refl, refl)
 
+-- ---- wider types: `12x` is read alike as `i8` and `i16`; an unsigned type reads no minus
+wider_front : (partial standard i8 (49 ∷ 50 ∷ 120 ∷ []) ≡ Ok (pos 12, 2)) × (partial standard i16 (49 ∷ 50 ∷ 120 ∷ []) ≡ Ok (pos 12, 2))
+unfolding grammar
+wider_front = (refl, refl)
+
+other_signs : (partial standard i8 (45 ∷ 48 ∷ []) ≡ Ok (pos 0, 2)) × (partial standard (integer_type 16 false) (45 ∷ 48 ∷ []) ≡ Ok (pos 0, 0))
+unfolding grammar
+other_signs = (refl, refl)
+
 -- ---- the front's digits: `1x` stops after a digit, and `+a` after none; behind the trailing separator of `1_` there is
 -- none though a digit was read
 after_digit : (partial standard u8 (49 ∷ 120 ∷ []) ≡ Ok (pos 1, 1)) × (stops_after_digit 10 (49 ∷ 120 ∷ []) 1 ≡ true)

@@ -1,4 +1,4 @@
--- Texts with the same first bytes have the same digits and marks there: for `Locality`.
+-- Texts with the same first bytes have the same digits and punctuation there: for `Locality`.
 use Rattle.std.proofs.Common.{◌≡◌, ℕ, zero, suc, ◌+◌, ◌<◌, ◌≤◌, Bool, true, false, ◌&&◌, List, [], ◌∷◌, length, refl, sym, ap, ◌∙◌, arith, Some, None, inl, inr, option_and_then, cond}
 use Rattle.std.proofs.lemmas.Bool.{cases_lt}
 use Rattle.std.proofs.lemmas.Option.{slice_get_past, slice_get-get_or}
@@ -7,7 +7,7 @@ use Rattle.std.specs.Option.{unwrap_or}
 use Rattle.lexical_util.specs.Digit.{digit}
 use Rattle.lexical_util.specs.Format.{Format}
 use Rattle.lexical_util.specs.Number.{IntegerType}
-use Rattle.lexical_parse_integer.specs.Affixes.{is_affix, marked_radix, octal_zero_at, prefix_radix, suffix_at}
+use Rattle.lexical_parse_integer.specs.Affixes.{is_affix, named_radix, octal_zero_at, prefix_radix, suffix_at}
 use Rattle.lexical_parse_integer.specs.Head.{sign, sign_by}
 use Rattle.lexical_parse_integer.specs.Laws.{SameFront}
 use Rattle.lexical_parse_integer.specs.Runs.{are_same, digit_at}
@@ -57,8 +57,8 @@ unfolding prefix_radix
 agree_prefix f n k text other same l deep = by_zero (are_same (Some 48) (slice_get text k)) refl
   where
     by_zero : (b : Bool) → are_same (Some 48) (slice_get text k) ≡ b →
-        cond (are_same (Some 48) (slice_get text k)) (marked_radix f (slice_get text (k + 1))) None
-        ≡ cond (are_same (Some 48) (slice_get other k)) (marked_radix f (slice_get other (k + 1))) None
+        cond (are_same (Some 48) (slice_get text k)) (named_radix f (slice_get text (k + 1))) None
+        ≡ cond (are_same (Some 48) (slice_get other k)) (named_radix f (slice_get other (k + 1))) None
     by_zero true e =
         let next = same (k + 1) (deep (is_zero (slice_get text k) e)) in
         let here = same k l in

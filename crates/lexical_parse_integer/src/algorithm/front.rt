@@ -2,7 +2,6 @@
 // them. Every text has its answer here under every valid format, so whatever a quick way isn't sure of is read here.
 ghost use Rattle.std.specs.Prelude.{◌≡◌, ◌≤◌, ◌&&◌, ◌||◌, ◌==◌, Err, IfErr, IfOk, IfSome, IsNone, Ok, Some, None, is_some, length, nat_lt, true, if◌then◌else◌, ◌+◌};
 ghost use Rattle.std.specs.Option.{option_or};
-ghost use Rattle.lexical_util.specs.Format.{standard};
 ghost use Rattle.lexical_util.specs.Validity.{fault};
 ghost use Rattle.lexical_util.specs.declared.error.Error.TheVariants.{InvalidLeadingZeros};
 ghost use Rattle.lexical_parse_integer.specs.Affixes.{suffix_at};
@@ -16,11 +15,9 @@ ghost use Rattle.lexical_parse_integer.specs.Reading.{Reads, ReadsAll, ReadsNume
 
 use crate::affixes::{octal_zero_at, prefix_radix, suffix_at};
 use crate::algorithm::digits::join_checked;
-use crate::algorithm::plain::long_fronts::power_of_ten;
 use crate::seek::{Found, digit_at, seek};
-use lexical_digits::fronts::number_in_front;
 use lexical_util::error::Error;
-use lexical_util::format::{self, NumberFormat};
+use lexical_util::format::NumberFormat;
 use lexical_util::num::Integer;
 use lexical_util::result::Result;
 
@@ -146,55 +143,6 @@ fn zero_before_digit(bytes: &[u8], format: &NumberFormat, head: Head) -> Option<
     }
 }
 
-// The decimal digits in a row from where reading has come, by words, as long as they are so few that no value leaves the
-// type. Types of fewer than 32 bits have no room for a word's number.
-#[inline(always)]
-fn read_words<T: Integer>(
-    bytes: &[u8],
-    format: &NumberFormat,
-    head: Head,
-    read: Digits<T>,
-) -> Digits<T>
-    requires first { IsSound
-        (view_at format.now head.is_prefixed head.radix bytes.now head.start head.start 0) }
-    requires minus { head.is_negative ≡ true → T.TYPE.is_signed ≡ true }
-    requires sound { IsSound
-        (view_at format.now head.is_prefixed head.radix bytes.now head.start read.end read.count) }
-    requires reads { Reads T.TYPE head.is_negative
-        (numeral_in format.now head.is_prefixed head.radix bytes.now head.start) read.count
-        (T.number read.value) }
-    ensures still_sound { IsSound (view_at format.now head.is_prefixed head.radix bytes.now
-        head.start result.end result.count) }
-    ensures still_reads { Reads T.TYPE head.is_negative
-        (numeral_in format.now head.is_prefixed head.radix bytes.now head.start) result.count
-        (T.number result.value) }
-    ensures forward { read.end ≤ result.end }
-{
-    if T::BITS < 32 || head.radix != 10 {
-        return read;
-    }
-    let most = T::overflow_digits(10);
-    let Digits {
-        mut value,
-        mut count,
-        mut end,
-    } = read;
-    while count < most && end < bytes.len() {
-        let (number, few) = number_in_front(&bytes[end..]);
-        if few == 0 || count + few > most {
-            return Digits { value, count, end };
-        }
-        let scale = T::from_u32(power_of_ten(few));
-        value = value.mul_add(scale, T::from_u32(number), head.is_negative);
-        count += few;
-        end += few;
-        if few < 8 {
-            return Digits { value, count, end };
-        }
-    }
-    Digits { value, count, end }
-}
-
 // The digits in a row from where reading has come, as long as they are so few that no value leaves the type: a step is
 // one look-up, with no test of the value and none for a separator.
 #[inline(always)]
@@ -225,7 +173,7 @@ fn read_row<T: Integer>(
         mut value,
         mut count,
         mut end,
-    } = read_words::<T>(bytes, format, head, read);
+    } = read;
     while count < most {
         let Some(digit) = digit_at(bytes, head.radix, end) else {
             return Digits { value, count, end };
@@ -360,12 +308,4 @@ pub(crate) fn complete_from_front<T: Integer>(bytes: &[u8], format: &NumberForma
     ensures { view_of T.number result ≡ complete format.now T.TYPE bytes.now }
 {
     completion::<T>(bytes, partial_from_front::<T>(bytes, format))
-}
-
-/// The integer that the whole text stands for under the standard format, whose fields the compiler folds into the code.
-#[inline(never)]
-pub(crate) fn standard_from_front<T: Integer>(bytes: &[u8]) -> Result<T>
-    ensures { view_of T.number result ≡ complete standard T.TYPE bytes.now }
-{
-    completion::<T>(bytes, partial_from_front::<T>(bytes, &format::STANDARD))
 }

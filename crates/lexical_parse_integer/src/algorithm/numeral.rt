@@ -10,7 +10,7 @@ ghost use Rattle.lexical_parse_integer.specs.Turns.{AsksWords};
 
 use crate::algorithm::digits::{read_rest, read_untested};
 use crate::algorithm::multi::read_words;
-use crate::algorithm::zeros::read_first;
+use crate::algorithm::zeros::read_first_digit;
 use crate::cursor::Cursor;
 use lexical_util::num::Integer;
 use lexical_util::result::Result;
@@ -98,6 +98,6 @@ pub(crate) fn read_numeral<T: Integer>(
     ensures goes_on { MovesOn c.old c.new }
     ensures turns { Folded (KeepsTurns T.BITS T.TYPE no_multi_digit c.old c.new) }
 {
-    let first = read_first::<T>(c, negative, radix_chosen)?;
+    let first = read_first_digit::<T>(c, negative, radix_chosen)?;
     read_digits::<T>(c, first, negative, no_multi_digit)
 }

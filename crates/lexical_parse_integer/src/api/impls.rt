@@ -5,11 +5,11 @@ ghost use Rattle.lexical_parse_integer.specs.Answer.{with_place, view_of};
 ghost use Rattle.lexical_parse_integer.specs.Grammar.{complete, complete_if_valid, partial_if_valid};
 
 use crate::algorithm::front::{complete_from_front, partial_from_front};
-use crate::algorithm::marked::validity::fault_of;
-use crate::algorithm::marked::{value_of_groups, value_of_row};
 use crate::algorithm::plain::{
     front_if_plain, is_plain, value_if_plain, value_if_short, value_of_plain,
 };
+use crate::algorithm::punctuated::validity::fault_of;
+use crate::algorithm::punctuated::{value_of_groups, value_of_row};
 use crate::algorithm::{standard_complete, standard_partial};
 use crate::api::{FromLexical, FromLexicalWithOptions};
 use crate::options::Options;
@@ -18,18 +18,16 @@ use lexical_util::format::{self, NumberFormat};
 use lexical_util::num::Integer;
 use lexical_util::result::Result;
 
-// A text and its format, put down for the call that reads what others leave. Else they would stay in registers over
-// these calls, and a short text, for which none is made, would save those registers too.
+// A text and its format for the call that reads what others leave. Why by reference: docs/DECISIONS.md, code.
 #[derive(Clone, Copy)]
 struct Call<'a> {
     bytes: &'a [u8],
     format: &'a NumberFormat,
 }
 
-// The complete answer for a text that the quick ways leave. The place for its answer is made ready here, and so not for
-// a value.
+// The complete answer for a text that the quick ways leave.
 #[inline(always)]
-fn complete_otherwise<T: Integer>(call: &Call<'_>) -> Result<T>
+fn general_complete<T: Integer>(call: &Call<'_>) -> Result<T>
     ensures { view_of T.number result
         ≡ complete_if_valid call.now.format.now T.TYPE call.now.bytes.now }
 {
@@ -46,16 +44,16 @@ fn complete<T: Integer>(bytes: &[u8], format: &NumberFormat) -> Result<T>
         return Ok(value);
     }
     let call = Call { bytes, format };
-    match value_by_kind::<T>(bytes, format) {
+    match value_for_format::<T>(bytes, format) {
         Some(value) => Ok(value),
-        None => complete_otherwise::<T>(&call),
+        None => general_complete::<T>(&call),
     }
 }
 
-// The value of the whole text, by a reader for each kind of format, where `value_if_short` has left it. Each is a call
-// that answers in registers: an answer through memory makes the caller wait for it.
+// The value of the whole text, by the reader for its format, where `value_if_short` has left it. Why each answers in
+// registers: docs/DECISIONS.md, code.
 #[inline(always)]
-fn value_by_kind<T: Integer>(bytes: &[u8], format: &NumberFormat) -> Option<T>
+fn value_for_format<T: Integer>(bytes: &[u8], format: &NumberFormat) -> Option<T>
     ensures valid { IfSome result (λ value. IsNone (fault format.now)) }
     ensures answer { IfSome result
         (λ value. complete format.now T.TYPE bytes.now ≡ Ok (T.number value)) }
@@ -69,7 +67,7 @@ fn value_by_kind<T: Integer>(bytes: &[u8], format: &NumberFormat) -> Option<T>
     value_of_plain::<T>(bytes, format)
 }
 
-// The complete answer in one call, out of line.
+// The complete answer for every text, in one call. Why out of line: docs/DECISIONS.md, code.
 #[inline(never)]
 fn complete_if_valid<T: Integer>(call: &Call<'_>) -> Result<T>
     ensures { view_of T.number result

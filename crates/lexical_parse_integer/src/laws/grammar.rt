@@ -77,6 +77,15 @@ pub fn front_end()
         → partial format type text ≡ Ok (value, place) → 0 < place }
 {}
 
+/// A front that is read as one type is read alike as a wider one, where both have numbers below 0 or neither has.
+///
+/// So a reader may try 64 bits first. `12x` is 12 up to place 2 as `u8`, and so it is as `u128`.
+pub fn wider_types()
+    ensures { (format : Format) (type other : IntegerType) (text : List ℕ) (found : ℤ × ℕ)
+        → other.is_signed ≡ type.is_signed → type.bits ≤ other.bits
+        → partial format type text ≡ Ok found → partial format other text ≡ Ok found }
+{}
+
 /// The front that is read of a text with neither a prefix nor an octal zero has a digit exactly where one is directly
 /// before its place, under a format without separator byte and suffix: what `stops_after_digit` answers is whether a
 /// digit was read.

@@ -8,11 +8,11 @@ use crate::digit::char_is_digit;
 
 // Whether a separator, prefix or suffix is set to a byte that can't be one.
 #[inline(always)]
-pub(super) fn is_unfit(mark: Option<u8>, radix: u32) -> bool
+pub(super) fn is_unfit(punctuation: Option<u8>, radix: u32) -> bool
     requires { IsRadix radix }
-    ensures { result ≡ is_unfit radix mark }
+    ensures { result ≡ is_unfit radix punctuation }
 {
-    match mark {
+    match punctuation {
         None => false,
         Some(byte) => {
             !byte.is_ascii() || byte == b'+' || byte == b'-' || char_is_digit(byte, radix)
@@ -22,11 +22,11 @@ pub(super) fn is_unfit(mark: Option<u8>, radix: u32) -> bool
 
 // Whether both are set, to one byte or to one letter in two cases.
 #[inline(always)]
-pub(super) fn are_alike(mark: Option<u8>, other: Option<u8>) -> bool
-    ensures { result ≡ are_alike mark other }
+pub(super) fn are_alike(punctuation: Option<u8>, other: Option<u8>) -> bool
+    ensures { result ≡ are_alike punctuation other }
 {
-    match (mark, other) {
-        (Some(mark), Some(other)) => mark.eq_ignore_ascii_case(&other),
+    match (punctuation, other) {
+        (Some(punctuation), Some(other)) => punctuation.eq_ignore_ascii_case(&other),
         _ => false,
     }
 }
@@ -42,10 +42,10 @@ fn is_literal_letter(byte: u8) -> bool
 
 // Whether a separator or suffix is set to a byte that literal prefixes need.
 #[inline(always)]
-pub(super) fn is_unfit_beside_literals(mark: Option<u8>) -> bool
-    ensures { result ≡ is_unfit_beside_literals mark }
+pub(super) fn is_unfit_beside_literals(punctuation: Option<u8>) -> bool
+    ensures { result ≡ is_unfit_beside_literals punctuation }
 {
-    match mark {
+    match punctuation {
         None => false,
         Some(byte) => char_is_digit(byte, 16) || is_literal_letter(byte),
     }

@@ -1,30 +1,31 @@
-// Sources and their tokens, and callers.
+// Tokens one by one, and callers. proofs/Tokens.antt has more sources.
 
 mod caller;
-mod formats;
-mod tokens;
 
-use crate::tests::answers_to;
-use lexical_literals::{Kind, Tokens};
-use std::process::Abort;
+use crate::tests::answers;
+use lexical_literals::{Kind, Token, Tokens};
+use lexical_parse_integer::{Error, NumberFormatBuilder};
 
-// What a token is, and where it starts and stops.
-type Span = (Kind, usize, usize);
+// The first token outlives the iterator that gave it.
+fn first(source: &[u8]) -> Option<Token<'_>> {
+    let mut tokens = Tokens::new(source);
+    tokens.next()
+}
 
-// These are the tokens of the source, each with its bytes, and there is no other.
-fn are_tokens(rt: &impl Abort, tokens: Tokens<'_>, source: &[u8], expected: &[Span]) {
-    let mut tokens = tokens;
-    for (kind, start, stop) in expected {
-        match tokens.next() {
-            Some(token) => answers_to(
-                rt,
-                source,
-                (&token.kind, token.start, token.stop, Some(token.text)),
-                (kind, *start, *stop, source.get(*start..*stop)),
-            ),
-            None => answers_to(rt, source, None, Some((kind, *start, *stop))),
-        }
-    }
-    answers_to(rt, source, tokens.next(), None);
-    answers_to(rt, source, tokens.next(), None);
+#[test]
+fn tokens_one_by_one(rt: HostRuntime) {
+    let number = Token {
+        kind: Kind::Number(123),
+        start: 1,
+        stop: 5,
+        text: b"12_3",
+    };
+    answers(&rt, first(b" 12_3;"), Some(number));
+    answers(&rt, first(b"\r\n"), None);
+    let radix = NumberFormatBuilder::new()
+        .mantissa_radix(37)
+        .digit_separator(Some(b'+'))
+        .build_unchecked();
+    let fault = Tokens::with_format(b"1", &radix).err();
+    answers(&rt, fault, Some(Error::InvalidMantissaRadix));
 }

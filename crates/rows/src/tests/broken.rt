@@ -4,10 +4,10 @@ use super::reference::digit_of;
 use lexical_parse_integer::{Error, NumberFormat, NumberFormatBuilder};
 
 // Whether a byte may be no separator, prefix or suffix.
-fn is_unfit(mark: Option<u8>, radix: u32) -> bool {
-    match mark {
-        Some(mark) => {
-            !mark.is_ascii() || mark == b'+' || mark == b'-' || digit_of(mark, radix).is_some()
+fn is_unfit(byte: Option<u8>, radix: u32) -> bool {
+    match byte {
+        Some(byte) => {
+            !byte.is_ascii() || byte == b'+' || byte == b'-' || digit_of(byte, radix).is_some()
         }
         None => false,
     }
@@ -22,10 +22,10 @@ fn are_alike(one: Option<u8>, other: Option<u8>) -> bool {
 }
 
 // Whether a byte could be taken for a part of a numeral with a literal prefix.
-fn is_in_literals(mark: Option<u8>) -> bool {
-    match mark {
-        Some(mark) => {
-            digit_of(mark, 16).is_some() || matches!(mark, b'x' | b'X' | b'o' | b'O' | b'b' | b'B')
+fn is_in_literals(byte: Option<u8>) -> bool {
+    match byte {
+        Some(byte) => {
+            digit_of(byte, 16).is_some() || matches!(byte, b'x' | b'X' | b'o' | b'O' | b'b' | b'B')
         }
         None => false,
     }
@@ -34,10 +34,10 @@ fn is_in_literals(mark: Option<u8>) -> bool {
 // Whether a format that chooses the radix by the text breaks what that asks for.
 fn breaks_literals(format: &NumberFormat) -> bool {
     let chooses_radix = format.literal_prefixes() || format.literal_octal_zero();
-    let has_other_marks = format.base_prefix().is_some()
+    let has_other_punctuation = format.base_prefix().is_some()
         || is_in_literals(format.digit_separator())
         || is_in_literals(format.base_suffix());
-    (chooses_radix && format.radix() != 10) || (format.literal_prefixes() && has_other_marks)
+    (chooses_radix && format.radix() != 10) || (format.literal_prefixes() && has_other_punctuation)
 }
 
 // The fault of the first rule that a format breaks, by a list of the rules.
@@ -69,15 +69,15 @@ pub(super) fn first_broken(format: &NumberFormat) -> Option<Error> {
 const RADIXES: [u8; 8] = [0, 1, 2, 10, 16, 36, 37, 255];
 
 // A byte of these that is `n` stands for none.
-const MARKS: [u8; 9] = *b"n_xXa5-\0\xc8";
+const PUNCTUATION: [u8; 9] = *b"n_xXa5-\0\xc8";
 
 // How many formats there are: of each radix, separator, prefix and suffix, with literal prefixes and without, and with
 // strict rules on signs and zeros or without them.
 const FORMATS: usize = 4 * 8 * 9 * 9 * 9;
 
-fn mark_of(number: usize) -> Option<u8> {
-    let mark = MARKS[number % 9];
-    if mark == b'n' { None } else { Some(mark) }
+fn punctuation_of(number: usize) -> Option<u8> {
+    let byte = PUNCTUATION[number % 9];
+    if byte == b'n' { None } else { Some(byte) }
 }
 
 // The builder of this number, which counts them.
@@ -85,9 +85,9 @@ fn builder_of(number: usize) -> NumberFormatBuilder {
     let is_strict = number / 2 % 2 == 1;
     NumberFormatBuilder::new()
         .mantissa_radix(RADIXES[number / 4 % 8])
-        .digit_separator(mark_of(number / 32))
-        .base_prefix(mark_of(number / 288))
-        .base_suffix(mark_of(number / 2592))
+        .digit_separator(punctuation_of(number / 32))
+        .base_prefix(punctuation_of(number / 288))
+        .base_suffix(punctuation_of(number / 2592))
         .literal_prefixes(number % 2 == 1)
         .integer_internal_digit_separator(true)
         .integer_trailing_digit_separator(true)

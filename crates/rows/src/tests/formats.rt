@@ -38,7 +38,7 @@ pub(super) const INTEGER_DIGITS: u32 = 131_072;
 pub(super) const BYTE_ZERO: u32 = 65_536;
 
 // The byte, where this bit is set.
-fn mark(bits: u32, bit: u32, byte: u8) -> Option<u8> {
+fn punctuation(bits: u32, bit: u32, byte: u8) -> Option<u8> {
     let byte = if bits & BYTE_ZERO != 0 { 0 } else { byte };
     if bits & bit != 0 { Some(byte) } else { None }
 }
@@ -47,9 +47,9 @@ fn mark(bits: u32, bit: u32, byte: u8) -> Option<u8> {
 pub(super) fn format_of(radix: u8, bits: u32) -> NumberFormat {
     NumberFormatBuilder::new()
         .mantissa_radix(radix)
-        .digit_separator(mark(bits, SEPARATOR, b'_'))
-        .base_prefix(mark(bits, PREFIX, b'x'))
-        .base_suffix(mark(bits, SUFFIX, b'h'))
+        .digit_separator(punctuation(bits, SEPARATOR, b'_'))
+        .base_prefix(punctuation(bits, PREFIX, b'x'))
+        .base_suffix(punctuation(bits, SUFFIX, b'h'))
         .integer_internal_digit_separator(bits & INTERNAL != 0)
         .integer_leading_digit_separator(bits & LEADING != 0)
         .integer_trailing_digit_separator(bits & TRAILING != 0)

@@ -67,7 +67,7 @@ fn under(rt: &impl Abort, fields: u32) {
     }
 }
 
-// Zeros in front that the format forbids, and a plus that it forbids. A mark that no digit stands beside changes
+// Zeros in front that the format forbids, and a plus that it forbids. Punctuation that no digit stands beside changes
 // nothing: neither a separator, nor a prefix, nor a suffix.
 #[test]
 fn each_length_under_other_formats(rt: HostRuntime) {

@@ -58,9 +58,9 @@ pub(super) fn digit_of(byte: u8, radix: u32) -> Option<u32> {
     if value < radix { Some(value) } else { None }
 }
 
-// Whether a byte of the text is this mark of the format.
-fn is_mark(byte: u8, mark: u8, in_its_case: bool) -> bool {
-    byte == mark || (!in_its_case && byte.eq_ignore_ascii_case(&mark))
+// Whether a byte of the text is this punctuation of the format.
+fn is_punctuation(byte: u8, punctuation: u8, in_its_case: bool) -> bool {
+    byte == punctuation || (!in_its_case && byte.eq_ignore_ascii_case(&punctuation))
 }
 
 // Whether there is a minus, and how many bytes the sign has.
@@ -82,13 +82,13 @@ fn prefixed(text: &[u8], format: &NumberFormat, place: usize) -> Option<u32> {
         return None;
     }
     let in_its_case = format.case_sensitive_base_prefix();
-    if let Some(mark) = format.base_prefix() {
-        if is_mark(letter, mark, in_its_case) {
+    if let Some(punctuation) = format.base_prefix() {
+        if is_punctuation(letter, punctuation, in_its_case) {
             return Some(format.radix());
         }
     }
-    for (mark, radix) in [(b'x', 16), (b'o', 8), (b'b', 2)] {
-        if format.literal_prefixes() && is_mark(letter, mark, in_its_case) {
+    for (punctuation, radix) in [(b'x', 16), (b'o', 8), (b'b', 2)] {
+        if format.literal_prefixes() && is_punctuation(letter, punctuation, in_its_case) {
             return Some(radix);
         }
     }
@@ -204,7 +204,7 @@ impl Region<'_> {
         let end = numeral.end;
         match (self.text.get(end).copied(), self.format.base_suffix()) {
             (Some(byte), Some(suffix)) if numeral.count > 0 => {
-                end.saturating_add(usize::from(is_mark(byte, suffix, in_its_case)))
+                end.saturating_add(usize::from(is_punctuation(byte, suffix, in_its_case)))
             }
             _ => end,
         }

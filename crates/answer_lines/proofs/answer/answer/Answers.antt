@@ -49,4 +49,4 @@ unfolding settings_after
 effect-of_command settings after line command e f = e ∙ ap (command_effect settings) f
 
 pub returns-clause-settings : goal.returns-clause-settings
-returns-clause-settings g c = effect-of_command _ _ _ _ c.obey.ensures c.of-command.ensures
+returns-clause-settings g c = effect-of_command _ _ _ _ c.apply_command.ensures c.of-command.ensures

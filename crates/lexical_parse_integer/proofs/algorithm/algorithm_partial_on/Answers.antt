@@ -13,19 +13,19 @@ returns-in_err-front-clause-few g c = rw (← c.get_no_multi_digit.ensures) (fac
 
 -- ---- no digit where one is asked for
 
-pub returns-then-is_settled-clause-answer : goal.returns-then-is_settled-clause-answer
-returns-then-is_settled-clause-answer g c =
-    rw c.place.ensures (sym (partial_empty _ _ _ _ c.read.new.c (fact_of c.in_ok-front.ensures.found) c.if-lacks_digits.ensures c.if-is_settled.ensures))
+pub returns-then-reports_empty-clause-answer : goal.returns-then-reports_empty-clause-answer
+returns-then-reports_empty-clause-answer g c =
+    rw c.place.ensures (sym (partial_empty _ _ _ _ c.read.new.c (fact_of c.in_ok-front.ensures.found) c.if-lacks_digits.ensures c.if-reports_empty.ensures))
 
-pub returns-then-is_settled-clause-over : goal.returns-then-is_settled-clause-over
-returns-then-is_settled-clause-over g c = fact_of c.in_ok-front.ensures.over
+pub returns-then-reports_empty-clause-over : goal.returns-then-reports_empty-clause-over
+returns-then-reports_empty-clause-over g c = fact_of c.in_ok-front.ensures.over
 
-pub returns-then-is_settled-clause-few : goal.returns-then-is_settled-clause-few
-returns-then-is_settled-clause-few g c = rw (← c.get_no_multi_digit.ensures) (fact_of c.in_ok-front.ensures.few)
+pub returns-then-reports_empty-clause-few : goal.returns-then-reports_empty-clause-few
+returns-then-reports_empty-clause-few g c = rw (← c.get_no_multi_digit.ensures) (fact_of c.in_ok-front.ensures.few)
 
 pub returns-then-lacks_digits-clause-answer : goal.returns-then-lacks_digits-clause-answer
 returns-then-lacks_digits-clause-answer g c =
-    rw c.place-then-lacks_digits.ensures (sym (partial_goes_on _ _ _ _ c.read.new.c (fact_of c.in_ok-front.ensures.found) c.if-lacks_digits.ensures c.if-is_settled.ensures))
+    rw c.place-then-lacks_digits.ensures (sym (partial_goes_on _ _ _ _ c.read.new.c (fact_of c.in_ok-front.ensures.found) c.if-lacks_digits.ensures c.if-reports_empty.ensures))
 
 pub returns-then-lacks_digits-clause-over : goal.returns-then-lacks_digits-clause-over
 returns-then-lacks_digits-clause-over g c = fact_of c.in_ok-front.ensures.over

@@ -1,15 +1,16 @@
-// Faults of decimal texts under the standard format that begin with a digit, behind a sign or none: most faults.
+// Faults of decimal texts under the standard format: most faults.
 //
-// Each is a call of its own, which answers in registers. `None` says nothing.
+// `None` says nothing. Why each is a call of its own: docs/DECISIONS.md, code.
 ghost use Rattle.std.specs.Prelude.{◌≡◌, ◌<◌, ◌≤◌, Err, IfSome, IsNone, get_or, length, take};
 ghost use Rattle.lexical_util.specs.Digit.{digit};
 ghost use Rattle.lexical_util.specs.Format.{standard};
-ghost use Rattle.lexical_util.specs.declared.error.Error.TheVariants.{InvalidDigit};
+ghost use Rattle.lexical_util.specs.declared.error.Error.TheVariants.{Empty, InvalidDigit};
 ghost use Rattle.lexical_digits.specs.Words.{AreDigits};
 ghost use Rattle.lexical_parse_integer.specs.Grammar.{complete};
 
 use crate::algorithm::digits::join_checked;
 use crate::algorithm::front::sign_of;
+use crate::seek::digit_at;
 use lexical_digits::fronts::{number_behind, number_in_front, value_of_digits};
 use lexical_util::digit::char_to_digit;
 use lexical_util::error::Error;
@@ -37,21 +38,24 @@ fn digits_in_front(text: &[u8]) -> usize
     }
 }
 
-// The place of the first byte after the digits, where there is one and their type has room for them, whatever they are.
+// The place at which reading stops, where no digit stands behind the sign, or a byte behind digits for which their type
+// has room, whatever they are.
 #[inline(never)]
 pub(in crate::algorithm) fn place_after_few<T: Integer>(bytes: &[u8]) -> Option<usize>
-    ensures { IfSome result
-        (λ place. complete standard T.TYPE bytes.now ≡ Err (InvalidDigit place)) }
+    ensures byte { IfSome result (λ place. place < length bytes.now
+        → complete standard T.TYPE bytes.now ≡ Err (InvalidDigit place)) }
+    ensures end { IfSome result (λ place. length bytes.now ≤ place
+        → complete standard T.TYPE bytes.now ≡ Err (Empty place)) }
 {
     let Ok((_, start)) = sign_of::<T>(bytes, &format::STANDARD) else {
         return None;
     };
-    let digits = &bytes[start..];
-    if digits.is_empty() {
-        return None;
+    if digit_at(bytes, 10, start).is_none() {
+        return Some(start);
     }
+    let digits = &bytes[start..];
     let count = digits_in_front(digits);
-    if count == 0 || count == digits.len() || count > T::overflow_digits(10) {
+    if count == digits.len() || count > T::overflow_digits(10) {
         return None;
     }
     Some(start + count)

@@ -1,7 +1,7 @@
 // The first number of a column, where it is a few digits and a separator stands after them: found in one pass.
 ghost use Rattle.std.specs.Prelude.{◌≡◌, ◌<◌, ◌↔◌, IfSome, IsTrue, Ok, length, take};
 ghost use Rattle.lexical_parse_integer.specs.Grammar.{complete};
-ghost use Rattle.lexical_parse_integer.specs.Separated.{IsSeparated, bytes_before};
+ghost use Rattle.lexical_parse_integer.specs.Separated.{IsSeparated, field_length};
 
 use crate::algorithm::plain::{behind_minus, front_of_digits, is_plain};
 use lexical_util::digit::char_to_digit;
@@ -30,7 +30,7 @@ pub fn field_in_front<T: Integer>(
     format: &NumberFormat,
 ) -> Option<(T, usize)>
     requires { IsSeparated format.now separator }
-    ensures length { IfSome result (λ found. found.1 ≡ bytes_before separator text.now) }
+    ensures length { IfSome result (λ found. found.1 ≡ field_length separator text.now) }
     ensures within { IfSome result (λ found. found.1 < length text.now) }
     ensures answer { IfSome result (λ found.
         complete format.now T.TYPE (take found.1 text.now) ≡ Ok (T.number found.0)) }

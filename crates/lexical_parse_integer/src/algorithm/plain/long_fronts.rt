@@ -23,7 +23,7 @@ static POWERS_OF_TEN: [u32; 9] = [
 
 // Ten to a small power.
 #[inline(always)]
-pub(in crate::algorithm) fn power_of_ten(count: usize) -> u32
+fn power_of_ten(count: usize) -> u32
     requires { count ≤ 8 }
     ensures power { result ≡ 10 ^ count }
     ensures some { 1 ≤ result }

@@ -88,6 +88,11 @@ fn callers(rt: HostRuntime) {
     answers(&rt, number_and_rest(b"12 x"), Ok((12, b" x".as_slice())));
     let stoppers = [number_and_stopper(b"12,3"), number_and_stopper(b"+")];
     answers(&rt, stoppers, [Ok((12, Some(b','))), Err(Error::Empty(1))]);
+}
+
+#[test]
+fn other_callers(rt: HostRuntime) {
+    use crate::tests::answers;
     answers(&rt, [address(b"0x1F"), address(b"1f")], [Ok(31), Ok(31)]);
     let leading = [leading_number(b"0"), leading_number(b"x1")];
     answers(&rt, leading, [Some(0), None]);

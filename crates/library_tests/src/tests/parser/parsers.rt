@@ -19,13 +19,17 @@ use lexical_parse_integer::{
 use std::process::Abort;
 
 #[test]
-fn parsers_of_a_type(rt: HostRuntime) {
+fn complete_parsers_of_a_type(rt: HostRuntime) {
     let whole = [
         u64::parse_complete(b"18446744073709551616", &STANDARD, &LARGE_NUMBERS),
         algorithm_complete::<u64>(b"01", &JSON, &LARGE_NUMBERS),
     ];
     let faults = [Err(Error::Overflow(19)), Err(Error::InvalidLeadingZeros(0))];
     answers(&rt, whole, faults);
+}
+
+#[test]
+fn partial_parsers_of_a_type(rt: HostRuntime) {
     let fronts = [
         i128::parse_partial(b"1234 }, {\"Key\"", &STANDARD, &SMALL_NUMBERS),
         algorithm_partial::<i128>(b"+123.45", &STANDARD, &SMALL_NUMBERS),

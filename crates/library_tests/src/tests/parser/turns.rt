@@ -65,15 +65,26 @@ fn three_one_by_one() -> (Result<(u8, usize)>, Cursor<'static>)
     (answer, c)
 }
 
+// The answers alone: what is known of a cursor weighs on each call behind it.
+fn answers_in_turns() -> (Result<u32>, Result<(i32, usize)>) {
+    (
+        complete::<u32>(b"12345678", &STANDARD).0,
+        partial::<i32>(b"12345x", &STANDARD).0,
+    )
+}
+
+fn answers_one_by_one() -> (Result<i32>, Result<u64>, Result<(u8, usize)>) {
+    (
+        refused_plus().0,
+        sixteen_one_by_one().0,
+        three_one_by_one().0,
+    )
+}
+
 #[test]
 fn texts_in_their_turns(rt: HostRuntime) {
-    answers(
-        &rt,
-        complete::<u32>(b"12345678", &STANDARD).0,
-        Ok(12_345_678),
-    );
-    answers(&rt, partial::<i32>(b"12345x", &STANDARD).0, Ok((12_345, 5)));
-    answers(&rt, refused_plus().0, Err(Error::InvalidPositiveSign(0)));
-    answers(&rt, sixteen_one_by_one().0, Ok(1_234_567_812_345_678));
-    answers(&rt, three_one_by_one().0, Ok((255, 3)));
+    answers(&rt, answers_in_turns(), (Ok(12_345_678), Ok((12_345, 5))));
+    let plus = Err(Error::InvalidPositiveSign(0));
+    let expected = (plus, Ok(1_234_567_812_345_678), Ok((255, 3)));
+    answers(&rt, answers_one_by_one(), expected);
 }

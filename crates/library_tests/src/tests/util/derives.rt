@@ -58,19 +58,33 @@ fn cloned_builder(builder: &NumberFormatBuilder) -> Result<NumberFormatBuilder, 
 }
 
 #[test]
-fn equality_and_copies(rt: HostRuntime) -> Result<(), Fail> {
+fn faults_and_copies(rt: HostRuntime) -> Result<(), Fail> {
     let (builder, fault) = (NumberFormatBuilder::new(), Error::Empty(1));
     let equalities = [
         are_equal_faults(fault, cloned_fault(&fault)?),
         are_equal_faults(fault, Error::Empty(2)),
         are_equal_faults(fault, Error::InvalidDigit(1)),
-        are_equal_formats(&NumberFormatBuilder::from_radix(10), &STANDARD),
-        are_equal_formats(&cloned_format(&JSON)?, &STANDARD),
-        are_equal_builders(&builder, &cloned_builder(&builder)?),
-        are_equal_builders(&builder, &builder.base_suffix(Some(b'h'))),
     ];
-    let expected = [true, false, false, true, false, true, false];
-    answers(&rt, equalities, expected);
+    answers(&rt, equalities, [true, false, false]);
     answers(&rt, copied(&fault, &JSON, &builder), (fault, JSON, builder));
+    Ok(())
+}
+
+#[test]
+fn formats(rt: HostRuntime) -> Result<(), Fail> {
+    let json = cloned_format(&JSON)?;
+    answers(&rt, are_equal_formats(&json, &STANDARD), false);
+    let standard = NumberFormatBuilder::from_radix(10);
+    answers(&rt, are_equal_formats(&standard, &STANDARD), true);
+    Ok(())
+}
+
+#[test]
+fn builders(rt: HostRuntime) -> Result<(), Fail> {
+    let builder = NumberFormatBuilder::new();
+    let copy = cloned_builder(&builder)?;
+    answers(&rt, are_equal_builders(&builder, &copy), true);
+    let other = builder.base_suffix(Some(b'h'));
+    answers(&rt, are_equal_builders(&builder, &other), false);
     Ok(())
 }

@@ -78,72 +78,54 @@ fn has_text(rt: &impl Abort, alloc: Global, fault: Error, text: &str) -> Result<
     Ok(())
 }
 
-#[test]
-fn texts_of_faults(rt: HostRuntime) -> Result<(), Fail> {
-    let alloc = rt.alloc();
-    has_text(&rt, alloc, Error::Overflow(19), "overflow at byte 19")?;
-    has_text(&rt, alloc, Error::Underflow(3), "underflow at byte 3")?;
-    has_text(
-        &rt,
-        alloc,
-        Error::InvalidDigit(1),
-        "invalid digit at byte 1",
-    )?;
-    has_text(&rt, alloc, Error::Empty(0), "missing digit at byte 0")?;
-    has_text(&rt, alloc, Error::MissingSign(0), "missing sign at byte 0")?;
-    has_text(
-        &rt,
-        alloc,
+const TEXTS: [(Error, &str); 14] = [
+    (Error::Overflow(19), "overflow at byte 19"),
+    (Error::Underflow(3), "underflow at byte 3"),
+    (Error::InvalidDigit(1), "invalid digit at byte 1"),
+    (Error::Empty(0), "missing digit at byte 0"),
+    (Error::MissingSign(0), "missing sign at byte 0"),
+    (
         Error::InvalidPositiveSign(0),
         "forbidden plus sign at byte 0",
-    )?;
-    has_text(
-        &rt,
-        alloc,
+    ),
+    (
         Error::InvalidLeadingZeros(10),
         "forbidden leading zero at byte 10",
-    )?;
-    has_text(
-        &rt,
-        alloc,
+    ),
+    (
         Error::InvalidMantissaRadix,
         "the radix of the format is not from 2 to 36",
-    )?;
-    has_text(
-        &rt,
-        alloc,
+    ),
+    (
         Error::InvalidDigitSeparator,
         "the separator of the format is not ASCII, or is a sign or a digit",
-    )?;
-    has_text(
-        &rt,
-        alloc,
+    ),
+    (
         Error::InvalidBasePrefix,
         "the prefix of the format is not ASCII, or is a sign or a digit",
-    )?;
-    has_text(
-        &rt,
-        alloc,
+    ),
+    (
         Error::InvalidBaseSuffix,
         "the suffix of the format is not ASCII, or is a sign or a digit",
-    )?;
-    has_text(
-        &rt,
-        alloc,
+    ),
+    (
         Error::InvalidPunctuation,
         "two of separator, prefix and suffix of the format are alike",
-    )?;
-    has_text(
-        &rt,
-        alloc,
+    ),
+    (
         Error::InvalidLiteralPrefixes,
         "the format cannot have literal prefixes",
-    )?;
-    has_text(
-        &rt,
-        alloc,
+    ),
+    (
         Error::Overflow(18446744073709551615),
         "overflow at byte 18446744073709551615",
-    )?;
+    ),
+];
+
+#[test]
+fn texts_of_faults(rt: HostRuntime) -> Result<(), Fail> {
+    for (fault, text) in TEXTS {
+        has_text(&rt, rt.alloc(), fault, text)?;
+    }
     Ok(())
 }

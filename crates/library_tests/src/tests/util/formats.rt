@@ -108,13 +108,13 @@ fn is_plain(rt: &impl Abort, format: NumberFormat, radix: u32) {
     let mut want = [false; 14];
     want[3] = true;
     answers(rt, (format.radix(), flags_of(&format)), (radix, want));
-    let marks = (
+    let punctuation = (
         format.digit_separator(),
         format.base_prefix(),
         format.has_base_prefix(),
         format.base_suffix(),
     );
-    answers(rt, marks, (None, None, false, None));
+    answers(rt, punctuation, (None, None, false, None));
 }
 
 #[test]

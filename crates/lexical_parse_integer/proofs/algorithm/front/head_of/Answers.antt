@@ -1,6 +1,6 @@
 use Rattle.std.proofs.Common.{◌≤◌, Bool, cond, ap, arith, sym, ◌∙◌}
 use Rattle.std.proofs.lemmas.Result.{err_from_is_err_and}
-use Rattle.lexical_parse_integer.proofs.marked.MarkedAnswers.{head_bare, head_marked}
+use Rattle.lexical_parse_integer.proofs.punctuated.PunctuatedAnswers.{head_bare, head_named}
 use Rattle.lexical_parse_integer.proofs.reading.ParserAnswers.{head_fault, sign_short}
 use Rattle.lexical_parse_integer.proofs.algorithm.front.head_of.Goals as goal
 
@@ -10,7 +10,7 @@ returns-in_err-is_negative-clause-fault g c =
     rw (p.1, p.2) (head_fault _ _ _ _ (sym c.in_err-is_negative.ensures))
 
 pub returns-in-Some-clause-head : goal.returns-in-Some-clause-head
-returns-in-Some-clause-head g c = head_marked _ _ c.args.bytes.now (c.in_ok-is_negative.is_negative, c.in_ok-is_negative.start) _ (sym c.in_ok-is_negative.ensures) c.in-Some.ensures
+returns-in-Some-clause-head g c = head_named _ _ c.args.bytes.now (c.in_ok-is_negative.is_negative, c.in_ok-is_negative.start) _ (sym c.in_ok-is_negative.ensures) c.in-Some.ensures
 
 pub returns-then-is_octal-clause-head : goal.returns-then-is_octal-clause-head
 returns-then-is_octal-clause-head g c = head_bare _ _ c.args.bytes.now (c.in_ok-is_negative.is_negative, c.in_ok-is_negative.start) _ 8 (sym c.in_ok-is_negative.ensures) c.in-None.ensures c.octal_zero_at-is_octal.ensures (sym (ap (λ (b : Bool). cond b 8 c.args.format.now.mantissa_radix) c.if-is_octal.true))

@@ -1,6 +1,6 @@
 use Rattle.std.proofs.Common.{false, sym, true}
 use Rattle.std.proofs.lemmas.Result.{err_from_is_err_and}
-use Rattle.lexical_parse_integer.proofs.marked.MarkedAnswers.{head_signed}
+use Rattle.lexical_parse_integer.proofs.punctuated.PunctuatedAnswers.{head_signed}
 use Rattle.lexical_parse_integer.proofs.reading.FrontAnswers.{front_answer, front_read, numeral_answer, prefix_answer, sound_head}
 use Rattle.lexical_parse_integer.proofs.reading.ParserAnswers.{sign_goes_part}
 use Rattle.lexical_parse_integer.proofs.algorithm.front.partial_from_front.Goals as goal

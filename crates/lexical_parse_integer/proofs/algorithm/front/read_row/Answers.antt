@@ -7,11 +7,6 @@ use Rattle.lexical_parse_integer.proofs.reading.FrontAnswers.{digit_here, next_f
 use Rattle.lexical_parse_integer.proofs.reading.NumeralSteps.{digit_at_below}
 use Rattle.lexical_parse_integer.proofs.algorithm.front.read_row.Goals as goal
 
-pub from_u32-radix-requires : goal.from_u32-radix-requires
-from_u32-radix-requires g c =
-    let high = c.requires.first.radix.high in
-    small_is_number _ _ c.args.head.radix g.met.T.Integer.width_law (omega arith)
-
 pub from_u32-requires : goal.from_u32-requires
 from_u32-requires g c =
     let below = digit_at_below _ _ _ _ (sym c.in-Some.ensures) in

@@ -6,7 +6,7 @@ use Rattle.lexical_parse_integer.proofs.algorithm.numeral.read_numeral.Goals as 
 
 pub read_digits-requires : goal.read_digits-requires
 read_digits-requires g c =
-    record { ready = reading_behind _ _ _ c.read_first.new.c _ c.requires.minus c.in_ok-first.ensures.ahead.goes_on c.in_ok-first.ensures.first.reads }
+    record { ready = reading_behind _ _ _ c.read_first_digit.new.c _ c.requires.minus c.in_ok-first.ensures.ahead.goes_on c.in_ok-first.ensures.first.reads }
 
 pub returns-in_err-first-clause-fault : goal.returns-in_err-first-clause-fault
 returns-in_err-first-clause-fault g c =

@@ -4,5 +4,5 @@ use Rattle.lexical_parse_integer.proofs.api.impls.complete.Goals as goal
 pub returns-in-Some : goal.returns-in-Some
 returns-in-Some g c = answered_if_valid _ _ _ _ c.in-Some.ensures.valid c.in-Some.ensures.answer
 
-pub returns-in-Some-value_by_kind : goal.returns-in-Some-value_by_kind
-returns-in-Some-value_by_kind g c = answered_if_valid _ _ _ _ c.in-Some-value_by_kind.ensures.valid c.in-Some-value_by_kind.ensures.answer
+pub returns-in-Some-value_for_format : goal.returns-in-Some-value_for_format
+returns-in-Some-value_for_format g c = answered_if_valid _ _ _ _ c.in-Some-value_for_format.ensures.valid c.in-Some-value_for_format.ensures.answer

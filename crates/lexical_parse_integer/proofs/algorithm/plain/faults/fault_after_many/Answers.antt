@@ -3,7 +3,7 @@ use Rattle.std.specs.Prelude.{is_some, slice_range, length}
 use Rattle.lexical_util.specs.declared.error.Error.{Error}
 use Rattle.lexical_util.specs.Format.{standard}
 use Rattle.lexical_digits.proofs.LongNumbers.{sign_of_value}
-use Rattle.lexical_parse_integer.proofs.marked.MarkedAnswers.{signed_minus}
+use Rattle.lexical_parse_integer.proofs.punctuated.PunctuatedAnswers.{signed_minus}
 use Rattle.lexical_parse_integer.proofs.plain.DigitFaults.{byte_behind}
 use Rattle.lexical_parse_integer.proofs.plain.LeavingNumbers.{leaves_after, next_value, signed_leaving_read}
 use Rattle.lexical_parse_integer.proofs.theorems.CompleteByPartial.{sign_within}

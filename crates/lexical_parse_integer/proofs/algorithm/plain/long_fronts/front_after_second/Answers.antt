@@ -1,4 +1,4 @@
-use Rattle.std.proofs.Common.{◌+◌, ◌*◌, arith, ap, ◌∙◌, pos}
+use Rattle.std.proofs.Common.{◌+◌, ◌*◌, arith, ap, ◌∙◌}
 use Rattle.std.specs.Prelude.{ℤ}
 use Rattle.lexical_util.specs.Number.{mul_add}
 use Rattle.lexical_digits.specs.Value.{with_sign}

@@ -1,0 +1,6 @@
+-- Numerals under formats with punctuation: for the answers of `algorithm::punctuated`.
+pub mod DigitsAmong
+pub mod GroupedNumerals
+pub mod PunctuatedAnswers
+pub mod PartedFronts
+pub mod Threes

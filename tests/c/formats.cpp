@@ -1,0 +1,2 @@
+// The formats of languages as C++ has them.
+#include "formats.c"
