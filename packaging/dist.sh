@@ -71,7 +71,7 @@ if has cargo; then
     cp "$work"/cargo/package/*.crate dist
 fi
 
-if has dpkg-buildpackage dh; then
+if has dpkg-buildpackage dh dh_python3; then
     echo "Debian packages"
     tree=$work/debian/jadvolni maintainer=$(git log -1 --format='%an <%ae>')
     mkdir "$work/debian" "$tree"
