@@ -187,10 +187,10 @@ module _ (f : Format) (t : IntegerType) (text : List ℕ) (p : ℕ) (h : Head) (
   start_behind s is None e = let told : ◌≡◌ {A = Result Head Error} (Ok (head_behind f text s None)) (Ok h) = sym (ap (head_after f text) is ∙ ap (λ q. Ok (head_behind f text s q)) e) ∙ head in let same : head_behind f text s None ≡ h = cc in sym (ap (λ (g : Head). g.start) same)
   start_behind s is (Some r) e = let told : ◌≡◌ {A = Result Head Error} (Ok (head_behind f text s (Some r))) (Ok h) = sym (ap (head_after f text) is ∙ ap (λ q. Ok (head_behind f text s q)) e) ∙ head in let same : head_behind f text s (Some r) ≡ h = cc in sym (ap (λ (g : Head). g.start) same)
 
-  same_prefix : (s : Bool × ℕ) → (o : Option ℕ) → prefix_radix f text s.1 ≡ o → h.start ≡ cond (is_some o) (s.1 + 2) s.1 → end ≤ p → are_same (Some 48) (slice_get text s.1) ≡ true → named_radix f (slice_get front (s.1 + 1)) ≡ named_radix f (slice_get text (s.1 + 1))
+  named_alike : (s : Bool × ℕ) → (o : Option ℕ) → prefix_radix f text s.1 ≡ o → h.start ≡ cond (is_some o) (s.1 + 2) s.1 → end ≤ p → are_same (Some 48) (slice_get text s.1) ≡ true → named_radix f (slice_get front (s.1 + 1)) ≡ named_radix f (slice_get text (s.1 + 1))
   unfolding prefix_radix
-  same_prefix s (Some r) e at inside on = let b = begins in ap (named_radix f) (bytes (s.1 + 1) (omega arith))
-  same_prefix s None e at inside on = elim (cases_lt (s.1 + 1) p) [
+  named_alike s (Some r) e at inside on = let b = begins in ap (named_radix f) (bytes (s.1 + 1) (omega arith))
+  named_alike s None e at inside on = elim (cases_lt (s.1 + 1) p) [
     | inl lt ↦ ap (named_radix f) (bytes (s.1 + 1) lt)
     | inr ge ↦ (let none = slice_get_past front (s.1 + 1) (omega (arith, size)) in ap (named_radix f) none ∙ none_named f ∙ sym (rw on at e))
   ]
@@ -203,7 +203,7 @@ module _ (f : Format) (t : IntegerType) (text : List ℕ) (p : ℕ) (h : Head) (
       let first : s.1 ≤ h.start = before (prefix_radix f text s.1) s.1 at in
       record {
         zero = ap (are_same (Some 48)) (bytes s.1 (omega arith));
-        letter = same_prefix s (prefix_radix f text s.1) refl at inside;
+        letter = named_alike s (prefix_radix f text s.1) refl at inside;
       })) ∙ head
     where
       before : (o : Option ℕ) (n : ℕ) → h.start ≡ cond (is_some o) (n + 2) n → n ≤ h.start

@@ -53,9 +53,9 @@ set_affix s None p c same t = absurd (false≢true t)
 set_affix s (Some m) p c (inl e) t = cc
 set_affix s (Some m) p c (inr e) t = rw e t
 
-no_affix : (s : Bool) (c : Option ℕ) → is_affix s None c ≡ false
+none_set : (s : Bool) (c : Option ℕ) → is_affix s None c ≡ false
 unfolding is_affix
-no_affix s c = refl
+none_set s c = refl
 
 same_byte : (s : ℕ) → are_same (Some s) (Some s) ≡ true
 unfolding are_same
@@ -103,7 +103,7 @@ module _ (f g : Format) (valid_f : IsNone (fault f)) (valid : IsNone (fault g)) 
       by_asked false a e = cc
       by_asked true a e =
           let asked : g.literal_prefixes ≡ true = more.literals ∙ a in
-          let own : is_affix g.case_sensitive_base_prefix g.base_prefix (Some c) ≡ false = ap (λ o. is_affix g.case_sensitive_base_prefix o (Some c)) (no_own g (none_of (fault g) valid) asked) ∙ no_affix g.case_sensitive_base_prefix (Some c) in
+          let own : is_affix g.case_sensitive_base_prefix g.base_prefix (Some c) ≡ false = ap (λ o. is_affix g.case_sensitive_base_prefix o (Some c)) (no_own g (none_of (fault g) valid) asked) ∙ none_set g.case_sensitive_base_prefix (Some c) in
           let letter = literal_loose f.case_sensitive_base_prefix g.case_sensitive_base_prefix c r more.prefix_case e in
           rw (own, asked) letter
 

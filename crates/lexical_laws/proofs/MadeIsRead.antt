@@ -148,7 +148,7 @@ unfolding numeral_in
 radix_kept f pre text start r low = low
 
 module _ (f : Format) (t : IntegerType) (front prefix body suffix ds : List ℕ) (m : Bool) (r : ℕ) (valid : IsNone (fault f))
-    (may : IsSign f t front m) (prefixed : IsPrefix f body prefix r) (made : IsBody f prefix r body ds) (close : IsSuffix f ds suffix) where
+    (may : IsSign f t front m) (has_prefix : IsPrefix f body prefix r) (made : IsBody f prefix r body ds) (close : IsSuffix f ds suffix) where
   abbrev text : List ℕ
   text = front ++ (prefix ++ (body ++ suffix))
 
@@ -162,7 +162,7 @@ module _ (f : Format) (t : IntegerType) (front prefix body suffix ds : List ℕ)
   end = start + length body
 
   fit : IsFit f r
-  fit = prefix_fit f body prefix r valid prefixed
+  fit = prefix_fit f body prefix r valid has_prefix
 
   at_more : (k : ℕ) → slice_get text (start + k) ≡ slice_get (body ++ suffix) k
   at_more k =
@@ -233,7 +233,7 @@ module _ (f : Format) (t : IntegerType) (front prefix body suffix ds : List ℕ)
           rw (here, there) (omega (arith, ends))
 
   head : HeadMade f t text prefix body m start r
-  head = head_made f t body suffix ds valid close front prefix m r may made.bytes prefixed
+  head = head_made f t body suffix ds valid close front prefix m r may made.bytes has_prefix
 
   prefixed : (some_in prefix && (start == length text)) ≡ false
   prefixed = elim (true_or_false (some_in prefix)) [
