@@ -81,7 +81,7 @@ JADVOLNI_LIBRARY="$tree/lib/libjadvolni.a" venv/bin/python -m unittest discover 
 echo "passed: wheel: $(sed -n '/^Ran/p' wheel.log)"
 
 [ "${2:-}" = packages ] || exit 0
-all() { find / -xdev \( -path /proc -o -path "$PWD" -o -path /tmp -o -path /var -o -path /root -o -name __pycache__ \) -prune -o -print | sort; }
+all() { find / -xdev \( -path /proc -o -path "$PWD" -o -path /tmp -o -path /var -o -name __pycache__ \) -prune -o -print | sort; }
 all > before
 dpkg -i ./*.deb > dpkg.log
 callers packages

@@ -6,7 +6,7 @@
 # the release before, if there is one; FUZZ how many seconds each target of libFuzzer runs.
 set -eu
 cd "$(dirname "$0")/.."
-root=${ROOT:-$PWD/build/root} suite=${SUITE:-trixie}
+root=${ROOT:-$PWD/build/system} suite=${SUITE:-trixie}
 has() { command -v "$1" > /dev/null || { echo "skipped: there is no $1"; return 1; }; }
 [ -f dist/SHA256SUMS ] || { echo "make test-dist: there is no dist/SHA256SUMS; make dist writes it" >&2; exit 1; }
 (cd dist && sha256sum --quiet -c SHA256SUMS)
@@ -53,5 +53,5 @@ rm -rf "$root/given"
 cp -R "$given" "$root/given"
 # shellcheck disable=SC2016 # (the inner shell has its own words)
 unshare --mount --net --pid --fork sh -c 'mount -t proc proc "$0/proc" && exec chroot "$0" /usr/bin/env -i \
-    PATH=/usr/sbin:/usr/bin:/sbin:/bin HOME=/root sh /given/as_user.sh /given packages' "$root"
+    PATH=/usr/sbin:/usr/bin:/sbin:/bin HOME=/given sh /given/as_user.sh /given packages' "$root"
 rm -rf "$root/given"
