@@ -286,12 +286,13 @@ def cargo(place: Place) -> str:
     where = {**os.environ, "JADVOLNI_LIB_DIR": place.libraries,
              "CARGO_TARGET_DIR": place.path("target"), "CARGO_NET_OFFLINE": "true"}
     alone, crates = ["--offline", "--locked", "--quiet"], source("bindings", "rust")
-    said = run(["cargo", "test", *alone], where, crates)
+    said = run(["cargo", "test", *alone, "--all-features"], where, crates)
     answer(run(["cargo", "run", *alone, "--example", "ten_lines"], where, crates),
            "err Overflow 19\n")
     passed = re.findall(r"(?m)^test result: ok. ([0-9]+) passed", said)
     if shutil.which("cargo-clippy"):
-        run(["cargo", "clippy", *alone, "--all-targets", "--", "-D", "warnings"], where, crates)
+        run(["cargo", "clippy", *alone, "--all-features", "--all-targets", "--", "-D", "warnings"],
+            where, crates)
     return f"{sum(map(int, passed))} tests"
 
 

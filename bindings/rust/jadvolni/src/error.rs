@@ -77,6 +77,21 @@ impl Error {
             _ => None,
         }
     }
+
+    /// This fault of a text, where the text stands so many bytes further on.
+    #[cfg(feature = "std")]
+    pub(crate) fn moved(self, by: usize) -> Error {
+        match self {
+            Error::Overflow(place) => Error::Overflow(place + by),
+            Error::Underflow(place) => Error::Underflow(place + by),
+            Error::InvalidDigit(place) => Error::InvalidDigit(place + by),
+            Error::Empty(place) => Error::Empty(place + by),
+            Error::MissingSign(place) => Error::MissingSign(place + by),
+            Error::InvalidPositiveSign(place) => Error::InvalidPositiveSign(place + by),
+            Error::InvalidLeadingZeros(place) => Error::InvalidLeadingZeros(place + by),
+            other => other,
+        }
+    }
 }
 
 impl fmt::Display for Error {

@@ -24,6 +24,8 @@ mod format;
 mod integer;
 mod languages;
 mod literal;
+#[cfg(feature = "std")]
+mod reader;
 
 pub use column::{
     field_start, parse_column, parse_column_part, parse_column_part_with_format,
@@ -33,6 +35,8 @@ pub use error::Error;
 pub use format::Format;
 pub use integer::Integer;
 pub use literal::{parse_literal, Literal};
+#[cfg(feature = "std")]
+pub use reader::{ColumnReader, ReadError};
 
 use jadvolni_sys as sys;
 

@@ -1,0 +1,107 @@
+//! Columns from readers that give little, fail, are interrupted, or end early.
+#![cfg(feature = "std")]
+
+use jadvolni::{parse_column, ColumnError, ColumnReader, Error, Format, ReadError};
+use std::io::{self, ErrorKind, Read};
+
+/// A reader of a text that gives so many bytes at most, and fails once, before the byte at a place.
+struct Device<'a> {
+    text: &'a [u8],
+    most: usize,
+    place: usize,
+    failure: Option<(usize, ErrorKind)>,
+}
+
+impl Read for Device<'_> {
+    fn read(&mut self, block: &mut [u8]) -> io::Result<usize> {
+        let mut end = self.text.len().min(self.place + self.most.min(block.len()));
+        if let Some((at, kind)) = self.failure {
+            if at == self.place {
+                self.failure = None;
+                return Err(kind.into());
+            }
+            end = end.min(at.max(self.place));
+        }
+        let given = &self.text[self.place..end];
+        block[..given.len()].copy_from_slice(given);
+        self.place = end;
+        Ok(given.len())
+    }
+}
+
+fn device(text: &[u8], most: usize, failure: Option<(usize, ErrorKind)>) -> Device<'_> {
+    Device { text, most, place: 0, failure }
+}
+
+/// All numbers of a device, and what else it told.
+fn read(device: Device<'_>, size: usize) -> (Vec<u16>, Vec<ReadError>) {
+    let (mut numbers, mut told) = (vec![], vec![]);
+    for item in ColumnReader::with_capacity(size, device, b',', Format::STANDARD) {
+        match item {
+            Ok(number) => numbers.push(number),
+            Err(error) => told.push(error),
+        }
+    }
+    (numbers, told)
+}
+
+#[test]
+fn every_cut_gives_the_whole_column() {
+    for text in ["", "1", "1,", "12,7,65535", "12,7,65535,", "1,2,x,4", "1,,3", "9,65536", ","] {
+        let mut values = [0; 8];
+        let whole = parse_column(text, b',', &mut values);
+        for (size, most) in (6..12).flat_map(|size| (1..12).map(move |most| (size, most))) {
+            let (numbers, told) = read(device(text.as_bytes(), most, None), size);
+            assert!(values.starts_with(&numbers), "{text} by {most} of {size}");
+            match whole {
+                Ok(column) => assert_eq!((numbers.len(), told.len()), (column.count, 0), "{text}"),
+                Err(fault) => {
+                    assert!(
+                        matches!(told[..], [ReadError::Column(last)] if last == fault),
+                        "{text}"
+                    );
+                    assert!(
+                        matches!(fault, ColumnError::InvalidField { field, .. } if field == numbers.len())
+                    );
+                }
+            }
+        }
+    }
+}
+
+#[test]
+fn failures_are_told_and_lose_nothing() {
+    let text = b"12,345,6,78,9";
+    for at in 0..text.len() {
+        let (numbers, told) = read(device(text, 4, Some((at, ErrorKind::Interrupted))), 8);
+        assert_eq!((numbers, told.len()), (vec![12, 345, 6, 78, 9], 0), "interrupted at {at}");
+        let (numbers, told) = read(device(text, 4, Some((at, ErrorKind::BrokenPipe))), 8);
+        assert_eq!(numbers, [12, 345, 6, 78, 9], "broken at {at}");
+        assert!(
+            matches!(&told[..], [ReadError::Io(error)] if error.kind() == ErrorKind::BrokenPipe)
+        );
+    }
+}
+
+#[test]
+fn long_fields_and_invalid_formats_end_it() {
+    let (numbers, told) = read(device(b"1,00000000002", 13, None), 8);
+    assert_eq!(numbers, [1]);
+    assert!(matches!(told[..], [ReadError::LongField(2)]));
+    assert_eq!(told[0].to_string(), "the field at byte 2 has more bytes than a block");
+    let format = Format::STANDARD.mantissa_radix(1);
+    let mut reader = ColumnReader::<_, u8>::new(&b"1"[..], b',', format);
+    let Some(Err(ReadError::Column(told))) = reader.next() else { panic!("an invalid format") };
+    assert_eq!(told, ColumnError::InvalidFormat(Error::InvalidMantissaRadix));
+    assert!(reader.next().is_none());
+}
+
+#[test]
+fn a_fault_far_behind_has_its_place() {
+    let text = [b"7,".repeat(200_000), b"256".to_vec()].concat();
+    let mut reader = ColumnReader::<_, u8>::new(&text[..], b',', Format::STANDARD);
+    assert!(reader.by_ref().take(200_000).all(|item| item.is_ok_and(|number| number == 7)));
+    let Some(Err(ReadError::Column(told))) = reader.next() else { panic!("a fault") };
+    let error = Error::Overflow(400_002);
+    assert_eq!(told, ColumnError::InvalidField { field: 200_000, start: 400_000, error });
+}
