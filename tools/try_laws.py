@@ -143,6 +143,13 @@ def types_agree(case: Case, chance: Random) -> Optional[bool]:
     return not other.has(case.answer.value) and answer.name in ("Overflow", "Underflow")
 
 
+def wider_reads_front(case: Case, chance: Random) -> Optional[bool]:
+    """A front that is read is read alike as a wider type of the same sign."""
+    front = parse(case.form, case.kind, case.text, True)
+    wider = case.kind._replace(bits=2 * case.kind.bits)
+    return parse(case.form, wider, case.text, True) == front if isinstance(front, Value) else None
+
+
 def relaxing_keeps(case: Case, chance: Random) -> Optional[bool]:
     """A value stays under a format that admits more."""
     if not isinstance(case.answer, Value):
@@ -219,7 +226,7 @@ def tokens_join(case: Case, chance: Random) -> bool:
     return list(tokens_of(case.text + b"\n" + later)) == [*tokens_of(case.text), *moved]
 
 
-LAWS: List[Law] = [generated, types_agree, relaxing_keeps, case_is_irrelevant,
+LAWS: List[Law] = [generated, types_agree, wider_reads_front, relaxing_keeps, case_is_irrelevant,
                    separators_count_nothing, json_is_canonical, fault_is_dead,
                    front_is_longest, foreign_byte_ends, tokens_join]
 

@@ -9,8 +9,9 @@
 //! assert_eq!(parse_with_format::<u8>("0x1F", &hexadecimal), Ok(31));
 //! ```
 //!
-//! No call allocates or panics. The proofs are of the library below these calls: that this crate hands
-//! its texts over and its answers back is tested.
+//! No call panics, and none allocates: `ColumnReader` alone, of the feature `std`, holds a block. The
+//! proofs are of the library below these calls: that this crate hands its texts over and its answers
+//! back is tested.
 #![no_std]
 
 // The example of the README is a test too.
