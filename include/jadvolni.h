@@ -65,6 +65,9 @@
 #ifndef JADVOLNI_H
 #define JADVOLNI_H
 
+#ifndef __cplusplus
+#include <stdbool.h>
+#endif
 #include <stddef.h>
 #include <stdint.h>
 
@@ -543,7 +546,8 @@ jadvolni_result jadvolni_parse_literal(const char *text, size_t len, const jadvo
  *     if (ferror(file) || kept == size) return 0; // or a line is longer than the block
  *     read_lines(block, kept);                    // a last line without a line feed
  *
- * `read_lines` stands for a loop of jadvolni_parse_i64_column until it has read all of its text.
+ * `read_lines` stands for a loop of jadvolni_parse_i64_column until it has read all of its text. Where
+ * the array has room for a whole block, jadvolni_parse_i64_column_part does both steps at once.
  *
  * Beside what the head of this file says, `values` points to `capacity` numbers that may be written,
  * and may be NULL where `capacity` is 0; `count` is not NULL. Neither lies in the text, in the format
@@ -582,6 +586,32 @@ size_t jadvolni_field_start(const char *text, size_t len, uint8_t separator)
 #undef JADVOLNI_WRITES_
 
 /* ---- helpers, written in C: they are tested, and nothing of them is proved ---- */
+
+/*
+ * The column of a part of a text, as a block of a file: of all its fields where it is the last part,
+ * and else of its whole ones. All else is as of jadvolni_parse_u64_column. Put the bytes from `r.place`
+ * on in front of the next part: read so, all parts have the numbers of the whole text.
+ */
+#define JADVOLNI_COLUMN_PART_(name, type)                                                      \
+    static inline jadvolni_result jadvolni_parse_##name##_column_part(                         \
+        const char *text, size_t len, bool is_last, uint8_t separator,                         \
+        const jadvolni_format *format, type *values, size_t capacity, size_t *count)           \
+    {                                                                                          \
+        size_t whole = is_last ? len : jadvolni_field_start(text, len, separator);             \
+        return jadvolni_parse_##name##_column(text, whole, separator, format, values,          \
+                                              capacity, count);                                \
+    }
+
+JADVOLNI_COLUMN_PART_(u8, uint8_t)
+JADVOLNI_COLUMN_PART_(u16, uint16_t)
+JADVOLNI_COLUMN_PART_(u32, uint32_t)
+JADVOLNI_COLUMN_PART_(u64, uint64_t)
+JADVOLNI_COLUMN_PART_(i8, int8_t)
+JADVOLNI_COLUMN_PART_(i16, int16_t)
+JADVOLNI_COLUMN_PART_(i32, int32_t)
+JADVOLNI_COLUMN_PART_(i64, int64_t)
+
+#undef JADVOLNI_COLUMN_PART_
 
 /* The name of a status, as "Overflow" for JADVOLNI_OVERFLOW; "Unknown" for a number that is none. */
 static inline const char *jadvolni_status_name(uint32_t status)

@@ -48,9 +48,10 @@ build/libjadvolni.so: build/libjadvolni.a build/symbols.map
 	    -Wl,--whole-archive $< -Wl,--no-whole-archive
 
 # Each call has a page, which shows jadvolni(3): so `man jadvolni_parse_u64` finds what it looks for.
-# In the header alone stand the first four; the library exports the others.
-CALLS := $(addprefix jadvolni_,parse format_of_radix status_name status_text) \
-    $(shell cut -d ' ' -f 1 packaging/symbols.txt)
+# What isn't exported stands in the header alone.
+EXPORTS := $(shell cut -d ' ' -f 1 packaging/symbols.txt)
+CALLS := $(EXPORTS) $(addsuffix _part,$(filter %_column,$(EXPORTS))) \
+    $(addprefix jadvolni_,parse format_of_radix status_name status_text)
 PAGES = $(DESTDIR)$(MANDIR)/man3
 TO = $(DESTDIR)$(LIBDIR)
 

@@ -204,6 +204,27 @@ static void large(void)
     free(values);
 }
 
+/* A part of a text: its whole fields, and all of them where it is the last. */
+static void parts(void)
+{
+    int16_t values[3] = {77, 77, 77};
+    size_t count;
+    jadvolni_result r =
+        jadvolni_parse_i16_column_part("12,-7,3", 7, false, ',', &STANDARD, values, 3, &count);
+    CHECK(r.status == JADVOLNI_OK && r.place == 6 && count == 2);
+    CHECK(values[0] == 12 && values[1] == -7 && values[2] == 77);
+    r = jadvolni_parse_i16_column_part("35", 2, true, ',', &STANDARD, values, 3, &count);
+    CHECK(r.status == JADVOLNI_OK && r.place == 2 && count == 1 && values[0] == 35);
+    r = jadvolni_parse_i16_column_part("1,2,3", 5, false, ',', &STANDARD, values, 1, &count);
+    CHECK(r.status == JADVOLNI_OK && r.place == 2 && count == 1 && values[0] == 1);
+    r = jadvolni_parse_i16_column_part("1,x,3", 5, false, ',', &STANDARD, values, 3, &count);
+    CHECK(r.status == JADVOLNI_INVALID_DIGIT && r.place == 2 && count == 1);
+    r = jadvolni_parse_i16_column_part("x", 1, false, ',', &STANDARD, values, 3, &count);
+    CHECK(r.status == JADVOLNI_OK && r.place == 0 && count == 0);
+    r = jadvolni_parse_i16_column_part(NULL, 0, true, ',', &STANDARD, NULL, 0, &count);
+    CHECK(r.status == JADVOLNI_OK && r.place == 0 && count == 0);
+}
+
 /* What a file holds, read block by block. */
 static struct numbers {
     size_t count;
@@ -270,6 +291,7 @@ int main(void)
     pieces();
     each_field_wrong();
     large();
+    parts();
     blocks();
     return checked();
 }
