@@ -9,7 +9,7 @@ from __future__ import annotations
 
 import re
 from functools import partial
-from typing import Iterator, NamedTuple
+from typing import Iterator
 
 from c_calls import answer_to, format_of
 from callers import (C_COMPILERS, CXX17, CXX_COMPILERS, OPTIMISED, Failed, Place, Step, build,
@@ -51,15 +51,8 @@ def formats(place: Place, compiler: str, language: str, suffix: str) -> str:
     return f"{len(groups)} formats, {len(lines) - len(groups)} rows"
 
 
-class Reading(NamedTuple):
-    """A call of the table of readers, and the functions that the table names for it."""
-
-    call: str
-    readers: set[str]
-
-
-def readings() -> Iterator[Reading]:
-    """Each row of the table, as the call for the whole text and that for its front."""
+def readings() -> Iterator[tuple[str, set[str]]]:
+    """The calls for the texts of the table and for their fronts, and the functions of each."""
     row = re.compile(r"(?m)^ *\| `([^`|]+)` \| `([^`|]+)` \|([^|]*)\|([^|]*)\|$")
     for fields, text, *cells in row.findall(text_of("docs", "ARCHITECTURE.md")):
         values = {"mantissa_radix": 10, "required_mantissa_digits": 1, **dict(read_fields(fields))}
@@ -69,30 +62,28 @@ def readings() -> Iterator[Reading]:
             if fields != "standard":
                 call = call.replace("(", "_with_format(", 1).replace(
                     "&value", f"&(jadvolni_format){{{under}}}, &value")
-            yield Reading(call, set(re.findall(r"`(\w+)`", cell)))
+            yield call, set(re.findall(r"`(\w+)`", cell))
 
 
 def readers(place: Place) -> str:
-    """Each call of the table goes through the functions that it says, and no other of its."""
+    """Each call of the table goes through the functions that it says, and through no other."""
     needs("valgrind")
     asked = list(readings())
     with open(place.path("readers.inc"), "w", encoding="utf-8") as file:
-        file.writelines(f"ROW(row_{at}, {it.call})\n" for at, it in enumerate(asked))
+        file.writelines(f"ROW(row_{at}, {call})\n" for at, (call, _) in enumerate(asked))
     program = build(place, "cc", "tests/c/readers.c", [*OPTIMISED, f"-I{place.path('')}"])
     run(["valgrind", "-q", "--tool=callgrind", "--separate-callers=9",
          f"--callgrind-out-file={place.path('calls')}", program])
+    # A function, of the parser or of what it stands on, and its callers up to the row's.
+    line = re.compile(r"(?m)^c?fn=\(\d+\) lexical_[\w:]*?(\w+)(?:::<#\w+>)?'(?:.*')?row_(\d+)'")
     with open(place.path("calls"), encoding="utf-8") as file:
-        calls = re.findall(r"(?m)^c?fn=\(\d+\) (.*?)'(?:.*')?row_(\d+)'", file.read())
-    names = set().union(*(it.readers for it in asked))
-    wrong = []
-    for at, (call, wanted) in enumerate(asked):
-        found = {name for name in names for function, row in calls
-                 if int(row) == at and re.search(rf"(?<![a-z_]){name}(?![a-z_])", function)}
-        if found != wanted:
-            wrong.append(f"{call}: {sorted(found)}, and not {sorted(wanted)}")
+        calls = line.findall(file.read())
+    found = [{name for name, row in calls if int(row) == at} for at in range(len(asked))]
+    wrong = [f"{call}: {sorted(seen)}, and not {sorted(wanted)}"
+             for (call, wanted), seen in zip(asked, found) if seen != wanted]
     if wrong or not asked:
         raise Failed("\n".join(wrong) or "no table")
-    return f"{len(asked)} calls, {len(names)} functions"
+    return f"{len(asked)} calls, {len(set().union(*found))} functions"
 
 
 def steps(place: Place) -> Iterator[Step]:
