@@ -8,6 +8,7 @@ ghost use Rattle.lexical_util.specs.Ascii.{letter_x};
 ghost use Rattle.lexical_util.specs.Validity.{fault};
 ghost use Rattle.lexical_parse_integer.specs.Affixes.{named_radix, octal_zero_at, prefix_radix};
 ghost use Rattle.lexical_parse_integer.specs.Grammar.{complete};
+ghost use Rattle.lexical_parse_integer.specs.Head.{sign};
 
 mod threes;
 pub(crate) mod validity;
@@ -20,6 +21,24 @@ use lexical_digits::fronts::value_of_digits;
 use lexical_digits::nibbles::value_of_nibbles;
 use lexical_util::format::NumberFormat;
 use lexical_util::num::Integer;
+
+// Whether there is a minus, and how many bytes it has, where a minus or a digit stands in front, as most often.
+#[inline(always)]
+#[tactic(auto, unfolding(crate::specs::Head::sign))]
+fn minus_of<T: Integer>(bytes: &[u8], format: &NumberFormat) -> Option<(bool, usize)>
+    ensures { IfSome result (λ found. sign format.now T.TYPE bytes.now ≡ Ok found) }
+{
+    if bytes.is_empty() {
+        return None;
+    }
+    if T::IS_SIGNED && bytes[0] == b'-' {
+        return Some((true, 1));
+    }
+    if bytes[0] < b'0' || format.required_mantissa_sign() {
+        return None;
+    }
+    Some((false, 0))
+}
 
 // Whether `x` behind a zero puts radix 16 in force.
 #[inline(always)]
@@ -58,8 +77,8 @@ fn is_bare_at(bytes: &[u8], format: &NumberFormat, place: usize) -> bool
     place < bytes.len() && bytes[place] > b'0'
 }
 
-// The value of the whole text under a format without separator that may be invalid, where digits alone stand behind its
-// sign: hexadecimal ones behind `0x`, or those of the format's radix, without a zero in front.
+// The value of the whole text under a format without separator that may be invalid, where digits alone stand behind a
+// minus or none: hexadecimal ones behind `0x`, or those of the format's radix, without a zero in front.
 #[inline(never)]
 pub(crate) fn value_of_row<T: Integer>(bytes: &[u8], format: &NumberFormat) -> Option<T>
     requires { format.now.digit_separator ≡ None }
@@ -70,7 +89,7 @@ pub(crate) fn value_of_row<T: Integer>(bytes: &[u8], format: &NumberFormat) -> O
     if !is_valid_without_separator(format) {
         return None;
     }
-    let Ok((is_negative, start)) = sign_of::<T>(bytes, format) else {
+    let Some((is_negative, start)) = minus_of::<T>(bytes, format) else {
         return None;
     };
     if is_x_at(bytes, format, start) {
