@@ -25,14 +25,15 @@ use lexical_util::num::Integer;
 
 // The value of digits of radix 10 or 16 alone.
 #[inline(always)]
-fn value_in_radix<T: Integer>(digits: &[u8], radix: u32, negative: bool) -> Option<T>
+fn value_in_radix<T: Integer>(digits: &[u8], radix: u32, is_negative: bool) -> Option<T>
     requires some { 1 ≤ length digits.now }
-    requires minus { IsTrue negative → IsTrue T.TYPE.is_signed }
-    ensures { IfSome result (λ value. StandsFor T.TYPE radix negative digits.now (T.number value)) }
+    requires minus { IsTrue is_negative → IsTrue T.TYPE.is_signed }
+    ensures { IfSome result
+        (λ value. StandsFor T.TYPE radix is_negative digits.now (T.number value)) }
 {
     match radix {
-        10 => value_of_digits::<T>(digits, negative),
-        16 => value_of_nibbles::<T>(digits, negative),
+        10 => value_of_digits::<T>(digits, is_negative),
+        16 => value_of_nibbles::<T>(digits, is_negative),
         _ => None,
     }
 }
