@@ -216,7 +216,7 @@ def run_passes(form: Format, text: bytes, region: Region, run: range) -> bool:
 
 
 def end_of(form: Format, text: bytes, region: Region) -> int:
-    """The greatest place before which the region has digits and separators that pass alone."""
+    """The greatest place before which the region has only digits and permitted separators."""
     runs = runs_of(form, text, region.start)
     passing = {place for run in runs if run_passes(form, text, region, run) for place in run}
     for place in range(region.start, len(text)):

@@ -69,7 +69,7 @@ def sign_may(form: Format, kind: IntegerType, sign: bytes) -> bool:
 
 
 def radix_by(form: Format, prefix: bytes, body: bytes) -> Optional[int]:
-    """The radix that a prefix puts in force before a body, where it may stand."""
+    """The effective radix that a prefix gives a body, where it may stand."""
     if not prefix:
         return 8 if form.literal_octal_zero and body[:1] == b"0" else form.mantissa_radix
     for known, radix in prefixes_of(form):

@@ -34,7 +34,7 @@ pub record WritesFront (radix : ℕ) (text : List ℕ) (count : ℕ) (number : �
   pub worth : number ≡ pos (positional_value radix values)
   pub below : positional_value radix values < radix ^ count
 
--- The digits of a text in a radix stand for a number of a type, behind a minus where that is negative.
+-- The digits of a text in a radix stand for a number of a type, with a minus where `is_negative`.
 pub record StandsFor (type : IntegerType) (radix : ℕ) (is_negative : Bool) (text : List ℕ)
     (value : ℤ) : Type 0 where
   pub magnitude : ℤ

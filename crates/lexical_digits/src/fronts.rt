@@ -24,7 +24,7 @@ fn digits_ahead(word: u64) -> u32
 }
 
 // The number of the digits that a text begins with, and how many they are, where its first eight bytes are this word.
-// None are left out first: a whole word can't be shifted out.
+// Without a digit the answer is 0 at once: a shift by all 64 bits would overflow.
 #[inline(always)]
 fn front_in_word(text: &[u8], word: u64) -> (u32, usize)
     requires { word ≡ bytes_number (take 8 text.now) }
@@ -95,7 +95,7 @@ pub fn number_behind(text: &[u8], at: usize) -> (u32, usize)
     front_in_word(&text[at..], next_word(text, at))
 }
 
-/// The value of one digit and more, behind a minus where that is negative.
+/// The value of one digit and more, with a minus where `is_negative`.
 #[inline(always)]
 pub fn value_of_digits<T: Integer>(digits: &[u8], is_negative: bool) -> Option<T>
     requires some { 1 ≤ length digits.now }

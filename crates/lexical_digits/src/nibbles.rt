@@ -58,7 +58,7 @@ fn numbers_of_blocks(text: &[u8], size: usize) -> Option<(u32, u32)>
     }
 }
 
-// The value of the digits that two such blocks make up, behind a minus where that is negative.
+// The value of the digits that two such blocks make up, with a minus where `is_negative`.
 #[inline(always)]
 fn value_of_blocks<T: Integer>(digits: &[u8], size: usize, is_negative: bool) -> Option<T>
     requires small { size ≤ 8 }
@@ -80,7 +80,7 @@ fn value_of_blocks<T: Integer>(digits: &[u8], size: usize, is_negative: bool) ->
     }
 }
 
-/// The value of hexadecimal digits, behind a minus where that is negative. Each range of lengths ends on its own, so
+/// The value of hexadecimal digits, with a minus where `is_negative`. Each range of lengths ends on its own, so
 /// that no text pays for what another one needs. Why out of line: docs/DECISIONS.md, code.
 #[inline(never)]
 pub fn value_of_nibbles<T: Integer>(digits: &[u8], is_negative: bool) -> Option<T>

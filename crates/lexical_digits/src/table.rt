@@ -29,7 +29,7 @@ fn number_by_table<T: Integer>(digits: &[u8], radix: u32, most: usize) -> Option
     Some(value)
 }
 
-/// The value of digits of the radix, behind a minus where that is negative.
+/// The value of digits of the radix, with a minus where `is_negative`.
 #[inline(never)]
 pub fn value_by_table<T: Integer>(digits: &[u8], radix: u32, is_negative: bool) -> Option<T>
     requires radix { IsRadix radix }

@@ -92,7 +92,7 @@ pub fn value_of_parts<T: Integer>(
     Some(signed_value::<T>(join_parts::<T>(first, scale, second), is_negative))
 }
 
-/// The value of one to sixteen digits, behind a minus where that is negative.
+/// The value of one to sixteen digits, with a minus where `is_negative`.
 #[inline(always)]
 pub fn value_to_16<T: Integer>(digits: &[u8], is_negative: bool) -> Option<T>
     requires some { 1 ≤ length digits.now }
@@ -135,7 +135,7 @@ fn with_sixteen<T: Integer>(digits: &[u8], place: usize, value: T) -> Option<T>
     value.checked_mul_add(scale, rest, false)
 }
 
-/// The value of seventeen digits and more, behind a minus where that is negative: a few digits, and then sixteen by
+/// The value of seventeen digits and more, with a minus where `is_negative`: a few digits, and then sixteen by
 /// sixteen. Why out of line: docs/DECISIONS.md, code.
 #[inline(never)]
 pub fn value_from_17<T: Integer>(digits: &[u8], is_negative: bool) -> Option<T>

@@ -7,7 +7,7 @@ use Rattle.std.proofs.lemmas.Bool.Decides.{nat_tests}
 use Rattle.std.proofs.lemmas.List.{length-replicate, take-append-drop}
 use Rattle.std.specs.Prelude.{◌==◌, nat_lt, slice_get, replicate}
 use Rattle.lexical_util.specs.Format.{Format}
-use Rattle.lexical_parse_integer.specs.Runs.{flag_for, admits_leading, run_passes, separator_at}
+use Rattle.lexical_parse_integer.specs.Runs.{admits_leading, flag_for, run_passes, separator_at}
 use Rattle.lexical_parse_integer.proofs.ForCallers.{true_or_false}
 use Rattle.lexical_laws.specs.Integer.{HasRun, may_lead, may_part}
 use Rattle.lexical_laws.proofs.Bodies.{StandsAt}

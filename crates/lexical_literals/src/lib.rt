@@ -63,7 +63,7 @@ pub struct Token<'a> {
     pub start: usize,
     /// The place after its last byte, which is greater than `start`.
     pub stop: usize,
-    /// Its bytes, lent as long as the source is.
+    /// Its bytes, borrowed from the source.
     pub text: &'a [u8],
 }
 
@@ -172,7 +172,7 @@ fn front(first: u8, text: &[u8], format: &NumberFormat, decimal: bool) -> (Kind,
 /// The tokens of a source, in order. It is an iterator, and contracts see it as the list of the
 /// tokens that are still to come.
 ///
-/// It takes no memory. How long it takes is in no contract.
+/// It allocates nothing. How long it takes is in no contract.
 #[derive(Drop)]
 pub struct Tokens<'a> {
     // What the numbers look like, and whether decimal digits alone are read as under the standard format.

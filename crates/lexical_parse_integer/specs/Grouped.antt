@@ -28,7 +28,7 @@ pub record AreGrouped (format : Format) (radix : ℕ) (bytes : List ℕ) : Type 
       → place + 1 < length bytes → is_digit_in radix bytes place ≡ false
       → is_digit_in radix bytes (place + 1) ≡ true
 
--- The digits among bytes stand for a number of a type, behind a minus where that is negative.
+-- The digits among bytes stand for a number of a type, with a minus where `is_negative`.
 pub record AreWorth (type : IntegerType) (radix : ℕ) (is_negative : Bool) (bytes : List ℕ)
     (value : ℤ) : Type 0 where
   pub worth : value ≡ with_sign is_negative (positional_value radix (digits_among radix bytes))

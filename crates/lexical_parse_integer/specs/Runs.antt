@@ -1,6 +1,6 @@
 -- Digits and separators in a text: which separators pass, where the numeral ends, and where its digits stand.
--- The radix is the one in force. The numeral's region goes from start to the text's end, and `is_prefixed` says whether
--- it lies behind a prefix.
+-- The radix is the effective one. The numeral's region goes from start to the text's end, and `is_prefixed` says
+-- whether it lies behind a prefix.
 use Rattle.std.specs.Prelude.{ℕ, ◌+◌, ◌-◌, Bool, true, false, ◌&&◌, ◌||◌, ◌==◌, nat_lt, List, length, filter, Option, Some, None, option_and_then, is_some, slice_get}
 use Rattle.std.specs.List.{range_with_len, prefix_len, suffix_len}
 use Rattle.lexical_util.specs.Format.{Format}

@@ -2,7 +2,7 @@
 // registers.
 ghost use Rattle.std.specs.Prelude.{◌≡◌, ◌≤◌, ◌<◌, None, length};
 ghost use Rattle.lexical_util.specs.Digit.{IsRadix};
-ghost use Rattle.lexical_parse_integer.specs.Runs.{digit_at, end_of, flag_for, admits_leading, run_passes, run_stop, separator_at};
+ghost use Rattle.lexical_parse_integer.specs.Runs.{admits_leading, digit_at, end_of, flag_for, run_passes, run_stop, separator_at};
 ghost use Rattle.lexical_parse_integer.specs.Seeking.{Finds, IsAtRunStart, IsSeparatorNoDigit, starts_behind_prefix};
 
 use lexical_util::digit::char_to_digit;

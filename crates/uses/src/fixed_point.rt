@@ -6,7 +6,7 @@ ghost use Rattle.std.specs.Int.RustNames.{unsigned_abs};
 ghost use Rattle.lexical_util.specs.Number.{number_if_fits, integer_type, mul_add};
 ghost use Rattle.lexical_parse_integer.specs.Answer.{with_place, view_of};
 ghost use Rattle.lexical_parse_integer.specs.Grammar.{partial};
-ghost use Rattle.uses.specs.FixedPoint.{fixed_point_in, fraction_at, fraction_behind, is_negative, without_sign, whole_in};
+ghost use Rattle.uses.specs.FixedPoint.{fixed_point_in, fraction_at, fraction_behind, is_negative, whole_in, without_sign};
 
 use crate::narrow::as_i64;
 use lexical_parse_integer::laws::grammar::front_end;

@@ -144,7 +144,7 @@ from_place zero text k = let e : 0 + k ≡ k = omega arith in ap (slice_get text
 from_place (suc n) [] k = refl
 from_place (suc n) (b ∷ bs) k = let e : suc n + k ≡ suc (n + k) = omega arith in ap (slice_get (b ∷ bs)) e ∙ from_place n bs k
 
--- the same behind any sign
+-- digits at the front are read behind any sign
 pub signed_read : (f : Format) (t : IntegerType) (text : List ℕ) (s : Bool × ℕ) (value : ℤ) (count : ℕ) → IsPlain f → f.mantissa_radix ≡ 10 → sign f t text ≡ Ok s → BeginsWith f t s.0 (slice_range text s.1 (length text)) value count → partial f t text ≡ Ok (value, s.1 + count)
 signed_read f t text s value count plain ten sign_is begins =
     let within = sign_within f t text s sign_is in

@@ -58,7 +58,7 @@ digits_end s (b ∷ bs) (suc n) none all low stop =
     let one : 1 + n ≡ suc n = omega arith in
     ap (λ k. cond k (1 + field_length s bs) 0) here ∙ ap (λ n. 1 + n) more ∙ one
 
--- the same behind a minus
+-- a field of digits ends where they do, behind a minus too
 pub field_ends : (f : Format) (t : IntegerType) (s : ℕ) (is_negative : Bool) (text digits : List ℕ) (value : ℤ) (count start : ℕ) → IsSeparated f s → IsBehind is_negative t text digits → start ≡ bool_byte is_negative → BeginsWith f t is_negative digits value count → start + count < length text → get_or text (start + count) 0 ≡ s → start + count ≡ field_length s text
 field_ends f t s is_negative text digits value count start apart_from behind at b low stop = by_sign is_negative text start behind at b low stop
   where

@@ -359,7 +359,7 @@ over_suffix f t text minus p o b v w x at g after s =
     let kept = same_but_place b w x after in
     record { bytes = kept.0 ∙ g.bytes ∙ at.bytes; format = kept.1 ∙ g.format ∙ at.format; sound = s }
 
--- a step over a prefix, and one that puts 8 in force, are the same cursor's
+-- a step over a prefix, and one that makes 8 the effective radix, are the same cursor's
 pub identity_behind : (v w : CursorView) (radix : Option ℕ) → w ≡ behind_prefix v radix → w.identity ≡ v.identity
 identity_behind v w None e = ap (λ (z : CursorView). z.identity) e
 identity_behind v w (Some radix) e = ap (λ (z : CursorView). z.identity) e

@@ -1,4 +1,4 @@
-// All digits of a numeral, by the ways that options and format leave open.
+// All digits of a numeral, by words where options and format allow them.
 ghost use Rattle.std.specs.Prelude.{◌≡◌, ◌≤◌, ◌↔◌, true, Some, IfErr, IfOk, IsNone, IsTrue};
 ghost use Rattle.std.specs.Option.{option_or};
 ghost use Rattle.lexical_util.specs.Number.{HasRoom};

@@ -50,7 +50,7 @@ fn is_bare<T: Integer>(bytes: &[u8], format: &NumberFormat) -> bool
     !bytes.is_empty() && bytes[0] > b'0' && !format.required_mantissa_sign()
 }
 
-// Whether `x` behind a zero puts radix 16 in force.
+// Whether the effective radix behind `0x` is 16.
 #[inline(always)]
 #[tactic(auto, unfolding(crate::specs::Affixes::named_radix, crate::specs::Affixes::is_affix, crate::specs::Affixes::matches, crate::specs::Affixes::literal_radix))]
 fn is_x_hexadecimal(format: &NumberFormat) -> bool
@@ -62,7 +62,7 @@ fn is_x_hexadecimal(format: &NumberFormat) -> bool
     }
 }
 
-// Whether a text begins with `0x`, which puts radix 16 in force, where no sign is asked for.
+// Whether a text begins with `0x`, behind which the effective radix is 16, where no sign is asked for.
 #[inline(always)]
 #[tactic(auto, unfolding(crate::specs::Head::sign, crate::specs::Affixes::prefix_radix, crate::specs::Runs::are_same))]
 fn is_behind_x<T: Integer>(bytes: &[u8], format: &NumberFormat) -> bool

@@ -37,8 +37,8 @@ fn has_more(c: &mut Cursor<'_>) -> bool
     }
 }
 
-// Takes the first digit, where it may be a zero that no digit may follow. Without a separator it looks
-// first, and takes a zero alone: so a text of digits loses no word to it.
+// Reads the first digit where leading zeros are forbidden. Without a separator it takes that digit only if it is a
+// zero, so that a text of digits loses no word to it.
 #[inline(always)]
 pub(crate) fn read_first_digit<T: Integer>(
     c: &mut Cursor<'_>,

@@ -9,7 +9,7 @@ pub(super) const LONGEST: usize = 48;
 // A whole number: whether it is below 0, and its magnitude.
 pub(super) type Number = (bool, u128);
 
-// What precedes the digits of a text, and the radix that is in force behind it.
+// What precedes the digits of a text, and the effective radix behind it.
 #[derive(Drop)]
 struct Head {
     is_negative: bool,

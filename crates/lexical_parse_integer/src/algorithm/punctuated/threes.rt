@@ -85,7 +85,7 @@ fn with_three<T: Integer>(value: T, three: u32, is_negative: bool) -> Option<T>
     value.checked_mul_add(T::from_u32(1000), T::from_u32(three), is_negative)
 }
 
-// The value of digits that stand so, behind a minus where that is negative.
+// The value of digits that stand so, with a minus where `is_negative`.
 #[inline(always)]
 pub(super) fn value_of_threes<T: Integer>(
     bytes: &[u8],
