@@ -129,8 +129,7 @@ fn split_marked(text: &[u8], marks: u64, separator: u8) -> (usize, &[u8], u64)
 }
 
 // Reads fields into a slice behind the numbers that it has, as long as their ends are marked and each is digits alone or
-// behind a minus: how many numbers it has then, and what is left of the text. It stays out of line, so that its loop has
-// the registers to itself.
+// behind a minus: how many numbers it has then, and what is left of the text. Why out of line: docs/DECISIONS.md, code.
 #[inline(never)]
 pub(crate) fn read_marked<'a, T: ParseInteger>(
     text: &'a [u8],

@@ -102,9 +102,8 @@ fn number(text: &[u8], format: &NumberFormat, decimal: bool) -> (Kind, usize)
     wide_number(text, format)
 }
 
-// The number of 64 bits that a text begins with, as most are, and 0 bytes where that isn't sure: out of line, so that
-// what calls `next` has it in place, and in two registers. Where there is a separator the compiler leaves out what
-// reads digits alone.
+// The number of 64 bits that a text begins with, as most are, and 0 bytes where that isn't sure. Why out of line:
+// docs/DECISIONS.md, code.
 #[inline(never)]
 fn punctuated_number(text: &[u8], format: &NumberFormat) -> (u64, usize)
     requires valid { IsNone (fault format.now) }
@@ -117,7 +116,7 @@ fn punctuated_number(text: &[u8], format: &NumberFormat) -> (u64, usize)
     }
 }
 
-// Such a number under a format without a separator, out of line again.
+// Such a number under a format without a separator. Why out of line: docs/DECISIONS.md, code.
 #[inline(never)]
 fn number_without_separator(text: &[u8], format: &NumberFormat) -> (u64, usize)
     requires valid { IsNone (fault format.now) }

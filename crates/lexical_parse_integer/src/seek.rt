@@ -133,8 +133,7 @@ fn seek_behind_run(
     }
 }
 
-// What stands ahead where no digit stands at `position`. The place for the answer of a call is made ready here, and so
-// not for a digit.
+// What stands ahead where no digit stands at `position`. Why by another call: docs/DECISIONS.md, code.
 #[inline(always)]
 fn seek_behind_separator(
     bytes: &[u8],
