@@ -26,7 +26,7 @@ ghost use Rattle.lexical_literals.specs.Decimal.{IsDecimal};
 ghost use Rattle.lexical_literals.specs.Tokens.{FollowInTurn, FollowUnder, IsPartOf, TokenView, front_of, literals, number_of, view_of_token, tokens, tokens_from, tokens_if_valid};
 
 use bytes::{is_word_byte, skipped_length, word_length};
-use decimal::{decimal_front, is_decimal, seems_punctuated};
+use decimal::{front_of_decimal, is_decimal, seems_punctuated};
 use lexical_parse_integer::algorithm::algorithm_partial;
 use lexical_parse_integer::laws::grammar::{front_end, wider_types};
 use lexical_parse_integer::parse::ParseInteger;
@@ -89,7 +89,7 @@ fn number(text: &[u8], format: &NumberFormat, decimal: bool) -> (Kind, usize)
     ensures { result ≡ number_of format.now text.now }
 {
     if decimal && !seems_punctuated(text) {
-        let (value, count) = decimal_front(text, format);
+        let (value, count) = front_of_decimal(text, format);
         if count > 0 {
             return (Kind::Number(value as u128), count);
         }

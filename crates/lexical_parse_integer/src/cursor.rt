@@ -119,7 +119,7 @@ impl<'a> Cursor<'a> {
 
     // Does nothing at run time: its contract says what is true of each cursor, for the proofs of callers.
     #[inline(always)]
-    pub(crate) fn sound(&self)
+    pub(crate) fn assert_invariant(&self)
         ensures { Folded (IsSound self.now) }
     {
         let _position = &self.position;

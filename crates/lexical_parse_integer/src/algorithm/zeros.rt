@@ -42,16 +42,16 @@ fn has_more(c: &mut Cursor<'_>) -> bool
 #[inline(always)]
 pub(crate) fn read_first_digit<T: Integer>(
     c: &mut Cursor<'_>,
-    negative: bool,
+    is_negative: bool,
     radix_chosen: bool,
 ) -> Result<T>
     requires front { IsAtNumeral c.old }
     ensures first { IfOk result
-        (λ value. ReadsFirst T.TYPE negative radix_chosen c.old c.new (T.number value)) }
+        (λ value. ReadsFirst T.TYPE is_negative radix_chosen c.old c.new (T.number value)) }
     ensures ahead { LooksAhead c.old c.new }
     ensures fault { IfErr result
         (λ e. option_or (zero_fault c.old.format radix_chosen (numeral_of c.old))
-        (range_fault T.TYPE negative (numeral_of c.old)) ≡ Some e) }
+        (range_fault T.TYPE is_negative (numeral_of c.old)) ≡ Some e) }
 {
     if radix_chosen || !c.format().no_integer_leading_zeros() {
         return Ok(T::ZERO);
@@ -70,5 +70,5 @@ pub(crate) fn read_first_digit<T: Integer>(
         }
         return Ok(T::ZERO);
     }
-    join_checked::<T>(T::ZERO, digit, c.radix(), place, negative)
+    join_checked::<T>(T::ZERO, digit, c.radix(), place, is_negative)
 }
