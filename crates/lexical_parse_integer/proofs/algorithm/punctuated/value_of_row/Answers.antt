@@ -1,13 +1,26 @@
-use Rattle.std.proofs.Common.{false, refl}
-use Rattle.lexical_parse_integer.proofs.punctuated.PunctuatedAnswers.{head_bare, head_named}
+use Rattle.std.proofs.Common.{Bool, ap, refl, sym, ◌||◌, ◌∙◌}
+use Rattle.lexical_digits.proofs.LongNumbers.{if_found}
+use Rattle.lexical_parse_integer.proofs.punctuated.PunctuatedAnswers.{digits_read, head_signed, valid_from}
 use Rattle.lexical_parse_integer.proofs.algorithm.punctuated.value_of_row.Goals as goal
 
-pub value_behind-requires-clause-head : goal.value_behind-requires-clause-head
-value_behind-requires-clause-head g c =
-    let told = c.if-is_behind_x.ensures in
-    head_named _ _ c.args.bytes.now (false, 0) 16 (told.sign refl) (told.prefix refl)
+pub value_of_digits-requires-clause-minus : goal.value_of_digits-requires-clause-minus
+value_of_digits-requires-clause-minus g c = head_signed _ _ c.args.bytes.now _ c.in-Ok.ensures.head
 
-pub value_behind-requires-then-is_bare-clause-head : goal.value_behind-requires-then-is_bare-clause-head
-value_behind-requires-then-is_bare-clause-head g c =
-    let told = c.if-is_bare.ensures in
-    head_bare _ _ c.args.bytes.now (false, 0) _ c.mantissa_radix.result (told.sign refl) (told.prefix refl) (told.octal_zero refl) c.mantissa_radix.ensures
+pub returns-in-10-clause-answer : goal.returns-in-10-clause-answer
+returns-in-10-clause-answer g c =
+    let chooses : Bool = c.in-Ok.head.is_prefixed || c.in-Ok.head.is_octal in
+    let rule = ap (λ (b : Bool). chooses || b) (sym c.keeps_zero_rule.ensures) ∙ ap (λ (b : Bool). b || c.keeps_zero_rule.result) (sym c.chooses_radix.ensures) ∙ c.if-not-chooses_radix-keeps_zero_rule.false in
+    if_found c.value_of_digits.result
+    (λ v stands. digits_read _ _ c.args.bytes.now _ _ 10 (valid_from _ (c.if-not-is_valid_without_separator.ensures refl)) c.in-Ok.ensures.head c.in-10.is c.if-bytes-head.false rule stands)
+    c.value_of_digits.ensures
+
+pub value_of_nibbles-requires-clause-minus : goal.value_of_nibbles-requires-clause-minus
+value_of_nibbles-requires-clause-minus g c = head_signed _ _ c.args.bytes.now _ c.in-Ok.ensures.head
+
+pub returns-in-16-clause-answer : goal.returns-in-16-clause-answer
+returns-in-16-clause-answer g c =
+    let chooses : Bool = c.in-Ok.head.is_prefixed || c.in-Ok.head.is_octal in
+    let rule = ap (λ (b : Bool). chooses || b) (sym c.keeps_zero_rule.ensures) ∙ ap (λ (b : Bool). b || c.keeps_zero_rule.result) (sym c.chooses_radix.ensures) ∙ c.if-not-chooses_radix-keeps_zero_rule.false in
+    if_found c.value_of_nibbles.result
+    (λ v stands. digits_read _ _ c.args.bytes.now _ _ 16 (valid_from _ (c.if-not-is_valid_without_separator.ensures refl)) c.in-Ok.ensures.head c.in-16.is c.if-bytes-head.false rule stands)
+    c.value_of_nibbles.ensures
