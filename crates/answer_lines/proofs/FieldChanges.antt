@@ -1,5 +1,5 @@
 -- What a change gives each field, and that it leaves the others.
-use Rattle.std.proofs.Common.{◌≡◌, ℕ, Bool, refl, arith}
+use Rattle.std.proofs.Common.{◌≡◌, arith}
 use Rattle.std.specs.Option.{unwrap_or}
 use Rattle.answer_lines.specs.Change.{with_change}
 use Rattle.answer_lines.specs.Given.{flag_given, flag_value, punctuation_given, punctuation_value, no_multi_digit_given, radix_given}
