@@ -153,12 +153,19 @@ def listed(kind: str) -> Written:
     return lambda fields: ", ".join(f"`{it.name}`" for it in fields if it.kind == kind)
 
 
-def in_builder(fields: list[Field]) -> str:
-    """The setters of Rattle's builder, punctuation last."""
-    others = lines(radix="            .{it.name}(self.{it.name})\n",
-                   flag="            .{it.name}(flag(self.{it.name}))\n")
-    return others(fields) + lines(punctuation=(
-        "            .{it.name}(punctuation(self.{it.name}, has_bit(nul, {it.bit})))\n"))(fields)
+def punctuation_last(radix: str, flag: str, punctuation: str) -> Written:
+    """A text for each field, those of punctuation behind the flags."""
+    others, last = lines(radix=radix, flag=flag), lines(punctuation=punctuation)
+    return lambda fields: others(fields) + last(fields)
+
+
+def nested(between: str, radix: str, flag: str, punctuation: str) -> Written:
+    """These texts with an operator between them, each next one in brackets."""
+    def written(fields: list[Field]) -> str:
+        made = punctuation_last(radix, flag, punctuation)(fields).splitlines()
+        return f"\n    {between} (".join(made) + ")" * (len(made) - 1) + "\n"
+
+    return written
 
 
 def in_setters(kind: str, fields: list[Field]) -> str:
@@ -180,6 +187,7 @@ def in_help(fields: list[Field]) -> str:
 
 IN_C_STRUCT = alike("    pub {it.name}: u8,\n")
 FIELD_FIELD = alike("      {it.name} = a.{it.name};\n")
+SAME = "crates/lexical_util/proofs/Same.antt"
 LINES = "crates/answer_lines/"
 JADVOLNI, OF_RATTLE = "crates/jadvolni/src/format.rt", "crates/lexical_util/src/format.rt"
 OF_PYTHON = "bindings/python/src/jadvolni/_format.py"
@@ -198,10 +206,19 @@ REGIONS = [
     Region("crates/lexical_util/specs/Format.antt", "standard = record {\n", "}",
            lines(radix="  {it.name} = {it.standard};\n", punctuation="  {it.name} = None;\n",
                  flag="  {it.name} = {it.truth};\n")),
+    Region(SAME, "HaveSameFields format other =\n    ", "\nsame_from_fields",
+           nested("×", *["(format.{it.name} ≡ other.{it.name})\n"] * 3)),
+    Region(SAME, "format_eq format other =\n    ", "\n-- it says whether",
+           nested("&&", "(format.{it.name} == other.{it.name})\n",
+                  "beq format.{it.name} other.{it.name}\n",
+                  "option_eq ◌==◌ format.{it.name} other.{it.name}\n")),
     Region("include/jadvolni.h", "typedef struct jadvolni_format {\n", "    /* Bits: ", in_c),
     Region(JADVOLNI, "pub struct FormatFields {\n", "    pub nul_is_punctuation", IN_C_STRUCT),
     Region(JADVOLNI, "        NumberFormatBuilder::new()\n", "            .build_unchecked()",
-           in_builder),
+           punctuation_last("            .{it.name}(self.{it.name})\n",
+                            "            .{it.name}(flag(self.{it.name}))\n",
+                            "            .{it.name}(punctuation(self.{it.name}, "
+                            "has_bit(nul, {it.bit})))\n")),
     Region("crates/jadvolni/specs/FormatFields.antt", "format_of fields = record {\n", "}\n",
            lines(radix="  {it.name} = fields.{it.name};\n",
                  punctuation="  {it.name} = punctuation fields.{it.name} "
