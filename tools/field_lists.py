@@ -15,6 +15,8 @@ LIST = os.path.join("tools", "fields.txt")
 STATUSES = os.path.join("bindings", "errors.txt")
 # The fields of the standard format that aren't 0.
 STANDARD = {"mantissa_radix": 10, "required_mantissa_digits": True}
+# The bytes of C's struct but that of nul_is_punctuation.
+ROOM = 31
 
 
 class Field(NamedTuple):
@@ -134,7 +136,7 @@ def in_c(fields: list[Field]) -> str:
     return "\n".join(lines) + "\n"
 
 
-def lines(**texts: str) -> Written:
+def each(**texts: str) -> Written:
     """A text for each field of these kinds. A tab breaks it where a line would be too long."""
     def written(fields: list[Field]) -> str:
         made = [texts[it.kind].format(it=it) for it in fields if it.kind in texts]
@@ -145,20 +147,34 @@ def lines(**texts: str) -> Written:
 
 def alike(text: str) -> Written:
     """A text for each field of every kind."""
-    return lines(radix=text, punctuation=text, flag=text)
+    return each(radix=text, punctuation=text, flag=text)
 
 
-def listed(kind: str) -> Written:
+def named(kind: str) -> Written:
     """The names of the fields of a kind, between commas."""
     return lambda fields: ", ".join(f"`{it.name}`" for it in fields if it.kind == kind)
 
 
-def in_builder(fields: list[Field]) -> str:
-    """The setters of Rattle's builder, punctuation last."""
-    others = lines(radix="            .{it.name}(self.{it.name})\n",
-                   flag="            .{it.name}(flag(self.{it.name}))\n")
-    return others(fields) + lines(punctuation=(
-        "            .{it.name}(punctuation(self.{it.name}, has_bit(nul, {it.bit})))\n"))(fields)
+def punctuation_last(radix: str, flag: str, punctuation: str) -> Written:
+    """A text for each field, those of punctuation behind the flags."""
+    others, last = each(radix=radix, flag=flag), each(punctuation=punctuation)
+    return lambda fields: others(fields) + last(fields)
+
+
+def nested(between: str, radix: str, flag: str, punctuation: str) -> Written:
+    """These texts with an operator between them, each next one in brackets."""
+    def written(fields: list[Field]) -> str:
+        made = punctuation_last(radix, flag, punctuation)(fields).splitlines()
+        return f"\n    {between} (".join(made) + ")" * (len(made) - 1) + "\n"
+
+    return written
+
+
+def in_dataclass(punctuation: str) -> Written:
+    """The fields of Python, with the standard format's values."""
+    return each(radix="    {it.name}: int = {it.standard}\n",
+                punctuation=f"    {{it.name}}: {punctuation} = None\n",
+                flag="    {it.name}: bool = {it.standard}\n")
 
 
 def in_setters(kind: str, fields: list[Field]) -> str:
@@ -178,60 +194,79 @@ def in_help(fields: list[Field]) -> str:
                    for field in fields)
 
 
-IN_C_STRUCT = alike("    pub {it.name}: u8,\n")
-FIELD_FIELD = alike("      {it.name} = a.{it.name};\n")
-LINES = "crates/answer_lines/"
-JADVOLNI, OF_RATTLE = "crates/jadvolni/src/format.rt", "crates/lexical_util/src/format.rt"
+BYTES = alike("    pub {it.name}: u8,\n")
+SAME_NAMES = alike("      {it.name} = a.{it.name};\n")
+HEADER, OF_SYS = "include/jadvolni.h", "bindings/rust/jadvolni-sys/src/lib.rs"
+COLUMN_ROWS = "crates/jadvolni/proofs/ColumnRows.antt"
+SAME = "crates/lexical_util/proofs/Same.antt"
+ANSWERS = "crates/answer_lines/"
+OF_C, OF_RATTLE = "crates/jadvolni/src/format.rt", "crates/lexical_util/src/format.rt"
 OF_PYTHON = "bindings/python/src/jadvolni/_format.py"
 OF_RUST = "bindings/rust/jadvolni/src/format.rs"
 REGIONS = [
     Region(OF_RATTLE, "    mantissa_radix: u8,\n", "    // These stand last",
-           lines(flag="    {it.name}: bool,\n")),
-    Region(OF_RATTLE, "ghost view = { λ a. record {\n", "    }", FIELD_FIELD),
-    Region(OF_RATTLE, "ghost inverse = { λ a. record {\n", "    }", FIELD_FIELD),
+           each(flag="    {it.name}: bool,\n")),
+    Region(OF_RATTLE, "ghost view = { λ a. record {\n", "    }", SAME_NAMES),
+    Region(OF_RATTLE, "ghost inverse = { λ a. record {\n", "    }", SAME_NAMES),
     Region(OF_RATTLE, "pub const STANDARD: NumberFormat = NumberFormat {\n", "}",
-           lines(radix="    {it.name}: {it.standard},\n", punctuation="    {it.name}: None,\n",
-                 flag="    {it.name}: {it.truth},\n")),
+           each(radix="    {it.name}: {it.standard},\n", punctuation="    {it.name}: None,\n",
+                flag="    {it.name}: {it.truth},\n")),
     Region("crates/lexical_util/specs/Format.antt", "pub record Format : Type 0 where\n", "\n--",
-           lines(radix="  pub {it.name} : ℕ\n", punctuation="  pub {it.name} : Option ℕ\n",
-                 flag="  pub {it.name} : Bool\n")),
+           each(radix="  pub {it.name} : ℕ\n", punctuation="  pub {it.name} : Option ℕ\n",
+                flag="  pub {it.name} : Bool\n")),
     Region("crates/lexical_util/specs/Format.antt", "standard = record {\n", "}",
-           lines(radix="  {it.name} = {it.standard};\n", punctuation="  {it.name} = None;\n",
-                 flag="  {it.name} = {it.truth};\n")),
-    Region("include/jadvolni.h", "typedef struct jadvolni_format {\n", "    /* Bits: ", in_c),
-    Region(JADVOLNI, "pub struct FormatFields {\n", "    pub nul_is_punctuation", IN_C_STRUCT),
-    Region(JADVOLNI, "        NumberFormatBuilder::new()\n", "            .build_unchecked()",
-           in_builder),
+           each(radix="  {it.name} = {it.standard};\n", punctuation="  {it.name} = None;\n",
+                flag="  {it.name} = {it.truth};\n")),
+    Region(SAME, "HaveSameFields format other =\n    ", "\nsame_from_fields",
+           nested("×", *["(format.{it.name} ≡ other.{it.name})\n"] * 3)),
+    Region(SAME, "format_eq format other =\n    ", "\n-- it says whether",
+           nested("&&", "(format.{it.name} == other.{it.name})\n",
+                  "beq format.{it.name} other.{it.name}\n",
+                  "option_eq ◌==◌ format.{it.name} other.{it.name}\n")),
+    Region(HEADER, "typedef struct jadvolni_format {\n", "    /* Bits: ", in_c),
+    Region(OF_C, "pub struct FormatFields {\n", "    pub nul_is_punctuation", BYTES),
+    Region(OF_C, "        NumberFormatBuilder::new()\n", "            .build_unchecked()",
+           punctuation_last("            .{it.name}(self.{it.name})\n",
+                            "            .{it.name}(flag(self.{it.name}))\n",
+                            "            .{it.name}(punctuation(self.{it.name}, "
+                            "has_bit(nul, {it.bit})))\n")),
     Region("crates/jadvolni/specs/FormatFields.antt", "format_of fields = record {\n", "}\n",
-           lines(radix="  {it.name} = fields.{it.name};\n",
-                 punctuation="  {it.name} = punctuation fields.{it.name} "
-                             "(has_bit {it.bit} fields.nul_is_punctuation);\n",
-                 flag="  {it.name} = flag fields.{it.name};\n")),
-    Region("bindings/rust/jadvolni-sys/src/lib.rs", "pub struct jadvolni_format {\n",
-           "    pub nul_is_punctuation", IN_C_STRUCT),
+           each(radix="  {it.name} = fields.{it.name};\n",
+                punctuation="  {it.name} = punctuation fields.{it.name} "
+                            "(has_bit {it.bit} fields.nul_is_punctuation);\n",
+                flag="  {it.name} = flag fields.{it.name};\n")),
+    Region(OF_SYS, "pub struct jadvolni_format {\n", "    pub nul_is_punctuation", BYTES),
+    *(Region(file, begin, "]", lambda fields: str(ROOM - len(fields))) for file, begin in (
+        (HEADER, "    uint8_t reserved["), (OF_SYS, "    pub reserved: [u8; "),
+        (OF_C, "    pub reserved: [u8; "))),
+    Region(COLUMN_ROWS, "fields_of radix reserved = record {\n", "  nul_is_punctuation",
+           each(radix="  {it.name} = radix;\n", punctuation="  {it.name} = 0;\n",
+                flag="  {it.name} = {it.standard:d};\n")),
+    Region(COLUMN_ROWS, "  reserved = ", "reserved ∷ []",
+           lambda fields: "0 ∷ " * (ROOM - 1 - len(fields))),
     Region(OF_RUST, "    punctuation! {\n", "    }\n",
            lambda fields: in_setters("punctuation", fields)),
     Region(OF_RUST, "    flags! {\n", "    }\n", lambda fields: in_setters("flag", fields)),
     Region(OF_PYTHON, "one that breaks a rule isn't made.\n\n", "\n    FormatError tells", in_help),
     Region(OF_PYTHON, "    # The fields, in the order of their bytes.\n", "\n    def __post_init__",
-           lines(radix="    {it.name}: int = {it.standard}\n",
-                 punctuation="    {it.name}: Punctuation = None\n",
-                 flag="    {it.name}: bool = {it.standard}\n")),
+           in_dataclass("Punctuation")),
+    Region("tools/reference.py", "those of the standard one.\"\"\"\n\n", "\n\nSTANDARD = ",
+           in_dataclass("Optional[int]")),
     Region("docs/GRAMMAR.md", "| Field | Setter of `NumberFormatBuilder` |\n|---|---|\n",
            "\n`required_digits` sets both",
-           lines(radix="| `{it.word}=N` | `{it.name}` |\n",
-                 punctuation="| `{it.word}=B` | `{it.name}` |\n",
-                 flag="| `{it.word}` | `{it.name}{it.argument}` |\n")),
-    Region(LINES + "src/field.rt", "    Field::MantissaRadix,\n", "    Field::RequiredDigits",
-           lines(punctuation="    Field::Punctuation(Punctuation::{it.variant}),\n",
-                 flag="    Field::Flag(Flag::{it.variant}),\n")),
-    Region(LINES + "specs/Field.antt", "    field.MantissaRadix\n", "    ∷ field.RequiredDigits",
-           lines(punctuation="    ∷ field.Punctuation punctuation.{it.variant}\n",
-                 flag="    ∷ field.Flag flag.{it.variant}\n")),
+           each(radix="| `{it.word}=N` | `{it.name}` |\n",
+                punctuation="| `{it.word}=B` | `{it.name}` |\n",
+                flag="| `{it.word}` | `{it.name}{it.argument}` |\n")),
+    Region(ANSWERS + "src/field.rt", "    Field::MantissaRadix,\n", "    Field::RequiredDigits",
+           each(punctuation="    Field::Punctuation(Punctuation::{it.variant}),\n",
+                flag="    Field::Flag(Flag::{it.variant}),\n")),
+    Region(ANSWERS + "specs/Field.antt", "    field.MantissaRadix\n", "    ∷ field.RequiredDigits",
+           each(punctuation="    ∷ field.Punctuation punctuation.{it.variant}\n",
+                flag="    ∷ field.Flag flag.{it.variant}\n")),
     Region("crates/lexint/README.md", "`16`, `+2` or `007` |\n| ", " | one byte, or `none` |",
-           listed("punctuation")),
+           named("punctuation")),
     Region("crates/lexint/README.md", "one byte, or `none` |\n| ", ", `required_digits` (",
-           listed("flag")),
+           named("flag")),
 ]
 
 # What the answers to lines have once for each byte of punctuation, and once for each flag.
@@ -250,12 +285,12 @@ OF_KINDS = [
      "{it.kind}_value {it.kind}.{it.variant} format = format.{it.name}\n"),
 ]
 for kind, value in ("punctuation", "Option ℕ"), ("flag", "Bool"):
-    REGIONS += [Region(LINES + file, begin.format(kind=kind, type=kind.title(), value=value),
-                       end.format(), lines(**{kind: line}))
+    REGIONS += [Region(ANSWERS + file, begin.format(kind=kind, type=kind.title(), value=value),
+                       end.format(), each(**{kind: line}))
                 for file, begin, end, line in OF_KINDS]
 
 
-HEADER, SWITCH = "include/jadvolni.h", "(uint32_t status)\n{\n    switch (status) {\n"
+SWITCH = "(uint32_t status)\n{\n    switch (status) {\n"
 OF_STATUSES = [
     Region(HEADER, f"jadvolni_status_name{SWITCH}", "    default: return \"Unknown",
            lambda them: in_cases(them, lambda it: f'"{it.name}"')),
