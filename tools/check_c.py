@@ -66,16 +66,16 @@ def out_of_line() -> List[str]:
 
 
 def static_library(place: Place) -> str:
-    """It needs nothing, has no data, exports the header's calls, and makes those listed."""
+    """It needs nothing, has no data, exports the header's calls, makes those listed or std's."""
     needs("nm")
     said = run(["nm", place.library("libjadvolni.a")])
-    symbols = re.findall(r"(?m)^\w* +(\w) (?:\w+::)*(\w*)", said)
-    undefined = [name for kind, name in symbols if kind == "U"]
-    data = [name for kind, name in symbols if kind in "dDbBcC"]
-    unlisted = {name for kind, name in symbols if kind == "t"} - set(out_of_line())
+    symbols = re.findall(r"(?m)^\w* +(\w) (core::)?(?:\w+::)*(\w+)", said)
+    undefined = [name for kind, _, name in symbols if kind == "U"]
+    data = [name for kind, _, name in symbols if kind in "dDbBcC"]
+    unlisted = {name for kind, std, name in symbols if kind == "t" and not std} - set(out_of_line())
     if undefined or data or unlisted:
         raise Failed(f"undefined: {undefined}, data: {data}, out of line: {sorted(unlisted)}")
-    return exported(name for kind, name in symbols if kind == "T")
+    return exported(name for kind, _, name in symbols if kind == "T")
 
 
 def shared_library(place: Place) -> str:
