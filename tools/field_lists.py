@@ -113,13 +113,15 @@ def in_struct(fields: list[Field]) -> str:
 
 
 def in_builder(fields: list[Field]) -> str:
-    """The setters of Rattle's builder, punctuation last."""
+    """The setters of Rattle's builder, in the order that compiles to the shortest code."""
     def setter(field: Field) -> str:
         if field.kind == "punctuation":
             return f"punctuation(self.{field.name}, has_bit(nul, {field.bit}))"
         return f"flag(self.{field.name})" if field.kind == "flag" else f"self.{field.name}"
 
-    ordered = sorted(fields, key=lambda field: field.kind == "punctuation")
+    marks = [field for field in fields if field.kind == "punctuation"]
+    others = [field for field in fields if field.kind != "punctuation"]
+    ordered = [*others[9:], *others[8::-1], *marks]
     return "".join(f"            .{field.name}({setter(field)})\n" for field in ordered)
 
 
