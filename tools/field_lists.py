@@ -155,16 +155,21 @@ def named(kind: str) -> Written:
     return lambda fields: ", ".join(f"`{it.name}`" for it in fields if it.kind == kind)
 
 
-def punctuation_last(radix: str, flag: str, punctuation: str) -> Written:
-    """A text for each field, those of punctuation behind the flags."""
-    others, last = each(radix=radix, flag=flag), each(punctuation=punctuation)
-    return lambda fields: others(fields) + last(fields)
+def in_builder(fields: list[Field]) -> str:
+    """The setters of Rattle's builder, in the order that compiles to the shortest code."""
+    others = [field for field in fields if field.kind != "punctuation"]
+    marks = [field for field in fields if field.kind == "punctuation"]
+    return each(radix="            .{it.name}(self.{it.name})\n",
+                flag="            .{it.name}(flag(self.{it.name}))\n",
+                punctuation="            .{it.name}(punctuation(self.{it.name}, "
+                            "has_bit(nul, {it.bit})))\n")([*others[9:], *others[8::-1], *marks])
 
 
 def nested(between: str, radix: str, flag: str, punctuation: str) -> Written:
     """These texts with an operator between them, each next one in brackets."""
     def written(fields: list[Field]) -> str:
-        made = punctuation_last(radix, flag, punctuation)(fields).splitlines()
+        last = each(punctuation=punctuation)(fields)
+        made = (each(radix=radix, flag=flag)(fields) + last).splitlines()
         return f"\n    {between} (".join(made) + ")" * (len(made) - 1) + "\n"
 
     return written
@@ -225,11 +230,7 @@ REGIONS = [
                   "option_eq ◌==◌ format.{it.name} other.{it.name}\n")),
     Region(HEADER, "typedef struct jadvolni_format {\n", "    /* Bits: ", in_c),
     Region(OF_C, "pub struct FormatFields {\n", "    pub nul_is_punctuation", BYTES),
-    Region(OF_C, "        NumberFormatBuilder::new()\n", "            .build_unchecked()",
-           punctuation_last("            .{it.name}(self.{it.name})\n",
-                            "            .{it.name}(flag(self.{it.name}))\n",
-                            "            .{it.name}(punctuation(self.{it.name}, "
-                            "has_bit(nul, {it.bit})))\n")),
+    Region(OF_C, "        NumberFormatBuilder::new()\n", "            .build_unchecked()", in_builder),
     Region("crates/jadvolni/specs/FormatFields.antt", "format_of fields = record {\n", "}\n",
            each(radix="  {it.name} = fields.{it.name};\n",
                 punctuation="  {it.name} = punctuation fields.{it.name} "
