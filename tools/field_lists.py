@@ -230,7 +230,8 @@ REGIONS = [
                   "option_eq ◌==◌ format.{it.name} other.{it.name}\n")),
     Region(HEADER, "typedef struct jadvolni_format {\n", "    /* Bits: ", in_c),
     Region(OF_C, "pub struct FormatFields {\n", "    pub nul_is_punctuation", BYTES),
-    Region(OF_C, "        NumberFormatBuilder::new()\n", "            .build_unchecked()", in_builder),
+    Region(OF_C, "        NumberFormatBuilder::new()\n", "            .build_unchecked()",
+           in_builder),
     Region("crates/jadvolni/specs/FormatFields.antt", "format_of fields = record {\n", "}\n",
            each(radix="  {it.name} = fields.{it.name};\n",
                 punctuation="  {it.name} = punctuation fields.{it.name} "
