@@ -139,12 +139,11 @@ fn asks_for_no_literals(fields: &FormatFields) -> bool
 }
 
 impl FormatFields {
-    /// Whether the bits and bytes that are kept for later versions are 0.
+    /// Whether the bits and bytes that are kept for later versions are 0: the bytes by two words, which share three.
     #[inline(always)]
     pub fn are_known(&self) -> bool
         ensures { result ≡ are_known self.now }
     {
-        // The thirteen bytes are two words, which share three.
         let [a, b, c, d, e, f, g, h, i, j, k, l, m] = self.reserved;
         let first = u64::from_le_bytes([a, b, c, d, e, f, g, h]);
         let last = u64::from_le_bytes([f, g, h, i, j, k, l, m]);
