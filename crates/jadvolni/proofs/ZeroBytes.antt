@@ -1,5 +1,5 @@
 -- When words of eight bytes are 0.
-use Rattle.std.proofs.Common.{◌≡◌, ◌∙◌, ℕ, Bool, zero, suc, ◌+◌, ◌*◌, ◌&&◌, nat_eq, nat_lt, true, false, List, [], ◌∷◌, ◌++◌, length, get_or, map, refl, ap, ap₂, sym, arith}
+use Rattle.std.proofs.Common.{◌≡◌, ◌∙◌, ◌<◌, ℕ, Bool, zero, suc, ◌+◌, ◌*◌, ◌&&◌, nat_eq, nat_lt, true, false, List, [], ◌∷◌, ◌++◌, length, get_or, map, refl, ap, ap₂, sym, arith}
 use Rattle.std.proofs.lemmas.Bool.Decides.{nat_tests}
 use Rattle.std.proofs.lemmas.List.{ext_get_or}
 use Rattle.std.proofs.lemmas.List.FromFn.{get_or-map-range_with_len, length-map-range_with_len}
@@ -89,31 +89,31 @@ words_of_zeros a b c rest size =
     ∙ in_two_parts (a ∷ b ∷ c ∷ at 0 ∷ at 1 ∷ at 2 ∷ at 3 ∷ at 4 ∷ []) (at 5 ∷ at 6 ∷ at 7 ∷ at 8 ∷ at 9 ∷ at 10 ∷ at 11 ∷ at 12 ∷ [])
     ∙ ap (λ xs. are_zeros (a ∷ b ∷ c ∷ xs)) (by_places rest 13 size)
 
--- a test that is asked twice
-twice : (a b : Bool) → (a && (a && b)) ≡ (a && b)
-twice true b = refl
-twice false b = refl
+-- a word whose third byte is below 8, and whose bytes behind that are 0
+low_word : (a b c d e f g h : ℕ) → a < 256 → b < 256 → let bytes =
+    a ∷ b ∷ c ∷ d ∷ e ∷ f ∷ g ∷ h ∷ [] in nat_lt (from_le_bytes w64 bytes) 524288 ≡ (nat_lt c 8 && are_zeros (d ∷ e ∷ f ∷ g ∷ h ∷ []))
+low_word a b c d e f g h small_a small_b =
+    let bytes = a ∷ b ∷ c ∷ d ∷ e ∷ f ∷ g ∷ h ∷ [] in
+    let rest = d + 256 * (e + 256 * (f + 256 * (g + 256 * (h + 256 * 0)))) in
+    let parted : nat_lt (from_le_bytes w64 bytes) 524288 ≡ (nat_lt c 8 && nat_eq rest 0) = grind (arith, nat_tests) in
+    parted
+    ∙ ap (λ x. nat_lt c 8 && x) (above d (e + 256 * (f + 256 * (g + 256 * (h + 256 * 0))))
+    ∙ ap (λ x. nat_eq d 0 && x) (above e (f + 256 * (g + 256 * (h + 256 * 0)))
+    ∙ ap (λ x. nat_eq e 0 && x) (above f (g + 256 * (h + 256 * 0))
+    ∙ ap (λ x. nat_eq f 0 && x) (above g (h + 256 * 0)
+    ∙ ap (λ x. nat_eq g 0 && x) (above h 0)))))
 
--- bytes in two parts that share some are 0 where both parts are
-in_shared_parts : (xs ys zs : List ℕ) → (are_zeros (xs ++ ys) && are_zeros (ys ++ zs)) ≡ are_zeros (xs ++ (ys ++ zs))
-in_shared_parts [] ys zs =
-    ap (λ b. are_zeros ys && b) (sym (in_two_parts ys zs))
-    ∙ twice (are_zeros ys) (are_zeros zs)
-    ∙ in_two_parts ys zs
-in_shared_parts (x ∷ xs) ys zs =
-    and_assoc (nat_eq x 0) (are_zeros (xs ++ ys)) (are_zeros (ys ++ zs)) ∙ ap (λ b. nat_eq x 0 && b) (in_shared_parts xs ys zs)
-
--- thirteen bytes are 0 where the first eight and the last eight are
-pub thirteen_zeros : (bytes : List ℕ) → length bytes ≡ 13 → let at = (λ (k : ℕ). get_or bytes k 0) in
-    nat_eq (bit_or (from_le_bytes w64 (at 0 ∷ at 1 ∷ at 2 ∷ at 3 ∷ at 4 ∷ at 5 ∷ at 6 ∷ at 7 ∷ []))
-    (from_le_bytes w64 (at 5 ∷ at 6 ∷ at 7 ∷ at 8 ∷ at 9 ∷ at 10 ∷ at 11 ∷ at 12 ∷ []))) 0 ≡ are_zeros bytes
-thirteen_zeros bytes size =
-    let at : ℕ → ℕ = λ k. get_or bytes k 0 in
-    or_is_zero (from_le_bytes w64 (at 0 ∷ at 1 ∷ at 2 ∷ at 3 ∷ at 4 ∷ at 5 ∷ at 6 ∷ at 7 ∷ [])) (from_le_bytes w64 (at 5 ∷ at 6 ∷ at 7 ∷ at 8 ∷ at 9 ∷ at 10 ∷ at 11 ∷ at 12 ∷ []))
-    ∙ ap₂ (λ x y. x && y) (word_of_zeros (at 0) (at 1) (at 2) (at 3) (at 4) (at 5) (at 6) (at 7))
+-- the two last words of a format, of which the last thirteen bytes are kept for later versions
+pub last_words : (a b c : ℕ) (rest : List ℕ) → a < 256 → b < 256 → length rest ≡ 13 → let at = (λ (k : ℕ). get_or rest k 0) in
+    (nat_lt (from_le_bytes w64 (a ∷ b ∷ c ∷ at 0 ∷ at 1 ∷ at 2 ∷ at 3 ∷ at 4 ∷ [])) 524288
+    && nat_eq (from_le_bytes w64 (at 5 ∷ at 6 ∷ at 7 ∷ at 8 ∷ at 9 ∷ at 10 ∷ at 11 ∷ at 12 ∷ [])) 0) ≡ (nat_lt c 8 && are_zeros rest)
+last_words a b c rest small_a small_b size =
+    let at : ℕ → ℕ = λ k. get_or rest k 0 in
+    ap₂ (λ x y. x && y) (low_word a b c (at 0) (at 1) (at 2) (at 3) (at 4) small_a small_b)
     (word_of_zeros (at 5) (at 6) (at 7) (at 8) (at 9) (at 10) (at 11) (at 12))
-    ∙ in_shared_parts (at 0 ∷ at 1 ∷ at 2 ∷ at 3 ∷ at 4 ∷ []) (at 5 ∷ at 6 ∷ at 7 ∷ []) (at 8 ∷ at 9 ∷ at 10 ∷ at 11 ∷ at 12 ∷ [])
-    ∙ ap are_zeros (by_places bytes 13 size)
+    ∙ and_assoc (nat_lt c 8) (are_zeros (at 0 ∷ at 1 ∷ at 2 ∷ at 3 ∷ at 4 ∷ [])) (are_zeros (at 5 ∷ at 6 ∷ at 7 ∷ at 8 ∷ at 9 ∷ at 10 ∷ at 11 ∷ at 12 ∷ []))
+    ∙ ap (λ zeros. nat_lt c 8 && zeros) (in_two_parts (at 0 ∷ at 1 ∷ at 2 ∷ at 3 ∷ at 4 ∷ []) (at 5 ∷ at 6 ∷ at 7 ∷ at 8 ∷ at 9 ∷ at 10 ∷ at 11 ∷ at 12 ∷ [])
+    ∙ ap are_zeros (by_places rest 13 size))
 
 -- a byte below 8 that has none of three bits is 0
 pub no_bits : (n : ℕ) → nat_lt n 8 ≡ true → has_bit 1 n ≡ false → has_bit 2 n ≡ false → has_bit 4 n ≡ false → n ≡ 0

@@ -146,11 +146,19 @@ impl FormatFields {
     pub fn are_known(&self) -> bool
         ensures { result ≡ are_known self.now }
     {
-        // The thirteen bytes are two words, which share three.
         let [a, b, c, d, e, f, g, h, i, j, k, l, m] = self.reserved;
-        let first = u64::from_le_bytes([a, b, c, d, e, f, g, h]);
-        let last = u64::from_le_bytes([f, g, h, i, j, k, l, m]);
-        self.nul_is_punctuation < 8 && first | last == 0
+        let third = u64::from_le_bytes([
+            self.literal_prefixes,
+            self.literal_octal_zero,
+            self.nul_is_punctuation,
+            a,
+            b,
+            c,
+            d,
+            e,
+        ]);
+        let fourth = u64::from_le_bytes([f, g, h, i, j, k, l, m]);
+        third < 0x8_0000 && fourth == 0
     }
 
     /// Whether all fields but the radix are those of the standard format.
