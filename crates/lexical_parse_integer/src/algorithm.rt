@@ -186,10 +186,7 @@ pub fn algorithm_partial<T: Integer>(
 
 // The partial answer for a text that the quick way leaves. Why out of line: docs/DECISIONS.md, code.
 #[inline(never)]
-pub(crate) fn partial_out_of_line<T: Integer>(
-    bytes: &[u8],
-    format: &NumberFormat,
-) -> Result<(T, usize)>
+fn partial_out_of_line<T: Integer>(bytes: &[u8], format: &NumberFormat) -> Result<(T, usize)>
     requires valid { IsNone (fault format.now) }
     ensures { view_of (with_place T.number) result ≡ partial format.now T.TYPE bytes.now }
 {
@@ -218,4 +215,12 @@ pub(crate) fn standard_complete<T: Integer>(bytes: &[u8]) -> Result<T>
         Some(place) => Err(Error::Empty(place)),
         None => complete_from_front::<T>(bytes, &format::STANDARD),
     }
+}
+
+// The place for its answer is made ready here, and so not for a front that a quick way reads.
+#[inline(always)]
+pub(crate) fn standard_partial<T: Integer>(bytes: &[u8]) -> Result<(T, usize)>
+    ensures { view_of (with_place T.number) result ≡ partial standard T.TYPE bytes.now }
+{
+    partial_out_of_line::<T>(bytes, &format::STANDARD)
 }

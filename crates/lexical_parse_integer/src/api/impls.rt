@@ -10,7 +10,7 @@ use crate::algorithm::plain::{
 };
 use crate::algorithm::punctuated::validity::fault_of;
 use crate::algorithm::punctuated::{value_of_groups, value_of_row};
-use crate::algorithm::{partial_out_of_line, standard_complete};
+use crate::algorithm::{standard_complete, standard_partial};
 use crate::api::{FromLexical, FromLexicalWithOptions};
 use crate::options::Options;
 use lexical_util::error::Error;
@@ -78,7 +78,7 @@ impl<T: Integer> FromLexical for T {
     fn from_lexical_partial(bytes: &[u8]) -> Result<(T, usize)> {
         match front_if_plain::<T>(bytes, &format::STANDARD) {
             Some(found) => Ok(found),
-            None => partial_out_of_line::<T>(bytes, &format::STANDARD),
+            None => standard_partial::<T>(bytes),
         }
     }
 }
