@@ -217,7 +217,7 @@ pub(crate) fn standard_complete<T: Integer>(bytes: &[u8]) -> Result<T>
     }
 }
 
-// The place for its answer is made ready here, and so not for a front that a quick way reads.
+// The partial answer under the standard format for such a text. Why by another call: docs/DECISIONS.md, code.
 #[inline(always)]
 pub(crate) fn standard_partial<T: Integer>(bytes: &[u8]) -> Result<(T, usize)>
     ensures { view_of (with_place T.number) result ≡ partial standard T.TYPE bytes.now }
