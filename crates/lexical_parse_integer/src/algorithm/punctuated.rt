@@ -52,7 +52,7 @@ fn is_x_hexadecimal(format: &NumberFormat) -> bool
     }
 }
 
-// Whether `0x` stands at a place with more behind it, and puts radix 16 in force.
+// Whether `0x` stands at a place with more behind it, where the effective radix is then 16.
 #[inline(always)]
 #[tactic(auto, unfolding(crate::specs::Affixes::prefix_radix, crate::specs::Runs::are_same))]
 fn is_x_at(bytes: &[u8], format: &NumberFormat, place: usize) -> bool
