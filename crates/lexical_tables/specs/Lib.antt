@@ -1,0 +1,3 @@
+-- The definitions that contracts name, a file for each subject.
+pub mod Rows
+pub mod Tables
