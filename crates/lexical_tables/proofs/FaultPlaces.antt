@@ -11,7 +11,6 @@ use Rattle.lexical_parse_integer.specs.Laws.{StandsWithin}
 use Rattle.lexical_fields.specs.Columns.{answer_by, answer_of, answers, column, column_numbers, first_fault, next_start, outcome_at}
 use Rattle.lexical_fields.specs.Fields.{FieldView, fields, fields_from, onto_field}
 use Rattle.lexical_fields.specs.Places.{error_in_text, in_text}
-use Rattle.lexical_fields.specs.ReadFields.{field_answer}
 use Rattle.lexical_fields.specs.declared.columns.Column.{Column}
 use Rattle.lexical_fields.specs.declared.columns.ColumnError.{ColumnError}
 use Rattle.lexical_fields.specs.declared.columns.ColumnError.TheVariants.{InvalidField, InvalidFormat}

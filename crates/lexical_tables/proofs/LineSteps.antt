@@ -1,8 +1,8 @@
 -- The lines of a text, stepped over one after another.
-use Rattle.std.proofs.Common.{◌≡◌, ◌∙◌, ℕ, zero, suc, ◌+◌, ◌-◌, ◌<◌, ◌≤◌, List, [], ◌∷◌, length, take, drop, inl, inr, ◌⊎◌, refl, ap, sym, arith}
+use Rattle.std.proofs.Common.{◌≡◌, ◌∙◌, ℕ, suc, ◌+◌, ◌-◌, ◌<◌, ◌≤◌, List, [], ◌∷◌, length, take, drop, inl, inr, ◌⊎◌, refl, ap, sym, arith}
 use Rattle.std.proofs.lemmas.List.{drop_all}
 use Rattle.lexical_fields.specs.Columns.{next_start}
-use Rattle.lexical_fields.specs.Fields.{FieldView, field_length, fields, fields_from}
+use Rattle.lexical_fields.specs.Fields.{field_length, fields, fields_from}
 use Rattle.lexical_fields.specs.ReadSoFar.{left_of}
 use Rattle.lexical_fields.proofs.ColumnSteps.{start_of_left}
 use Rattle.lexical_fields.proofs.FieldSteps.{next_field}

@@ -1,5 +1,5 @@
 -- What a slice holds, if the numbers of a row were put into its part.
-use Rattle.std.proofs.Common.{◌≡◌, ◌∙◌, ℕ, ◌+◌, ◌-◌, ◌≤◌, List, ◌++◌, length, take, drop, map, ap, sym, arith, append_assoc, length-drop, length-take, length-take-le, take-add, take_at, drop_at, take-append-drop}
+use Rattle.std.proofs.Common.{◌≡◌, ◌∙◌, ℕ, ◌+◌, ◌≤◌, List, ◌++◌, length, take, drop, map, ap, sym, arith, length-drop, length-take, length-take-le, take-add, take_at, drop_at, take-append-drop}
 use Rattle.std.proofs.lemmas.List.{drop-append-le, drop-drop, length-map, map-append, take-append-le}
 use Rattle.std.proofs.Math.IntN.{ℤ}
 use borrow.Rule.Slice.PartMut.{put_mid, mid_of, post_of, same_len_mid}

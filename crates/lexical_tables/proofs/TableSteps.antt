@@ -1,5 +1,5 @@
 -- A table, one row after another.
-use Rattle.std.proofs.Common.{◌≡◌, ◌∙◌, ℕ, zero, suc, ◌+◌, ◌-◌, ◌*◌, ◌/◌, ◌<◌, ◌≤◌, List, [], ◌∷◌, ◌++◌, length, take, drop, map, cond, true, false, Bool, refl, ap, ap₂, sym, arith, append_assoc, inl, inr, ◌⊎◌, length-append, length-take-le, Ok, Err, Result, Option, Some, None}
+use Rattle.std.proofs.Common.{◌≡◌, ◌∙◌, ℕ, zero, suc, ◌+◌, ◌-◌, ◌*◌, ◌/◌, ◌<◌, ◌≤◌, List, [], ◌∷◌, ◌++◌, length, take, drop, map, cond, refl, ap, ap₂, sym, arith, append_assoc, inl, inr, ◌⊎◌, length-append, length-take-le, Ok, Err, Result, Some, None}
 use Rattle.std.specs.Prelude.{IfOk, is_none}
 use Rattle.std.proofs.Math.IntN.{ℤ}
 use Rattle.std.proofs.lemmas.List.{append-nil, drop_all, drop-drop, length-map}
@@ -10,7 +10,7 @@ use Rattle.lexical_util.specs.Format.{Format}
 use Rattle.lexical_util.specs.Number.{IntegerType}
 use Rattle.lexical_util.specs.Validity.{fault}
 use Rattle.lexical_fields.specs.Columns.{next_start, numbers_by}
-use Rattle.lexical_fields.specs.Fields.{FieldView, field_length, fields, fields_from}
+use Rattle.lexical_fields.specs.Fields.{field_length, fields, fields_from}
 use Rattle.lexical_fields.specs.ReadSoFar.{left_of}
 use Rattle.lexical_fields.proofs.ColumnSteps.{start_of_left, tail_goes}
 use Rattle.lexical_tables.specs.Rows.{RowView, line_feed, row_of, rows}

@@ -54,14 +54,15 @@ first_of (Some it) other = Some it
 -- the fault of the first wrong row, where the rows are counted from a number on
 abbrev pub first_fault : Format → IntegerType → Dialect → ℕ → List RowView → Option TableError
 first_fault format type dialect index [] = None
-first_fault format type dialect index (row ∷ more) = first_of (row_fault format type dialect index row)
+first_fault format type dialect index (row ∷ more) = first_of
+    (row_fault format type dialect index row)
     (first_fault format type dialect (index + 1) more)
 
 -- the numbers of rows, one row after another, up to those of the first wrong row
 abbrev pub numbers_to_fault : Format → IntegerType → Dialect → ℕ → List RowView → List ℤ
 numbers_to_fault format type dialect index [] = []
-numbers_to_fault format type dialect index (row ∷ more) = row_numbers format type dialect row
-    ++ (if is_none (row_fault format type dialect index row)
+numbers_to_fault format type dialect index (row ∷ more) =
+    row_numbers format type dialect row ++ (if is_none (row_fault format type dialect index row)
     then numbers_to_fault format type dialect (index + 1) more else [])
 
 -- for how many rows a slice has room
@@ -97,11 +98,13 @@ numbers_of format type dialect size text = columns.numbers_by (fault format)
 
 -- what `read_table` answers
 unfoldable pub answer_of : Format → IntegerType → Dialect → ℕ → List ℕ → Result Table TableError
-answer_of format type dialect size text = answer_by (fault format) (table format type dialect size text)
+answer_of format type dialect size text =
+    answer_by (fault format) (table format type dialect size text)
 
 -- How far a text was read: as many rows as there was room for at most, all their cells, and up to a place from which on
 -- the text has the rows that are left.
-pub record GoesOn (dialect : Dialect) (size : ℕ) (text : List ℕ) (numbers : List ℤ) (table : Table) : Type 0 where
+pub record GoesOn (dialect : Dialect) (size : ℕ) (text : List ℕ) (numbers : List ℤ)
+    (table : Table) : Type 0 where
   pub counted : table.rows * dialect.columns ≡ length numbers
   pub within_room : table.rows ≤ room_in size dialect
   pub within_text : table.stop ≤ length text

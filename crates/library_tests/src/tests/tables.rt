@@ -3,7 +3,9 @@
 use crate::tests::answers;
 use lexical_parse_integer::format::STANDARD;
 use lexical_parse_integer::{Error, NumberFormat, NumberFormatBuilder, options};
-use lexical_tables::{CellFault, Dialect, Table, TableError, after_lines, read_table};
+use lexical_tables::{
+    CellFault, Dialect, Table, TableError, after_lines, read_table, read_table_part,
+};
 
 // What reading a table answers.
 type Answer = Result<Table, TableError>;
@@ -38,6 +40,12 @@ fn read(text: &[u8], has_returns: bool, format: &NumberFormat) -> (Answer, [i16;
         &mut room,
     );
     (answer, room)
+}
+
+/// The numbers behind a header, in two columns, as far as there is room for their rows.
+fn read_pairs(text: &[u8], values: &mut [u64]) -> Answer {
+    let rows = &text[after_lines(text, 1)..];
+    read_table(rows, &pairs(false), &STANDARD, &options::STANDARD, values)
 }
 
 #[test]
@@ -87,17 +95,35 @@ fn first_wrong_cells(rt: HostRuntime) {
 
 #[test]
 fn a_header_is_stepped_over(rt: HostRuntime) {
-    let text = b"width,\"height\n1,2\n";
-    let start = after_lines(text, 1);
-    answers(&rt, start, 14);
+    let mut values = [0; 4];
     answers(
         &rt,
-        read(&text[start..], false, &STANDARD),
-        (table(1, 4), [1, 2, 9, 9, 9]),
+        read_pairs(b"width,\"height\n1,2\n", &mut values),
+        table(1, 4),
     );
+    answers(&rt, values, [1, 2, 0, 0]);
     answers(
         &rt,
         [after_lines(b"a\nb", 2), after_lines(b"a\n\n", 1)],
         [3, 2],
     );
+}
+
+#[test]
+fn a_part_has_whole_rows(rt: HostRuntime) {
+    let mut values = [0; 4];
+    let part = b"1,2\n3,4";
+    let options = &options::STANDARD;
+    let answer = read_table_part::<u64>(
+        part,
+        false,
+        &pairs(false),
+        &STANDARD,
+        options,
+        &mut values,
+    );
+    answers(&rt, answer, table(1, 4));
+    let answer = read_table_part::<u64>(part, true, &pairs(false), &STANDARD, options, &mut values);
+    answers(&rt, answer, table(2, 7));
+    answers(&rt, values, [1, 2, 3, 4]);
 }

@@ -1,10 +1,10 @@
-use Rattle.std.proofs.Common.{◌≡◌, ◌<◌, ◌≤◌, ◌-◌, ◌+◌, ◌*◌, rules, inl, inr, length, take, drop, refl, arith, sym, ap, ◌∙◌}
+use Rattle.std.proofs.Common.{◌<◌, rules, inl, inr, length, refl, arith, sym}
 use Rattle.std.specs.Prelude.{IsNone}
 use Rattle.std.proofs.lemmas.Bool.Decides.{nat_tests}
 use Rattle.lexical_util.specs.Validity.{fault}
 use Rattle.lexical_fields.proofs.FieldAnswers.{valid_of}
 use Rattle.lexical_tables.specs.Rows.{view_of_row}
-use Rattle.lexical_tables.proofs.TableSteps.{next_fits, read_invalid, reading_ends, reading_fault, reading_goes, reading_starts}
+use Rattle.lexical_tables.proofs.TableSteps.{next_fits, read_invalid, reading_ends, reading_fault, reading_goes}
 use Rattle.lexical_tables.proofs.read.read_table.Goals.{then-loop-rows-test+else-not-is_empty, else-loop-rows-test}
 use Rattle.lexical_tables.proofs.read.read_table.Goals as goal
 

@@ -1,6 +1,6 @@
-use Rattle.std.proofs.Common.{◌<◌, inl, inr, length, refl, arith}
+use Rattle.std.proofs.Common.{◌<◌, inl, inr, length, arith}
 use Rattle.std.proofs.lemmas.Bool.Decides.{nat_tests}
-use Rattle.lexical_tables.proofs.LineSteps.{way_ends, way_goes, way_starts}
+use Rattle.lexical_tables.proofs.LineSteps.{way_ends, way_goes}
 use Rattle.lexical_tables.proofs.rows.after_lines.Goals.{then-loop-left-test+else-not-is_empty, else-loop-left-test}
 use Rattle.lexical_tables.proofs.rows.after_lines.Goals as goal
 
