@@ -21,7 +21,7 @@ AllEndBy end [] = Unit {0}
 AllEndBy end (field ∷ more) = (field.start + length field.text ≤ end) × AllEndBy end more
 
 -- the first field starts at a place
-abbrev StartsAt : ℕ → List FieldView → Type 0
+abbrev pub StartsAt : ℕ → List FieldView → Type 0
 StartsAt place [] = Unit {0}
 StartsAt place (field ∷ more) = field.start ≡ place
 
@@ -29,7 +29,7 @@ onto_starts : (p b : ℕ) (fs : List FieldView) → StartsAt p (onto_field p b f
 onto_starts p b [] = refl
 onto_starts p b (f ∷ fs) = refl
 
-fields_start : (s p : ℕ) (bs : List ℕ) → StartsAt p (fields_from s p bs)
+pub fields_start : (s p : ℕ) (bs : List ℕ) → StartsAt p (fields_from s p bs)
 fields_start s p [] = tt
 fields_start s p (b ∷ bs) = by_test (b == s)
   where

@@ -2,5 +2,6 @@
 pub mod FaultPlaces
 pub mod LineSteps
 pub mod RowWrites
+pub mod RowsInParts
 pub mod TableRows
 pub mod TableSteps

@@ -14,6 +14,6 @@ mod rows;
 
 pub use answers::{CellFault, Table, TableError};
 pub use dialect::Dialect;
-pub use parts::read_table_part;
+pub use parts::{read_table_part, reads_in_parts};
 pub use read::read_table;
 pub use rows::after_lines;

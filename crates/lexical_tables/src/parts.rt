@@ -1,7 +1,10 @@
 //! Tables of a text that comes in parts, as a file that is read in blocks.
 
-ghost use Rattle.std.specs.Prelude.{◌≡◌, length, take, drop, map, IfOk};
+ghost use Rattle.std.specs.Prelude.{◌≡◌, ℕ, List, length, take, drop, map, IfOk};
+ghost use Rattle.lexical_util.specs.Format.{Format};
+ghost use Rattle.lexical_util.specs.Number.{IntegerType};
 ghost use Rattle.lexical_fields.specs.Parts.{readable};
+ghost use Rattle.lexical_tables.specs.Parts.{ReadsInParts};
 ghost use Rattle.lexical_tables.specs.Rows.{line_feed};
 ghost use Rattle.lexical_tables.specs.Tables.{GoesOn, answer_of, numbers_of};
 
@@ -16,7 +19,8 @@ use lexical_parse_integer::{NumberFormat, Options};
 /// whole text.
 ///
 /// A part may end within a row. That row is left, unless the part is the last one: put the bytes from `stop`
-/// on in front of the next part. Rows and places count from the part's start.
+/// on in front of the next part. Rows and places count from the part's start. Read so, all parts give the
+/// numbers and the first fault of the whole text ([`reads_in_parts`]).
 ///
 /// With a comma and two columns, `1,2\n3,4` gives one row and stops at 4 where more follows, and two rows
 /// where it is the last part.
@@ -47,3 +51,12 @@ pub fn read_table_part<T: ParseInteger>(
     let whole = &text[..whole_fields(text, b'\n')];
     read_table::<T>(whole, dialect, format, options, values)
 }
+
+/// The law of parts: wherever a text is cut, its whole rows in front of the cut, and then all that is left, give
+/// the numbers and the first fault of the whole text. Rows and places are counted on.
+///
+/// The call does nothing. A proof that needs the law makes it, and has its clause.
+pub fn reads_in_parts()
+    ensures { (format : Format) (type : IntegerType) (dialect : Dialect) (part more : List ℕ)
+        → ReadsInParts format type dialect part more }
+{}
