@@ -1,6 +1,7 @@
-// What a number takes in JavaScript beside BigInt, Number and parseInt, as rows of a table: node bench/numbers.js
+// What a number takes in JavaScript beside BigInt, Number and parseInt: node bench/numbers.js
 //
-// Each text is read once a round. The best of many rounds counts, in ns a text; all have to answer alike.
+// Each text is read once a round. The best of many rounds counts, in ns a text. All have to answer
+// alike, where their numbers can.
 import { parse, parseColumn } from "../bindings/js/index.js";
 
 const TEXTS = 8_000;
@@ -54,8 +55,8 @@ const SETS = {
   "19 digits": () => digits(19).replace(/^9/, "8"),
 };
 
-console.log("| Texts | parse, u32 | parse, i64 | Number | parseInt | BigInt | parseColumn, i64 | split, BigInt |");
-console.log("|---|---|---|---|---|---|---|---|");
+const ROW = ["u32", "i64", "Number", "parseInt", "BigInt", "column", "split, BigInt"];
+console.log(`| ns a text | ${ROW.join(" | ")} |\n|---|${"---|".repeat(ROW.length)}`);
 for (const [name, next] of Object.entries(SETS)) {
   const texts = Array.from({ length: TEXTS }, next);
   const sum = texts.reduce((all, text) => all + BigInt(text), 0n);

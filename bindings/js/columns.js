@@ -33,7 +33,7 @@ const TYPES = new Map(
   }),
 );
 
-/** Puts the next piece of a text into memory, and answers how many of its bytes are whole fields. */
+/** Puts the next piece of a text into memory; how many of its bytes are whole fields. */
 function putFields(bytes, start, separator) {
   const size = memory.putBytes(bytes.subarray(start, start + PIECE));
   if (start + size === bytes.length) return BigInt(size);

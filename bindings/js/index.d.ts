@@ -4,7 +4,7 @@
 /** The types of up to 32 bits. Their numbers are of type `number`. */
 export type SmallType = "u8" | "u16" | "u32" | "i8" | "i16" | "i32";
 
-/** The types of 64 and 128 bits. Their numbers are of type `bigint`; usize and isize have 64 bits. */
+/** The types of 64 and 128 bits. Their numbers are of type `bigint`; usize has 64 bits. */
 export type WideType = "u64" | "u128" | "usize" | "i64" | "i128" | "isize";
 
 /** Rust's twelve integer types. */

@@ -35,8 +35,8 @@ async function load() {
 export const calls = await load();
 export const { buffer } = calls.memory;
 
-// What a call is given and gives: its answer, a number, a count, a format, and from there on a text.
-// It takes their addresses, and writes an answer of two words to the first of them.
+// What a call is given and gives: its answer, a number, a count, a format, and from there on a
+// text. It takes their addresses, and writes an answer of two words to the first of them.
 const answerPlace = Math.ceil(Number(calls.__heap_base.value) / 16) * 16;
 const numberPlace = answerPlace + 16;
 const countPlace = numberPlace + 16;

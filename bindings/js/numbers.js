@@ -14,7 +14,7 @@ function stopOfCall() {
   return memory.place();
 }
 
-/** A call of the library over a text, for a type. It leaves the number, and answers where it stops. */
+/** A call of the library over a text, for a type: where it stops. It leaves the number. */
 function callOf(name) {
   const call = memory.calls[`jadvolni_parse_${name}`];
   const callUnderFormat = memory.calls[`jadvolni_parse_${name}_with_format`];
@@ -71,21 +71,21 @@ const TYPES = new Map(
 );
 
 export function parse(text, type, format) {
-  const of = ofTable(TYPES, "type", type);
-  of.parse(text, format);
-  return of.number();
+  const calls = ofTable(TYPES, "type", type);
+  calls.parse(text, format);
+  return calls.number();
 }
 
 export function parseFront(text, type, format) {
-  const of = ofTable(TYPES, "type", type);
-  const stop = of.parseFront(text, format);
-  return { value: of.number(), stop };
+  const calls = ofTable(TYPES, "type", type);
+  const stop = calls.parseFront(text, format);
+  return { value: calls.number(), stop };
 }
 
 export function parsePartial(text, type, format) {
-  const of = ofTable(TYPES, "type", type);
-  const stop = of.parsePartial(text, format);
-  return { value: of.number(), stop };
+  const calls = ofTable(TYPES, "type", type);
+  const stop = calls.parsePartial(text, format);
+  return { value: calls.number(), stop };
 }
 
 export function parseLiteral(text, format = STANDARD) {

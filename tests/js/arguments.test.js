@@ -1,17 +1,31 @@
-// Each argument wrong once, and what its message says.
+// Each argument wrong once, and what its message says; and an engine that lacks what is needed.
 
 import assert from "node:assert/strict";
 import { test } from "node:test";
-import { FIELDS, Format, FormatError, formats, JadvolniError, parse, parseColumn, parseFront, parseLiteral, parsePartial, ParseError } from "../../bindings/js/index.js";
+import {
+  FIELDS,
+  Format,
+  FormatError,
+  formats,
+  JadvolniError,
+  parse,
+  parseColumn,
+  ParseError,
+  parseFront,
+  parseLiteral,
+  parsePartial,
+} from "../../bindings/js/index.js";
 
-/** Whether a call throws a TypeError with this message. */
+const OF_ONE_NUMBER = [parse, parseFront, parsePartial];
+
+/** Asks that a call throws a TypeError with this message. */
 function refuses(call, message) {
   assert.throws(call, { name: "TypeError", message });
 }
 
 test("texts", () => {
   const wanted = "text has to be a string or a Uint8Array, and not ";
-  for (const call of [parse, parseFront, parsePartial, parseColumn]) refuses(() => call(12, "u8"), `${wanted}12`);
+  for (const call of [...OF_ONE_NUMBER, parseColumn]) refuses(() => call(12, "u8"), `${wanted}12`);
   refuses(() => parseLiteral(undefined), `${wanted}undefined`);
   refuses(() => parse([49], "u8"), `${wanted}Array`);
   refuses(() => parse(new Uint16Array(1), "u8"), `${wanted}Uint16Array`);
@@ -19,33 +33,42 @@ test("texts", () => {
 
 test("types", () => {
   for (const type of ["u7", "U8", "toString", undefined, null, {}]) {
-    assert.throws(() => parse("1", type), { name: "TypeError", message: /^type has to be one of u8, .*, isize, and not / });
+    for (const call of OF_ONE_NUMBER) {
+      refuses(() => call("1", type), /^type has to be one of u8, .*, isize, and not /);
+    }
   }
-  refuses(() => parseColumn("1", "u128"), 'type has to be one of u8, u16, u32, u64, i8, i16, i32, i64, and not "u128"');
+  const columns = "u8, u16, u32, u64, i8, i16, i32, i64";
+  refuses(() => parseColumn("1", "u128"), `type has to be one of ${columns}, and not "u128"`);
 });
 
 test("formats", () => {
-  const pretended = Object.create(Format.prototype);
-  for (const format of [null, {}, "RUST", pretended]) {
-    for (const call of [parse, parseFront, parsePartial]) {
-      assert.throws(() => call("1", "u8", format), { name: "TypeError", message: /^format has to be a Format, and not / });
-    }
+  const wanted = "format has to be a Format, and not ";
+  for (const call of OF_ONE_NUMBER) {
+    refuses(() => call("1", "u8", null), `${wanted}null`);
+    refuses(() => call("1", "u8", "RUST"), `${wanted}"RUST"`);
+    refuses(() => call("1", "u8", Object.create(Format.prototype)), `${wanted}Object`);
   }
-  refuses(() => parseLiteral("1", 10), "format has to be a Format, and not 10");
-  refuses(() => parseColumn("1", "u8", ",", 10), "format has to be a Format, and not 10");
+  refuses(() => parseLiteral("1", 10), `${wanted}10`);
+  refuses(() => parseColumn("1", "u8", ",", {}), `${wanted}Object`);
 });
 
 test("separators", () => {
   for (const separator of ["", ", ", "é", -1, 256, 1.5, null]) {
-    assert.throws(() => parseColumn("1", "u8", separator), { name: "TypeError", message: /^separator has to be one ASCII character or a byte / });
+    const wanted = /^separator has to be one ASCII character or a byte from 0 to 255, and not /;
+    refuses(() => parseColumn("1", "u8", separator), wanted);
   }
 });
 
 test("fields of formats", () => {
-  refuses(() => new Format({ radix: 16 }), 'a format has no field "radix"');
-  refuses(() => new Format({ mantissa_radix: "16" }), 'mantissa_radix has to be an integer, and not "16"');
-  refuses(() => new Format({ literal_prefixes: 1 }), "literal_prefixes has to be true or false, and not 1");
-  refuses(() => new Format({ base_prefix: "0x" }), 'base_prefix has to be one ASCII character or a byte from 0 to 255, and not "0x"');
+  const wrong = {
+    radix: [16, 'a format has no field "radix"'],
+    mantissa_radix: ["16", 'mantissa_radix has to be an integer, and not "16"'],
+    literal_prefixes: [1, "literal_prefixes has to be true or false, and not 1"],
+    base_prefix: ["0x", /^base_prefix has to be one ASCII character .*, and not "0x"$/],
+  };
+  for (const [name, [value, message]] of Object.entries(wrong)) {
+    refuses(() => new Format({ [name]: value }), message);
+  }
 });
 
 test("a format that breaks a rule isn't made", () => {
@@ -77,4 +100,10 @@ test("the byte 0 may be punctuation", () => {
 test("errors have one class above them", () => {
   for (const Kind of [ParseError, FormatError]) assert.ok(Kind.prototype instanceof JadvolniError);
   assert.ok(JadvolniError.prototype instanceof Error);
+});
+
+test("an engine without 64-bit memory is told which have it", async ({ mock }) => {
+  mock.method(WebAssembly, "validate", () => false);
+  const loaded = import("../../bindings/js/memory.js?without");
+  await assert.rejects(loaded, { name: "JadvolniError", message: /Chromium has it from 133 on/ });
 });

@@ -44,7 +44,8 @@ test("columns of each type", () => {
   assert.deepEqual(parseColumn("", "u8"), new Uint8Array());
   assert.deepEqual(parseColumn("2026-11-23", "u16", "-"), Uint16Array.of(2026, 11, 23));
   assert.deepEqual(parseColumn(Uint8Array.of(49, 255, 50), "u8", 255), Uint8Array.of(1, 2));
-  assert.deepEqual(parseColumn("ff,FF", "u8", ",", new Format({ mantissa_radix: 16 })), Uint8Array.of(255, 255));
+  const hexadecimal = new Format({ mantissa_radix: 16 });
+  assert.deepEqual(parseColumn("1f,FF", "u8", ",", hexadecimal), Uint8Array.of(31, 255));
 });
 
 test("a fault says in which field it is", () => {
