@@ -65,10 +65,10 @@ head_signed f t text h is minus = by_sign (sign f t text) refl is
     by_sign (Err e) here told = cc
     by_sign (Ok s) here told =
         let same : head_behind f text s (prefix_radix f text s.1) ≡ h = cc in
-        let negative : s.0 ≡ true = sym (by_prefix s (prefix_radix f text s.1)) ∙ ap (λ (g : Head). g.is_negative) same ∙ minus in
-        sign_minus f t text s.1 (here ∙ ap (λ (b : Bool). Ok (b, s.1)) negative)
+        let is_negative : s.0 ≡ true = sym (by_prefix s (prefix_radix f text s.1)) ∙ ap (λ (g : Head). g.is_negative) same ∙ minus in
+        sign_minus f t text s.1 (here ∙ ap (λ (b : Bool). Ok (b, s.1)) is_negative)
 
--- the same of the sign
+-- a type with a minus is signed
 pub signed_minus : (f : Format) (t : IntegerType) (text : List ℕ) (s : Bool × ℕ) → sign f t text ≡ Ok s → s.0 ≡ true → t.is_signed ≡ true
 signed_minus f t text s signed minus = sign_minus f t text s.1 (signed ∙ ap (λ (b : Bool). Ok (b, s.1)) minus)
 
@@ -308,10 +308,10 @@ groups_read f t text h value r valid head radix some rule grouped worth =
     whole_punctuated f t text h bytes value m (ap (stop_after f text) place ∙ no_suffix_past f text)
 
 -- digits alone
-pub digits_read : (f : Format) (t : IntegerType) (text : List ℕ) (h : Head) (value : ℤ) → IsNone (fault f) → head_of f t text ≡ Ok h → h.start < length text →
-    (chooses_radix h || keeps_zero_rule f (slice_range text h.start (length text))) ≡ true → StandsFor t h.radix h.is_negative (slice_range text h.start (length text)) value → complete f t text ≡ Ok value
-digits_read f t text h value valid head some rule stands =
+pub digits_read : (f : Format) (t : IntegerType) (text : List ℕ) (h : Head) (value : ℤ) (r : ℕ) → IsNone (fault f) → head_of f t text ≡ Ok h → h.radix ≡ r → h.start < length text →
+    (chooses_radix h || keeps_zero_rule f (slice_range text h.start (length text))) ≡ true → StandsFor t r h.is_negative (slice_range text h.start (length text)) value → complete f t text ≡ Ok value
+digits_read f t text h value r valid head radix some rule stands =
     let bytes : List ℕ = slice_range text h.start (length text) in
     let size : h.start + (length text - h.start) ≡ length text = omega arith in
     let count : length bytes ≡ length text - h.start = subst (λ (k : ℕ). length (slice_range text h.start k) ≡ length text - h.start) size (length-ahead text h.start (length text - h.start) (omega arith)) in
-    groups_read f t text h value h.radix valid head refl some rule (row_grouped f h.radix bytes (omega arith) (digits_alone t h.radix h.is_negative bytes value stands)) (digits_worth t h.radix h.is_negative bytes value stands)
+    groups_read f t text h value r valid head radix some rule (row_grouped f r bytes (omega arith) (digits_alone t r h.is_negative bytes value stands)) (digits_worth t r h.is_negative bytes value stands)
