@@ -199,6 +199,13 @@ def in_help(fields: list[Field]) -> str:
                    for field in fields)
 
 
+def in_types(fields: list[Field]) -> str:
+    """The fields of JavaScript's Format, with their types."""
+    kinds = {"radix": "number", "punctuation": "Byte | null", "flag": "boolean"}
+    return "".join(wrapped(f"{it.about} */", "  /** ", "   * ")
+                   + f"\n  {it.name}: {kinds[it.kind]};\n" for it in fields)
+
+
 BYTES = alike("    pub {it.name}: u8,\n")
 SAME_NAMES = alike("      {it.name} = a.{it.name};\n")
 HEADER, OF_SYS = "include/jadvolni.h", "bindings/rust/jadvolni-sys/src/lib.rs"
@@ -252,6 +259,7 @@ REGIONS = [
     Region(OF_PYTHON, "one that breaks a rule isn't made.\n\n", "\n    FormatError tells", in_help),
     Region(OF_PYTHON, "    # The fields, in the order of their bytes.\n", "\n    def __post_init__",
            in_dataclass("Punctuation")),
+    Region("bindings/js/index.d.ts", "export interface Fields {\n", "}\n", in_types),
     Region("tools/reference.py", "those of the standard one.\"\"\"\n\n", "\n\nSTANDARD = ",
            in_dataclass("Optional[int]")),
     Region("docs/GRAMMAR.md", "| Field | Setter of `NumberFormatBuilder` |\n|---|---|\n",
