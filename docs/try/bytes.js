@@ -9,14 +9,15 @@ const utf8 = new TextEncoder();
  * `\x7f`. Any other backslash stands for itself.
  */
 export function bytesOf(typed) {
-  const bytes = [];
+  const pieces = [];
   let read = 0;
   for (const found of typed.matchAll(ESCAPED)) {
-    bytes.push(...utf8.encode(typed.slice(read, found.index)));
-    bytes.push(found[1] === undefined ? ESCAPES[found[2]] : parseInt(found[1], 16));
+    const byte = found[1] === undefined ? ESCAPES[found[2]] : parseInt(found[1], 16);
+    pieces.push(utf8.encode(typed.slice(read, found.index)), [byte]);
     read = found.index + found[0].length;
   }
-  return Uint8Array.from([...bytes, ...utf8.encode(typed.slice(read))]);
+  pieces.push(utf8.encode(typed.slice(read)));
+  return Uint8Array.from(pieces.flatMap((piece) => [...piece]));
 }
 
 /** Whether a byte is a character of ASCII that can be seen, or a space. */

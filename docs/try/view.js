@@ -34,8 +34,7 @@ function showText({ bytes, parts, answer }) {
   const fault = answer.place;
   const first = Math.max(0, Math.min((fault ?? 0) - SHOWN / 2, bytes.length - SHOWN));
   const last = Math.min(bytes.length, first + SHOWN);
-  const roles = [];
-  for (const { role, from, to } of parts) roles.fill(role, roles.push(...Array(to - from)) - (to - from), to);
+  const roles = parts.flatMap(({ role, from, to }) => Array(to - from).fill(role));
   const cells = [];
   for (let place = first; place < last; place += 1) {
     cells.push(cellOf(bytes[place], roles[place] ?? "rest", place === fault));
