@@ -32,6 +32,7 @@ export class Browser {
   #session;
   #sent = 0;
   #waiting = new Map();
+  #loaded = () => {};
   #rest = "";
 
   /** What the page said wrong: errors of its console, exceptions, failed loads. */
@@ -74,6 +75,7 @@ export class Browser {
     this.#waiting.delete(id);
     if (error) waiting?.reject(new Error(error.message));
     else waiting?.resolve(result);
+    if (method === "Page.loadEventFired") this.#loaded();
     if (method === "Network.requestWillBeSent") this.requests.push(params.request.url);
     if (method === "Network.loadingFailed") this.errors.push(params.errorText);
     if (method === "Runtime.exceptionThrown") this.errors.push(params.exceptionDetails.exception?.description);
@@ -90,9 +92,18 @@ export class Browser {
     return result.value;
   }
 
-  /** Opens a page, and waits until `ready` is true there. */
+  async #load(url) {
+    const loaded = new Promise((resolve) => {
+      this.#loaded = resolve;
+    });
+    await this.send("Page.navigate", { url });
+    await loaded;
+  }
+
+  /** Opens a page from nothing, and waits until an expression is true there. */
   async open(address, ready) {
-    await this.send("Page.navigate", { url: address });
+    await this.#load("about:blank");
+    await this.#load(address);
     await this.value(`new Promise((resolve, reject) => {
       const late = setTimeout(() => reject(new Error("the page isn't ready")), 30000);
       const look = () => (${ready} ? resolve(clearTimeout(late)) : setTimeout(look, 20));
