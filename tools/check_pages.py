@@ -42,12 +42,13 @@ MADE = ("out/*", "*/out/*", "build/*", "dist/*", "venv/*", "libjadvolni.*", "lib
 # The folders of the code that pages speak of, and what begins a comment in its files.
 CODE_FOLDERS = ("bench/", "bindings/", "crates/", "examples/", "include/", "tests/")
 CODE_COMMENTS = {".rt": "//", ".antt": "--", ".rs": "//", ".h": "//", ".hpp": "//", ".c": "//",
-                 ".cpp": "//", ".py": "#", ".pyi": "#"}
+                 ".cpp": "//", ".js": "//", ".ts": "//", ".py": "#", ".pyi": "#"}
 LACKING = ("char_to_digit_const",)
 # The files with the version, in quotes, at every place where it is written.
 VERSIONED = (
     "include/jadvolni.h", "bindings/rust/Cargo.toml", "bindings/rust/Cargo.lock",
     "bindings/rust/jadvolni/Cargo.toml", "bindings/python/pyproject.toml",
+    "bindings/js/package.json",
 )
 
 FENCE = re.compile(r"(?ms)^(```+)[^\n]*\n.*?^\1[ \t]*$")

@@ -3,7 +3,7 @@
 
     tools/documents.py           writes docs/CONTRACTS.md, docs/FORMATS.md, the named code blocks
                                  of other documents, the lists of fields and statuses, and the
-                                 formats of languages in C, C++, Rust and Python
+                                 formats of languages in each language that has calls
     tools/documents.py --check   writes nothing, and ends with status 1 where one of them isn't as
                                  it would write it, or where check_pages.py finds something wrong
     tools/documents.py --words   prints how many words of each page were written by hand

@@ -1,4 +1,4 @@
-"""The lists of a format's fields and of statuses in C, Rattle, Rust and Python, from two lists.
+"""The lists of a format's fields and of statuses in each language that has calls, from two lists.
 
 Fields are those of tools/fields.txt, and what statuses mean is that of bindings/errors.txt.
 """
@@ -159,6 +159,13 @@ def in_dataclass(fields: list[Field]) -> str:
                    for name, kind, unset in rows)
 
 
+def in_types(fields: list[Field]) -> str:
+    """The fields of JavaScript's Format, with their types."""
+    kinds = {"radix": "number", "punctuation": "Byte | null", "flag": "boolean"}
+    return "".join(wrapped(f"{it.about} */", "  /** ", "   * ")
+                   + f"\n  {it.name}: {kinds[it.kind]};\n" for it in fields)
+
+
 def in_grammar(fields: list[Field]) -> str:
     """The words of the test vectors, and the setters that they stand for."""
     values = {"radix": "=N", "punctuation": "=B", "flag": ""}
@@ -185,6 +192,7 @@ REGIONS = [
            in_help),
     Region(FORMAT_OF_PYTHON, "    # The fields, in the order of their bytes.\n",
            "\n    def __post_init__", in_dataclass),
+    Region("bindings/js/index.d.ts", "export interface Fields {\n", "}\n", in_types),
     Region("docs/GRAMMAR.md", "| Field | Setter of `NumberFormatBuilder` |\n|---|---|\n",
            "\n`required_digits` sets both", in_grammar),
 ]

@@ -1,12 +1,13 @@
 #!/bin/sh
 # The gate, `make test`: the toolchain's own gate from nothing, and then what no prover does.
 #
-# Each part is a command. What it says goes to build/PART.log, and its last line is shown. All parts
-# run, also behind one that fails; the last line counts them.
+# Each part is a command. What it says goes to build/PART.log, and its last line is shown: where that
+# begins with `skipped:`, this machine lacks what the part needs. All parts run, also behind one that
+# fails; the last line counts them.
 set -u
 cd "$(dirname "$0")/.." || exit 1
 export RT="${RT:-rt}" PYTHONUNBUFFERED=1
-begin=$(date +%s) passed=0 failed=0
+begin=$(date +%s) passed=0 failed=0 skipped=0
 copy=$(mktemp -d)
 trap 'rm -rf "$copy"' EXIT
 mkdir -p build
@@ -17,7 +18,10 @@ part() { # NAME COMMAND..
     name=$1 log=build/$1.log start=$(date +%s)
     shift
     if "$@" > "$log" 2>&1; then
-        passed=$((passed + 1)) ended=passed
+        case $(tail -n 1 "$log") in
+            skipped:*) skipped=$((skipped + 1)) ended=skipped ;;
+            *) passed=$((passed + 1)) ended=passed ;;
+        esac
     else
         failed=$((failed + 1)) ended=FAILED
         tail -n 40 "$log"
@@ -62,6 +66,7 @@ in_copy() { # NAME COMMAND..
 git ls-files -z | xargs -0 cp --parents -t "$copy"
 {
     in_copy libraries make -s build/libjadvolni.a
+    in_copy javascript make -s test-js
     in_copy programs python3 tools/must_not_compile.py
     in_copy callers make -s test-c
 } &
@@ -97,7 +102,8 @@ part answers python3 tools/run_rows.py
 part shells tests/shell_snippet.sh crates/lexint/out/lexint
 part jad tests/jad.sh crates/jad/out/jad
 part libraries told libraries
+part javascript told javascript
 part programs told programs
 part callers told callers
-echo "$passed parts passed, $failed failed"
+echo "$passed parts passed, $failed failed, $skipped skipped"
 test "$failed" = 0

@@ -1,4 +1,4 @@
-# The library for C, C++ and Rust: built, installed and tested. The Makefile includes this file.
+# The library for callers in other languages: built, installed and tested. The Makefile includes this file.
 
 CC ?= cc
 INCLUDEDIR ?= $(PREFIX)/include
@@ -12,9 +12,10 @@ SOVERSION := $(firstword $(subst ., ,$(VERSION)))
 LIBRARIES := build/libjadvolni.a build/libjadvolni.so
 # The shared library, where there is a compiler that links it.
 SHARED := $(if $(shell command -v $(CC) 2>/dev/null),build/libjadvolni.so)
-LIBRARY_SOURCES := $(shell find crates/jadvolni crates/lexical_fields crates/lexical_literals crates/lexical_parse_integer crates/lexical_digits crates/lexical_util -name out -prune -o -type f \( -name '*.rt' -o -name '*.antt' \) -print) crates.txt
+LIBRARY_CRATES := jadvolni lexical_fields lexical_literals lexical_parse_integer lexical_digits lexical_util
+LIBRARY_SOURCES := $(shell find $(LIBRARY_CRATES:%=crates/%) -name out -prune -o -type f \( -name '*.rt' -o -name '*.antt' \) -print) crates.txt
 
-.PHONY: lib symbols install-lib uninstall-lib test-c check-c
+.PHONY: lib symbols wasm install-lib uninstall-lib test-c check-c test-js
 
 lib: build/libjadvolni.a $(SHARED) ## proves and builds the library for C, as build/libjadvolni.a and build/libjadvolni.so
 	$(if $(SHARED),,@echo "there is no $(CC): build/libjadvolni.so, the shared library, is left out")
@@ -46,6 +47,19 @@ build/libjadvolni.so: build/libjadvolni.a build/symbols.map
 	@$(CC) $(CFLAGS) $(LDFLAGS) -shared -nostdlib -o $@ -Wl,-soname,libjadvolni.so.$(SOVERSION) \
 	    -Wl,-z,x86-64-v2,-z,defs,-z,relro,-z,now,-z,noexecstack,--version-script,build/symbols.map \
 	    -Wl,--whole-archive $< -Wl,--no-whole-archive
+
+wasm: build/jadvolni.wasm ## proves and builds the library for JavaScript, as build/jadvolni.wasm
+
+# A crate is built for one machine: here it is the copy of a crate. Its memory can't grow.
+build/jadvolni.wasm: $(LIBRARY_SOURCES)
+	@mkdir -p build/wasm
+	@find build/wasm -name out -prune -o -type f -exec rm {} +
+	@cp --parents -t build/wasm tools/build.sh $(LIBRARY_SOURCES)
+	@for crate in $(LIBRARY_CRATES); do grep "^$$crate[ :]" crates.txt; done | \
+	    sed 's/^jadvolni staticlib:/jadvolni wasm64 memory=4194304:/' > build/wasm/crates.txt
+	@RT=$(RT) build/wasm/tools/build.sh jadvolni
+	@cp build/wasm/crates/jadvolni/out/jadvolni.wasm $@
+	@cp $@ bindings/js
 
 # Each call has a page, which shows jadvolni(3): so `man jadvolni_parse_u64` finds what it looks for.
 # What isn't exported stands in the header alone.
@@ -83,6 +97,13 @@ uninstall-lib: ## takes the library away
 # Without a compiler of C there is no shared library; check_c.py says what it skips then.
 test-c: build/libjadvolni.a $(SHARED) ## runs the callers in C, C++, Rust and Python; a part of the gate
 	@python3 tools/check_c.py
+
+# Node has 64-bit memories without a flag from 24 on.
+NODE := $(shell command -v node 2>/dev/null)
+NODE_FLAGS = $(shell node -p 'parseInt(process.versions.node) < 24 ? "--experimental-wasm-memory64" : ""')
+
+test-js: $(if $(NODE),build/jadvolni.wasm) ## runs the calls of JavaScript; a part of the gate
+	@$(if $(NODE),node $(NODE_FLAGS) --test tests/js,echo "skipped: there is no node")
 
 # What the random run asks for: the seed that a run before has printed, and how many parses and formats.
 PARSES ?= 1000000

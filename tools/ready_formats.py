@@ -1,11 +1,13 @@
-"""The formats of languages in C, C++, Rust and Python, written from tools/languages.txt."""
+"""The formats of languages in C, C++, Rust, Python and JavaScript, from tools/languages.txt."""
 from __future__ import annotations
 
+import json
 import os
 import textwrap
+from typing import Sequence
 
 import field_lists
-from field_lists import STANDARD, Field, Region, fields_of, fill
+from field_lists import STANDARD, Field, Region, fields_of, fill, statuses_of
 from formats_page import setter
 from row_data import BYTES, Group, groups_of
 
@@ -15,6 +17,7 @@ END_C = "\n/* JADVOLNI_UNKNOWN_FIELD where"
 BEGIN_CPP, END_CPP = "namespace formats {\n", "} // namespace formats\n"
 RUST = "bindings/rust/jadvolni/src/languages.rs"
 PYTHON = "bindings/python/src/jadvolni/formats.py"
+JAVASCRIPT, TYPES = "bindings/js/lists.js", "bindings/js/index.d.ts"
 
 
 def in_c(groups: list[Group], fields: list[Field]) -> str:
@@ -57,13 +60,37 @@ def in_python(groups: list[Group]) -> str:
     return "\n".join(lines) + "\n"
 
 
+def in_javascript(groups: list[Group], fields: list[Field], statuses: list[Field]) -> str:
+    """The lists of JavaScript: fields, statuses by their numbers, and the fields of formats."""
+    def given(group: Group) -> dict[str, object]:
+        return {name: chr(value) if name in BYTES.values() else value
+                for name, value in group.fields or ()}
+
+    def rows(listed: Sequence[object]) -> str:
+        return "".join(f"  {json.dumps(row)},\n" for row in listed)
+
+    lists: dict[str, Sequence[object]] = {
+        "FIELDS": [{"name": it.name, "kind": it.kind, "meaning": it.about} for it in fields],
+        "STATUSES": [[it.name, it.about] for it in statuses],
+        "LANGUAGES": [[it.name.upper(), given(it)] for it in groups],
+    }
+    head = "// Fields, statuses by their numbers, and formats of languages, by make docs.\n"
+    return head + "".join(f"\nexport const {name} = [\n{rows(listed)}];\n"
+                          for name, listed in lists.items())
+
+
 def files(top: str, found: dict[str, str]) -> dict[str, str]:
     """The files that list formats, fields or statuses; `found` has what else changes them."""
     groups, fields = groups_of(os.path.join(top, LANGUAGES)), fields_of(top)
     found = field_lists.files(top, found)
     constants = "".join(f"inline constexpr format {it.name} = JADVOLNI_FORMAT_{it.name.upper()};\n"
                         for it in groups)
+    types = "".join(f"  /** {it.shows}. */\n  readonly {it.name.upper()}: Format;\n"
+                    for it in groups)
     fill(top, found, [Region("include/jadvolni.h", BEGIN_C, END_C, lambda it: in_c(groups, it)),
-                      Region("include/jadvolni.hpp", BEGIN_CPP, END_CPP, lambda _: constants)],
+                      Region("include/jadvolni.hpp", BEGIN_CPP, END_CPP, lambda _: constants),
+                      Region(TYPES, "export const formats: {\n", "};\n", lambda _: types)],
          fields)
-    return {**found, RUST: in_rust(groups), PYTHON: in_python(groups)}
+    known = statuses_of(top)[:-2]  # (those that a format without reserved bytes can have)
+    return {**found, RUST: in_rust(groups), PYTHON: in_python(groups),
+            JAVASCRIPT: in_javascript(groups, fields, known)}

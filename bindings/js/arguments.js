@@ -1,0 +1,31 @@
+// What is asked of arguments, and said of wrong ones.
+
+/** What a wrong argument is, in a message. */
+export function told(value) {
+  if (typeof value === "string") return JSON.stringify(value);
+  if (value === null || !["object", "function", "symbol"].includes(typeof value)) {
+    return String(value);
+  }
+  return Object.prototype.toString.call(value).slice(8, -1);
+}
+
+/** The byte that a separator, prefix or suffix is. */
+export function byteOf(name, value) {
+  if (Number.isInteger(value) && value >= 0 && value <= 255) return value;
+  if (typeof value === "string" && value.length === 1 && value <= "\x7f") {
+    return value.charCodeAt(0);
+  }
+  throw new TypeError(
+    `${name} has to be one ASCII character or a byte from 0 to 255, and not ${told(value)}`,
+  );
+}
+
+/** What a table has under a name. */
+export function ofTable(table, name, value) {
+  const found = typeof value === "string" ? table.get(value) : undefined;
+  if (found === undefined) {
+    const names = [...table.keys()].join(", ");
+    throw new TypeError(`${name} has to be one of ${names}, and not ${told(value)}`);
+  }
+  return found;
+}

@@ -1,0 +1,8 @@
+// Integers from bytes, under formats, with the byte at which a text is wrong; index.d.ts says what
+// each call answers.
+
+export { LONGEST_FIELD, parseColumn } from "./columns.js";
+export { FormatError, JadvolniError, ParseError } from "./errors.js";
+export { FIELDS, Format, formats } from "./format.js";
+export { LONGEST } from "./memory.js";
+export { parse, parseFront, parseLiteral, parsePartial } from "./numbers.js";

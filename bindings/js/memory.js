@@ -1,0 +1,109 @@
+// The proved library as a WebAssembly module, and its memory: where a call finds its arguments, and
+// leaves its answer. What is behind `__heap_base` the library never uses, so it is taken for these.
+
+import { told } from "./arguments.js";
+import { JadvolniError } from "./errors.js";
+
+// A module that has a memory with addresses of 64 bits, and nothing else.
+const MODULE_OF_64_BITS = Uint8Array.of(0, 0x61, 0x73, 0x6d, 1, 0, 0, 0, 5, 3, 1, 4, 1);
+
+async function moduleBytes() {
+  const url = new URL("./jadvolni.wasm", import.meta.url);
+  if (url.protocol === "file:") {
+    const { readFile } = await import("node:fs/promises");
+    return readFile(url);
+  }
+  const response = await fetch(url);
+  if (!response.ok) throw new JadvolniError(`${url} can't be had: status ${response.status}`);
+  return response.arrayBuffer();
+}
+
+async function load() {
+  if (new Uint16Array(Uint8Array.of(1, 0).buffer)[0] !== 1) {
+    throw new JadvolniError("this machine keeps the high byte of a number first");
+  }
+  if (!WebAssembly.validate(MODULE_OF_64_BITS)) {
+    throw new JadvolniError(
+      "this engine has no 64-bit WebAssembly memory: Chromium has it from 133 on, Firefox from" +
+        " 134, Node from 24, and Node from 20 with --experimental-wasm-memory64",
+    );
+  }
+  const { instance } = await WebAssembly.instantiate(await moduleBytes(), {});
+  return instance.exports;
+}
+
+export const calls = await load();
+export const { buffer } = calls.memory;
+
+// What a call is given and gives: its answer, a number, a count, a format, and from there on a
+// text. It takes their addresses, and writes an answer of two words to the first of them.
+const answerPlace = Math.ceil(Number(calls.__heap_base.value) / 16) * 16;
+const numberPlace = answerPlace + 16;
+const countPlace = numberPlace + 16;
+const formatPlace = countPlace + 16;
+export const textPlace = formatPlace + 32;
+export const ANSWER = BigInt(answerPlace);
+export const NUMBER = BigInt(numberPlace);
+export const COUNT = BigInt(countPlace);
+export const FORMAT = BigInt(formatPlace);
+export const TEXT = BigInt(textPlace);
+export const LONGEST = buffer.byteLength - textPlace;
+
+const answer = new Uint32Array(buffer, answerPlace, 4);
+const counted = new Uint32Array(buffer, countPlace, 1);
+const formatBytes = new Uint8Array(buffer, formatPlace, 32);
+const textBytes = new Uint8Array(buffer, textPlace);
+const encoder = new TextEncoder();
+const decoder = new TextDecoder();
+// Up to this length a loop is faster than the encoder.
+const SHORT = 64;
+
+// What the last call has answered. The memory is so small that 32 bits are enough for each.
+export const status = () => answer[0];
+export const place = () => answer[2];
+export const count = () => counted[0];
+
+/** Where calls leave a number, as an array of its type, or of its halves. */
+export function numberAs(NumberArray, length = 1) {
+  return new NumberArray(buffer, numberPlace, length);
+}
+
+/** The text that was put there, from a place to another. */
+export function textBetween(start, stop) {
+  return decoder.decode(textBytes.subarray(start, stop));
+}
+
+export function putFormat(bytes) {
+  formatBytes.set(bytes);
+}
+
+/** Copies a string; false where it isn't ASCII. */
+function putAscii(text) {
+  for (let at = 0; at < text.length; at++) {
+    const code = text.charCodeAt(at);
+    if (code > 127) return false;
+    textBytes[at] = code;
+  }
+  return true;
+}
+
+/** The bytes of a text. */
+export function bytesOf(text) {
+  if (typeof text === "string") return encoder.encode(text);
+  if (text instanceof Uint8Array) return text;
+  throw new TypeError(`text has to be a string or a Uint8Array, and not ${told(text)}`);
+}
+
+/** Copies bytes, and answers how many they are. */
+export function putBytes(bytes) {
+  const { length } = bytes;
+  if (length > LONGEST) throw new RangeError(`text has more than ${LONGEST} bytes`);
+  textBytes.set(bytes);
+  return length;
+}
+
+/** Copies a text, and answers how many bytes it has. */
+export function putText(text) {
+  const isShort = typeof text === "string" && text.length <= SHORT;
+  return isShort && putAscii(text) ? text.length : putBytes(bytesOf(text));
+}

@@ -1,0 +1,97 @@
+// One number, of any of the twelve types.
+
+import { ofTable } from "./arguments.js";
+import { ParseError } from "./errors.js";
+import { STANDARD, useFormat } from "./format.js";
+import * as memory from "./memory.js";
+
+const { ANSWER, COUNT, FORMAT, NUMBER, TEXT } = memory;
+
+/** The place at which a call has stopped, or the fault that it has found. */
+function stopOfCall() {
+  const status = memory.status();
+  if (status !== 0) throw new ParseError(status, memory.place());
+  return memory.place();
+}
+
+/** A call of the library over a text, for a type: where it stops. It leaves the number. */
+function callOf(name) {
+  const call = memory.calls[`jadvolni_parse_${name}`];
+  const callUnderFormat = memory.calls[`jadvolni_parse_${name}_with_format`];
+  return (text, format) => {
+    const length = BigInt(memory.putText(text));
+    if (format === undefined) {
+      call(ANSWER, TEXT, length, NUMBER);
+    } else {
+      useFormat(format);
+      callUnderFormat(ANSWER, TEXT, length, FORMAT, NUMBER);
+    }
+    return stopOfCall();
+  };
+}
+
+/** Takes the number that a call has left. */
+function numberOf(NumberArray) {
+  const left = memory.numberAs(NumberArray);
+  return () => left[0];
+}
+
+/** Takes one of 128 bits, whose high half, with its sign, is of this array's type. */
+function numberOfHalves(HalfArray) {
+  const low = memory.numberAs(BigUint64Array);
+  const halves = memory.numberAs(HalfArray, 2);
+  return () => (halves[1] << 64n) | low[0];
+}
+
+const NUMBERS = {
+  u8: numberOf(Uint8Array),
+  u16: numberOf(Uint16Array),
+  u32: numberOf(Uint32Array),
+  u64: numberOf(BigUint64Array),
+  u128: numberOfHalves(BigUint64Array),
+  usize: numberOf(BigUint64Array),
+  i8: numberOf(Int8Array),
+  i16: numberOf(Int16Array),
+  i32: numberOf(Int32Array),
+  i64: numberOf(BigInt64Array),
+  i128: numberOfHalves(BigInt64Array),
+  isize: numberOf(BigInt64Array),
+};
+
+const TYPES = new Map(
+  Object.entries(NUMBERS).map(([name, number]) => [
+    name,
+    {
+      parse: callOf(name),
+      parseFront: callOf(`${name}_front`),
+      parsePartial: callOf(`${name}_partial`),
+      number,
+    },
+  ]),
+);
+
+export function parse(text, type, format) {
+  const calls = ofTable(TYPES, "type", type);
+  calls.parse(text, format);
+  return calls.number();
+}
+
+export function parseFront(text, type, format) {
+  const calls = ofTable(TYPES, "type", type);
+  const stop = calls.parseFront(text, format);
+  return { value: calls.number(), stop };
+}
+
+export function parsePartial(text, type, format) {
+  const calls = ofTable(TYPES, "type", type);
+  const stop = calls.parsePartial(text, format);
+  return { value: calls.number(), stop };
+}
+
+export function parseLiteral(text, format = STANDARD) {
+  const length = BigInt(memory.putText(text));
+  useFormat(format);
+  memory.calls.jadvolni_parse_literal(ANSWER, TEXT, length, FORMAT, NUMBER, COUNT);
+  const stop = stopOfCall();
+  return { value: NUMBERS.u128(), suffix: memory.textBetween(memory.count(), stop), stop };
+}

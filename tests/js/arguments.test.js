@@ -1,0 +1,109 @@
+// Each argument wrong once, and what its message says; and an engine that lacks what is needed.
+
+import assert from "node:assert/strict";
+import { test } from "node:test";
+import {
+  FIELDS,
+  Format,
+  FormatError,
+  formats,
+  JadvolniError,
+  parse,
+  parseColumn,
+  ParseError,
+  parseFront,
+  parseLiteral,
+  parsePartial,
+} from "../../bindings/js/index.js";
+
+const OF_ONE_NUMBER = [parse, parseFront, parsePartial];
+
+/** Asks that a call throws a TypeError with this message. */
+function refuses(call, message) {
+  assert.throws(call, { name: "TypeError", message });
+}
+
+test("texts", () => {
+  const wanted = "text has to be a string or a Uint8Array, and not ";
+  for (const call of [...OF_ONE_NUMBER, parseColumn]) refuses(() => call(12, "u8"), `${wanted}12`);
+  refuses(() => parseLiteral(undefined), `${wanted}undefined`);
+  refuses(() => parse([49], "u8"), `${wanted}Array`);
+  refuses(() => parse(new Uint16Array(1), "u8"), `${wanted}Uint16Array`);
+});
+
+test("types", () => {
+  for (const type of ["u7", "U8", "toString", undefined, null, {}]) {
+    for (const call of OF_ONE_NUMBER) {
+      refuses(() => call("1", type), /^type has to be one of u8, .*, isize, and not /);
+    }
+  }
+  const columns = "u8, u16, u32, u64, i8, i16, i32, i64";
+  refuses(() => parseColumn("1", "u128"), `type has to be one of ${columns}, and not "u128"`);
+});
+
+test("formats", () => {
+  const wanted = "format has to be a Format, and not ";
+  for (const call of OF_ONE_NUMBER) {
+    refuses(() => call("1", "u8", null), `${wanted}null`);
+    refuses(() => call("1", "u8", "RUST"), `${wanted}"RUST"`);
+    refuses(() => call("1", "u8", Object.create(Format.prototype)), `${wanted}Object`);
+  }
+  refuses(() => parseLiteral("1", 10), `${wanted}10`);
+  refuses(() => parseColumn("1", "u8", ",", {}), `${wanted}Object`);
+});
+
+test("separators", () => {
+  for (const separator of ["", ", ", "é", -1, 256, 1.5, null]) {
+    const wanted = /^separator has to be one ASCII character or a byte from 0 to 255, and not /;
+    refuses(() => parseColumn("1", "u8", separator), wanted);
+  }
+});
+
+test("fields of formats", () => {
+  const wrong = {
+    radix: [16, 'a format has no field "radix"'],
+    mantissa_radix: ["16", 'mantissa_radix has to be an integer, and not "16"'],
+    literal_prefixes: [1, "literal_prefixes has to be true or false, and not 1"],
+    base_prefix: ["0x", /^base_prefix has to be one ASCII character .*, and not "0x"$/],
+  };
+  for (const [name, [value, message]] of Object.entries(wrong)) {
+    refuses(() => new Format({ [name]: value }), message);
+  }
+});
+
+test("a format that breaks a rule isn't made", () => {
+  for (const mantissa_radix of [0, 1, 37, -1, 256 + 10, 2 ** 32 + 10, 1e300]) {
+    assert.throws(() => new Format({ mantissa_radix }), {
+      name: "FormatError",
+      message: "the radix has to be 2 to 36",
+      kind: "InvalidMantissaRadix",
+    });
+  }
+  assert.throws(() => new Format({ digit_separator: 0xff }), { kind: "InvalidDigitSeparator" });
+});
+
+test("a format can't be changed, and begins another", () => {
+  assert.throws(() => (formats.RUST.mantissa_radix = 16), TypeError);
+  assert.throws(() => (formats.RUST = formats.C), TypeError);
+  assert.throws(() => FIELDS.push(FIELDS[0]), TypeError);
+  assert.deepEqual(Object.keys(new Format()), FIELDS.map(({ name }) => name));
+  const suffixed = new Format({ ...formats.RUST, base_suffix: "u" });
+  assert.equal(parse("0x1Fu", "u8", suffixed), 31);
+});
+
+test("the byte 0 may be punctuation", () => {
+  const format = new Format({ digit_separator: "\0", integer_internal_digit_separator: true });
+  assert.equal(parse("1\0" + "2", "u8", format), 12);
+  assert.throws(() => parse("1\0" + "2", "u8"), ParseError);
+});
+
+test("errors have one class above them", () => {
+  for (const Kind of [ParseError, FormatError]) assert.ok(Kind.prototype instanceof JadvolniError);
+  assert.ok(JadvolniError.prototype instanceof Error);
+});
+
+test("an engine without 64-bit memory is told which have it", async ({ mock }) => {
+  mock.method(WebAssembly, "validate", () => false);
+  const loaded = import("../../bindings/js/memory.js?without");
+  await assert.rejects(loaded, { name: "JadvolniError", message: /Chromium has it from 133 on/ });
+});
