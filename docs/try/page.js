@@ -22,9 +22,13 @@ async function begin() {
     showControls(state);
     show(state);
   };
+  // Browsers count how often an address changes, so it waits until typing pauses.
+  let later;
+  const keep = () => history.replaceState(null, "", `#${fragmentOf(state)}`);
   makeControls(({ field, value, ...others }) => {
     state = field === undefined ? { ...state, ...others } : withField(state, field, value);
-    history.replaceState(null, "", `#${fragmentOf(state)}`);
+    clearTimeout(later);
+    later = setTimeout(keep, 200);
     at("copied").textContent = "";
     shown();
   });
@@ -34,6 +38,7 @@ async function begin() {
     return copy(link.href, at("copied"));
   });
   addEventListener("hashchange", () => {
+    clearTimeout(later);
     state = stateOf(location.hash, known);
     shown();
   });

@@ -46,11 +46,11 @@ function bytesOfPiece(quoted) {
 }
 
 function textOf(written) {
-  const bytes = [];
-  for (const [, quoted, times = 1] of written.matchAll(PIECE)) {
-    for (let time = 0; time < times; time += 1) bytes.push(...bytesOfPiece(quoted));
-  }
-  return Uint8Array.from(bytes);
+  const pieces = Array.from(written.matchAll(PIECE), ([, quoted, times = 1]) => {
+    const piece = Uint8Array.from(bytesOfPiece(quoted));
+    return Buffer.alloc(piece.length * times, piece);
+  });
+  return new Uint8Array(Buffer.concat(pieces));
 }
 
 /**

@@ -45,6 +45,7 @@ export class Browser {
     browser.#folder = await mkdtemp(join(tmpdir(), "page-"));
     browser.#process = spawn("chromium", [
       "--headless", "--no-sandbox", "--disable-gpu", "--no-first-run", "--remote-debugging-pipe",
+      "--disable-ipc-flooding-protection", // (without it only 200 changes of the address count in ten seconds)
       `--user-data-dir=${browser.#folder}`, "about:blank",
     ], { stdio: ["ignore", "ignore", "ignore", "pipe", "pipe"] });
     browser.#process.stdio[4].setEncoding("utf8").on("data", (data) => browser.#read(data));
