@@ -48,7 +48,8 @@ build/libjadvolni.so: build/libjadvolni.a build/symbols.map
 	    -Wl,-z,x86-64-v2,-z,defs,-z,relro,-z,now,-z,noexecstack,--version-script,build/symbols.map \
 	    -Wl,--whole-archive $< -Wl,--no-whole-archive
 
-wasm: build/jadvolni.wasm ## proves and builds the library for JavaScript, as build/jadvolni.wasm
+wasm: build/jadvolni.wasm ## proves and builds the library for JavaScript, and puts it into bindings/js
+	@cp $< bindings/js
 
 # A crate is built for one machine: here it is the copy of a crate. Its memory can't grow.
 build/jadvolni.wasm: $(LIBRARY_SOURCES)
@@ -56,10 +57,9 @@ build/jadvolni.wasm: $(LIBRARY_SOURCES)
 	@find build/wasm -name out -prune -o -type f -exec rm {} +
 	@cp --parents -t build/wasm tools/build.sh $(LIBRARY_SOURCES)
 	@for crate in $(LIBRARY_CRATES); do grep "^$$crate[ :]" crates.txt; done | \
-	    sed 's/^jadvolni staticlib:/jadvolni wasm64 memory=4194304:/' > build/wasm/crates.txt
+	    sed 's/^jadvolni staticlib:/jadvolni wasm64 memory=33554432:/' > build/wasm/crates.txt
 	@RT=$(RT) build/wasm/tools/build.sh jadvolni
 	@cp build/wasm/crates/jadvolni/out/jadvolni.wasm $@
-	@cp $@ bindings/js
 
 # Each call has a page, which shows jadvolni(3): so `man jadvolni_parse_u64` finds what it looks for.
 # What isn't exported stands in the header alone.
@@ -102,7 +102,7 @@ test-c: build/libjadvolni.a $(SHARED) ## runs the callers in C, C++, Rust and Py
 NODE := $(shell command -v node 2>/dev/null)
 NODE_FLAGS = $(shell node -p 'parseInt(process.versions.node) < 24 ? "--experimental-wasm-memory64" : ""')
 
-test-js: $(if $(NODE),build/jadvolni.wasm) ## runs the calls of JavaScript; a part of the gate
+test-js: $(if $(NODE),wasm) ## runs the calls of JavaScript; a part of the gate
 	@$(if $(NODE),node $(NODE_FLAGS) --test tests/js,echo "skipped: there is no node")
 
 # The page to try a format on, with what it takes, as it is served and released.

@@ -73,8 +73,13 @@ export function textBetween(start, stop) {
   return decoder.decode(textBytes.subarray(start, stop));
 }
 
+let putBefore;
+
+/** Copies the bytes of a format, which stay as they are: those of the call before are there. */
 export function putFormat(bytes) {
+  if (bytes === putBefore) return;
   formatBytes.set(bytes);
+  putBefore = bytes;
 }
 
 /** Copies a string; false where it isn't ASCII. */

@@ -73,19 +73,21 @@ test("hostile columns are read as their fields are", () => {
   }
 });
 
-test("a text larger than the memory is read in pieces", () => {
-  const count = Math.ceil((8 * LONGEST_FIELD) / 7);
-  const lines = Array.from({ length: count }, (_, index) => String((index * 7919) % 1_000_003));
-  const text = lines.join("\n");
-  assert.deepEqual(parseColumn(text, "u64"), BigUint64Array.from(lines, BigInt));
-  assert.deepEqual(parseColumn(`${text}\n`, "i32"), Int32Array.from(lines, Number));
-  const wanted = { kind: "InvalidDigit", place: text.length + 1, field: count };
-  assert.deepEqual(readColumn(`${text}\nx`, "i32"), wanted);
+test("a text larger than a piece of the memory is read whole", () => {
+  const numbers = Array.from({ length: 1000 }, (_, index) => (index * 7919) % 1_000_003);
+  const lines = `${numbers.join("\n")}\n`;
+  const times = Math.ceil((2 * LONGEST_FIELD) / lines.length);
+  const wanted = Int32Array.from({ length: 1000 * times }, (_, index) => numbers[index % 1000]);
+  const text = lines.repeat(times);
+  assert.deepEqual(parseColumn(text, "i32"), wanted);
+  assert.deepEqual(parseColumn(text.slice(0, -1), "u64"), BigUint64Array.from(wanted, BigInt));
+  const fault = { kind: "InvalidDigit", place: text.length, field: 1000 * times };
+  assert.deepEqual(readColumn(`${text}x\n1`, "i32"), fault);
 });
 
-test("fields of no bytes fill the memory more than once", () => {
+test("more numbers than the memory has room for are read", () => {
   const format = new Format({ required_mantissa_digits: false });
-  const count = LONGEST_FIELD * 3;
+  const count = LONGEST_FIELD;
   assert.deepEqual(parseColumn(",".repeat(count), "u64", ",", format), new BigUint64Array(count));
 });
 
