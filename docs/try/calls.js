@@ -33,10 +33,19 @@ function quoted(bytes) {
   return `b"${Array.from(bytes, (byte) => escaped(byte, '"')).join("")}"`;
 }
 
+/** A string of JavaScript. What can't be seen, or changes how the line is shown, is escaped. */
+function quotedText(text) {
+  const characters = Array.from(text, (character) => {
+    const code = character.codePointAt(0);
+    return isPrintable(code) ? escaped(code, '"') : `\\u{${code.toString(16)}}`;
+  });
+  return `"${characters.join("")}"`;
+}
+
 /** Bytes as a string of JavaScript where they are UTF-8, and else as an array. */
 function quotedInScript(bytes) {
   try {
-    return JSON.stringify(new TextDecoder("utf-8", { fatal: true, ignoreBOM: true }).decode(bytes));
+    return quotedText(new TextDecoder("utf-8", { fatal: true, ignoreBOM: true }).decode(bytes));
   } catch {
     return `Uint8Array.of(${Array.from(bytes).join(", ")})`;
   }
@@ -123,7 +132,7 @@ function inPython({ bytes, type, call, base, changes }) {
 
 const WORDS_OF_SCRIPT = {
   yes: "true", no: "false", none: "null",
-  byte: (byte) => (byte < 128 ? JSON.stringify(String.fromCharCode(byte)) : String(byte)),
+  byte: (byte) => (byte < 128 ? quotedText(String.fromCharCode(byte)) : String(byte)),
 };
 
 function inScript({ bytes, type, call, base, changes }) {
