@@ -8,15 +8,15 @@ use Rattle.lexical_fields.proofs.ColumnSteps.{start_of_left}
 use Rattle.lexical_fields.proofs.FieldSteps.{next_field}
 use Rattle.lexical_tables.specs.Rows.{line_feed}
 
--- the next line of what is left of a text, and those behind it
-pub next_line : (text rest line behind : List ℕ) → length rest ≤ length text → 0 < length rest
-    → line ≡ take (field_length line_feed rest) rest → behind ≡ drop (field_length line_feed rest + 1) rest
-    → length behind ≤ length rest → left_of line_feed text rest
-    ≡ record { start = length text - length rest; text = line } ∷ left_of line_feed text behind
-next_line text rest line behind within some front back shorter =
+-- the next field of what is left of a text, and those behind it
+pub next_left : (s : ℕ) (text rest field behind : List ℕ) → length rest ≤ length text → 0 < length rest
+    → field ≡ take (field_length s rest) rest → behind ≡ drop (field_length s rest + 1) rest
+    → length behind ≤ length rest → left_of s text rest
+    ≡ record { start = length text - length rest; text = field } ∷ left_of s text behind
+next_left s text rest field behind within some front back shorter =
     let at : length text - length rest + (length rest - length behind) ≡ length text - length behind = omega arith in
-    next_field line_feed (length text - length rest) rest line behind some front back
-    ∙ ap (λ k. record { start = length text - length rest; text = line } ∷ fields_from line_feed k behind) at
+    next_field s (length text - length rest) rest field behind some front back
+    ∙ ap (λ k. record { start = length text - length rest; text = field } ∷ fields_from s k behind) at
 
 -- a list of no element
 pub none_of : {X : Type 0} (l : List X) → length l ≡ 0 → l ≡ []
@@ -46,7 +46,7 @@ way_goes text count left rest behind way more some back shorter =
       within = omega (arith, way.within);
       place =
           ap (λ l. next_start (length text) (drop (suc (left - 1)) l))
-          (sym (next_line text rest _ behind way.within some refl back shorter))
+          (sym (next_left line_feed text rest _ behind way.within some refl back shorter))
           ∙ ap (λ n. next_start (length text) (drop n (left_of line_feed text rest))) (sym one) ∙ way.place;
     }
 

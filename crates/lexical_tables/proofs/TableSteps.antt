@@ -15,7 +15,7 @@ use Rattle.lexical_fields.specs.ReadSoFar.{left_of}
 use Rattle.lexical_fields.proofs.ColumnSteps.{start_of_left, tail_goes}
 use Rattle.lexical_tables.specs.Rows.{RowView, line_feed, row_of, rows}
 use Rattle.lexical_tables.specs.Tables.{GoesOn, answer_by, answer_of, first_fault, first_of, numbers_of, numbers_to_fault, room_in, row_fault, row_numbers, rows_in, table, unless}
-use Rattle.lexical_tables.proofs.LineSteps.{next_line, none_of}
+use Rattle.lexical_tables.proofs.LineSteps.{next_left, none_of}
 use Rattle.lexical_tables.proofs.RowWrites.{numbers_put, rest_kept, size_kept}
 use Rattle.lexical_tables.specs.declared.answers.Table.{Table}
 use Rattle.lexical_tables.specs.declared.answers.TableError.{TableError}
@@ -213,7 +213,7 @@ module _ (T : Type 0) (number : T → ℤ) (f : Format) (t : IntegerType) (d : D
     next_rows =
         let one : room_in (length old) d - count ≡ suc (room_in (length old) d - (count + 1)) = omega arith in
         ap₂ (λ n l. take n (map (row_of d.has_returns (length text)) l)) one
-        (next_line text rest line behind reading.within some front back (omega arith))
+        (next_left line_feed text rest line behind reading.within some front back (omega arith))
         ∙ ap (λ r. r ∷ rows_to_read d (length old) text (count + 1) behind) (sym is)
 
     -- one row more
@@ -248,7 +248,7 @@ module _ (T : Type 0) (number : T → ℤ) (f : Format) (t : IntegerType) (d : D
           tail = tail_goes text rest behind (field_length line_feed rest) reading.within reading.tail back;
           place =
               sym (drop-drop 1 count (fields line_feed text))
-              ∙ ap (drop 1) (reading.place ∙ next_line text rest line behind reading.within some front back (omega arith));
+              ∙ ap (drop 1) (reading.place ∙ next_left line_feed text rest line behind reading.within some front back (omega arith));
           counted = omega (arith, ap length next_rows, reading.counted);
           numbers =
               ap (λ n. map number (take n new) ++ later) (sym at)

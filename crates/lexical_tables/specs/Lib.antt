@@ -1,4 +1,6 @@
 -- The definitions that contracts name, a file for each subject.
+pub mod ByColumn
 pub mod Parts
 pub mod Rows
 pub mod Tables
+pub mod Targets

@@ -32,7 +32,8 @@ numbers_in format type dialect text =
 
 -- the first fault in a text
 abbrev pub fault_in : Format → IntegerType → Dialect → List ℕ → Option TableError
-fault_in format type dialect text = first_fault format type dialect 0 (rows dialect.has_returns text)
+fault_in format type dialect text =
+    first_fault format type dialect 0 (rows dialect.has_returns text)
 
 -- Wherever a text is cut, what is read of the whole rows in front of the cut, and then of all that is left, is what is
 -- read of the text: the rows and bytes in front are counted on.

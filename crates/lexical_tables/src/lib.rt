@@ -7,13 +7,17 @@
 #![tactic(auto)]
 
 mod answers;
+mod by_column;
 mod dialect;
 mod parts;
 mod read;
 mod rows;
+mod targets;
 
 pub use answers::{CellFault, Table, TableError};
+pub use by_column::read_columns;
 pub use dialect::Dialect;
 pub use parts::{read_table_part, reads_in_parts};
 pub use read::read_table;
 pub use rows::after_lines;
+pub use targets::{Numbers, Target};

@@ -14,7 +14,12 @@ use lexical_parse_integer::parse::ParseInteger;
 use lexical_parse_integer::{NumberFormat, Options};
 
 // What is wrong with the number of a row's cells or with its end, if its numbers were read so far.
-fn end_fault(row: &Row<'_>, index: usize, dialect: &Dialect, cells: Column) -> Option<TableError>
+pub(crate) fn end_fault(
+    row: &Row<'_>,
+    index: usize,
+    dialect: &Dialect,
+    cells: Column,
+) -> Option<TableError>
     requires fits { row.now.start + length row.now.text.now < 2 ^ 64 }
     requires within { cells.stop ≤ length row.now.text.now }
     ensures { result ≡ fault_by dialect.now index (view_of_row row.now) (Ok cells) }

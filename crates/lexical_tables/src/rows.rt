@@ -23,6 +23,24 @@ pub(crate) fn ends_in(text: &[u8], byte: u8) -> bool
     !text.is_empty() && text[text.len() - 1] == byte
 }
 
+// The bytes up to a separator, or all where there is none, and what is behind it.
+#[inline(always)]
+pub(crate) fn split(text: &[u8], separator: u8) -> (&[u8], &[u8])
+    requires some { 0 < length text.now }
+    ensures front { result.0.now ≡ take (field_length separator text.now) text.now }
+    ensures behind { result.1.now ≡ drop (field_length separator text.now + 1) text.now }
+    ensures within { length result.0.now ≤ length text.now }
+    ensures size { length result.0.now ≡ field_length separator text.now }
+    ensures shorter { length result.1.now < length text.now }
+{
+    let (front, end) = text.split_at(field_length(text, separator));
+    if end.is_empty() {
+        (front, end)
+    } else {
+        (front, &end[1..])
+    }
+}
+
 // The first row of a text that starts at a place, and what is behind it.
 #[inline(always)]
 pub(crate) fn first_row(start: usize, text: &[u8], has_returns: bool) -> (Row<'_>, &[u8])
@@ -35,16 +53,15 @@ pub(crate) fn first_row(start: usize, text: &[u8], has_returns: bool) -> (Row<'_
     ensures within { length result.0.text.now ≤ length text.now }
     ensures shorter { length result.1.now < length text.now }
 {
-    let (line, end) = text.split_at(field_length(text, b'\n'));
-    if end.is_empty() {
+    let (line, behind) = split(text, b'\n');
+    if line.len() == text.len() {
         let row = Row {
             start,
             text: line,
             lacks_return: false,
         };
-        return (row, end);
+        return (row, behind);
     }
-    let behind = &end[1..];
     if has_returns && ends_in(line, b'\r') {
         let row = Row {
             start,

@@ -1,0 +1,193 @@
+-- A table whose columns go into targets, one row after another.
+use Rattle.std.proofs.Common.{◌≡◌, ◌∙◌, ℕ, suc, ◌+◌, ◌-◌, ◌<◌, ◌≤◌, List, [], ◌∷◌, length, take, drop, map, cond, ℤ, Result, Option, Some, None, Ok, Err, refl, ap, ap₂, sym, subst, arith, inl, inr, ◌⊎◌}
+use Rattle.std.specs.Prelude.{IfOk, is_none}
+use Rattle.std.proofs.lemmas.List.{drop_all, drop-drop, take_all}
+use Rattle.lexical_fields.specs.Columns.{next_start}
+use Rattle.lexical_fields.specs.Fields.{FieldView, field_length, fields, fields_from}
+use Rattle.lexical_fields.specs.ReadSoFar.{left_of}
+use Rattle.lexical_fields.proofs.ColumnSteps.{start_of_left, tail_goes}
+use Rattle.lexical_tables.specs.ByColumn.{AreUsable, Kind, StopsAt, columns_answer, columns_put, first_fault, kinds_of, put_row, put_rows, row_fault, row_values, values_to_fault}
+use Rattle.lexical_tables.specs.Rows.{RowView, line_feed, row_of, rows}
+use Rattle.lexical_tables.specs.Tables.{first_of, unless}
+use Rattle.lexical_tables.specs.Targets.{TargetView}
+use Rattle.lexical_tables.specs.declared.answers.Table.{Table}
+use Rattle.lexical_tables.specs.declared.answers.TableError.{TableError}
+use Rattle.lexical_tables.specs.declared.dialect.Dialect.{Dialect}
+use Rattle.lexical_tables.proofs.LineSteps.{next_left, none_of}
+use Rattle.lexical_tables.proofs.PutSteps.{kinds_put_row, use_less, use_put_row}
+use Rattle.lexical_tables.proofs.TableSteps.{rows_left}
+
+-- the rows that are left to read, of so many at most
+abbrev pub left_to_read : Dialect → ℕ → List ℕ → ℕ → List ℕ → List RowView
+left_to_read d room text count rest = take (room - count) (rows_left d text rest)
+
+-- So many rows were read, and what is read of those that are left, with them, is what is read of the text.
+pub record IsTablePut (d : Dialect) (room : ℕ) (text : List ℕ) (old now : List (Option TargetView))
+    (count : ℕ) (rest : List ℕ) : Type 0 where
+  pub within : length rest ≤ length text
+  pub few : count ≤ room
+  pub tail : rest ≡ drop (length text - length rest) text
+  pub place : drop count (fields line_feed text) ≡ left_of line_feed text rest
+  pub counted : count + length (left_to_read d room text count rest) ≡ length (take room (rows d.has_returns text))
+  pub kinds_are : kinds_of now ≡ kinds_of old
+  pub usable : AreUsable room now
+  pub values : put_rows count (values_to_fault (kinds_of old) d count (left_to_read d room text count rest)) now
+      ≡ put_rows 0 (values_to_fault (kinds_of old) d 0 (take room (rows d.has_returns text))) old
+  pub first : first_fault (kinds_of old) d count (left_to_read d room text count rest)
+      ≡ first_fault (kinds_of old) d 0 (take room (rows d.has_returns text))
+
+-- What is answered of a text, and what the targets then are.
+pub record IsTableDone (d : Dialect) (room : ℕ) (text : List ℕ) (old now : List (Option TargetView))
+    (answer : Result Table TableError) : Type 0 where
+  pub answer_is : answer ≡ columns_answer (kinds_of old) d room text
+  pub targets_are : now ≡ columns_put d room text old
+  pub goes_on : IfOk answer (StopsAt room text)
+
+-- before the first row
+pub table_starts : (d : Dialect) (room : ℕ) (text : List ℕ) (old : List (Option TargetView)) → AreUsable room old
+    → IsTablePut d room text old old 0 text
+table_starts d room text old usable =
+    let start : length text - length text ≡ 0 = omega arith in
+    let whole : room - 0 ≡ room = omega arith in
+    let left : rows_left d text text ≡ rows d.has_returns text =
+    ap (λ k. map (row_of d.has_returns (length text)) (fields_from line_feed k text)) start in
+    let all : left_to_read d room text 0 text ≡ take room (rows d.has_returns text) = ap₂ (λ n l. take n l) whole left in
+    record {
+      within = omega arith;
+      few = omega arith;
+      tail = ap (λ k. drop k text) (sym start);
+      place = ap (λ k. fields_from line_feed k text) (sym start);
+      counted = omega (arith, ap length all);
+      kinds_are = refl;
+      usable = usable;
+      values = ap (λ l. put_rows 0 (values_to_fault (kinds_of old) d 0 l) old) all;
+      first = ap (first_fault (kinds_of old) d 0) all;
+    }
+
+take_none : {X : Type 0} (n : ℕ) → take {A = X} n [] ≡ []
+take_none {X} n = take_all n [] (omega arith)
+
+module _ (d : Dialect) (room : ℕ) (text : List ℕ) (old now : List (Option TargetView)) (count : ℕ) (rest : List ℕ)
+    (reading : IsTablePut d room text old now count rest) where
+  nothing_left : (length rest ≡ 0) ⊎ (room ≤ count) → left_to_read d room text count rest ≡ []
+  nothing_left (inl ended) = ap (left_to_read d room text count) (none_of rest ended) ∙ take_none (room - count)
+  nothing_left (inr full) =
+      let none : room - count ≡ 0 = omega arith in
+      ap (λ n. take n (rows_left d text rest)) none
+
+  stop_is : (length rest ≡ 0) ⊎ (room ≤ count)
+      → next_start (length text) (drop room (fields line_feed text)) ≡ length text - length rest
+  stop_is (inl ended) =
+      let at : count + (room - count) ≡ room = omega (arith, reading.few) in
+      let none : drop room (fields line_feed text) ≡ [] =
+      ap (λ n. drop n (fields line_feed text)) (sym at)
+      ∙ sym (drop-drop (room - count) count (fields line_feed text))
+      ∙ ap (drop (room - count)) (reading.place ∙ ap (left_of line_feed text) (none_of rest ended))
+      ∙ drop_all (room - count) [] (omega arith) in
+      ap (next_start (length text)) none ∙ omega (arith, ended)
+  stop_is (inr full) =
+      let at : room ≡ count = omega (arith, reading.few, full) in
+      ap (λ n. next_start (length text) (drop n (fields line_feed text))) at
+      ∙ ap (next_start (length text)) reading.place ∙ start_of_left line_feed text rest
+
+  -- no row more
+  pub table_ends : (length rest ≡ 0) ⊎ (room ≤ count)
+      → IsTableDone d room text old now (Ok (record { rows = count; stop = length text - length rest }))
+  unfolding columns_answer columns_put
+  table_ends ended =
+      let all = take room (rows d.has_returns text) in
+      let none = nothing_left ended in
+      let first : first_fault (kinds_of old) d 0 all ≡ None =
+      sym reading.first ∙ ap (first_fault (kinds_of old) d count) none in
+      let rows_are : length all ≡ count = omega (arith, reading.counted, ap length none) in
+      record {
+        answer_is =
+            sym (ap (λ e. unless e (Ok (record {
+              rows = length all;
+              stop = next_start (length text) (drop room (fields line_feed text));
+            }))) first
+            ∙ ap₂ (λ n k. Ok (record { rows = n; stop = k })) rows_are (stop_is ended));
+        targets_are =
+            sym (ap (λ l. put_rows count (values_to_fault (kinds_of old) d count l) now) none) ∙ reading.values;
+        goes_on = record {
+          within_room = reading.few;
+          within_text = omega arith;
+          left = ap (fields_from line_feed (length text - length rest)) (sym reading.tail) ∙ sym reading.place;
+        };
+      }
+
+  -- the targets have room for one row more
+  pub row_usable : count < room → AreUsable (count + 1) now
+  row_usable more = use_less (count + 1) room now (omega arith) reading.usable
+
+  module _ (row : RowView) (line behind : List ℕ) (more : count < room) (some : 0 < length rest)
+      (front : line ≡ take (field_length line_feed rest) rest)
+      (back : behind ≡ drop (field_length line_feed rest + 1) rest)
+      (shorter : length behind < length rest)
+      (row_is : row ≡ row_of d.has_returns (length text - length rest + length rest)
+      (record { start = length text - length rest; text = line })) (new : List (Option TargetView))
+      (are : new ≡ put_row count (row_values (kinds_of now) d row) now) where
+    next_rows : left_to_read d room text count rest ≡ row ∷ left_to_read d room text (count + 1) behind
+    next_rows =
+        let one : room - count ≡ suc (room - (count + 1)) = omega arith in
+        let end : length text - length rest + length rest ≡ length text = omega (arith, reading.within) in
+        ap₂ (λ n l. take n (map (row_of d.has_returns (length text)) l)) one
+        (next_left line_feed text rest line behind reading.within some front back (omega arith))
+        ∙ ap (λ r. r ∷ left_to_read d room text (count + 1) behind)
+        (sym (row_is ∙ ap (λ e. row_of d.has_returns e (record { start = length text - length rest; text = line })) end))
+
+    new_is : new ≡ put_row count (row_values (kinds_of old) d row) now
+    new_is = are ∙ ap (λ k. put_row count (row_values k d row) now) reading.kinds_are
+
+    -- one row more
+    pub table_goes : row_fault (kinds_of now) d count row ≡ None → IsTablePut d room text old new (count + 1) behind
+    table_goes right =
+        let left = left_to_read d room text (count + 1) behind in
+        let fine : row_fault (kinds_of old) d count row ≡ None =
+        ap (λ k. row_fault k d count row) (sym reading.kinds_are) ∙ right in
+        let later = values_to_fault (kinds_of old) d (count + 1) left in
+        record {
+          within = omega (arith, reading.within);
+          few = omega arith;
+          tail = tail_goes text rest behind (field_length line_feed rest) reading.within reading.tail back;
+          place =
+              sym (drop-drop 1 count (fields line_feed text))
+              ∙ ap (drop 1) (reading.place ∙ next_left line_feed text rest line behind reading.within some front back (omega arith));
+          counted = omega (arith, ap length next_rows, reading.counted);
+          kinds_are =
+              ap kinds_of new_is ∙ kinds_put_row count (row_values (kinds_of old) d row) now ∙ reading.kinds_are;
+          usable = subst (AreUsable room) (sym new_is) (use_put_row room count (row_values (kinds_of old) d row) now reading.usable);
+          values =
+              ap (put_rows (count + 1) later) new_is
+              ∙ ap (λ e. put_rows count (row_values (kinds_of old) d row ∷ cond (is_none e) later []) now) (sym fine)
+              ∙ ap (λ l. put_rows count (values_to_fault (kinds_of old) d count l) now) (sym next_rows) ∙ reading.values;
+          first =
+              ap (λ e. first_of e (first_fault (kinds_of old) d (count + 1) left)) (sym fine)
+              ∙ ap (first_fault (kinds_of old) d count) (sym next_rows) ∙ reading.first;
+        }
+
+    -- a wrong row
+    pub table_fault : (error : TableError) → row_fault (kinds_of now) d count row ≡ Some error
+        → IsTableDone d room text old new (Err error)
+    unfolding columns_answer columns_put
+    table_fault error wrong =
+        let all = take room (rows d.has_returns text) in
+        let left = left_to_read d room text (count + 1) behind in
+        let fault_is : row_fault (kinds_of old) d count row ≡ Some error =
+        ap (λ k. row_fault k d count row) (sym reading.kinds_are) ∙ wrong in
+        let first : first_fault (kinds_of old) d 0 all ≡ Some error =
+        sym reading.first ∙ ap (first_fault (kinds_of old) d count) next_rows
+        ∙ ap (λ e. first_of e (first_fault (kinds_of old) d (count + 1) left)) fault_is in
+        record {
+          answer_is =
+              sym (ap (λ e. unless e (Ok (record {
+                rows = length all;
+                stop = next_start (length text) (drop room (fields line_feed text));
+              }))) first);
+          targets_are =
+              new_is
+              ∙ ap (λ e. put_rows count (row_values (kinds_of old) d row
+              ∷ cond (is_none e) (values_to_fault (kinds_of old) d (count + 1) left) []) now) (sym fault_is)
+              ∙ ap (λ l. put_rows count (values_to_fault (kinds_of old) d count l) now) (sym next_rows) ∙ reading.values;
+          goes_on = tt;
+        }

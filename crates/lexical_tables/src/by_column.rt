@@ -1,0 +1,118 @@
+//! Tables whose columns go into slices of their own.
+
+ghost use Rattle.std.specs.Prelude.{◌≡◌, ◌+◌, ◌<◌, ◌^◌, length, IfOk};
+ghost use Rattle.lexical_tables.specs.ByColumn.{AreUsable, StopsAt, answer_at, columns_answer, columns_put, fault_in, kinds_of, put_at, put_row, row_fault, row_values, value_in, views_of};
+ghost use Rattle.lexical_tables.specs.Rows.{view_of_row};
+
+use crate::answers::{CellFault, Table, TableError};
+use crate::dialect::Dialect;
+use crate::read::end_fault;
+use crate::rows::{Row, first_row, split};
+use crate::targets::Target;
+use lexical_fields::Column;
+use lexical_parse_integer::{Error, Options};
+
+// Reads the cell of a column, if that has a target: its number goes to the row's place there.
+#[inline(always)]
+fn read_cell(
+    targets: &mut [Option<Target<'_>>],
+    column: usize,
+    row: usize,
+    start: usize,
+    cell: &[u8],
+    options: &Options,
+) -> Option<Error>
+    requires usable { AreUsable (row + 1) (views_of targets.old) }
+    requires fits { start + length cell.now < 2 ^ 64 }
+    ensures fault { result ≡ fault_in (answer_at (kinds_of (views_of targets.old)) column
+        (record { start = start; text = cell.now })) }
+    ensures targets { views_of targets.new ≡ put_at row column (value_in
+        (answer_at (kinds_of (views_of targets.old)) column
+        (record { start = start; text = cell.now }))) (views_of targets.old) }
+{
+    if column < targets.len() {
+        if let Some(target) = &mut targets[column] {
+            return target.read(row, start, cell, options);
+        }
+    }
+    None
+}
+
+// The numbers of a row go to its place in the targets, up to the row's fault.
+#[inline(always)]
+fn read_cells(
+    row: &Row<'_>,
+    index: usize,
+    dialect: &Dialect,
+    options: &Options,
+    targets: &mut [Option<Target<'_>>],
+) -> Option<TableError>
+    requires usable { AreUsable (index + 1) (views_of targets.old) }
+    requires fits { row.now.start + length row.now.text.now < 2 ^ 64 }
+    ensures fault { result ≡ row_fault (kinds_of (views_of targets.old)) dialect.now index
+        (view_of_row row.now) }
+    ensures targets { views_of targets.new ≡ put_row index (row_values
+        (kinds_of (views_of targets.old)) dialect.now (view_of_row row.now))
+        (views_of targets.old) }
+{
+    let mut rest = row.text;
+    let mut column = 0;
+    while column < dialect.columns && !rest.is_empty() {
+        let start = row.start + (row.text.len() - rest.len());
+        let (cell, behind) = split(rest, dialect.separator);
+        if let Some(error) = read_cell(targets, column, index, start, cell, options) {
+            return Some(TableError::InvalidCell {
+                row: index,
+                column,
+                fault: CellFault::NotNumber(error),
+            });
+        }
+        rest = behind;
+        column += 1;
+    }
+    let cells = Column {
+        count: column,
+        stop: row.text.len() - rest.len(),
+    };
+    end_fault(row, index, dialect, cells)
+}
+
+/// Reads a table's columns into slices of their own, for as many rows as are asked for at most.
+///
+/// Each cell of a row has a target, or none: then it isn't read, and may hold any bytes but the separator
+/// and a line feed. So it is with the cells for which there is no target in `targets`. The number of a cell
+/// is put at its row's place in the column's slice, and all else in the slices is as it was, also after a
+/// fault: then the numbers are those of all cells before the wrong one. Where the text has more rows than
+/// are asked for, `stop` is where the next one starts.
+///
+/// With a comma, three columns and targets of `u64` for the first and of `i8` for the third, `1,a,-2\n`
+/// puts 1 and -2 at place 0, and stops at 7.
+pub fn read_columns(
+    text: &[u8],
+    dialect: &Dialect,
+    options: &Options,
+    rows: usize,
+    targets: &mut [Option<Target<'_>>],
+) -> Result<Table, TableError>
+    requires usable { AreUsable rows (views_of targets.old) }
+    ensures answer { result ≡ columns_answer (kinds_of (views_of targets.old)) dialect.now rows
+        text.now }
+    ensures targets { views_of targets.new ≡ columns_put dialect.now rows text.now
+        (views_of targets.old) }
+    ensures goes_on { IfOk result (StopsAt rows text.now) }
+{
+    let mut rest = text;
+    let mut count = 0;
+    while count < rows && !rest.is_empty() {
+        let (row, behind) = first_row(text.len() - rest.len(), rest, dialect.has_returns);
+        if let Some(error) = read_cells(&row, count, dialect, options, targets) {
+            return Err(error);
+        }
+        rest = behind;
+        count += 1;
+    }
+    Ok(Table {
+        rows: count,
+        stop: text.len() - rest.len(),
+    })
+}

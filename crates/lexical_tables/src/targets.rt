@@ -1,0 +1,96 @@
+//! Where the numbers of a table's columns go.
+
+ghost use Rattle.std.specs.Prelude.{◌≡◌, ◌+◌, ◌<◌, ◌^◌, length, map, IsNone};
+ghost use Rattle.lexical_util.specs.Validity.{fault};
+ghost use Rattle.lexical_fields.specs.ReadFields.{field_answer};
+ghost use Rattle.lexical_tables.specs.Targets.{error_in, put_answer, view_of_target, with_number};
+
+use lexical_fields::error_in_text;
+use lexical_parse_integer::laws::grammar::fault_places;
+use lexical_parse_integer::parse::ParseInteger;
+use lexical_parse_integer::{Error, NumberFormat, Options};
+
+/// The slice that a column's numbers go to. It says their type.
+#[derive(Drop)]
+pub enum Numbers<'a> {
+    /// Numbers of `u8`, and so on.
+    U8(&'a mut [u8]),
+    U16(&'a mut [u16]),
+    U32(&'a mut [u32]),
+    U64(&'a mut [u64]),
+    I8(&'a mut [i8]),
+    I16(&'a mut [i16]),
+    I32(&'a mut [i32]),
+    I64(&'a mut [i64]),
+}
+
+/// What is read of a column: numbers under a format, into a slice.
+#[derive(Drop)]
+pub struct Target<'a> {
+    /// The format of its cells.
+    pub format: NumberFormat,
+    /// Where its numbers go, each at its row's number.
+    pub numbers: Numbers<'a>,
+}
+
+// Puts the number of a cell that starts at a place into a row's place of a slice, or tells the cell's fault.
+#[inline(always)]
+fn put<T: ParseInteger>(
+    values: &mut [T],
+    row: usize,
+    start: usize,
+    cell: &[u8],
+    format: &NumberFormat,
+    options: &Options,
+) -> Option<Error>
+    requires valid { IsNone (fault format.now) }
+    requires room { row < length values.old }
+    requires fits { start + length cell.now < 2 ^ 64 }
+    ensures fault { result ≡ error_in (field_answer format.now T.TYPE
+        (record { start = start; text = cell.now })) }
+    ensures numbers { map T.number values.new ≡ with_number row (field_answer format.now T.TYPE
+        (record { start = start; text = cell.now })) (map T.number values.old) }
+{
+    // The law by which a fault's place is at most the cell's length, so that the sum fits.
+    fault_places();
+    match T::parse_complete(cell, format, options) {
+        Ok(value) => {
+            values[row] = value;
+            None
+        }
+        Err(error) => Some(error_in_text(start, error)),
+    }
+}
+
+impl Target<'_> {
+    // Puts the number of a cell into a row's place, or tells the cell's fault.
+    #[inline(always)]
+    pub(crate) fn read(
+        &mut self,
+        row: usize,
+        start: usize,
+        cell: &[u8],
+        options: &Options,
+    ) -> Option<Error>
+        requires valid { IsNone (fault self.old.format) }
+        requires room { row < length (view_of_target self.old).numbers }
+        requires fits { start + length cell.now < 2 ^ 64 }
+        ensures fault { result ≡ error_in (field_answer self.old.format
+            (view_of_target self.old).type (record { start = start; text = cell.now })) }
+        ensures target { view_of_target self.new ≡ put_answer row (field_answer self.old.format
+            (view_of_target self.old).type (record { start = start; text = cell.now }))
+            (view_of_target self.old) }
+    {
+        let format = &self.format;
+        match &mut self.numbers {
+            Numbers::U8(values) => put::<u8>(values, row, start, cell, format, options),
+            Numbers::U16(values) => put::<u16>(values, row, start, cell, format, options),
+            Numbers::U32(values) => put::<u32>(values, row, start, cell, format, options),
+            Numbers::U64(values) => put::<u64>(values, row, start, cell, format, options),
+            Numbers::I8(values) => put::<i8>(values, row, start, cell, format, options),
+            Numbers::I16(values) => put::<i16>(values, row, start, cell, format, options),
+            Numbers::I32(values) => put::<i32>(values, row, start, cell, format, options),
+            Numbers::I64(values) => put::<i64>(values, row, start, cell, format, options),
+        }
+    }
+}
