@@ -149,7 +149,7 @@ function inScript({ bytes, type, call, base, changes }) {
   ];
 }
 
-/** Rattle's builder begins with the standard format: what a preset sets is written out. */
+/** Rattle's builder begins with the standard format: what a ready format sets is written out. */
 function inRattle({ bytes, type, call, base, changes, fields, isValid }) {
   const build = `    .${isValid ? "build_strict" : "build_unchecked"}();`;
   const made = changes.length
@@ -181,7 +181,7 @@ const WRITERS = {
 
 /**
  * The lines of a call in a language of `CALLERS`. `wanted` has the text's `bytes`, the `type` and the
- * `call`; the name of the preset that the format is made from as `base`, `""` for the standard
+ * `call`; the name of the ready format that the format is made from as `base`, `""` for the standard
  * one; the fields that differ from it as `changes`, and those that differ from the standard format
  * as `fields`, each as `{ name, kind, value }`, where the value of punctuation is a byte or null; and
  * `isValid`, whether the format breaks no rule.

@@ -13,7 +13,7 @@ export function element(name, properties = {}, ...children) {
   return made;
 }
 
-/** The names of the presets, as the fragment has them; the standard format has none. */
+/** The names of the ready formats, as the fragment has them; the standard one has none. */
 export const FORMATS = ["", ...Object.keys(formats).map((it) => it.toLowerCase())];
 
 const INPUTS = {
@@ -50,7 +50,7 @@ export function makeControls(changed) {
   for (const id of ["type", "call"]) {
     at(id).addEventListener("change", (event) => changed({ [id]: event.target.value }));
   }
-  // A preset takes the place of all fields.
+  // A ready format takes the place of all fields.
   at("format").addEventListener("change", (event) => changed({ format: event.target.value, fields: {} }));
   at("controls").addEventListener("input", ({ target }) => changed({ field: target.id, value: valueOf(target) }));
   at("callers").addEventListener("change", (event) => changed({ caller: event.target.value }));
@@ -85,7 +85,7 @@ export function showControls(state) {
   for (const input of at("callers").querySelectorAll("input")) input.checked = input.value === state.caller;
 }
 
-/** A state after a change of one field; a value that the preset has is no change. */
+/** A state after a change of one field; a value that the ready format has is no change. */
 export function withField(state, name, value) {
   const fields = { ...state.fields, [name]: value };
   const field = FIELDS.find((it) => it.name === name);

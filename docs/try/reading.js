@@ -96,7 +96,7 @@ function partsOfNumeral(bytes, from, to, separator) {
   return parts;
 }
 
-/** The effective radix of digits from a place on: what `10` is worth there. A zero may choose it. */
+/** The radix in force for digits from a place on: what `10` is worth there. A zero may choose it. */
 function radixAt(bytes, from, type, fields) {
   const zero = bytes[from] === ZERO ? [ZERO] : [];
   const { value } = answerOf(parsePartial, Uint8Array.of(...bytes.subarray(0, from), ...zero, ...TEN), type, fields);
@@ -112,7 +112,7 @@ function flagsThatPass(bytes, end, type, fields) {
 /**
  * The parts of a text under a valid format, in their order: each has its `role` (sign, prefix, digit,
  * separator, suffix or rest) and the places from which and to which it goes. Behind a digit with
- * which the number leaves its type all is rest, since no parser looks at it. `radix` the effective one,
+ * which the number leaves its type all is rest, since no parser looks at it. `radix` is that in force,
  * and `flags` are those that let separators pass.
  */
 export function partsOf(bytes, type, fields) {
@@ -148,7 +148,7 @@ function writtenOf(call, answer) {
 
 /**
  * What the library answers of a state: the `bytes` of the text, the `fields` of the format, those that
- * differ from the preset as `changes` and from the standard format as `settings`, the `answer`,
+ * differ from the ready format as `changes` and from the standard format as `settings`, the `answer`,
  * how Rust writes it as `written`, and the `parts`. An invalid format has no parts, and its answer is
  * a `kind` with a `message`. Throws `Unfit` where the state says no format, and RangeError where the
  * text is too long.
