@@ -281,7 +281,7 @@ template <class T>
     return detail::called<T>(detail::calls_as<T>::partial, text);
 }
 
-// The same under a format.
+// The front of the text as a T under a format, where no digit has to be there.
 template <class T>
 [[nodiscard]] result<T> parse_partial(std::string_view text, const format &under) noexcept
 {

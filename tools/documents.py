@@ -31,7 +31,7 @@ import sys
 import check_pages
 import contracts_page
 import formats_page
-import ready_formats
+import presets
 import source
 
 TOP = os.path.dirname(os.path.dirname(os.path.abspath(__file__)))
@@ -190,7 +190,7 @@ def old_ones(top: str, found: dict[str, str]) -> list[str]:
 
 def checked(found: dict[str, str], faults: list[str]) -> str:
     """Adds what is wrong with the documents, and says in a line what was looked at."""
-    old = old_ones(TOP, ready_formats.files(TOP, found))
+    old = old_ones(TOP, presets.files(TOP, found))
     faults += [f"{path}: it isn't as the source has it: make docs writes it anew" for path in old]
     files = files_of(TOP)
     sources = [source.read(os.path.join(TOP, it)) for it in files if it.endswith(".rt")]
@@ -202,7 +202,7 @@ def checked(found: dict[str, str], faults: list[str]) -> str:
 
 def written(found: dict[str, str]) -> str:
     """Writes what is old, and says how many documents that were."""
-    wanted = ready_formats.files(TOP, found)
+    wanted = presets.files(TOP, found)
     old = old_ones(TOP, wanted)
     for path in old:
         with open(os.path.join(TOP, path), "w", encoding="utf-8") as file:

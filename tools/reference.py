@@ -147,7 +147,7 @@ def format_fault(form: Format) -> Optional[Fault]:
 class Sign(NamedTuple):
     """Whether there is a minus, and the place behind the sign."""
 
-    negative: bool
+    is_negative: bool
     behind: int
 
 
@@ -216,7 +216,7 @@ def run_passes(form: Format, text: bytes, region: Region, run: range) -> bool:
 
 
 def end_of(form: Format, text: bytes, region: Region) -> int:
-    """The greatest place before which the region has digits and separators that pass alone."""
+    """The greatest place before which the region has only digits and permitted separators."""
     runs = runs_of(form, text, region.start)
     passing = {place for run in runs if run_passes(form, text, region, run) for place in run}
     for place in range(region.start, len(text)):
@@ -228,14 +228,14 @@ def end_of(form: Format, text: bytes, region: Region) -> int:
 class Reading(NamedTuple):
     """What the parts of a text are. The digits are pairs of their place and their worth."""
 
-    negative: bool
+    is_negative: bool
     region: Region
     digits: List[Tuple[int, int]]
     end: int
 
     def signed(self, size: int) -> int:
         """The size behind the text's sign."""
-        return -size if self.negative else size
+        return -size if self.is_negative else size
 
 
 def reading_of(form: Format, text: bytes, sign: Sign) -> Reading:
@@ -244,7 +244,7 @@ def reading_of(form: Format, text: bytes, sign: Sign) -> Reading:
     end = end_of(form, text, region)
     worths = ((place, digit(text[place], region.radix)) for place in range(region.start, end))
     digits = [(place, worth) for place, worth in worths if worth is not None]
-    return Reading(sign.negative, region, digits, end)
+    return Reading(sign.is_negative, region, digits, end)
 
 
 # ---- values and faults
@@ -275,7 +275,7 @@ def range_fault(kind: IntegerType, reading: Reading) -> Optional[Fault]:
     for place, worth in reading.digits:
         front = front * radix + worth
         if not kind.has(reading.signed(front)):
-            return Fault("Underflow" if reading.negative else "Overflow", place)
+            return Fault("Underflow" if reading.is_negative else "Overflow", place)
     return None
 
 

@@ -17,7 +17,7 @@ fields becomes `LANGUAGE ≡ FORMAT`. The check computes the definitions on thos
 a theorem of which a row and the definitions disagree. tools/run_rows.py has the built program
 answer the rows, and names the row that is wrong. The files are crates/rows/proofs/rows/FILE.antt,
 and proofs/rows.antt, which declares them; proofs/Tables.antt has the words of the theorems. The
-texts of the rows under the two presets are written to src/tests/ready.rt too, for the tests:
+texts of the rows under the two presets are written to src/tests/presets.rt too, for the tests:
 the program makes no call without a format. Needs Python 3.8 and nothing else.
 """
 from __future__ import annotations
@@ -178,7 +178,7 @@ def theorems(file: File) -> str:
 MOST_BYTES = 120
 
 
-def ready_texts(files: List[File]) -> str:
+def preset_texts(files: List[File]) -> str:
     """The texts of the rows under the presets, a line each, but those that begin another."""
     rows = [row for file in files for group in file.groups for row in group.rows]
     texts = {row.text for row in rows if row.parser != "format" and row.format in ((), "json")
@@ -201,7 +201,7 @@ def all_files(files: List[File]) -> dict[str, str]:
     head = f"-- Test vectors, a file for each subject.\n-- {written}\n"
     return {
         "proofs/rows.antt": head + declared,
-        "src/tests/ready.rt": ready_texts(files),
+        "src/tests/presets.rt": preset_texts(files),
         **{f"proofs/rows/{file.name.capitalize()}.antt": theorems(file) for file in files},
     }
 

@@ -71,7 +71,7 @@ def wrong_outputs(program: str, runs: List[Run]) -> List[str]:
             for run, output in written if output != run.output]
 
 
-def ready_formats(groups: List[Group]) -> Dict[str, Fields]:
+def presets_by_name(groups: List[Group]) -> Dict[str, Fields]:
     """The fields of each preset, by its name."""
     return {group.name: group.fields for group in groups if group.fields is not None}
 
@@ -99,18 +99,18 @@ def answer_of(row: Row) -> bytes:
     return " ".join(words).encode()
 
 
-def lines_of(row: Row, ready: Dict[str, Fields]) -> Iterator[Tuple[bytes, bytes]]:
+def lines_of(row: Row, presets: Dict[str, Fields]) -> Iterator[Tuple[bytes, bytes]]:
     """The lines that ask a row with each setting of no_multi_digit, each with its answer."""
-    fields = ready[row.format] if isinstance(row.format, str) else row.format
+    fields = presets[row.format] if isinstance(row.format, str) else row.format
     question = question_of(row), answer_of(row)
     yield b"r", b"ok"
     yield from ((field_line(*field), b"ok") for field in fields)
     yield from (question, (b"f no_multi_digit true", b"ok"), question)
 
 
-def wrong_answers(program: str, rows: List[Row], ready: Dict[str, Fields]) -> List[str]:
+def wrong_answers(program: str, rows: List[Row], presets: Dict[str, Fields]) -> List[str]:
     """What the program answers otherwise than the rows do."""
-    asked = [(row, line, told) for row in rows for line, told in lines_of(row, ready)]
+    asked = [(row, line, told) for row in rows for line, told in lines_of(row, presets)]
     answers = output_of(program, b"\n".join(line for _, line, _ in asked)).split(b"\n")[:-1]
     if len(answers) != len(asked):
         return [f"{program}: {len(answers)} answers to {len(asked)} lines"]
@@ -122,10 +122,10 @@ def main(programs: List[str]) -> int:
     """Asks each program, and answers the exit status."""
     groups = groups_of(DATA, LANGUAGES)
     rows = [row for group in groups for row in group.rows]
-    ready = ready_formats(groups)
+    presets = presets_by_name(groups)
     runs = read_runs()
     wrong = [said for program in programs
-             for said in [*wrong_answers(program, rows, ready), *wrong_outputs(program, runs)]]
+             for said in [*wrong_answers(program, rows, presets), *wrong_outputs(program, runs)]]
     print(*wrong, f"{len(rows)} rows and {len(runs)} whole inputs of {len(programs)} programs, "
           f"{len(wrong)} wrong answers", sep="\n")
     return 1 if wrong else 0

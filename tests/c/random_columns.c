@@ -40,7 +40,7 @@ typedef struct answer {
     size_t count;
 } answer;
 
-/* A type's column call; the slow reading, which cuts the text byte by byte; and the size of its numbers. */
+/* A type's column call; the reference, which cuts the text byte by byte; and the size of its numbers. */
 #define TYPE(name, type)                                                                                             \
     static answer name##_column(const char *text, size_t len, uint8_t separator, const jadvolni_format *format,       \
                                 void *values, size_t room)                                                           \

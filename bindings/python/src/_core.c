@@ -276,7 +276,7 @@ static PyMethodDef METHODS[] = {
          "The numbers of the text's fields, as an array.array.\n\n"
          "A field is the bytes up to a separator, which may be any byte; a last separator ends\n"
          "no further field. ParseError has the first field that is no number, by `field` and\n"
-         "`start`, and its `place` counts from the text's start. Python's lock is let go: no\n"
+         "`start`, and its `place` counts from the text's start. The GIL is released: no\n"
          "other thread may change the text meanwhile."),
     {"_parse_part", (PyCFunction)(void (*)(void))parse_part, METH_FASTCALL,
      "A column whose fields count on from those of the parts before it."},

@@ -12,7 +12,7 @@ use Rattle.lexical_util.specs.Faults.{place_of}
 use Rattle.answer_lines.specs.Command.{Command, command_in, parse_complete, parse_partial, list_tokens, change, reset, type_of}
 use Rattle.answer_lines.specs.Lines.{lines, onto_line}
 use Rattle.answer_lines.specs.Decimal.{decimal_text, signed_text}
-use Rattle.answer_lines.specs.Output.{answer_lines, answer_to, answers_to, command_answer, command_lines, complete_text, fault_name, fault_text, kind_text, output, partial_text, place_text, settings_after, token_text, tokens_text}
+use Rattle.answer_lines.specs.Output.{answer_lines, answer_to, answers_to, command_answer, command_lines, complete_text, fault_answer, fault_name, kind_text, output, partial_text, place_text, settings_after, token_text, tokens_text}
 use Rattle.answer_lines.specs.Settings.{Settings, standard_settings}
 use Rattle.lexical_literals.specs.Tokens.{TokenView, tokens}
 use Rattle.lexical_literals.specs.declared.Kind.{Kind}
@@ -55,7 +55,7 @@ place_has_none : (place : Option ℕ) → HasNoFeed (place_text place)
 place_has_none None = refl
 place_has_none (Some place) = both (codes " ") (decimal_text place) refl (decimal_has_none place)
 
-fault_has_none : (fault : Error) → HasNoFeed (fault_text fault)
+fault_has_none : (fault : Error) → HasNoFeed (fault_answer fault)
 fault_has_none fault =
     both (codes "err " ++ fault_name fault) (place_text (place_of fault))
     (both (codes "err ") (fault_name fault) refl (name_has_none fault))

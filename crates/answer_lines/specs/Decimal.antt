@@ -8,7 +8,7 @@ use Rattle.lexical_util.specs.Ascii.{digit_zero, minus}
 abbrev pub decimal_text : ℕ → List ℕ
 decimal_text n = if n == 0 then digit_zero ∷ [] else map (λ d. digit_zero + d) (digits_of 10 n)
 
--- the same of a whole number: `-` before its size where it is negative
+-- the decimal digits of a whole number: those of its magnitude, behind a `-` below 0
 abbrev pub signed_text : ℤ → List ℕ
 signed_text (pos n) = decimal_text n
 signed_text (negsuc n) = minus ∷ decimal_text (suc n)

@@ -39,18 +39,18 @@ place_text None = []
 place_text (Some place) = codes " " ++ decimal_text place
 
 -- `err NAME PLACE`, or `err NAME` for a fault without a place
-abbrev pub fault_text : Error → List ℕ
-fault_text fault = codes "err " ++ fault_name fault ++ place_text (place_of fault)
+abbrev pub fault_answer : Error → List ℕ
+fault_answer fault = codes "err " ++ fault_name fault ++ place_text (place_of fault)
 
 -- `ok V` for a value
 abbrev pub complete_text : Result ℤ Error → List ℕ
 complete_text (Ok value) = codes "ok " ++ signed_text value
-complete_text (Err fault) = fault_text fault
+complete_text (Err fault) = fault_answer fault
 
 -- `ok V PLACE` for a value and a place
 abbrev pub partial_text : Result (ℤ × ℕ) Error → List ℕ
 partial_text (Ok found) = codes "ok " ++ signed_text found.0 ++ place_text (Some found.1)
-partial_text (Err fault) = fault_text fault
+partial_text (Err fault) = fault_answer fault
 
 -- ---- tokens
 

@@ -227,7 +227,7 @@ fn put_below_0<W: Write>(value: &Number, batch: &mut Batch, out: &mut W) -> Resu
         (batch.old ++ signed_text value.now) }
     ensures fault { IsOkUnless result RunError.Write }
 {
-    put_negative(value.size(), batch, out)
+    put_negative(value.magnitude(), batch, out)
 }
 
 // The digits of a number from 0 up.
@@ -240,19 +240,19 @@ fn put_from_0<W: Write>(value: &Number, batch: &mut Batch, out: &mut W) -> Resul
         (batch.old ++ signed_text value.now) }
     ensures fault { IsOkUnless result RunError.Write }
 {
-    put_decimal(value.size(), batch, out)
+    put_decimal(value.magnitude(), batch, out)
 }
 
-// The digits of a number below 0, of which the size is told, after a minus.
-fn put_negative<W: Write>(size: u128, batch: &mut Batch, out: &mut W) -> Result<(), RunError>
+// The digits of a number below 0, of which the magnitude is told, after a minus.
+fn put_negative<W: Write>(magnitude: u128, batch: &mut Batch, out: &mut W) -> Result<(), RunError>
     ensures ok { OnOk result (Gathers (W.contents out.old) batch.old (W.contents out.new) batch.new
-        (minus ∷ decimal_text size)) }
+        (minus ∷ decimal_text magnitude)) }
     ensures front { GainsFront (W.contents out.old) (W.contents out.new)
-        (batch.old ++ (minus ∷ decimal_text size)) }
+        (batch.old ++ (minus ∷ decimal_text magnitude)) }
     ensures fault { IsOkUnless result RunError.Write }
 {
     put(b"-", batch, out)?;
-    put_decimal(size, batch, out)
+    put_decimal(magnitude, batch, out)
 }
 
 // The name of a fault, which is that of its variant.

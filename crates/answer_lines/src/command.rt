@@ -128,8 +128,7 @@ fn short_type_and_text(text: &[u8]) -> Option<(TypeName, &[u8])>
     }
 }
 
-// The type and the text behind it for a name of any length. It stays out of line, so that the names above are tested in
-// place.
+// The type and the text behind it for a name of any length. Why out of line: docs/DECISIONS.md, code.
 #[inline(never)]
 fn any_type_and_text(text: &[u8]) -> Option<(TypeName, &[u8])>
     ensures { option_map (λ found. (found.0, found.1.now)) result ≡ type_and_text text.now }

@@ -9,7 +9,7 @@ use std::marker::Model;
 #[derive(Debug, Drop)]
 pub struct Number {
     is_negative: bool,
-    size: u128,
+    magnitude: u128,
 }
 
 impl Model for Number {
@@ -18,9 +18,9 @@ impl Model for Number {
 
     ghost Value = { ℤ };
 
-    ghost view = { λ n. with_sign n.is_negative n.size };
+    ghost view = { λ n. with_sign n.is_negative n.magnitude };
 
-    ghost invariant = { λ n. IsTrue n.is_negative → 0 < n.size };
+    ghost invariant = { λ n. IsTrue n.is_negative → 0 < n.magnitude };
 }
 
 /// A number from 0 up.
@@ -31,7 +31,7 @@ impl From<u128> for Number {
     fn from(n: u128) -> Number {
         Number {
             is_negative: false,
-            size: n,
+            magnitude: n,
         }
     }
 }
@@ -44,7 +44,7 @@ impl From<i128> for Number {
     fn from(z: i128) -> Number {
         Number {
             is_negative: z < 0,
-            size: z.unsigned_abs(),
+            magnitude: z.unsigned_abs(),
         }
     }
 }
@@ -58,9 +58,9 @@ impl fmt::Display for Number {
 
     fn fmt<W: fmt::Write>(&self, f: &mut fmt::Formatter<W>) -> fmt::Result {
         if self.is_negative {
-            return write!(f, "-{}", self.size);
+            return write!(f, "-{}", self.magnitude);
         }
-        write!(f, "{}", self.size)
+        write!(f, "{}", self.magnitude)
     }
 }
 
@@ -73,9 +73,9 @@ impl Number {
     }
 
     /// Its distance from 0.
-    pub fn size(&self) -> u128
+    pub fn magnitude(&self) -> u128
         ensures { result ≡ unsigned_abs self.now }
     {
-        self.size
+        self.magnitude
     }
 }

@@ -21,7 +21,7 @@ const MOST_READS: u64 = 4_294_967_296;
 const CHUNK: usize = 65536;
 
 /// Writes the answer lines of the input. Its one fault is `Write`, after which a front of them was
-/// written. It takes no memory.
+/// written. It allocates nothing.
 pub fn run<W: Write>(input: &[u8], out: &mut W) -> Result<(), RunError>
     ensures ok { OnOk result (Appends (W.contents out.old) (W.contents out.new)
         (output input.now)) }

@@ -15,13 +15,14 @@ pub record Question : Type 0 where
   pub text : List ℕ
 
 -- a format, where it is valid
-abbrev pub if_valid : Format → Option Format
-if_valid format = if is_some (fault format) then None else Some format
+abbrev pub format_if_valid : Format → Option Format
+format_if_valid format = if is_some (fault format) then None else Some format
 
 -- the standard format in the radix that a text tells
 abbrev pub format_by_radix : List ℕ → Option Format
 format_by_radix text =
-    option_and_then (λ radix. if_valid (record standard { mantissa_radix = radix })) (radix_in text)
+    option_and_then (λ radix. format_if_valid (record standard { mantissa_radix = radix }))
+    (radix_in text)
 
 -- the format that an option and its value tell
 abbrev pub format_told : List ℕ → List ℕ → Option Format

@@ -7,7 +7,7 @@ use Rattle.lexical_util.specs.Number.{IntegerType}
 use Rattle.lexical_fields.specs.Columns.{answer_of, numbers_of}
 use Rattle.lexical_fields.specs.declared.columns.Column.{Column}
 use Rattle.lexical_fields.specs.declared.columns.ColumnError.{ColumnError}
-use Rattle.jadvolni.specs.Columns.{ColumnEffect, column_call, effect_of, with_front}
+use Rattle.jadvolni.specs.Columns.{ColumnEffect, column_call, effect_of_column, with_front}
 use Rattle.jadvolni.specs.Effect.{unknown_field}
 use Rattle.jadvolni.specs.FormatFields.{are_known, format_of}
 use Rattle.jadvolni.specs.declared.format.FormatFields.{FormatFields}
@@ -29,13 +29,13 @@ pub read : {T : Type 0} (number : T → ℤ) (fields : FormatFields) (f : Format
     → are_known fields ≡ true → f ≡ format_of fields → answer ≡ answer_of f t (length old) s text
     → map number (take (length (numbers_of f t (length old) s text)) new) ≡ numbers_of f t (length old) s text
     → drop (length (numbers_of f t (length old) s text)) new ≡ drop (length (numbers_of f t (length old) s text)) old
-    → effect_of answer (map number new) ≡ column_call fields t s text (map number old)
+    → effect_of_column answer (map number new) ≡ column_call fields t s text (map number old)
 read number fields f t s text old new answer known format told front rest =
     let before = map number old in
     let F : Format → ℕ → ColumnEffect =
-    λ g room. effect_of (answer_of g t room s text)
+    λ g room. effect_of_column (answer_of g t room s text)
     (with_front (numbers_of g t room s text) before) in
-    ap₂ effect_of told (filled number (numbers_of f t (length old) s text) old new front rest)
+    ap₂ effect_of_column told (filled number (numbers_of f t (length old) s text) old new front rest)
     ∙ ap₂ F format (sym (length-map old number))
     ∙ ap (λ k. cond k (F (format_of fields) (length before))
     (record { status = unknown_field; place = 0; count = 0; numbers = before })) (sym known)

@@ -28,16 +28,16 @@ abbrev pub with_front : List ℤ → List ℤ → List ℤ
 with_front numbers before = numbers ++ drop (length numbers) before
 
 -- the effect of what is answered of a column, which leaves these numbers
-abbrev pub effect_of : Result Column ColumnError → List ℤ → ColumnEffect
-effect_of (Ok column) numbers =
+abbrev pub effect_of_column : Result Column ColumnError → List ℤ → ColumnEffect
+effect_of_column (Ok column) numbers =
     record { status = 0; place = column.stop; count = column.count; numbers = numbers }
-effect_of (Err (InvalidFormat error)) numbers = record {
+effect_of_column (Err (InvalidFormat error)) numbers = record {
   status = fault_status error;
   place = fault_place (place_of error);
   count = 0;
   numbers = numbers;
 }
-effect_of (Err (InvalidField field start error)) numbers = record {
+effect_of_column (Err (InvalidField field start error)) numbers = record {
   status = fault_status error;
   place = fault_place (place_of error);
   count = field;
@@ -50,6 +50,6 @@ column_call fields type separator text before =
     let format = format_of fields in
     let room = length before in
     if are_known fields
-    then effect_of (answer_of format type room separator text)
+    then effect_of_column (answer_of format type room separator text)
     (with_front (numbers_of format type room separator text) before)
     else record { status = unknown_field; place = 0; count = 0; numbers = before }

@@ -22,14 +22,14 @@ literal_effect result number suffix =
     record { status = result.status; place = result.place; number = number; suffix = suffix }
 
 -- the effect of a literal, and of a fault, which leaves what was there before
-abbrev pub effect_of : ℤ → ℕ → Result Literal Error → LiteralEffect
-effect_of number suffix (Ok literal) = record {
+abbrev pub effect_of_literal : ℤ → ℕ → Result Literal Error → LiteralEffect
+effect_of_literal number suffix (Ok literal) = record {
   status = 0;
   place = literal.stop;
   number = pos literal.value;
   suffix = literal.number_stop;
 }
-effect_of number suffix (Err error) = record {
+effect_of_literal number suffix (Err error) = record {
   status = fault_status error;
   place = fault_place (place_of error);
   number = number;
@@ -40,5 +40,5 @@ effect_of number suffix (Err error) = record {
 abbrev pub literal_call : FormatFields → List ℕ → ℤ → ℕ → LiteralEffect
 literal_call fields text number suffix =
     if are_known fields
-    then effect_of number suffix (literal_in_front_if_valid (format_of fields) text)
+    then effect_of_literal number suffix (literal_in_front_if_valid (format_of fields) text)
     else record { status = unknown_field; place = 0; number = number; suffix = suffix }

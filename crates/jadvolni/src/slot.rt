@@ -11,7 +11,7 @@ pub trait Slot<T: Integer> {
     // The number that is kept.
     ghost number: { Self → ℤ };
 
-    /// Keeps a value, and lets the one before go.
+    /// Stores the value.
     fn put(&mut self, value: T)
         ensures { number self.new ≡ T.number value };
 }

@@ -31,7 +31,7 @@ neg-mul : (v r : ℕ) → neg_ℤ (pos v) *ℤ pos r ≡ neg_ℤ (pos (v * r))
 neg-mul zero r = let e : 0 * r ≡ 0 = omega arith in rw e refl
 neg-mul (suc v) r = refl
 
--- the same with the sign
+-- a step of a signed value is the step of its magnitude, with the sign
 pub with_sign-step : (m : Bool) (v r d : ℕ) → mul_add m (with_sign m v) (pos r) (pos d) ≡ with_sign m (v * r + d)
 with_sign-step false v r d = refl
 with_sign-step true v r d = ap (λ z. z -ℤ pos d) (neg-mul v r) ∙ sym (neg_ℤ-+ℤ (pos (v * r)) (pos d))

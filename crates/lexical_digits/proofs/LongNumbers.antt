@@ -105,22 +105,22 @@ have_values (b ∷ bs) (d ∷ ds) all =
     let more : HaveDigits 10 bs ds = cc in
     ap (λ (e : ℕ). e ∷ ds) (digit_worth b d here) ∙ ap (λ (es : List ℕ). (b - 48) ∷ es) (have_values bs ds more)
 
-pub decimal_front : (text : List ℕ) (number : ℕ) → WritesDecimal 0 text number → WritesFront 10 text (length text) (pos number)
-decimal_front text number w =
+pub decimal_is_front : (text : List ℕ) (number : ℕ) → WritesDecimal 0 text number → WritesFront 10 text (length text) (pos number)
+decimal_is_front text number w =
     let same = raised_none text in
     let digits : AreDigits 10 text = subst (λ (bs : List ℕ). AreDigits 10 bs) same w.digits in
     all_written 10 number text (map (λ byte. byte - 48) text) (have_digits 10 text (omega arith) (ascii_from_digits 10 text (omega arith) digits)) (w.worth ∙ ap (word_value 10) same)
 
 -- ---- what digits stand for
 
-pub stands : (t : IntegerType) (negative : Bool) (text : List ℕ) (number : ℕ) (value : ℤ) → WritesDecimal 0 text number → value ≡ with_sign negative number → IsNumber t value → StandsFor t 10 negative text value
-stands t negative text number value writes worth fits = record { size = pos number; writes = decimal_front text number writes; worth = worth; fits = fits }
+pub stands : (t : IntegerType) (is_negative : Bool) (text : List ℕ) (number : ℕ) (value : ℤ) → WritesDecimal 0 text number → value ≡ with_sign is_negative number → IsNumber t value → StandsFor t 10 is_negative text value
+stands t is_negative text number value writes worth fits = record { magnitude = pos number; writes = decimal_is_front text number writes; worth = worth; fits = fits }
 
 -- a value that was found for the number of a text
-pub value_written : {V : Type 0} (number_of : V → ℤ) (t : IntegerType) (negative : Bool) (text : List ℕ) (number : ℕ) (found : Option V) → WritesDecimal 0 text number →
-    IfSome found (λ v. number_of v ≡ with_sign negative number) → IfSome found (λ v. IsNumber t (number_of v)) → IfSome found (λ v. StandsFor t 10 negative text (number_of v))
-value_written number_of t negative text number None writes worth fits = tt
-value_written number_of t negative text number (Some v) writes worth fits = stands t negative text number (number_of v) writes worth fits
+pub value_written : {V : Type 0} (number_of : V → ℤ) (t : IntegerType) (is_negative : Bool) (text : List ℕ) (number : ℕ) (found : Option V) → WritesDecimal 0 text number →
+    IfSome found (λ v. number_of v ≡ with_sign is_negative number) → IfSome found (λ v. IsNumber t (number_of v)) → IfSome found (λ v. StandsFor t 10 is_negative text (number_of v))
+value_written number_of t is_negative text number None writes worth fits = tt
+value_written number_of t is_negative text number (Some v) writes worth fits = stands t is_negative text number (number_of v) writes worth fits
 
 -- what follows from a value that was found
 pub if_found : {X : Type 0} {P Q : X → Type 0} (found : Option X) → ((x : X) → P x → Q x) → IfSome found P → IfSome found Q
@@ -156,7 +156,7 @@ more_digits t r b k count m text value next few s v step fits =
     positional_value-append r w.values v.values ∙ ap (λ (j : ℕ). n * r ^ j + positional_value r v.values) size ∙ ap (λ (j : ℕ). n * r ^ count + j) (sym last) in
     let value_is : value ≡ with_sign b n = s.worth ∙ ap (λ (z : ℤ). if b then neg_ℤ z else z) w.worth in
     record {
-      size = pos (n * r ^ count + m);
+      magnitude = pos (n * r ^ count + m);
       writes = all_written r (n * r ^ count + m) (take (k + count) text) (w.values ++ v.values) both (sym whole);
       worth = step ∙ ap (λ (z : ℤ). mul_add b z (pos (r ^ count)) (pos m)) value_is ∙ with_sign-step b n (r ^ count) m;
       fits = fits;
@@ -169,7 +169,7 @@ sixteen_more t k m text value next rest within s v is_rest step fits =
     let size : k + 16 - k ≡ 16 = omega arith in
     let left = length-drop k text in
     let part : WritesDecimal 0 (take 16 (drop k text)) m = subst (λ (n : ℕ). WritesDecimal 0 (take n (drop k text)) m) size v in
-    more_digits t 10 false k 16 m text value next (omega arith) s (decimal_front (take 16 (drop k text)) m part) (step ∙ ap (λ (z : ℤ). mul_add false value (pos 10000000000000000) z) is_rest) fits
+    more_digits t 10 false k 16 m text value next (omega arith) s (decimal_is_front (take 16 (drop k text)) m part) (step ∙ ap (λ (z : ℤ). mul_add false value (pos 10000000000000000) z) is_rest) fits
 
 -- types of more than 64 bits have all numbers of up to thirty-eight digits
 long_is_number : (bits : ℕ) (signed : Bool) (n : ℕ) → IsWidth bits → 64 < bits → n < 100000000000000000000000000000000000000 → IsNumber (integer_type bits signed) (pos n)

@@ -11,7 +11,7 @@ use Rattle.lexical_util.proofs.Room.{negative_below_limit}
 use Rattle.lexical_util.specs.Digit.{digit, digit_value}
 use Rattle.lexical_digits.specs.WrittenNumbers.{WritesFront}
 
-pub few_fit : (type : IntegerType) (negative : Bool) (r o n m : ℕ) → HasRoom type r o → (negative ≡ true → type.is_signed ≡ true) → 1 ≤ r → m ≤ o → n < r ^ m → IsNumber type (with_sign negative n)
+pub few_fit : (type : IntegerType) (is_negative : Bool) (r o n m : ℕ) → HasRoom type r o → (is_negative ≡ true → type.is_signed ≡ true) → 1 ≤ r → m ≤ o → n < r ^ m → IsNumber type (with_sign is_negative n)
 few_fit type true r o n m room may one le small =
     let up = pow-le-pow_right {n = r} one le in
     let top = ltb-true (r ^ o - 1) (number_limit type) room.greatest in

@@ -53,7 +53,7 @@ joined a b c d ia ib ic id =
     let pairs : bit_and ((bytes_number (a ∷ b ∷ c ∷ d ∷ []) - 808464432) * 2561 % 4294967296 / 2 ^ 8) 16711935 ≡ back * 65536 + front = ap (λ (x : ℕ). bit_and x 16711935) lanes ∙ parted ∙ omega (arith, high, low, ia.0, ia.1, ib.0, ib.1, ic.0, ic.1, id.0, id.1) in
     ap (λ (x : ℕ). x * 6553601 % 4294967296 / 2 ^ 16) pairs ∙ omega (arith, ia.0, ia.1, ib.0, ib.1, ic.0, ic.1, id.0, id.1)
 
--- the same of a word
+-- the digits of a word are joined in pairs, and the pairs as one number
 pub joined_word : (word : ℕ) → word < 4294967296 → AreDigits 10 (word_bytes 4 word) → bit_and ((word - 808464432) * 2561 % 4294967296 / 2 ^ 8) 16711935 * 6553601 % 4294967296 / 2 ^ 16 ≡ word_value 10 (word_bytes 4 word)
 joined_word word small digits =
     let ascii = ascii_from_digits 10 (word_bytes 4 word) (omega arith) digits in
@@ -178,7 +178,7 @@ halves_write (a ∷ b ∷ c ∷ d ∷ e ∷ f ∷ g ∷ h ∷ []) last front bac
     writes_text (a ∷ b ∷ c ∷ d ∷ e ∷ f ∷ g ∷ h ∷ []) (front * 10000 + back) (digits_from_ascii 10 (a ∷ b ∷ c ∷ d ∷ e ∷ f ∷ g ∷ h ∷ []) (omega arith) ascii) (omega (arith, value, is_front, ascii.0.0, ascii.0.1, ascii.1.0.0, ascii.1.0.1, ascii.1.1.0.0, ascii.1.1.0.1, ascii.1.1.1.0.0, ascii.1.1.1.0.1, ascii.1.1.1.1.0.0, ascii.1.1.1.1.0.1, ascii.1.1.1.1.1.0.0, ascii.1.1.1.1.1.0.1, ascii.1.1.1.1.1.1.0.0, ascii.1.1.1.1.1.1.0.1, ascii.1.1.1.1.1.1.1.0.0, ascii.1.1.1.1.1.1.1.0.1))
 halves_write (a ∷ b ∷ c ∷ d ∷ e ∷ f ∷ g ∷ h ∷ i ∷ rest) last front back low high ascii is is_front is_back = absurd (omega arith)
 
--- the same of the halves' words
+-- two words, of a text's first four bytes and of its last, write its number
 pub text_written : (text : List ℕ) (first last front back : ℕ) → 4 < length text → length text ≤ 8 → ((k : ℕ) → get_or text k 0 < 256) →
     first ≡ bytes_number (slice_range text 0 4) → last ≡ bytes_number (slice_range text (length text - 4) (length text - 4 + 4)) → AreDigits 10 (word_bytes 4 first) → AreDigits 10 (word_bytes 4 last) →
     front ≡ word_value 10 (take (length text - 4) (word_bytes 4 first)) → back ≡ word_value 10 (word_bytes 4 last) → WritesDecimal 0 text (front * 10000 + back)

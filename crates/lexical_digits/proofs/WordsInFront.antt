@@ -91,7 +91,7 @@ shifted_in (suc (suc (suc (suc (suc (suc (suc zero))))))) a b c d e f g h some f
 shifted_in (suc (suc (suc (suc (suc (suc (suc (suc zero)))))))) a b c d e f g h some few la lb lc ld le lf lg lh digits = omega (arith, digits.0, digits.1.0, digits.1.1.0, digits.1.1.1.0, digits.1.1.1.1.0, digits.1.1.1.1.1.0, digits.1.1.1.1.1.1.0, digits.1.1.1.1.1.1.1.0)
 shifted_in (suc (suc (suc (suc (suc (suc (suc (suc (suc k))))))))) a b c d e f g h some few la lb lc ld le lf lg lh digits = absurd (omega arith)
 
--- the same of a word
+-- a word shifted by all but its first digits holds zeros and these digits
 pub shifted_front : (k word : ℕ) → 1 ≤ k → k ≤ 8 → word < 18446744073709551616 → AreDigits 10 (take k (word_bytes 8 word)) →
     IsShifted k word ((word + 14974415777481871312) % 18446744073709551616 * 2 ^ (64 - 8 * k) % 18446744073709551616 + 3472328296227680304)
 shifted_front k word some few small digits =

@@ -34,10 +34,10 @@ pub record WritesFront (radix : ℕ) (text : List ℕ) (count : ℕ) (number : �
   pub worth : number ≡ pos (positional_value radix values)
   pub below : positional_value radix values < radix ^ count
 
--- The digits of a text in a radix stand for a number of a type, behind a minus where that is negative.
-pub record StandsFor (type : IntegerType) (radix : ℕ) (negative : Bool) (text : List ℕ)
+-- The digits of a text in a radix stand for a number of a type, with a minus where `is_negative`.
+pub record StandsFor (type : IntegerType) (radix : ℕ) (is_negative : Bool) (text : List ℕ)
     (value : ℤ) : Type 0 where
-  pub size : ℤ
-  pub writes : WritesFront radix text (length text) size
-  pub worth : value ≡ (if negative then neg_ℤ size else size)
+  pub magnitude : ℤ
+  pub writes : WritesFront radix text (length text) magnitude
+  pub worth : value ≡ (if is_negative then neg_ℤ magnitude else magnitude)
   pub fits : IsNumber type value

@@ -7,7 +7,7 @@ ghost use Rattle.lexical_digits.specs.WrittenNumbers.{StandsFor, WritesFirst, by
 ghost use Rattle.lexical_digits.specs.Words.{AreDigits, word_bytes, word_value};
 
 use crate::digits::{ZEROS, first_word, number_of_front, word_at};
-use crate::values::{value_of, value_of_long};
+use crate::values::{value_from_17, value_to_16};
 use lexical_util::num::Integer;
 
 // How many digits a word begins with: the lowest byte comes first. Carries and borrows run upwards alone, so that the
@@ -24,7 +24,7 @@ fn digits_ahead(word: u64) -> u32
 }
 
 // The number of the digits that a text begins with, and how many they are, where its first eight bytes are this word.
-// None are left out first: a whole word can't be shifted out.
+// Without a digit the answer is 0 at once: a shift by all 64 bits would overflow.
 #[inline(always)]
 fn front_in_word(text: &[u8], word: u64) -> (u32, usize)
     requires { word ≡ bytes_number (take 8 text.now) }
@@ -95,18 +95,18 @@ pub fn number_behind(text: &[u8], at: usize) -> (u32, usize)
     front_in_word(&text[at..], next_word(text, at))
 }
 
-/// The value of one digit and more, behind a minus where that is negative.
+/// The value of one digit and more, with a minus where `is_negative`.
 #[inline(always)]
-pub fn value_of_digits<T: Integer>(digits: &[u8], negative: bool) -> Option<T>
+pub fn value_of_digits<T: Integer>(digits: &[u8], is_negative: bool) -> Option<T>
     requires some { 1 ≤ length digits.now }
-    requires minus { IsTrue negative → IsTrue T.TYPE.is_signed }
-    ensures { IfSome result (λ value. StandsFor T.TYPE 10 negative digits.now (T.number value)) }
+    requires minus { IsTrue is_negative → IsTrue T.TYPE.is_signed }
+    ensures { IfSome result (λ value. StandsFor T.TYPE 10 is_negative digits.now (T.number value)) }
 {
     if digits.len() <= 16 {
-        return value_of::<T>(digits, negative);
+        return value_to_16::<T>(digits, is_negative);
     }
     if T::BITS <= 32 {
         return None;
     }
-    value_of_long::<T>(digits, negative)
+    value_from_17::<T>(digits, is_negative)
 }

@@ -58,51 +58,51 @@ fn numbers_of_blocks(text: &[u8], size: usize) -> Option<(u32, u32)>
     }
 }
 
-// The value of the digits that two such blocks make up, behind a minus where that is negative.
+// The value of the digits that two such blocks make up, with a minus where `is_negative`.
 #[inline(always)]
-fn value_of_blocks<T: Integer>(digits: &[u8], size: usize, negative: bool) -> Option<T>
+fn value_of_blocks<T: Integer>(digits: &[u8], size: usize, is_negative: bool) -> Option<T>
     requires small { size ≤ 8 }
     requires many { size ≤ length digits.now }
     requires few { length digits.now ≤ 2 * size }
     requires scale { 16 ^ size < number_limit T.TYPE }
     requires room { 16 ^ length digits.now ≤ number_limit T.TYPE }
-    requires minus { IsTrue negative → IsTrue T.TYPE.is_signed }
-    ensures { IfSome result (λ value. StandsFor T.TYPE 16 negative digits.now (T.number value)) }
+    requires minus { IsTrue is_negative → IsTrue T.TYPE.is_signed }
+    ensures { IfSome result (λ value. StandsFor T.TYPE 16 is_negative digits.now (T.number value)) }
 {
     let root = T::from_u32(1 << (2 * size) as u32);
     let scale = root.mul_add(root, T::ZERO, false);
     match numbers_of_blocks(digits, size) {
         Some((high, low)) => {
             let value = T::from_u32(high).mul_add(scale, T::from_u32(low), false);
-            Some(signed_value::<T>(value, negative))
+            Some(signed_value::<T>(value, is_negative))
         }
         None => None,
     }
 }
 
-/// The value of hexadecimal digits, behind a minus where that is negative. Each range of lengths ends on its own, so
+/// The value of hexadecimal digits, with a minus where `is_negative`. Each range of lengths ends on its own, so
 /// that no text pays for what another one needs. Why out of line: docs/DECISIONS.md, code.
 #[inline(never)]
-pub fn value_of_nibbles<T: Integer>(digits: &[u8], negative: bool) -> Option<T>
+pub fn value_of_nibbles<T: Integer>(digits: &[u8], is_negative: bool) -> Option<T>
     requires some { 1 ≤ length digits.now }
-    requires minus { IsTrue negative → IsTrue T.TYPE.is_signed }
-    ensures { IfSome result (λ value. StandsFor T.TYPE 16 negative digits.now (T.number value)) }
+    requires minus { IsTrue is_negative → IsTrue T.TYPE.is_signed }
+    ensures { IfSome result (λ value. StandsFor T.TYPE 16 is_negative digits.now (T.number value)) }
 {
     let n = digits.len();
     if n > T::overflow_digits(16) {
         return None;
     }
     if n <= 2 {
-        return value_of_blocks::<T>(digits, 1, negative);
+        return value_of_blocks::<T>(digits, 1, is_negative);
     }
     if n <= 4 {
-        return value_of_blocks::<T>(digits, 2, negative);
+        return value_of_blocks::<T>(digits, 2, is_negative);
     }
     if n <= 8 {
-        return value_of_blocks::<T>(digits, 4, negative);
+        return value_of_blocks::<T>(digits, 4, is_negative);
     }
     if n <= 16 {
-        return value_of_blocks::<T>(digits, 8, negative);
+        return value_of_blocks::<T>(digits, 8, is_negative);
     }
-    value_by_table::<T>(digits, 16, negative)
+    value_by_table::<T>(digits, 16, is_negative)
 }

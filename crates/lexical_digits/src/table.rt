@@ -29,19 +29,20 @@ fn number_by_table<T: Integer>(digits: &[u8], radix: u32, most: usize) -> Option
     Some(value)
 }
 
-/// The value of digits of the radix, behind a minus where that is negative.
+/// The value of digits of the radix, with a minus where `is_negative`.
 #[inline(never)]
-pub fn value_by_table<T: Integer>(digits: &[u8], radix: u32, negative: bool) -> Option<T>
+pub fn value_by_table<T: Integer>(digits: &[u8], radix: u32, is_negative: bool) -> Option<T>
     requires radix { IsRadix radix }
-    requires minus { IsTrue negative → IsTrue T.TYPE.is_signed }
-    ensures { IfSome result (λ value. StandsFor T.TYPE radix negative digits.now (T.number value)) }
+    requires minus { IsTrue is_negative → IsTrue T.TYPE.is_signed }
+    ensures { IfSome result
+        (λ value. StandsFor T.TYPE radix is_negative digits.now (T.number value)) }
 {
     let most = T::overflow_digits(radix);
     if digits.len() > most {
         return None;
     }
     match number_by_table::<T>(digits, radix, most) {
-        Some(value) => Some(signed_value::<T>(value, negative)),
+        Some(value) => Some(signed_value::<T>(value, is_negative)),
         None => None,
     }
 }

@@ -17,7 +17,7 @@ use std::marker::{Model, PhantomData};
 pub struct Field<'a, T> {
     /// The place of its first byte; where it is empty, that of the separator after it.
     pub start: usize,
-    /// Its bytes without a separator, lent as long as the text is.
+    /// Its bytes without a separator, borrowed from the text.
     pub text: &'a [u8],
     /// The number that all of it stands for, or the fault, whose place counts from the text's start.
     /// It is the format's own fault where that is invalid.
@@ -27,7 +27,7 @@ pub struct Field<'a, T> {
 /// The fields of a text between a separator, in order, each with what it stands for. It is an iterator,
 /// and contracts see it as the list of the fields that are still to come.
 ///
-/// It goes on after a fault, takes no memory, and judges the format once. How long it takes is in no
+/// It goes on after a fault, allocates nothing, and validates the format once. How long it takes is in no
 /// contract.
 ///
 /// With a comma `12,x,7` has the fields `12` at 0, with 12; `x` at 3, with `InvalidDigit(3)`; and `7`

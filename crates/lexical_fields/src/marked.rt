@@ -9,9 +9,9 @@ ghost use Rattle.lexical_fields.specs.Fields.{field_length};
 ghost use Rattle.lexical_fields.specs.ReadSoFar.{IsReadSoFar};
 ghost use Rattle.lexical_fields.specs.Search.{AreMarks};
 
-use crate::search::{lowest, marks_in_front};
+use crate::search::{lowest_mark, marks_in_front};
 use crate::threes::numbers_to_12;
-use lexical_digits::values::{joined, value_of_two};
+use lexical_digits::values::{join_parts, value_of_parts};
 use lexical_parse_integer::NumberFormat;
 use lexical_parse_integer::parse::ParseInteger;
 
@@ -22,8 +22,8 @@ fn behind_minus<T: ParseInteger>(text: &[u8]) -> (bool, &[u8])
     ensures behind { IsBehind result.0 T.TYPE text.now result.1.now }
     ensures minus { IsTrue result.0 → IsTrue T.TYPE.is_signed }
 {
-    let negative = T::IS_SIGNED & (text[0] == b'-');
-    (negative, &text[usize::from(negative)..])
+    let is_negative = T::IS_SIGNED & (text[0] == b'-');
+    (is_negative, &text[usize::from(is_negative)..])
 }
 
 // Whether no zero stands in front of another digit, where the format forbids that.
@@ -40,35 +40,35 @@ fn keeps_zero_rule(format: &NumberFormat, digits: &[u8]) -> bool
 
 // The value of up to twelve digits with room behind them.
 #[inline(always)]
-fn value_of_few<T: ParseInteger>(digits: &[u8], count: usize, negative: bool) -> Option<T>
+fn value_to_12<T: ParseInteger>(digits: &[u8], count: usize, is_negative: bool) -> Option<T>
     requires few { count ≤ 12 }
     requires room { 16 ≤ length digits.now }
-    requires minus { IsTrue negative → IsTrue T.TYPE.is_signed }
+    requires minus { IsTrue is_negative → IsTrue T.TYPE.is_signed }
     ensures { IfSome result
-        (λ value. StandsFor T.TYPE 10 negative (take count digits.now) (T.number value)) }
+        (λ value. StandsFor T.TYPE 10 is_negative (take count digits.now) (T.number value)) }
 {
     let (high, low) = numbers_to_12(digits, count)?;
-    value_of_two::<T>(high, low, 1_000_000, negative)
+    value_of_parts::<T>(high, low, 1_000_000, is_negative)
 }
 
 // The value of thirteen to twenty digits with room behind them: the last twelve, and those before.
 #[inline(always)]
-fn value_of_more<T: ParseInteger>(digits: &[u8], count: usize, negative: bool) -> Option<T>
+fn value_from_13<T: ParseInteger>(digits: &[u8], count: usize, is_negative: bool) -> Option<T>
     requires least { 13 ≤ count }
     requires most { count ≤ 20 }
     requires room { count + 16 ≤ length digits.now }
-    requires minus { IsTrue negative → IsTrue T.TYPE.is_signed }
+    requires minus { IsTrue is_negative → IsTrue T.TYPE.is_signed }
     ensures { IfSome result
-        (λ value. StandsFor T.TYPE 10 negative (take count digits.now) (T.number value)) }
+        (λ value. StandsFor T.TYPE 10 is_negative (take count digits.now) (T.number value)) }
 {
     if T::BITS <= 32 {
         return None;
     }
-    let first = value_of_few::<T>(digits, count - 12, negative)?;
+    let first = value_to_12::<T>(digits, count - 12, is_negative)?;
     let (high, low) = numbers_to_12(&digits[count - 12..], 12)?;
-    let scale = joined::<T>(1_000_000, 1_000_000, 0);
-    let rest = joined::<T>(high, 1_000_000, low);
-    match first.checked_mul_add(scale, rest, negative) {
+    let scale = join_parts::<T>(1_000_000, 1_000_000, 0);
+    let rest = join_parts::<T>(high, 1_000_000, low);
+    match first.checked_mul_add(scale, rest, is_negative) {
         Some(value) => Some(value),
         None => None,
     }
@@ -87,18 +87,18 @@ fn value_with_room<T: ParseInteger>(
     ensures { IfSome result
         (λ value. complete format.now T.TYPE (take size text.now) ≡ Ok (T.number value)) }
 {
-    let (negative, digits) = behind_minus::<T>(text);
-    if size <= usize::from(negative) {
+    let (is_negative, digits) = behind_minus::<T>(text);
+    if size <= usize::from(is_negative) {
         return None;
     }
-    let count = size - usize::from(negative);
+    let count = size - usize::from(is_negative);
     if count > 20 || !keeps_zero_rule(format, &digits[..count]) {
         return None;
     }
     if count > 12 {
-        return value_of_more::<T>(digits, count, negative);
+        return value_from_13::<T>(digits, count, is_negative);
     }
-    value_of_few::<T>(digits, count, negative)
+    value_to_12::<T>(digits, count, is_negative)
 }
 
 // The marks that are left, or new ones where none is.
@@ -124,13 +124,12 @@ fn split_marked(text: &[u8], marks: u64, separator: u8) -> (usize, &[u8], u64)
     ensures behind { result.1.now ≡ drop (result.0 + 1) text.now }
     ensures marks { AreMarks separator result.1.now result.2 }
 {
-    let size = lowest(marks);
+    let size = lowest_mark(marks);
     (size, &text[size + 1..], marks >> size >> 1)
 }
 
 // Reads fields into a slice behind the numbers that it has, as long as their ends are marked and each is digits alone or
-// behind a minus: how many numbers it has then, and what is left of the text. It stays out of line, so that its loop has
-// the registers to itself.
+// behind a minus: how many numbers it has then, and what is left of the text. Why out of line: docs/DECISIONS.md, code.
 #[inline(never)]
 pub(crate) fn read_marked<'a, T: ParseInteger>(
     text: &'a [u8],

@@ -7,7 +7,7 @@ use std::simd::prelude::*;
 
 // A bit for each lane, set where that holds the byte.
 #[inline(always)]
-fn marks(lanes: u8x16, byte: u8) -> u64
+fn marks_of_16(lanes: u8x16, byte: u8) -> u64
     ensures here { (k : ℕ) → k < 16
         → bit_at result k ≡ (if slice_index lanes k == byte then 1 else 0) }
     ensures beyond { (k : ℕ) → 16 ≤ k → bit_at result k ≡ 0 }
@@ -44,7 +44,7 @@ pub(crate) fn marks_in_front(text: &[u8], separator: u8) -> u64
 
 // The least bit that is set.
 #[inline(always)]
-pub(crate) fn lowest(marks: u64) -> usize
+pub(crate) fn lowest_mark(marks: u64) -> usize
     requires { marks ≢ 0 }
     ensures set { bit_at marks result ≡ 1 }
     ensures below { (k : ℕ) → k < result → bit_at marks k ≡ 0 }
@@ -59,10 +59,10 @@ pub(crate) fn first_of_16(bytes: &[u8], byte: u8) -> Option<usize>
     ensures found { IfSome result (StandsFirst byte bytes.now) }
     ensures none { IsNone result → (k : ℕ) → k < 16 → slice_index bytes.now k ≢ byte }
 {
-    let marks = marks(u8x16::from_slice(bytes), byte);
+    let marks = marks_of_16(u8x16::from_slice(bytes), byte);
     if marks == 0 {
         None
     } else {
-        Some(lowest(marks))
+        Some(lowest_mark(marks))
     }
 }

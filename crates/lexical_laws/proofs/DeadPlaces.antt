@@ -33,7 +33,7 @@ fault_cases n stop zero_place false true m None at v e h = by_end (stop == n) re
     by_end false is h = cc
 fault_cases n stop zero_place false false m None at v e h = cc
 
--- the same, where the zero rule is off and there is no separator
+-- the cases of a fault where the zero rule is off and there is no separator
 rule_cases : (n stop zero_place : ℕ) (prefix forbidden separated a b c lacks m : Bool) (outside : Option ℕ) (at : ℕ → ℕ) (v : ℤ × ℕ) (e : Error) → forbidden ≡ false → separated ≡ false →
     first_fault_or (fault_if prefix (Empty n) ∷ fault_if (((forbidden && a) && b) && c) (InvalidLeadingZeros zero_place) ∷ option_map (λ k. range_error m (at k)) outside ∷ fault_if (lacks && (separated || (stop == n))) (Empty stop) ∷ []) v ≡ Err e →
     (e ≡ Empty n) ⊎ ((m : Bool) × (place : ℕ) × (e ≡ range_error m place))

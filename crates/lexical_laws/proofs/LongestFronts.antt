@@ -120,8 +120,8 @@ some_end f pre r text start low some = elim (cases_lt start (end_of f pre r text
 ]
 
 -- without a fault the whole is its value
-answer_of : (f : Format) (t : IntegerType) (text : List ℕ) (h : Head) (x : Numeral) → (h.start == length text) ≡ false → zero_fault f (chooses_radix h) x ≡ None → range_fault t h.is_negative x ≡ None → nat_lt x.stop (length text) ≡ false → (digit_count x == 0) ≡ false → complete_by f t text h x ≡ Ok (numeral_value h.is_negative x)
-answer_of f t text h x start zeros range over some = rw (start, and-false h.is_prefixed, zeros, range, over, some, and-false (digits_required f)) refl
+front_without_fault : (f : Format) (t : IntegerType) (text : List ℕ) (h : Head) (x : Numeral) → (h.start == length text) ≡ false → zero_fault f (chooses_radix h) x ≡ None → range_fault t h.is_negative x ≡ None → nat_lt x.stop (length text) ≡ false → (digit_count x == 0) ≡ false → complete_by f t text h x ≡ Ok (numeral_value h.is_negative x)
+front_without_fault f t text h x start zeros range over some = rw (start, and-false h.is_prefixed, zeros, range, over, some, and-false (digits_required f)) refl
 
 module _ (f : Format) (t : IntegerType) (text : List ℕ) (p : ℕ) (h : Head) (valid : IsNone (fault f)) (head : head_of f t text ≡ Ok h)
     (some : nat_lt 0 (length (places f h.is_prefixed h.radix text h.start)) ≡ true) (low : p ≤ length text) where
@@ -245,7 +245,7 @@ module _ (f : Format) (t : IntegerType) (text : List ℕ) (p : ℕ) (h : Head) (
       let start_off : (h.start == length front) ≡ false = ne_eqb h.start (length front) (λ e. omega (arith, size)) in
       let over : nat_lt x.stop (length front) ≡ false = le-ltb x.stop (length front) (omega (arith, size)) in
       complete_is f t front h (same_head inside) ∙ ap (complete_by f t front h) same
-      ∙ answer_of f t front h x start_off zeros range over some_count ∙ ap (λ z. Ok z) value
+      ∙ front_without_fault f t front h x start_off zeros range over some_count ∙ ap (λ z. Ok z) value
 
 -- the front that is read, where a digit is
 pub front_is_whole : (f : Format) (t : IntegerType) (text : List ℕ) (v : ℤ) (p : ℕ) → IsNone (fault f) → number_in_front f t text ≡ Ok (v, p) → p ≤ length text → complete f t (take p text) ≡ Ok v

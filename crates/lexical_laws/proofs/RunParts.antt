@@ -7,7 +7,7 @@ use Rattle.std.proofs.lemmas.Bool.Decides.{nat_tests}
 use Rattle.std.proofs.lemmas.List.{length-replicate, take-append-drop}
 use Rattle.std.specs.Prelude.{◌==◌, nat_lt, slice_get, replicate}
 use Rattle.lexical_util.specs.Format.{Format}
-use Rattle.lexical_parse_integer.specs.Runs.{flag_for, leading_in_force, run_passes, separator_at}
+use Rattle.lexical_parse_integer.specs.Runs.{admits_leading, flag_for, run_passes, separator_at}
 use Rattle.lexical_parse_integer.proofs.ForCallers.{true_or_false}
 use Rattle.lexical_laws.specs.Integer.{HasRun, may_lead, may_part}
 use Rattle.lexical_laws.proofs.Bodies.{StandsAt}
@@ -21,7 +21,7 @@ abbrev pub some_in : List ℕ → Bool
 some_in [] = false
 some_in (b ∷ bs) = true
 
-leading_flag : (f : Format) (pre : Bool) (prefix : List ℕ) → pre ≡ some_in prefix → leading_in_force f pre ≡ may_lead f prefix
+leading_flag : (f : Format) (pre : Bool) (prefix : List ℕ) → pre ≡ some_in prefix → admits_leading f pre ≡ may_lead f prefix
 leading_flag f pre [] e = rw e (ap (λ b. f.integer_leading_digit_separator || b) (and-false f.integer_prefix_digit_separator) ∙ or-false f.integer_leading_digit_separator)
 leading_flag f pre (b ∷ prefix) e = rw e (ap (λ b. f.integer_leading_digit_separator || b) (and-true f.integer_prefix_digit_separator))
 

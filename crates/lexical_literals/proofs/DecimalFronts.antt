@@ -192,7 +192,7 @@ decimal_digits f c d cs v n decimal first read other apart =
 
 -- ---- what the parts of the code say
 
--- the same of any text that begins with a digit
+-- any text that begins with a digit has the front that it has under the standard format
 pub decimal_read : (f : Format) (text : List ℕ) (v : ℤ) (n : ℕ) → IsDecimal f
     → is_some (digit (slice_index text 0) 10) ≡ true
     → partial standard (integer_type 128 false) text ≡ Ok (v, n)

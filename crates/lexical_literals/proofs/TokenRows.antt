@@ -85,7 +85,7 @@ other_bytes = refl
 
 -- ---- under other formats
 
--- the same under a format
+-- kinds and places of a source's tokens under a format
 abbrev spans_under : Format → List ℕ → List (Kind × ℕ × ℕ)
 spans_under format source =
     map (λ token. (token.kind, token.start, token.stop)) (tokens_under format source)

@@ -125,7 +125,7 @@ FollowUnder format source from [] = AreSkipped source from (length source)
 FollowUnder format source from (token ∷ more) =
     BeginsNext format source from token × FollowUnder format source token.stop more
 
--- the same with the numbers of literals
+-- each token begins next after the one before it, with the numbers of literals
 abbrev pub FollowInTurn : List ℕ → ℕ → List TokenView → Type 0
 FollowInTurn source from tokens = FollowUnder literals source from tokens
 

@@ -62,10 +62,10 @@ fn stand_alone(text: &[u8], count: usize, format: &NumberFormat) -> bool
     !is_word_byte(byte) && !is_separator(byte, format)
 }
 
-// The number of the decimal digits that a text begins with, and how many they are, or 0 where that isn't sure: out of
-// line, so that the two come in registers.
+// The number of the decimal digits that a text begins with, and how many they are, or 0 where that isn't sure. Why
+// out of line: docs/DECISIONS.md, code.
 #[inline(never)]
-pub(crate) fn decimal_front(text: &[u8], format: &NumberFormat) -> (u64, usize)
+pub(crate) fn front_of_decimal(text: &[u8], format: &NumberFormat) -> (u64, usize)
     requires first { is_some (digit (slice_index text.now 0) 10) ≡ true }
     requires decimal { IsDecimal format.now }
     ensures { 0 < result.1

@@ -26,7 +26,7 @@ ghost use Rattle.lexical_literals.specs.Decimal.{IsDecimal};
 ghost use Rattle.lexical_literals.specs.Tokens.{FollowInTurn, FollowUnder, IsPartOf, TokenView, front_of, literals, number_of, view_of_token, tokens, tokens_from, tokens_if_valid};
 
 use bytes::{is_word_byte, skipped_length, word_length};
-use decimal::{decimal_front, is_decimal, seems_punctuated};
+use decimal::{front_of_decimal, is_decimal, seems_punctuated};
 use lexical_parse_integer::algorithm::algorithm_partial;
 use lexical_parse_integer::laws::grammar::{front_end, wider_types};
 use lexical_parse_integer::parse::ParseInteger;
@@ -63,7 +63,7 @@ pub struct Token<'a> {
     pub start: usize,
     /// The place after its last byte, which is greater than `start`.
     pub stop: usize,
-    /// Its bytes, lent as long as the source is.
+    /// Its bytes, borrowed from the source.
     pub text: &'a [u8],
 }
 
@@ -89,7 +89,7 @@ fn number(text: &[u8], format: &NumberFormat, decimal: bool) -> (Kind, usize)
     ensures { result ≡ number_of format.now text.now }
 {
     if decimal && !seems_punctuated(text) {
-        let (value, count) = decimal_front(text, format);
+        let (value, count) = front_of_decimal(text, format);
         if count > 0 {
             return (Kind::Number(value as u128), count);
         }
@@ -102,9 +102,8 @@ fn number(text: &[u8], format: &NumberFormat, decimal: bool) -> (Kind, usize)
     wide_number(text, format)
 }
 
-// The number of 64 bits that a text begins with, as most are, and 0 bytes where that isn't sure: out of line, so that
-// what calls `next` has it in place, and in two registers. Where there is a separator the compiler leaves out what
-// reads digits alone.
+// The number of 64 bits that a text begins with, as most are, and 0 bytes where that isn't sure. Why out of line:
+// docs/DECISIONS.md, code.
 #[inline(never)]
 fn punctuated_number(text: &[u8], format: &NumberFormat) -> (u64, usize)
     requires valid { IsNone (fault format.now) }
@@ -117,7 +116,7 @@ fn punctuated_number(text: &[u8], format: &NumberFormat) -> (u64, usize)
     }
 }
 
-// Such a number under a format without a separator, out of line again.
+// Such a number under a format without a separator. Why out of line: docs/DECISIONS.md, code.
 #[inline(never)]
 fn number_without_separator(text: &[u8], format: &NumberFormat) -> (u64, usize)
     requires valid { IsNone (fault format.now) }
@@ -172,7 +171,7 @@ fn front(first: u8, text: &[u8], format: &NumberFormat, decimal: bool) -> (Kind,
 /// The tokens of a source, in order. It is an iterator, and contracts see it as the list of the
 /// tokens that are still to come.
 ///
-/// It takes no memory. How long it takes is in no contract.
+/// It allocates nothing. How long it takes is in no contract.
 #[derive(Drop)]
 pub struct Tokens<'a> {
     // What the numbers look like, and whether decimal digits alone are read as under the standard format.

@@ -1,3 +1,3 @@
 -- Words of digits as bytes of the text: for the answers of `algorithm::multi`.
-pub mod LentBytes
+pub mod BorrowedBytes
 pub mod WordsInTexts

@@ -17,7 +17,7 @@ is_affix is_case_sensitive (Some affix) (Some byte) = matches is_case_sensitive 
 is_affix is_case_sensitive (Some affix) None = false
 is_affix is_case_sensitive None byte = false
 
--- the radix that the letter of a literal prefix puts in force: 16 for `x`, 8 for `o` and 2 for `b`
+-- the effective radix behind the letter of a literal prefix: 16 for `x`, 8 for `o` and 2 for `b`
 unfoldable pub literal_radix : Bool → Option ℕ → Option ℕ
 literal_radix is_case_sensitive byte =
     if is_affix is_case_sensitive (Some letter_x) byte then Some 16

@@ -71,7 +71,7 @@ pub record IsSound (cursor : CursorView) : Type 0 where
   pub suffix_digit : IsSuffixNoDigit cursor.format cursor.radix cursor.bytes
   pub suffix_separator : IsSuffixNoSeparator cursor.format cursor.bytes
   -- no prefix has changed the radix, but an octal zero at the start may have
-  pub in_force : cursor.is_prefixed ≡ false
+  pub effective : cursor.is_prefixed ≡ false
       → (cursor.radix ≡ cursor.format.mantissa_radix)
       ⊎ (cursor.radix ≡ bare_radix cursor.format cursor.bytes cursor.start)
   -- and where the format has neither literal prefixes nor octal zeros, nothing changes it

@@ -28,10 +28,10 @@ pub record AreGrouped (format : Format) (radix : ℕ) (bytes : List ℕ) : Type 
       → place + 1 < length bytes → is_digit_in radix bytes place ≡ false
       → is_digit_in radix bytes (place + 1) ≡ true
 
--- The digits among bytes stand for a number of a type, behind a minus where that is negative.
-pub record AreWorth (type : IntegerType) (radix : ℕ) (negative : Bool) (bytes : List ℕ)
+-- The digits among bytes stand for a number of a type, with a minus where `is_negative`.
+pub record AreWorth (type : IntegerType) (radix : ℕ) (is_negative : Bool) (bytes : List ℕ)
     (value : ℤ) : Type 0 where
-  pub worth : value ≡ with_sign negative (positional_value radix (digits_among radix bytes))
+  pub worth : value ≡ with_sign is_negative (positional_value radix (digits_among radix bytes))
   pub fits : IsNumber type value
 
 -- where reading stops, where a numeral with a digit ends at a place: after the suffix there, or at the end

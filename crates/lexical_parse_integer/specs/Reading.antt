@@ -121,7 +121,7 @@ pub record LeavesTurns (bits : ℕ) (type : IntegerType) (no_multi_digit : Bool)
   pub few : AsksWords bits no_multi_digit old.format → old.radix ≤ 10
       → LeavesFewTurns bits (overflow_digits type old.radix) old new
 
--- the same once no digit is left to be read
+-- once no digit is left: one turn a digit where no words may be taken, and few turns where they are asked for
 pub record KeepsTurns (bits : ℕ) (type : IntegerType) (no_multi_digit : Bool)
     (old new : CursorView) : Type 0 where
   pub each : IsTrue no_multi_digit → new.turns + old.digits ≡ old.turns + new.digits

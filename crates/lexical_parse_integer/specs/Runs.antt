@@ -1,6 +1,6 @@
 -- Digits and separators in a text: which separators pass, where the numeral ends, and where its digits stand.
--- The radix is the one in force. The numeral's region goes from start to the text's end, and `is_prefixed` says whether
--- it lies behind a prefix.
+-- The radix is the effective one. The numeral's region goes from start to the text's end, and `is_prefixed` says
+-- whether it lies behind a prefix.
 use Rattle.std.specs.Prelude.{ℕ, ◌+◌, ◌-◌, Bool, true, false, ◌&&◌, ◌||◌, ◌==◌, nat_lt, List, length, filter, Option, Some, None, option_and_then, is_some, slice_get}
 use Rattle.std.specs.List.{range_with_len, prefix_len, suffix_len}
 use Rattle.lexical_util.specs.Format.{Format}
@@ -44,17 +44,17 @@ abbrev pub run_stop : Format → List ℕ → ℕ → ℕ
 run_stop format text place = stop_of (separator_at format text) place (length text)
 
 -- whether leading runs may stand in a region: everywhere by the one flag, and behind a prefix by the other too
-abbrev pub leading_in_force : Format → Bool → Bool
-leading_in_force format is_prefixed =
+abbrev pub admits_leading : Format → Bool → Bool
+admits_leading format is_prefixed =
     format.integer_leading_digit_separator || (format.integer_prefix_digit_separator && is_prefixed)
 
 -- the flag that a run needs, by whether a digit stands before it in the region, and whether one stands behind it
 unfoldable pub flag_for : Format → Bool → Bool → Bool → Bool
 flag_for format is_prefixed true true = format.integer_internal_digit_separator
-flag_for format is_prefixed false true = leading_in_force format is_prefixed
+flag_for format is_prefixed false true = admits_leading format is_prefixed
 flag_for format is_prefixed true false = format.integer_trailing_digit_separator
 flag_for format is_prefixed false false =
-    leading_in_force format is_prefixed || format.integer_trailing_digit_separator
+    admits_leading format is_prefixed || format.integer_trailing_digit_separator
 
 -- whether the run from one place to before another passes: it is one separator long or more are allowed, and the
 -- flag that its neighbours ask for is set

@@ -48,7 +48,7 @@ pub(crate) fn octal_zero_at(bytes: &[u8], format: &NumberFormat, place: usize) -
     format.literal_octal_zero() && place < bytes.len() && bytes[place] == b'0'
 }
 
-// The radix that the letter of a literal prefix puts in force.
+// The effective radix behind the letter of a literal prefix.
 #[inline(always)]
 #[tactic(auto, unfolding(crate::specs::Affixes::literal_radix))]
 fn literal_radix(is_case_sensitive: bool, byte: Option<u8>) -> Option<u32>

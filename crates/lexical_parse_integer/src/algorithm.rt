@@ -49,12 +49,12 @@ fn read<T: Integer>(c: &mut Cursor<'_>, no_multi_digit: bool) -> Result<T>
     ensures few { Folded (AsksWords T.BITS no_multi_digit c.old.format
         → HasFewTurns c.old.format T.TYPE c.old.bytes c.new.turns) }
 {
-    let (negative, is_prefixed, is_octal) = read_head::<T>(c)?;
-    c.sound();
+    let (is_negative, is_prefixed, is_octal) = read_head::<T>(c)?;
+    c.assert_invariant();
     if is_prefix_alone(c, is_prefixed) {
         return Err(Error::Empty(c.buffer_length()));
     }
-    let value = read_numeral::<T>(c, negative, is_prefixed | is_octal, no_multi_digit)?;
+    let value = read_numeral::<T>(c, is_negative, is_prefixed | is_octal, no_multi_digit)?;
     c.read_suffix();
     Ok(value)
 }
@@ -217,7 +217,7 @@ pub(crate) fn standard_complete<T: Integer>(bytes: &[u8]) -> Result<T>
     }
 }
 
-// The place for its answer is made ready here, and so not for a front that a quick way reads.
+// The partial answer under the standard format for such a text. Why by another call: docs/DECISIONS.md, code.
 #[inline(always)]
 pub(crate) fn standard_partial<T: Integer>(bytes: &[u8]) -> Result<(T, usize)>
     ensures { view_of (with_place T.number) result ≡ partial standard T.TYPE bytes.now }

@@ -119,7 +119,7 @@ impl<'a> Cursor<'a> {
 
     // Does nothing at run time: its contract says what is true of each cursor, for the proofs of callers.
     #[inline(always)]
-    pub(crate) fn sound(&self)
+    pub(crate) fn assert_invariant(&self)
         ensures { Folded (IsSound self.now) }
     {
         let _position = &self.position;
@@ -207,7 +207,7 @@ impl<'a> Cursor<'a> {
 
     /// The next `n` bytes, and `None` where fewer are left. `n` is 4 or 8.
     ///
-    /// They are lent for as long as the text is, not copied. No call lends more of the text.
+    /// They are borrowed from the text, for its lifetime. No call lends more of it.
     #[inline(always)]
     pub fn peek_word(&self, n: usize) -> Option<&'a [u8]>
         requires { (n ≡ 4) ⊎ (n ≡ 8) }
@@ -239,8 +239,8 @@ impl<'a> Cursor<'a> {
     /// Steps over the prefix where it is at the position, and answers whether it does; else the cursor stays.
     ///
     /// The prefix is a `0` and the format's prefix byte directly after it. Where the format has literal prefixes,
-    /// `0x`, `0o` and `0b` are prefixes too, and put 16, 8 or 2 in force. The region starts after the prefix. The
-    /// position has to be where the region starts, at most 1, and no digit may have been read.
+    /// `0x`, `0o` and `0b` are prefixes too, and make 16, 8 or 2 the effective radix. The region starts after the
+    /// prefix. The position has to be where the region starts, at most 1, and no digit may have been read.
     #[inline(always)]
     pub fn read_prefix(&mut self) -> bool
         requires front { self.old.position ≤ 1 }
@@ -262,8 +262,8 @@ impl<'a> Cursor<'a> {
         }
     }
 
-    /// Puts 8 in force where an octal zero is at the position, and answers whether one is. The cursor stays, since
-    /// that zero is the numeral's first digit.
+    /// Makes 8 the effective radix where an octal zero is at the position, and answers whether one is. The cursor
+    /// stays, since that zero is the numeral's first digit.
     ///
     /// An octal zero is a `0` where the format has `literal_octal_zero`; a prefix has to be looked for before. The
     /// position has to be where the region starts, at most 1, and no digit may have been read.
@@ -282,7 +282,7 @@ impl<'a> Cursor<'a> {
         true
     }
 
-    /// Takes the next digit of the numeral, after separators that pass, and answers its value; `None` where no
+    /// Takes the next digit of the numeral, after permitted separators, and answers its value; `None` where no
     /// digit is left, and the cursor is then at the numeral's end.
     ///
     /// A digit takes one turn. A run of separators is judged whole, by the digits beside it, with one look over it.

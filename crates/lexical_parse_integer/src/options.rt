@@ -5,7 +5,7 @@ use lexical_util::options::ParseOptions;
 use lexical_util::result::Result;
 use std::marker::Model;
 
-/// Options of the parser. No answer depends on them, only how much work it costs.
+/// Options of the parser. They affect speed alone: no answer depends on them.
 #[derive(Debug, Clone, PartialEq, Eq, PartialOrd, Ord, Drop)]
 pub struct Options {
     no_multi_digit: bool,

@@ -2,7 +2,7 @@
 // registers.
 ghost use Rattle.std.specs.Prelude.{◌≡◌, ◌≤◌, ◌<◌, None, length};
 ghost use Rattle.lexical_util.specs.Digit.{IsRadix};
-ghost use Rattle.lexical_parse_integer.specs.Runs.{digit_at, end_of, flag_for, leading_in_force, run_passes, run_stop, separator_at};
+ghost use Rattle.lexical_parse_integer.specs.Runs.{admits_leading, digit_at, end_of, flag_for, run_passes, run_stop, separator_at};
 ghost use Rattle.lexical_parse_integer.specs.Seeking.{Finds, IsAtRunStart, IsSeparatorNoDigit, starts_behind_prefix};
 
 use lexical_util::digit::char_to_digit;
@@ -54,8 +54,8 @@ fn run_stop(bytes: &[u8], format: &NumberFormat, place: usize) -> usize
 
 // Whether leading runs may stand in the region: a region that starts at 2 or later starts behind a prefix.
 #[inline(always)]
-fn leading_in_force(format: &NumberFormat, start: usize) -> bool
-    ensures { result ≡ leading_in_force format.now (starts_behind_prefix start) }
+fn admits_leading(format: &NumberFormat, start: usize) -> bool
+    ensures { result ≡ admits_leading format.now (starts_behind_prefix start) }
 {
     format.integer_leading_digit_separator()
         || (format.integer_prefix_digit_separator() && start >= 2)
@@ -68,10 +68,10 @@ fn flag_for(format: &NumberFormat, start: usize, before: bool, after: bool) -> b
 {
     match (before, after) {
         (true, true) => format.integer_internal_digit_separator(),
-        (false, true) => leading_in_force(format, start),
+        (false, true) => admits_leading(format, start),
         (true, false) => format.integer_trailing_digit_separator(),
         (false, false) => {
-            leading_in_force(format, start) || format.integer_trailing_digit_separator()
+            admits_leading(format, start) || format.integer_trailing_digit_separator()
         }
     }
 }
@@ -133,8 +133,7 @@ fn seek_behind_run(
     }
 }
 
-// What stands ahead where no digit stands at `position`. The place for the answer of a call is made ready here, and so
-// not for a digit.
+// What stands ahead where no digit stands at `position`. Why by another call: docs/DECISIONS.md, code.
 #[inline(always)]
 fn seek_behind_separator(
     bytes: &[u8],

@@ -61,7 +61,7 @@ number_product w true (negsuc value) (pos scale) (pos add) _ _ _ number =
 abbrev machine_value : Width → ℤ → ℤ
 machine_value w z = to_z w (of_z w z)
 
--- the same of numbers as the machine keeps them
+-- where the result fits, the product of numbers as the machine keeps them fits
 pub product_fits : {w : Width} {value scale : ℤ} (negative : Bool) (add : ℤ) → SFits w value → SFits w scale
     → pos 1 ≤ℤ scale → pos 0 ≤ℤ add → HasSign negative value
     → IsNumber (integer_type (bits w) true) (mul_add negative value scale add)

@@ -134,7 +134,7 @@ literals_fit format valid asked =
     let past_prefix = (or_parts (is_some format.base_prefix) _ rules).1 in
     or_parts (is_unfit_beside_literals format.digit_separator) _ past_prefix
 
--- what matches the separator is no digit of a radix that a literal prefix puts in force
+-- what matches the separator is no digit of the effective radix behind a literal prefix
 pub separator_no_literal_digit : (format : Format) (separator byte radix : ℕ) → fault format ≡ None
     → format.literal_prefixes ≡ true → radix ≤ 16
     → format.digit_separator ≡ Some separator → lower_case byte ≡ lower_case separator → digit byte radix ≡ None

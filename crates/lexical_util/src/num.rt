@@ -74,8 +74,8 @@ pub trait Integer: Copy + Eq + Ord {
     ///
     /// `scale` has to be at least 1 and `add` at least 0; `self` has to be at most 0 where
     /// `negative` and at least 0 elsewhere; and the result has to be a number of the type. So a
-    /// negative numeral is summed downwards, and reaches the type's least number: with the scale 10
-    /// the `i8` -12 and the digit 8 give -128.
+    /// negative numeral is accumulated by subtraction, and reaches the type's least number: with the
+    /// scale 10 the `i8` -12 and the digit 8 give -128.
     fn mul_add(self, scale: Self, add: Self, negative: bool) -> Self
         requires scale { pos 1 ≤ℤ number scale }
         requires add { pos 0 ≤ℤ number add }

@@ -6,6 +6,6 @@ mod compare;
 mod formats;
 mod lengths;
 mod parted;
-mod ready;
+mod presets;
 mod reference;
 mod small;

@@ -14,7 +14,7 @@ abbrev pub grouped : Format
 grouped =
     record standard { digit_separator = Some underscore; integer_internal_digit_separator = true }
 
--- the same in radix 16, behind `0x` or without it
+-- radix 16, behind `0x` or without it, with `_` between digits, one at a time
 abbrev pub hexadecimal : Format
 hexadecimal =
     record grouped {

@@ -41,8 +41,8 @@ whole_in text = whole_by text (partial standard (integer_type 64 true) text)
 -- ---- the fraction
 
 -- digits alone, with no sign
-abbrev pub unsigned : Format
-unsigned = record standard { no_positive_mantissa_sign = true }
+abbrev pub without_sign : Format
+without_sign = record standard { no_positive_mantissa_sign = true }
 
 -- a fraction of this value and so many digits, which starts at a place, in units of the last of all digits
 abbrev pub fraction_of : ℕ → ℕ → ℤ → ℕ → Answer
@@ -59,7 +59,7 @@ fraction_by digits start (Err e) = Err (Fraction start e)
 -- the fraction of a text that starts at a place
 abbrev pub fraction_at : ℕ → ℕ → List ℕ → Answer
 fraction_at digits start text =
-    fraction_by digits start (partial unsigned (integer_type 64 false) (drop start text))
+    fraction_by digits start (partial without_sign (integer_type 64 false) (drop start text))
 
 -- the fraction behind a whole part: none where no point stands at its end
 abbrev pub fraction_behind : ℕ → ℕ → List ℕ → Answer

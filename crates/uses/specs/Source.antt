@@ -27,7 +27,7 @@ c_in text =
 abbrev pub python_format : Format
 python_format = python
 
--- the same with any zeros in front
+-- literals of Python with any zeros in front
 abbrev pub padded_format : Format
 padded_format = record python { no_integer_leading_zeros = false }
 

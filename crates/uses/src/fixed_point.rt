@@ -6,7 +6,7 @@ ghost use Rattle.std.specs.Int.RustNames.{unsigned_abs};
 ghost use Rattle.lexical_util.specs.Number.{number_if_fits, integer_type, mul_add};
 ghost use Rattle.lexical_parse_integer.specs.Answer.{with_place, view_of};
 ghost use Rattle.lexical_parse_integer.specs.Grammar.{partial};
-ghost use Rattle.uses.specs.FixedPoint.{fixed_point_in, fraction_at, fraction_behind, is_negative, unsigned, whole_in};
+ghost use Rattle.uses.specs.FixedPoint.{fixed_point_in, fraction_at, fraction_behind, is_negative, whole_in, without_sign};
 
 use crate::narrow::as_i64;
 use lexical_parse_integer::laws::grammar::front_end;
@@ -31,8 +31,8 @@ pub enum FixedPointError {
 }
 
 /// Digits alone, with no sign.
-pub fn unsigned() -> NumberFormat
-    ensures { result ≡ unsigned }
+pub fn without_sign() -> NumberFormat
+    ensures { result ≡ without_sign }
 {
     NumberFormatBuilder::new()
         .no_positive_mantissa_sign(true)
@@ -86,11 +86,11 @@ fn whole_part(text: &[u8]) -> Result<(i64, usize), FixedPointError>
 // The digits that a text begins with: their value, and how many.
 fn read_digits(text: &[u8]) -> Result<(u64, usize), Error>
     ensures answer { view_of (with_place pos) result
-        ≡ partial unsigned (integer_type 64 false) text.now }
+        ≡ partial without_sign (integer_type 64 false) text.now }
     ensures within { IfOk result (λ found. found.1 ≤ length text.now) }
 {
     front_end();
-    u64::from_lexical_partial_with_options(text, &unsigned(), &options::STANDARD)
+    u64::from_lexical_partial_with_options(text, &without_sign(), &options::STANDARD)
 }
 
 // The fraction that begins at `start`, in units of the last of so many digits, and the place

@@ -5,7 +5,7 @@ use Rattle.lexical_literals.proofs.number.Goals as goal
 
 pub returns-then-count-gt0 : goal.returns-then-count-gt0
 unfolding number_of
-returns-then-count-gt0 c = sym (ap (number_by c.args.text.now) (c.decimal_front-value.ensures c.if-count-gt0.true))
+returns-then-count-gt0 c = sym (ap (number_by c.args.text.now) (c.front_of_decimal-value.ensures c.if-count-gt0.true))
 
 pub returns-then-length-gt0 : goal.returns-then-length-gt0
 unfolding number_of

@@ -68,7 +68,7 @@ module _ (f : Format) (pre : Bool) (r : ℕ) (b : List ℕ) (j : ℕ) where
         fails = fails;
       }) s
 
-  -- the same, where q belongs too
+  -- a place that the numeral reaches, from which on all belongs up to q and q too, is before its end
   pub is_inside : (p q : ℕ) → j ≤ p → p ≤ end_of f pre r b j → p ≤ q → HoldsBetween (is_in_numeral f pre r b j) p q → q < length b → is_in_numeral f pre r b j q ≡ true → q < end_of f pre r b j
   is_inside p q low high pq holds within here =
       let s = IsStop-end_of (omega arith) in

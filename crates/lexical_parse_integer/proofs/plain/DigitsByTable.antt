@@ -44,15 +44,15 @@ rule_in f r (c ∷ cs) (d ∷ ds) all rule = by_zero (d == 0) refl
         ap (λ (n : ℕ). (f.no_integer_leading_zeros && nat_le 2 n) && true) same ∙ told
 
 -- digits, alone or behind a minus, are read as the number that they write
-pub table_read : (f : Format) (t : IntegerType) (r : ℕ) (negative : Bool) (text digits : List ℕ) (value : ℤ) → IsPlain f → f.mantissa_radix ≡ r → IsRadix r → IsBehind negative t text digits → 0 < length digits → keeps_zero_rule f digits ≡ true →
-    StandsFor t r negative digits value → complete f t text ≡ Ok value
-table_read f t r negative text digits value plain same radix behind some rule s =
+pub table_read : (f : Format) (t : IntegerType) (r : ℕ) (is_negative : Bool) (text digits : List ℕ) (value : ℤ) → IsPlain f → f.mantissa_radix ≡ r → IsRadix r → IsBehind is_negative t text digits → 0 < length digits → keeps_zero_rule f digits ≡ true →
+    StandsFor t r is_negative digits value → complete f t text ≡ Ok value
+table_read f t r is_negative text digits value plain same radix behind some rule s =
     let w = s.writes in
     let all : HaveDigits r digits w.values = ap (map (λ byte. digit byte r)) (sym (take-length digits)) ∙ w.digits in
     let here : HaveDigits f.mantissa_radix digits w.values = subst (λ (n : ℕ). HaveDigits n digits w.values) (sym same) all in
     let low = radix.low in
-    let signed_is : with_sign negative (positional_value f.mantissa_radix w.values) ≡ value = ap (λ (n : ℕ). with_sign negative (positional_value n w.values)) same ∙ ap (λ (z : ℤ). if negative then neg_ℤ z else z) (sym w.worth) ∙ sym s.worth in
-    digits_alone_read f t negative text digits w.values plain (omega arith) behind here some (rule_in f r digits w.values all rule) (ap (is_number t) signed_is ∙ s.fits) ∙ ap Ok signed_is
+    let signed_is : with_sign is_negative (positional_value f.mantissa_radix w.values) ≡ value = ap (λ (n : ℕ). with_sign is_negative (positional_value n w.values)) same ∙ ap (λ (z : ℤ). if is_negative then neg_ℤ z else z) (sym w.worth) ∙ sym s.worth in
+    digits_alone_read f t is_negative text digits w.values plain (omega arith) behind here some (rule_in f r digits w.values all rule) (ap (is_number t) signed_is ∙ s.fits) ∙ ap Ok signed_is
 
 -- ---- what the parts of the code say
 

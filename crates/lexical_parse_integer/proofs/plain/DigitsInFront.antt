@@ -126,17 +126,17 @@ front_digits_read f t true text (c ∷ cs) ds (suc n) plain positive behind all 
 -- ---- what the parts of the code say
 
 -- decimal digits at the front of what stands behind the minus, whose place counts it
-pub begins_read : (f : Format) (t : IntegerType) (negative : Bool) (text digits : List ℕ) (value : ℤ) (count start : ℕ) → IsPlain f → f.mantissa_radix ≡ 10 → IsBehind negative t text digits → start ≡ bool_byte negative → BeginsWith f t negative digits value count →
+pub begins_read : (f : Format) (t : IntegerType) (is_negative : Bool) (text digits : List ℕ) (value : ℤ) (count start : ℕ) → IsPlain f → f.mantissa_radix ≡ 10 → IsBehind is_negative t text digits → start ≡ bool_byte is_negative → BeginsWith f t is_negative digits value count →
     partial f t text ≡ Ok (value, start + count)
-begins_read f t negative text digits value count start plain ten behind at b =
+begins_read f t is_negative text digits value count start plain ten behind at b =
     let w = b.stands.writes in
     let bytes : List ℕ = take count digits in
     let all : HaveDigits 10 bytes w.values = ap (map (λ byte. digit byte 10)) (sym (take-length bytes)) ∙ w.digits in
     let here : HaveDigits f.mantissa_radix bytes w.values = subst (λ (n : ℕ). HaveDigits n bytes w.values) (sym ten) all in
-    let value_is : with_sign negative (positional_value f.mantissa_radix w.values) ≡ value = ap (λ (n : ℕ). with_sign negative (positional_value n w.values)) ten ∙ ap (λ (z : ℤ). if negative then neg_ℤ z else z) (sym w.worth) ∙ sym b.stands.worth in
+    let value_is : with_sign is_negative (positional_value f.mantissa_radix w.values) ≡ value = ap (λ (n : ℕ). with_sign is_negative (positional_value n w.values)) ten ∙ ap (λ (z : ℤ). if is_negative then neg_ℤ z else z) (sym w.worth) ∙ sym b.stands.worth in
     let stops : (count < length digits → is_some (digit (get_or digits count 0) f.mantissa_radix) ≡ false) = λ l. ap (λ (n : ℕ). is_some (digit (get_or digits count 0) n)) ten ∙ b.stops l in
-    front_digits_read f t negative text digits w.values count plain (omega arith) behind here b.some b.within stops (rule_in f 10 bytes w.values all b.rule) (ap (is_number t) value_is ∙ b.stands.fits)
-    ∙ ap (λ (z : ℤ). Ok (z, bool_byte negative + count)) value_is ∙ ap (λ (k : ℕ). Ok (value, k + count)) (sym at)
+    front_digits_read f t is_negative text digits w.values count plain (omega arith) behind here b.some b.within stops (rule_in f 10 bytes w.values all b.rule) (ap (is_number t) value_is ∙ b.stands.fits)
+    ∙ ap (λ (z : ℤ). Ok (z, bool_byte is_negative + count)) value_is ∙ ap (λ (k : ℕ). Ok (value, k + count)) (sym at)
 
 -- what stands from a place on
 pub from_place : (start : ℕ) (text : List ℕ) → StandsFrom start text (drop start text)
@@ -144,7 +144,7 @@ from_place zero text k = let e : 0 + k ≡ k = omega arith in ap (slice_get text
 from_place (suc n) [] k = refl
 from_place (suc n) (b ∷ bs) k = let e : suc n + k ≡ suc (n + k) = omega arith in ap (slice_get (b ∷ bs)) e ∙ from_place n bs k
 
--- the same behind any sign
+-- digits at the front are read behind any sign
 pub signed_read : (f : Format) (t : IntegerType) (text : List ℕ) (s : Bool × ℕ) (value : ℤ) (count : ℕ) → IsPlain f → f.mantissa_radix ≡ 10 → sign f t text ≡ Ok s → BeginsWith f t s.0 (slice_range text s.1 (length text)) value count → partial f t text ≡ Ok (value, s.1 + count)
 signed_read f t text s value count plain ten sign_is begins =
     let within = sign_within f t text s sign_is in
@@ -214,9 +214,9 @@ front_answered_if_valid f t text found valid is = sym (by_fault (fault f) (parti
     by_fault (Some e) answer none = cc
 
 -- a front of such digits
-pub joined_begin : (f : Format) (t : IntegerType) (negative : Bool) (digits : List ℕ) (value : ℤ) (j count a b : ℕ) → 8 ≤ j → j ≤ length digits → WritesDecimal 0 (take j digits) a → WritesFirst (slice_range digits j (length digits)) b count → count < 8 →
-    keeps_zero_rule f (take 8 digits) ≡ true → value ≡ with_sign negative (a * 10 ^ count + b) → IsNumber t value → BeginsWith f t negative digits value (j + count)
-joined_begin f t negative digits value j count a b some within w v few rule worth fits =
+pub joined_begin : (f : Format) (t : IntegerType) (is_negative : Bool) (digits : List ℕ) (value : ℤ) (j count a b : ℕ) → 8 ≤ j → j ≤ length digits → WritesDecimal 0 (take j digits) a → WritesFirst (slice_range digits j (length digits)) b count → count < 8 →
+    keeps_zero_rule f (take 8 digits) ≡ true → value ≡ with_sign is_negative (a * 10 ^ count + b) → IsNumber t value → BeginsWith f t is_negative digits value (j + count)
+joined_begin f t is_negative digits value j count a b some within w v few rule worth fits =
     let size : length (slice_range digits j (length digits)) ≡ length digits - j = ap length (rest_is digits j) ∙ length-drop j digits in
     let all = reaches digits j b count v within in
     record {
@@ -226,16 +226,16 @@ joined_begin f t negative digits value j count a b some within w v few rule wort
           let byte : get_or (slice_range digits j (length digits)) count 0 ≡ get_or digits (j + count) 0 = ap (λ (bs : List ℕ). get_or bs count 0) (rest_is digits j) ∙ get_or-drop j digits count 0 in
           subst (λ n. IsNone (digit n 10)) byte (v.stops few (omega arith));
       rule = longer_rule f 8 (j + count) digits (omega arith) (omega arith) all rule;
-      stands = stands t negative (take (j + count) digits) (a * 10 ^ count + b) value (joined j count a b digits w v) worth fits;
+      stands = stands t is_negative (take (j + count) digits) (a * 10 ^ count + b) value (joined j count a b digits w v) worth fits;
     }
 
 -- a front of the first word alone
-pub first_begin : (f : Format) (t : IntegerType) (negative : Bool) (digits : List ℕ) (value : ℤ) (count a : ℕ) → 1 ≤ count → WritesFirst digits a count → count < 8 → keeps_zero_rule f (take count digits) ≡ true → value ≡ with_sign negative a → IsNumber t value →
-    BeginsWith f t negative digits value count
-first_begin f t negative digits value count a some w few rule worth fits = record {
+pub first_begin : (f : Format) (t : IntegerType) (is_negative : Bool) (digits : List ℕ) (value : ℤ) (count a : ℕ) → 1 ≤ count → WritesFirst digits a count → count < 8 → keeps_zero_rule f (take count digits) ≡ true → value ≡ with_sign is_negative a → IsNumber t value →
+    BeginsWith f t is_negative digits value count
+first_begin f t is_negative digits value count a some w few rule worth fits = record {
   some = some;
   within = w.within;
   stops = w.stops few;
   rule = rule;
-  stands = stands t negative (take count digits) a value w.writes worth fits;
+  stands = stands t is_negative (take count digits) a value w.writes worth fits;
 }

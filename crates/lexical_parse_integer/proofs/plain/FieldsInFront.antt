@@ -17,7 +17,7 @@ use Rattle.lexical_parse_integer.proofs.plain.DigitsByTable.{table_read}
 use Rattle.lexical_digits.proofs.LongNumbers.{have_are}
 
 -- the front of a text is behind the same minus
-front_behind : (t : IntegerType) (negative : Bool) (text digits : List ℕ) (count : ℕ) → IsBehind negative t text digits → IsBehind negative t (take (bool_byte negative + count) text) (take count digits)
+front_behind : (t : IntegerType) (is_negative : Bool) (text digits : List ℕ) (count : ℕ) → IsBehind is_negative t text digits → IsBehind is_negative t (take (bool_byte is_negative + count) text) (take count digits)
 front_behind t false text digits count behind =
     let none : 0 + count ≡ count = omega arith in
     ap (λ k. take k text) none ∙ ap (take count) behind
@@ -26,12 +26,12 @@ front_behind t true text digits count behind =
     (ap (take (1 + count)) behind.0 ∙ ap (λ k. take k (45 ∷ digits)) one, behind.1)
 
 -- digits at the front are what their field stands for
-pub field_read : (f : Format) (t : IntegerType) (negative : Bool) (text digits : List ℕ) (value : ℤ) (count start : ℕ) → IsPlain f → f.mantissa_radix ≡ 10 → IsBehind negative t text digits → start ≡ bool_byte negative → BeginsWith f t negative digits value count → complete f t (take (start + count) text) ≡ Ok value
-field_read f t negative text digits value count start plain ten behind at b =
+pub field_read : (f : Format) (t : IntegerType) (is_negative : Bool) (text digits : List ℕ) (value : ℤ) (count start : ℕ) → IsPlain f → f.mantissa_radix ≡ 10 → IsBehind is_negative t text digits → start ≡ bool_byte is_negative → BeginsWith f t is_negative digits value count → complete f t (take (start + count) text) ≡ Ok value
+field_read f t is_negative text digits value count start plain ten behind at b =
     let taken : length (take count digits) ≡ count = length-take-le count digits b.within in
     let some : 0 < length (take count digits) = omega (arith, b.some) in
     ap (λ k. complete f t (take (k + count) text)) at
-    ∙ table_read f t 10 negative (take (bool_byte negative + count) text) (take count digits) value plain ten (record { low = omega arith; high = omega arith }) (front_behind t negative text digits count behind) some b.rule b.stands
+    ∙ table_read f t 10 is_negative (take (bool_byte is_negative + count) text) (take count digits) value plain ten (record { low = omega arith; high = omega arith }) (front_behind t is_negative text digits count behind) some b.rule b.stands
 
 -- a byte that the separator is not
 apart : (s b : ℕ) → b ≢ s → not (eqb b s) ≡ true
@@ -58,14 +58,14 @@ digits_end s (b ∷ bs) (suc n) none all low stop =
     let one : 1 + n ≡ suc n = omega arith in
     ap (λ k. cond k (1 + field_length s bs) 0) here ∙ ap (λ n. 1 + n) more ∙ one
 
--- the same behind a minus
-pub field_ends : (f : Format) (t : IntegerType) (s : ℕ) (negative : Bool) (text digits : List ℕ) (value : ℤ) (count start : ℕ) → IsSeparated f s → IsBehind negative t text digits → start ≡ bool_byte negative → BeginsWith f t negative digits value count → start + count < length text → get_or text (start + count) 0 ≡ s → start + count ≡ field_length s text
-field_ends f t s negative text digits value count start apart_from behind at b low stop = by_sign negative text start behind at b low stop
+-- a field of digits ends where they do, behind a minus too
+pub field_ends : (f : Format) (t : IntegerType) (s : ℕ) (is_negative : Bool) (text digits : List ℕ) (value : ℤ) (count start : ℕ) → IsSeparated f s → IsBehind is_negative t text digits → start ≡ bool_byte is_negative → BeginsWith f t is_negative digits value count → start + count < length text → get_or text (start + count) 0 ≡ s → start + count ≡ field_length s text
+field_ends f t s is_negative text digits value count start apart_from behind at b low stop = by_sign is_negative text start behind at b low stop
   where
-    all_digits : (negative : Bool) → BeginsWith f t negative digits value count → AreDigits 10 (take count digits)
-    all_digits negative b = have_are (take count digits) b.stands.writes.values (ap (map (λ byte. digit byte 10)) (sym (take-length (take count digits))) ∙ b.stands.writes.digits)
+    all_digits : (is_negative : Bool) → BeginsWith f t is_negative digits value count → AreDigits 10 (take count digits)
+    all_digits is_negative b = have_are (take count digits) b.stands.writes.values (ap (map (λ byte. digit byte 10)) (sym (take-length (take count digits))) ∙ b.stands.writes.digits)
 
-    by_sign : (negative : Bool) (text : List ℕ) (start : ℕ) → IsBehind negative t text digits → start ≡ bool_byte negative → BeginsWith f t negative digits value count → start + count < length text → get_or text (start + count) 0 ≡ s → start + count ≡ field_length s text
+    by_sign : (is_negative : Bool) (text : List ℕ) (start : ℕ) → IsBehind is_negative t text digits → start ≡ bool_byte is_negative → BeginsWith f t is_negative digits value count → start + count < length text → get_or text (start + count) 0 ≡ s → start + count ≡ field_length s text
     by_sign false text start behind at b low stop =
         let place : start + count ≡ count = omega (arith, at) in
         let size : length text ≡ length digits = ap length behind in

@@ -121,8 +121,8 @@ leaving_read t text digits s count sign_is on size l =
     complete_row f t text h n refl (head_is f t text s refl refl refl sign_is) low ends ∙ answer ∙ ap (λ (k : ℕ). Err (range_error s.0 k)) place
 
 -- behind the sign
-pub signed_leaving_read : (t : IntegerType) (text : List ℕ) (s : Bool × ℕ) (negative : Bool) (count : ℕ) → sign standard t text ≡ Ok s → s.0 ≡ negative → LeavesAfter t s.0 (slice_range text s.1 (length text)) count → complete standard t text ≡ Err (range_error negative (s.1 + count))
-signed_leaving_read t text s negative count sign_is is l =
+pub signed_leaving_read : (t : IntegerType) (text : List ℕ) (s : Bool × ℕ) (is_negative : Bool) (count : ℕ) → sign standard t text ≡ Ok s → s.0 ≡ is_negative → LeavesAfter t s.0 (slice_range text s.1 (length text)) count → complete standard t text ≡ Err (range_error is_negative (s.1 + count))
+signed_leaving_read t text s is_negative count sign_is is l =
     let within = sign_within standard t text s sign_is in
     let told : LeavesAfter t s.0 (drop s.1 text) count = subst (λ (ds : List ℕ). LeavesAfter t s.0 ds count) (rest_is text s.1) l in
     leaving_read t text (drop s.1 text) s count sign_is (from_place s.1 text) (let size = length-drop s.1 text in omega arith) told ∙ ap (λ (b : Bool). Err (range_error b (s.1 + count))) is

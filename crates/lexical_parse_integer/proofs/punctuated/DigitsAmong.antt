@@ -69,16 +69,16 @@ all_digits r (c ∷ cs) [] all place l = cc
 all_digits r (c ∷ cs) (d ∷ ds) all zero l = let here : digit c r ≡ Some d = cc in ap is_some here
 all_digits r (c ∷ cs) (d ∷ ds) all (suc place) l = let more : HaveDigits r cs ds = cc in all_digits r cs ds more place (omega arith)
 
-module _ (t : IntegerType) (r : ℕ) (negative : Bool) (bytes : List ℕ) (value : ℤ) (s : StandsFor t r negative bytes value) where
+module _ (t : IntegerType) (r : ℕ) (is_negative : Bool) (bytes : List ℕ) (value : ℤ) (s : StandsFor t r is_negative bytes value) where
   have : HaveDigits r bytes s.writes.values
   have = ap (map (λ byte. digit byte r)) (sym (take-length bytes)) ∙ s.writes.digits
 
   pub digits_alone : AreDigitsOnly r bytes
   digits_alone = all_digits r bytes s.writes.values have
 
-  pub digits_worth : AreWorth t r negative bytes value
+  pub digits_worth : AreWorth t r is_negative bytes value
   digits_worth = record {
-    worth = s.worth ∙ ap (λ (z : ℤ). if negative then neg_ℤ z else z) (s.writes.worth ∙ ap (λ (ds : List ℕ). pos (positional_value r ds)) (sym (among_all r bytes s.writes.values have)));
+    worth = s.worth ∙ ap (λ (z : ℤ). if is_negative then neg_ℤ z else z) (s.writes.worth ∙ ap (λ (ds : List ℕ). pos (positional_value r ds)) (sym (among_all r bytes s.writes.values have)));
     fits = s.fits;
   }
 

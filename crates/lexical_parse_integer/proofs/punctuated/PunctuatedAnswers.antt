@@ -65,10 +65,10 @@ head_signed f t text h is minus = by_sign (sign f t text) refl is
     by_sign (Err e) here told = cc
     by_sign (Ok s) here told =
         let same : head_behind f text s (prefix_radix f text s.1) ≡ h = cc in
-        let negative : s.0 ≡ true = sym (by_prefix s (prefix_radix f text s.1)) ∙ ap (λ (g : Head). g.is_negative) same ∙ minus in
-        sign_minus f t text s.1 (here ∙ ap (λ (b : Bool). Ok (b, s.1)) negative)
+        let is_negative : s.0 ≡ true = sym (by_prefix s (prefix_radix f text s.1)) ∙ ap (λ (g : Head). g.is_negative) same ∙ minus in
+        sign_minus f t text s.1 (here ∙ ap (λ (b : Bool). Ok (b, s.1)) is_negative)
 
--- the same of the sign
+-- a type with a minus is signed
 pub signed_minus : (f : Format) (t : IntegerType) (text : List ℕ) (s : Bool × ℕ) → sign f t text ≡ Ok s → s.0 ≡ true → t.is_signed ≡ true
 signed_minus f t text s signed minus = sign_minus f t text s.1 (signed ∙ ap (λ (b : Bool). Ok (b, s.1)) minus)
 

@@ -89,10 +89,10 @@ three_value before a b c =
     let three = positional_value-push 10 ((before ++ a ∷ []) ++ b ∷ []) c in
     omega (arith, one, two, three)
 
-pub three_worth : (t : IntegerType) (negative : Bool) (bytes : List ℕ) (k a b c : ℕ) (value next : ℤ) → AreWorth t 10 negative (take k bytes) value → k + 4 ≤ length bytes →
+pub three_worth : (t : IntegerType) (is_negative : Bool) (bytes : List ℕ) (k a b c : ℕ) (value next : ℤ) → AreWorth t 10 is_negative (take k bytes) value → k + 4 ≤ length bytes →
     digit (get_or bytes k 0) 10 ≡ None → digit (get_or bytes (k + 1) 0) 10 ≡ Some a → digit (get_or bytes (k + 2) 0) 10 ≡ Some b → digit (get_or bytes (k + 3) 0) 10 ≡ Some c →
-    next ≡ mul_add negative value (pos 1000) (pos (a * 100 + b * 10 + c)) → IsNumber t next → AreWorth t 10 negative (take (k + 4) bytes) next
-three_worth t negative bytes k a b c value next w within none first second third step fits =
+    next ≡ mul_add is_negative value (pos 1000) (pos (a * 100 + b * 10 + c)) → IsNumber t next → AreWorth t 10 is_negative (take (k + 4) bytes) next
+three_worth t is_negative bytes k a b c value next w within none first second third step fits =
     let before : List ℕ = digits_among 10 (take k bytes) in
     let none_more = separator_among 10 k bytes (omega arith) none in
     let one = digit_among 10 (k + 1) a bytes before (omega arith) first none_more in
@@ -100,8 +100,8 @@ three_worth t negative bytes k a b c value next w within none first second third
     let three = digit_among 10 (k + 3) c bytes ((before ++ a ∷ []) ++ b ∷ []) (omega arith) third (moved (k + 2 + 1) (k + 3) ((before ++ a ∷ []) ++ b ∷ []) (omega arith) two) in
     let all = moved (k + 3 + 1) (k + 4) (((before ++ a ∷ []) ++ b ∷ []) ++ c ∷ []) (omega arith) three in
     record {
-      worth = step ∙ ap (λ (z : ℤ). mul_add negative z (pos 1000) (pos (a * 100 + b * 10 + c))) w.worth ∙ with_sign-step negative (positional_value 10 before) 1000 (a * 100 + b * 10 + c)
-          ∙ ap (with_sign negative) (sym (three_value before a b c)) ∙ ap (λ (ds : List ℕ). with_sign negative (positional_value 10 ds)) (sym all);
+      worth = step ∙ ap (λ (z : ℤ). mul_add is_negative z (pos 1000) (pos (a * 100 + b * 10 + c))) w.worth ∙ with_sign-step is_negative (positional_value 10 before) 1000 (a * 100 + b * 10 + c)
+          ∙ ap (with_sign is_negative) (sym (three_value before a b c)) ∙ ap (λ (ds : List ℕ). with_sign is_negative (positional_value 10 ds)) (sym all);
       fits = fits;
     }
   where

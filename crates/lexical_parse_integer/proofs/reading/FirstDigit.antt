@@ -53,7 +53,7 @@ look v s open_now none =
       | inr w ↦ let there = look_some v w.0 s open_now w.1 in ap is_some w.1 ∙ sym (lt-ltb v.digits (digit_count (numeral_of v)) there.more)
     ]
 
--- the same by the byte
+-- whether the byte at the position is a digit tells whether one is left
 pub look_byte : (v : CursorView) (c : ℕ) → IsSound v → v.closed ≡ false → v.format.digit_separator ≡ None → slice_get v.bytes v.position ≡ Some c → is_some (digit c v.radix) ≡ nat_lt v.digits (digit_count (numeral_of v))
 unfolding digit_at
 look_byte v c s open_now none e = sym (ap (λ o. is_some (option_and_then (λ c. digit c v.radix) o)) e) ∙ look v s open_now none
@@ -62,7 +62,7 @@ pub look_end : (v : CursorView) → IsSound v → v.closed ≡ false → v.forma
 unfolding digit_at
 look_end v s open_now none e = sym (ap (λ o. is_some (option_and_then (λ c. digit c v.radix) o)) e) ∙ look v s open_now none
 
--- the same by a step
+-- whether a step takes a digit tells whether one is left
 pub look_step : (o : Option ℕ) (v w : CursorView) → IsSound v → v.closed ≡ false → MatchOption o (ReachesEnd v w) (λ d. TakesDigit v w d) → is_some o ≡ nat_lt v.digits (digit_count (numeral_of v))
 look_step None v w s open_now m = let all = all_found v s open_now w m in sym (le-ltb v.digits (digit_count (numeral_of v)) (omega arith))
 look_step (Some d) v w s open_now m = let there = digit_found v w d s open_now m in sym (lt-ltb v.digits (digit_count (numeral_of v)) there.more)

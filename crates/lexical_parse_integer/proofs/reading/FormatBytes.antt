@@ -45,7 +45,7 @@ fits f is_none =
       suffix_separator = λ m c e t. other_byte f.digit_separator c (suffix_no_separator f m c valid e (same_lower f.case_sensitive_base_suffix m c t));
     }
 
--- a radix that a literal prefix puts in force
+-- the effective radix behind a literal prefix
 fits_literal : (f : Format) (r : ℕ) → IsNone (fault f) → f.literal_prefixes ≡ true → IsRadix r → r ≤ 16 → IsFit f r
 fits_literal f r is_none asked radix small =
     let valid = none_from_is_none (fault f) is_none in
@@ -90,7 +90,7 @@ fits_prefix f text place r valid here = by_zero (are_same (Some 48) (slice_get t
     by_zero true e = fits_named f (slice_get text (place + 1)) r valid e
     by_zero false e = cc
 
--- the radix that an octal zero puts in force
+-- the effective radix of an octal zero
 pub fits_octal : (f : Format) (text : List ℕ) (place : ℕ) → IsNone (fault f) → octal_zero_at f text place ≡ true → IsFit f 8
 fits_octal f text place is_none here =
     let valid = none_from_is_none (fault f) is_none in

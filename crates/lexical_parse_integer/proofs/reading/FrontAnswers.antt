@@ -38,7 +38,7 @@ use Rattle.lexical_parse_integer.proofs.theorems.CompleteByPartial.{sign_within}
 record HeadSays (f : Format) (text : List ℕ) (h : Head) : Type 0 where
   low : h.start ≤ length text
   prefixed : h.is_prefixed ≡ starts_behind_prefix h.start
-  in_force : h.is_prefixed ≡ false → (h.radix ≡ f.mantissa_radix) ⊎ (h.radix ≡ bare_radix f text h.start)
+  effective : h.is_prefixed ≡ false → (h.radix ≡ f.mantissa_radix) ⊎ (h.radix ≡ bare_radix f text h.start)
   own : f.literal_prefixes ≡ false → f.literal_octal_zero ≡ false → h.radix ≡ f.mantissa_radix
 
 head_says : (f : Format) (t : IntegerType) (text : List ℕ) (h : Head) → head_of f t text ≡ Ok h → HeadSays f text h
@@ -53,12 +53,12 @@ head_says f t text h is = by_sign (sign f t text) refl is
     by_prefix s (Some r) low short e =
         let two = prefix_within f text s.1 r e in
         let past : nat_le 2 (s.1 + 2) ≡ true = grind (arith, nat_tests) in
-        record { low = omega arith; prefixed = sym past; in_force = λ h. absurd (false≢true (sym h)); own = λ plain off. prefix_own f text s.1 r plain e }
+        record { low = omega arith; prefixed = sym past; effective = λ h. absurd (false≢true (sym h)); own = λ plain off. prefix_own f text s.1 r plain e }
     by_prefix s None low short e =
         let n = s.1 in
         let front : n ≤ 1 = short in
         let none : nat_le 2 n ≡ false = grind (arith, nat_tests) in
-        record { low = low; prefixed = sym none; in_force = λ h. inr refl; own = λ plain off. by_octal s.1 (octal_zero_at f text s.1) refl off }
+        record { low = low; prefixed = sym none; effective = λ h. inr refl; own = λ plain off. by_octal s.1 (octal_zero_at f text s.1) refl off }
 
     by_sign : (signed : Result (Bool × ℕ) Error) → sign f t text ≡ signed → head_after f text signed ≡ Ok h → HeadSays f text h
     by_sign (Err e) here told = cc
@@ -77,7 +77,7 @@ sound_head f t text h valid is =
       separator = separator_no_digit f h.radix text fit.separator;
       suffix_digit = suffix_no_digit f h.radix text fit.suffix_digit;
       suffix_separator = suffix_no_separator f text fit.suffix_separator;
-      in_force = says.in_force;
+      effective = says.effective;
       own = says.own;
       prefixed = says.prefixed;
       after_start = omega arith;

@@ -28,7 +28,7 @@ pub record IsFresh (v : CursorView) : Type 0 where
   pub no_digit : v.digits ≡ 0
   pub no_turn : v.turns ≡ 0
   pub bare : v.is_prefixed ≡ false
-  pub in_force : (v.radix ≡ v.format.mantissa_radix) ⊎ (v.radix ≡ bare_radix v.format v.bytes v.start)
+  pub effective : (v.radix ≡ v.format.mantissa_radix) ⊎ (v.radix ≡ bare_radix v.format v.bytes v.start)
 
 cases_bool : (b : Bool) → (b ≡ true) ⊎ (b ≡ false)
 cases_bool true = inl refl
@@ -40,7 +40,7 @@ is_fresh v s front =
     let bare : v.is_prefixed ≡ false = s.prefixed ∙ ap starts_behind_prefix start in
     let open_now : v.closed ≡ false = elim (cases_bool v.closed) [ inl t ↦ absurd (omega (arith, (s.once_closed t).behind_end)) | inr t ↦ t ] in
     let none : v.digits ≡ 0 = omega (arith, digits_bound v s open_now) in
-    record { start = start; closed = open_now; no_digit = none; no_turn = omega (arith, s.turns); bare = bare; in_force = s.in_force bare }
+    record { start = start; closed = open_now; no_digit = none; no_turn = omega (arith, s.turns); bare = bare; effective = s.effective bare }
 
 -- where nothing was read, the region starts at the position
 pub stays_at_front : (v : CursorView) → IsSound v → v.position ≡ 0 → v ≡ record v { start = v.position; position = v.position }
@@ -124,7 +124,7 @@ zero_no_sign f t text s zero signed =
 -- without an octal zero behind the sign, a fresh cursor has the format's radix
 own_in_force : (t : IntegerType) (u : CursorView) (s : Bool × ℕ) → IsFresh u → sign u.format t u.bytes ≡ Ok s → octal_zero_at u.format u.bytes s.1 ≡ false → u.radix ≡ u.format.mantissa_radix
 own_in_force t u s fresh signed other =
-    elim fresh.in_force [
+    elim fresh.effective [
       | inl e ↦ e
       | inr e ↦ e ∙ ap (bare_radix u.format u.bytes) fresh.start ∙ by_zero (octal_zero_at u.format u.bytes 0) refl
     ]
@@ -359,7 +359,7 @@ over_suffix f t text minus p o b v w x at g after s =
     let kept = same_but_place b w x after in
     record { bytes = kept.0 ∙ g.bytes ∙ at.bytes; format = kept.1 ∙ g.format ∙ at.format; sound = s }
 
--- a step over a prefix, and one that puts 8 in force, are the same cursor's
+-- a step over a prefix, and one that makes 8 the effective radix, are the same cursor's
 pub identity_behind : (v w : CursorView) (radix : Option ℕ) → w ≡ behind_prefix v radix → w.identity ≡ v.identity
 identity_behind v w None e = ap (λ (z : CursorView). z.identity) e
 identity_behind v w (Some radix) e = ap (λ (z : CursorView). z.identity) e

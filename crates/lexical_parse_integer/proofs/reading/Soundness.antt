@@ -72,7 +72,7 @@ IsSound-digit v turns place value s open_now one_more found =
       separator = s.separator;
       suffix_digit = s.suffix_digit;
       suffix_separator = s.suffix_separator;
-      in_force = s.in_force;
+      effective = s.effective;
       own = s.own;
       prefixed = s.prefixed;
       after_start = omega arith;
@@ -98,7 +98,7 @@ IsSound-end v place s open_now found =
       separator = s.separator;
       suffix_digit = s.suffix_digit;
       suffix_separator = s.suffix_separator;
-      in_force = s.in_force;
+      effective = s.effective;
       own = s.own;
       prefixed = s.prefixed;
       after_start = omega (arith, s.after_start);
@@ -153,7 +153,7 @@ IsSound-word v turns n s open_now contiguous some one_more all =
       separator = s.separator;
       suffix_digit = s.suffix_digit;
       suffix_separator = s.suffix_separator;
-      in_force = s.in_force;
+      effective = s.effective;
       own = s.own;
       prefixed = s.prefixed;
       after_start = omega (arith, s.after_start);
@@ -178,7 +178,7 @@ IsSound-new b f turns identity valid none =
       separator = separator_no_digit f f.mantissa_radix b fit.separator;
       suffix_digit = suffix_no_digit f f.mantissa_radix b fit.suffix_digit;
       suffix_separator = suffix_no_separator f b fit.suffix_separator;
-      in_force = λ _. inl refl;
+      effective = λ _. inl refl;
       own = λ _ _. refl;
       prefixed = refl;
       after_start = omega arith;
@@ -191,7 +191,7 @@ IsSound-new b f turns identity valid none =
 -- behind a sign
 own_radix : (v : CursorView) → IsSound v → v.start ≡ 0 → octal_zero_at v.format v.bytes 0 ≡ false → v.radix ≡ v.format.mantissa_radix
 own_radix v s start other =
-    elim (s.in_force (s.prefixed ∙ ap starts_behind_prefix start)) [
+    elim (s.effective (s.prefixed ∙ ap starts_behind_prefix start)) [
       | inl e ↦ e
       | inr e ↦ e ∙ ap (bare_radix v.format v.bytes) start ∙ bare_own v.format v.bytes 0 other
     ]
@@ -211,7 +211,7 @@ IsSound-sign v s front some other =
             separator = s.separator;
             suffix_digit = s.suffix_digit;
             suffix_separator = s.suffix_separator;
-            in_force = λ _. inl (own_radix v s start other);
+            effective = λ _. inl (own_radix v s start other);
             own = s.own;
             prefixed = refl;
             after_start = omega arith;
@@ -300,7 +300,7 @@ IsSound-prefix v r s none here =
       separator = separator_no_digit v.format r v.bytes fit.separator;
       suffix_digit = suffix_no_digit v.format r v.bytes fit.suffix_digit;
       suffix_separator = s.suffix_separator;
-      in_force = λ h. absurd (false≢true (sym h));
+      effective = λ h. absurd (false≢true (sym h));
       own = λ off _. prefix_own v.format v.bytes v.position r off here;
       prefixed = let two : nat_le 2 (v.position + 2) ≡ true = grind (arith, nat_tests) in sym two;
       after_start = omega arith;
@@ -322,7 +322,7 @@ IsSound-octal v s at none here =
       separator = separator_no_digit v.format 8 v.bytes fit.separator;
       suffix_digit = suffix_no_digit v.format 8 v.bytes fit.suffix_digit;
       suffix_separator = s.suffix_separator;
-      in_force = λ _. inr (sym (bare_octal v.format v.bytes v.start there));
+      effective = λ _. inr (sym (bare_octal v.format v.bytes v.start there));
       own = λ _ off. absurd (octal_off v.format v.bytes v.position off here);
       prefixed = s.prefixed;
       after_start = s.after_start;
@@ -361,7 +361,7 @@ IsSound-suffix v s open_now some suffix =
       separator = s.separator;
       suffix_digit = s.suffix_digit;
       suffix_separator = s.suffix_separator;
-      in_force = s.in_force;
+      effective = s.effective;
       own = s.own;
       prefixed = s.prefixed;
       after_start = omega (arith, s.after_start);

@@ -121,7 +121,7 @@ comma = (refl, omega arith)
 comma_same : partial standard u8 (49 ∷ 50 ∷ 44 ∷ 120 ∷ []) ≡ partial standard u8 (49 ∷ 50 ∷ 44 ∷ 51 ∷ [])
 comma_same = is_local standard u8 refl refl (49 ∷ 50 ∷ 44 ∷ 51 ∷ []) (49 ∷ 50 ∷ 44 ∷ 120 ∷ []) 2 comma refl
 
--- `256` and `25679` share the digit that leaves the type
+-- `256` and `25679` share the first digit that overflows
 leaves : IsSettledAt 3 2 (partial standard u8 (50 ∷ 53 ∷ 54 ∷ []))
 unfolding grammar
 leaves = refl

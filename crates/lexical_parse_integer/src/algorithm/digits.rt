@@ -19,21 +19,22 @@ pub(crate) fn join_checked<T: Integer>(
     digit: u32,
     radix: u32,
     place: usize,
-    negative: bool,
+    is_negative: bool,
 ) -> Result<T>
     requires radix { IsRadix radix }
     requires digit { digit < radix }
-    requires sign { HasSign negative (T.number value) }
+    requires sign { HasSign is_negative (T.number value) }
     ensures fits { IfOk result
-        (λ next. (T.number next ≡ mul_add negative (T.number value) (pos radix) (pos digit))
+        (λ next. (T.number next ≡ mul_add is_negative (T.number value) (pos radix) (pos digit))
         × (is_number T.TYPE (T.number next) ≡ true)) }
     ensures leaves { IfErr result
-        (λ e. (e ≡ range_error negative place)
-        × (is_number T.TYPE (mul_add negative (T.number value) (pos radix) (pos digit)) ≡ false)) }
+        (λ e. (e ≡ range_error is_negative place)
+        × (is_number T.TYPE (mul_add is_negative (T.number value) (pos radix) (pos digit))
+        ≡ false)) }
 {
-    match value.checked_mul_add(T::from_u32(radix), T::from_u32(digit), negative) {
+    match value.checked_mul_add(T::from_u32(radix), T::from_u32(digit), is_negative) {
         Some(next) => Ok(next),
-        None => Err(if negative {
+        None => Err(if is_negative {
             Error::Underflow(place)
         } else {
             Error::Overflow(place)
@@ -47,19 +48,19 @@ pub(crate) fn join_checked<T: Integer>(
 pub(crate) fn read_untested<T: Integer>(
     c: &mut Cursor<'_>,
     value: T,
-    negative: bool,
+    is_negative: bool,
     most: usize,
 ) -> T
-    requires ready { IsReading T.TYPE negative c.old (T.number value) }
+    requires ready { IsReading T.TYPE is_negative c.old (T.number value) }
     requires room { HasRoom T.TYPE c.old.radix most }
-    ensures on { ReadsOn T.TYPE negative c.old c.new (T.number result) }
+    ensures on { ReadsOn T.TYPE is_negative c.old c.new (T.number result) }
     ensures turns { c.new.turns + c.old.digits ≡ c.old.turns + c.new.digits }
 {
     let radix = T::from_u32(c.radix());
     let mut value = value;
     while c.digits() < most {
         match c.read_digit() {
-            Some(digit) => value = value.mul_add(radix, T::from_u32(digit), negative),
+            Some(digit) => value = value.mul_add(radix, T::from_u32(digit), is_negative),
             None => return value,
         }
     }
@@ -68,10 +69,11 @@ pub(crate) fn read_untested<T: Integer>(
 
 // Takes the digits that are left, and tests each step.
 #[inline(always)]
-pub(crate) fn read_rest<T: Integer>(c: &mut Cursor<'_>, value: T, negative: bool) -> Result<T>
-    requires ready { IsReading T.TYPE negative c.old (T.number value) }
-    ensures all { IfOk result (λ value. ReadsAll T.TYPE negative c.old c.new (T.number value)) }
-    ensures leaves { IfErr result (λ e. range_fault T.TYPE negative (numeral_of c.old) ≡ Some e) }
+pub(crate) fn read_rest<T: Integer>(c: &mut Cursor<'_>, value: T, is_negative: bool) -> Result<T>
+    requires ready { IsReading T.TYPE is_negative c.old (T.number value) }
+    ensures all { IfOk result (λ value. ReadsAll T.TYPE is_negative c.old c.new (T.number value)) }
+    ensures leaves { IfErr result
+        (λ e. range_fault T.TYPE is_negative (numeral_of c.old) ≡ Some e) }
     ensures goes_on { MovesOn c.old c.new }
     ensures count { c.new.digits ≤ digit_count (numeral_of c.old) }
     ensures turns { c.new.turns + c.old.digits ≡ c.old.turns + c.new.digits }
@@ -79,7 +81,7 @@ pub(crate) fn read_rest<T: Integer>(c: &mut Cursor<'_>, value: T, negative: bool
     let mut value = value;
     while let Some(digit) = c.read_digit() {
         let place = c.place() - 1;
-        value = join_checked::<T>(value, digit, c.radix(), place, negative)?;
+        value = join_checked::<T>(value, digit, c.radix(), place, is_negative)?;
     }
     Ok(value)
 }

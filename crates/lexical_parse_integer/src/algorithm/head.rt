@@ -27,7 +27,7 @@ pub fn parse_sign<T: Integer>(c: &mut Cursor<'_>) -> Result<bool>
         (c.new ≡ record c.old { start = c.new.position; position = c.new.position }) }
     ensures unmoved { OnErr result (c.new ≡ c.old) }
 {
-    c.sound();
+    c.assert_invariant();
     match c.first() {
         Some(b'+') => {
             if c.format().no_positive_mantissa_sign() {
@@ -61,13 +61,13 @@ pub(crate) fn read_head<T: Integer>(c: &mut Cursor<'_>) -> Result<(bool, bool, b
     ensures over { OnErr result (IsOver c.old.bytes c.old.format c.new) }
     ensures same { c.new.identity ≡ c.old.identity }
 {
-    c.sound();
-    let negative = parse_sign::<T>(c)?;
+    c.assert_invariant();
+    let is_negative = parse_sign::<T>(c)?;
     if c.read_prefix() {
-        return Ok((negative, true, false));
+        return Ok((is_negative, true, false));
     }
     let is_octal = c.read_octal_zero();
-    Ok((negative, false, is_octal))
+    Ok((is_negative, false, is_octal))
 }
 
 // Whether a prefix is all that there is.

@@ -32,7 +32,7 @@ pub fn try_parse_4digits<T: Integer>(c: &mut Cursor<'_>) -> Option<T>
         ≡ pos (word_value c.old.radix
         (slice_range c.old.bytes c.old.position (c.old.position + 4)))) }
 {
-    c.sound();
+    c.assert_invariant();
     let bytes = match c.peek_word(4) {
         Some(bytes) => bytes,
         None => return None,
@@ -67,7 +67,7 @@ pub fn try_parse_8digits<T: Integer>(c: &mut Cursor<'_>) -> Option<T>
         ≡ pos (word_value c.old.radix
         (slice_range c.old.bytes c.old.position (c.old.position + 8)))) }
 {
-    c.sound();
+    c.assert_invariant();
     let bytes = match c.peek_word(8) {
         Some(bytes) => bytes,
         None => return None,
@@ -108,7 +108,7 @@ fn try_parse_word<T: Integer>(c: &mut Cursor<'_>) -> Option<T>
     } else {
         try_parse_4digits::<T>(c)
     };
-    c.sound();
+    c.assert_invariant();
     word
 }
 
@@ -139,20 +139,25 @@ fn has_room<T: Integer>(digits: usize, most: usize) -> bool
 
 // Takes words of digits while there is room for them: no number of so many digits leaves the type.
 #[inline(always)]
-pub(crate) fn read_words<T: Integer>(c: &mut Cursor<'_>, value: T, negative: bool, most: usize) -> T
+pub(crate) fn read_words<T: Integer>(
+    c: &mut Cursor<'_>,
+    value: T,
+    is_negative: bool,
+    most: usize,
+) -> T
     requires bits { 32 ≤ T.BITS }
     requires radix { c.old.radix ≤ 10 }
     requires contiguous { IsNone c.old.format.digit_separator }
-    requires ready { IsReading T.TYPE negative c.old (T.number value) }
+    requires ready { IsReading T.TYPE is_negative c.old (T.number value) }
     requires room { HasRoom T.TYPE c.old.radix most }
-    ensures words { ReadsWords T.TYPE negative (digits_per_word T.BITS) most
+    ensures words { ReadsWords T.TYPE is_negative (digits_per_word T.BITS) most
         c.old c.new (T.number result) }
 {
     let scale = word_scale::<T>(c.radix());
     let mut value = value;
     while has_room::<T>(c.digits(), most) {
         match try_parse_word::<T>(c) {
-            Some(word) => value = value.mul_add(scale, word, negative),
+            Some(word) => value = value.mul_add(scale, word, is_negative),
             None => return value,
         }
     }

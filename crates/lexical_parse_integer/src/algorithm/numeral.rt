@@ -1,4 +1,4 @@
-// All digits of a numeral, by the ways that options and format leave open.
+// All digits of a numeral, by words where options and format allow them.
 ghost use Rattle.std.specs.Prelude.{◌≡◌, ◌≤◌, ◌↔◌, true, Some, IfErr, IfOk, IsNone, IsTrue};
 ghost use Rattle.std.specs.Option.{option_or};
 ghost use Rattle.lexical_util.specs.Number.{HasRoom};
@@ -32,32 +32,37 @@ fn skips_tests(c: &Cursor<'_>, most: usize) -> bool {
 
 // Takes words of digits, and then digits alone, as many as no test is needed for.
 #[inline(always)]
-fn read_by_words<T: Integer>(c: &mut Cursor<'_>, value: T, negative: bool, most: usize) -> T
+fn read_by_words<T: Integer>(c: &mut Cursor<'_>, value: T, is_negative: bool, most: usize) -> T
     requires bits { 32 ≤ T.BITS }
     requires radix { c.old.radix ≤ 10 }
     requires contiguous { IsNone c.old.format.digit_separator }
-    requires ready { IsReading T.TYPE negative c.old (T.number value) }
+    requires ready { IsReading T.TYPE is_negative c.old (T.number value) }
     requires room { HasRoom T.TYPE c.old.radix most }
-    ensures on { ReadsOn T.TYPE negative c.old c.new (T.number result) }
+    ensures on { ReadsOn T.TYPE is_negative c.old c.new (T.number result) }
     ensures few { Folded (LeavesFewTurns T.BITS most c.old c.new) }
 {
-    let value = read_words::<T>(c, value, negative, most);
-    read_untested::<T>(c, value, negative, most)
+    let value = read_words::<T>(c, value, is_negative, most);
+    read_untested::<T>(c, value, is_negative, most)
 }
 
 // Takes the digits that no test is needed for, in words where that is asked for.
 #[inline(always)]
-fn read_front<T: Integer>(c: &mut Cursor<'_>, value: T, negative: bool, no_multi_digit: bool) -> T
-    requires ready { IsReading T.TYPE negative c.old (T.number value) }
-    ensures on { ReadsOn T.TYPE negative c.old c.new (T.number result) }
+fn read_front<T: Integer>(
+    c: &mut Cursor<'_>,
+    value: T,
+    is_negative: bool,
+    no_multi_digit: bool,
+) -> T
+    requires ready { IsReading T.TYPE is_negative c.old (T.number value) }
+    ensures on { ReadsOn T.TYPE is_negative c.old c.new (T.number result) }
     ensures turns { Folded (LeavesTurns T.BITS T.TYPE no_multi_digit c.old c.new) }
 {
     let most = T::overflow_digits(c.radix());
     if takes_words::<T>(c, no_multi_digit) {
-        return read_by_words::<T>(c, value, negative, most);
+        return read_by_words::<T>(c, value, is_negative, most);
     }
     if skips_tests(c, most) {
-        return read_untested::<T>(c, value, negative, most);
+        return read_untested::<T>(c, value, is_negative, most);
     }
     value
 }
@@ -67,37 +72,38 @@ fn read_front<T: Integer>(c: &mut Cursor<'_>, value: T, negative: bool, no_multi
 pub(crate) fn read_digits<T: Integer>(
     c: &mut Cursor<'_>,
     value: T,
-    negative: bool,
+    is_negative: bool,
     no_multi_digit: bool,
 ) -> Result<T>
-    requires ready { IsReading T.TYPE negative c.old (T.number value) }
-    ensures all { IfOk result (λ value. ReadsAll T.TYPE negative c.old c.new (T.number value)) }
-    ensures leaves { IfErr result (λ e. range_fault T.TYPE negative (numeral_of c.old) ≡ Some e) }
+    requires ready { IsReading T.TYPE is_negative c.old (T.number value) }
+    ensures all { IfOk result (λ value. ReadsAll T.TYPE is_negative c.old c.new (T.number value)) }
+    ensures leaves { IfErr result
+        (λ e. range_fault T.TYPE is_negative (numeral_of c.old) ≡ Some e) }
     ensures goes_on { MovesOn c.old c.new }
     ensures turns { Folded (KeepsTurns T.BITS T.TYPE no_multi_digit c.old c.new) }
 {
-    let front = read_front::<T>(c, value, negative, no_multi_digit);
-    read_rest::<T>(c, front, negative)
+    let front = read_front::<T>(c, value, is_negative, no_multi_digit);
+    read_rest::<T>(c, front, is_negative)
 }
 
 // Takes the whole numeral, of which no digit was read yet.
 #[inline(always)]
 pub(crate) fn read_numeral<T: Integer>(
     c: &mut Cursor<'_>,
-    negative: bool,
+    is_negative: bool,
     radix_chosen: bool,
     no_multi_digit: bool,
 ) -> Result<T>
     requires front { IsAtNumeral c.old }
-    requires minus { negative ≡ true → T.TYPE.is_signed ≡ true }
+    requires minus { is_negative ≡ true → T.TYPE.is_signed ≡ true }
     ensures all { IfOk result
-        (λ value. ReadsNumeral T.TYPE negative radix_chosen c.old c.new (T.number value)) }
+        (λ value. ReadsNumeral T.TYPE is_negative radix_chosen c.old c.new (T.number value)) }
     ensures fault { IfErr result
         (λ e. option_or (zero_fault c.old.format radix_chosen (numeral_of c.old))
-        (range_fault T.TYPE negative (numeral_of c.old)) ≡ Some e) }
+        (range_fault T.TYPE is_negative (numeral_of c.old)) ≡ Some e) }
     ensures goes_on { MovesOn c.old c.new }
     ensures turns { Folded (KeepsTurns T.BITS T.TYPE no_multi_digit c.old c.new) }
 {
-    let first = read_first_digit::<T>(c, negative, radix_chosen)?;
-    read_digits::<T>(c, first, negative, no_multi_digit)
+    let first = read_first_digit::<T>(c, is_negative, radix_chosen)?;
+    read_digits::<T>(c, first, is_negative, no_multi_digit)
 }

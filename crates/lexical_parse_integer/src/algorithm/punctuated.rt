@@ -25,14 +25,15 @@ use lexical_util::num::Integer;
 
 // The value of digits of radix 10 or 16 alone.
 #[inline(always)]
-fn value_in_radix<T: Integer>(digits: &[u8], radix: u32, negative: bool) -> Option<T>
+fn value_in_radix<T: Integer>(digits: &[u8], radix: u32, is_negative: bool) -> Option<T>
     requires some { 1 ≤ length digits.now }
-    requires minus { IsTrue negative → IsTrue T.TYPE.is_signed }
-    ensures { IfSome result (λ value. StandsFor T.TYPE radix negative digits.now (T.number value)) }
+    requires minus { IsTrue is_negative → IsTrue T.TYPE.is_signed }
+    ensures { IfSome result
+        (λ value. StandsFor T.TYPE radix is_negative digits.now (T.number value)) }
 {
     match radix {
-        10 => value_of_digits::<T>(digits, negative),
-        16 => value_of_nibbles::<T>(digits, negative),
+        10 => value_of_digits::<T>(digits, is_negative),
+        16 => value_of_nibbles::<T>(digits, is_negative),
         _ => None,
     }
 }
@@ -49,7 +50,7 @@ fn is_bare<T: Integer>(bytes: &[u8], format: &NumberFormat) -> bool
     !bytes.is_empty() && bytes[0] > b'0' && !format.required_mantissa_sign()
 }
 
-// Whether `x` behind a zero puts radix 16 in force.
+// Whether the effective radix behind `0x` is 16.
 #[inline(always)]
 #[tactic(auto, unfolding(crate::specs::Affixes::named_radix, crate::specs::Affixes::is_affix, crate::specs::Affixes::matches, crate::specs::Affixes::literal_radix))]
 fn is_x_hexadecimal(format: &NumberFormat) -> bool
@@ -61,7 +62,7 @@ fn is_x_hexadecimal(format: &NumberFormat) -> bool
     }
 }
 
-// Whether a text begins with `0x`, which puts radix 16 in force, where no sign is asked for.
+// Whether a text begins with `0x`, behind which the effective radix is 16, where no sign is asked for.
 #[inline(always)]
 #[tactic(auto, unfolding(crate::specs::Head::sign, crate::specs::Affixes::prefix_radix, crate::specs::Runs::are_same))]
 fn is_behind_x<T: Integer>(bytes: &[u8], format: &NumberFormat) -> bool

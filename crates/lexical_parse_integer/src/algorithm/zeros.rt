@@ -37,21 +37,21 @@ fn has_more(c: &mut Cursor<'_>) -> bool
     }
 }
 
-// Takes the first digit, where it may be a zero that no digit may follow. Without a separator it looks
-// first, and takes a zero alone: so a text of digits loses no word to it.
+// Reads the first digit where leading zeros are forbidden. Without a separator it takes that digit only if it is a
+// zero, so that a text of digits loses no word to it.
 #[inline(always)]
 pub(crate) fn read_first_digit<T: Integer>(
     c: &mut Cursor<'_>,
-    negative: bool,
+    is_negative: bool,
     radix_chosen: bool,
 ) -> Result<T>
     requires front { IsAtNumeral c.old }
     ensures first { IfOk result
-        (λ value. ReadsFirst T.TYPE negative radix_chosen c.old c.new (T.number value)) }
+        (λ value. ReadsFirst T.TYPE is_negative radix_chosen c.old c.new (T.number value)) }
     ensures ahead { LooksAhead c.old c.new }
     ensures fault { IfErr result
         (λ e. option_or (zero_fault c.old.format radix_chosen (numeral_of c.old))
-        (range_fault T.TYPE negative (numeral_of c.old)) ≡ Some e) }
+        (range_fault T.TYPE is_negative (numeral_of c.old)) ≡ Some e) }
 {
     if radix_chosen || !c.format().no_integer_leading_zeros() {
         return Ok(T::ZERO);
@@ -70,5 +70,5 @@ pub(crate) fn read_first_digit<T: Integer>(
         }
         return Ok(T::ZERO);
     }
-    join_checked::<T>(T::ZERO, digit, c.radix(), place, negative)
+    join_checked::<T>(T::ZERO, digit, c.radix(), place, is_negative)
 }

@@ -4,8 +4,8 @@
 //! cursor with `LARGE_NUMBERS` and hands back the answer and the cursor, which counts its turns. Let `d` be how many
 //! digits the numeral has, whatever comes before or after it, and `m` the smaller of `d` and what `T::overflow_digits`
 //! answers for the effective radix. For every text and every answer, where the format has no separator byte and the
-//! radix in force is at most 10, it takes at most `m / w + m % w + (d - m)` turns: `w` is 4 for types of 32 bits, and 8
-//! for those of 64 bits and more. A fault of the sign takes none.
+//! effective radix is at most 10, it takes at most `m / w + m % w + (d - m)` turns: `w` is 4 for types of 32 bits, and
+//! 8 for those of 64 bits and more. A fault of the sign takes none.
 ghost use Rattle.std.specs.Prelude.{◌≡◌, ◌≤◌, IsNone, OnOk};
 ghost use Rattle.lexical_parse_integer.specs.Answer.{with_place, view_of};
 ghost use Rattle.lexical_parse_integer.specs.Grammar.{complete, partial};

@@ -119,7 +119,7 @@ just_outside_complete : Answers complete (
 unfolding grammar
 just_outside_complete = refl
 
--- ---- a fault of the range stands at the digit that leaves the type, whatever follows it
+-- ---- a fault of the range stands at the first digit that overflows, whatever follows it
 
 later_bytes_complete : Answers complete (
     (standard, u8, codes "2566", Err (Overflow 2)) ∷

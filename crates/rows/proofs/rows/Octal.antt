@@ -8,7 +8,7 @@ use Rattle.lexical_parse_integer.specs.Computed.{grammar}
 use Rattle.lexical_parse_integer.specs.Grammar.{complete, partial}
 use Rattle.rows.proofs.Tables.{Answers, minus, u8, u32, u64, u128, i8, i32, i64}
 
--- ---- a zero in front puts 8 in force, and is the numeral's first digit
+-- ---- a zero in front makes 8 the effective radix, and is the numeral's first digit
 
 octal_zero_complete : Answers complete (
     -- 7 * 64 + 7 * 8 + 7

@@ -4,7 +4,7 @@ use super::formats::{
     INTEGER_DIGITS, LEADING, NO_ZEROS, OPTIONAL, PREFIX, PREFIX_CASE, SEPARATOR, SUFFIX,
     SUFFIX_CASE, format_of,
 };
-use super::ready::TEXTS;
+use super::presets::TEXTS;
 use super::reference::LONGEST;
 use lexical_parse_integer::NumberFormat;
 use lexical_parse_integer::format::{JSON, STANDARD};

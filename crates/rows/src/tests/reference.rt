@@ -6,10 +6,10 @@ use lexical_parse_integer::{Error, NumberFormat, Result};
 // The longest text that is read.
 pub(super) const LONGEST: usize = 48;
 
-// A whole number: whether it is below 0, and its size.
+// A whole number: whether it is below 0, and its magnitude.
 pub(super) type Number = (bool, u128);
 
-// What precedes the digits of a text, and the radix that is in force behind it.
+// What precedes the digits of a text, and the effective radix behind it.
 #[derive(Drop)]
 struct Head {
     is_negative: bool,
@@ -252,7 +252,7 @@ fn power(radix: u32, times: usize) -> Option<u128> {
     Some(product)
 }
 
-// The size of the number of a type that is the furthest from 0, above it or below it.
+// The magnitude of the number of a type that is the furthest from 0, above it or below it.
 fn greatest(width: u32, is_signed: bool, is_negative: bool) -> u128 {
     let bits = width.saturating_sub(u32::from(is_signed));
     let all = u128::MAX
@@ -294,10 +294,10 @@ pub(super) fn read(
         };
         return Err(fault);
     }
-    let size = numeral.front(numeral.count, head.radix).unwrap_or(0);
+    let magnitude = numeral.front(numeral.count, head.radix).unwrap_or(0);
     Ok(Reading {
         // There is no number -0.
-        number: (head.is_negative && size > 0, size),
+        number: (head.is_negative && magnitude > 0, magnitude),
         has_digit: numeral.count > 0,
         stop: region.stop(&numeral),
     })

@@ -1,5 +1,5 @@
 use Rattle.std.proofs.Common.{◌≡◌, true, map, ap, ap₂, sym, ◌∙◌, rules, Ok, Err}
-use Rattle.jadvolni.specs.Columns.{effect_of}
+use Rattle.jadvolni.specs.Columns.{effect_of_column}
 use Rattle.jadvolni.specs.FormatFields.{are_known}
 use Rattle.jadvolni.proofs.ColumnArrays.{read}
 use Rattle.jadvolni.proofs.columns.column_under.Goals as goal
@@ -19,7 +19,7 @@ returns-in-Err-InvalidFormat g c =
     let now = map g.T.Integer.number c.read_column.new.values in
     ap₂ (λ status place. record { status = status; place = place; count = 0; numbers = now })
     c.of_fault.ensures.status c.of_fault.ensures.place
-    ∙ ap (λ e. effect_of (Err e) now) (sym at.field-0-is)
+    ∙ ap (λ e. effect_of_column (Err e) now) (sym at.field-0-is)
     ∙ read g.T.Integer.number c.args.fields.now c.format.result g.T.Integer.TYPE c.args.separator
     c.args.text.now c.args.values.now c.read_column.new.values (Err at.field-0) known
     c.format.ensures at.ensures.answer at.ensures.numbers at.ensures.rest
@@ -32,7 +32,7 @@ returns-in-Err-InvalidField g c =
     let now = map g.T.Integer.number c.read_column.new.values in
     ap₂ (λ status place. record { status = status; place = place; count = at.field; numbers = now })
     of_fault.status of_fault.place
-    ∙ ap (λ e. effect_of (Err e) now) (sym at.field-0-is)
+    ∙ ap (λ e. effect_of_column (Err e) now) (sym at.field-0-is)
     ∙ read g.T.Integer.number c.args.fields.now c.format.result g.T.Integer.TYPE c.args.separator
     c.args.text.now c.args.values.now c.read_column.new.values (Err at.field-0) known
     c.format.ensures at.ensures.answer at.ensures.numbers at.ensures.rest

@@ -51,8 +51,8 @@ returns-in-Some g c =
     let scale : g.T.Integer.number c.mul_add-scale.result ≡ pos (16 ^ c.args.size) = c.mul_add-scale.ensures ∙ scale_is _ _ c.args.size c.requires.small c.from_u32-root.ensures none in
     let worth = c.mul_add-value.ensures ∙ parts_worth _ _ _ _ _ _ c.from_u32.ensures scale c.from_u32-in-Some.ensures in
     record {
-      size = pos (c.in-Some.high * 16 ^ c.args.size + c.in-Some.low);
+      magnitude = pos (c.in-Some.high * 16 ^ c.args.size + c.in-Some.low);
       writes = c.in-Some.ensures;
-      worth = c.signed_value.ensures.value ∙ ap (λ (z : ℤ). if c.args.negative then neg_ℤ z else z) worth;
+      worth = c.signed_value.ensures.value ∙ ap (λ (z : ℤ). if c.args.is_negative then neg_ℤ z else z) worth;
       fits = c.signed_value.ensures.fits;
     }

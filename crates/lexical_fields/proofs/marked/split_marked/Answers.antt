@@ -6,15 +6,15 @@ use Rattle.lexical_fields.proofs.marked.split_marked.Goals as goal
 
 pub overflow_shr-result : goal.overflow_shr-result
 overflow_shr-result c =
-    (marks_end c.args.separator c.args.text.now _ _ c.requires.marks c.lowest-size.ensures.set
-    c.lowest-size.ensures.below).few
+    (marks_end c.args.separator c.args.text.now _ _ c.requires.marks c.lowest_mark-size.ensures.set
+    c.lowest_mark-size.ensures.below).few
 
 pub returns : goal.returns
 returns c =
     let text = c.args.text.now in
-    let r = c.lowest-size.result in
-    let e = marks_end c.args.separator text _ r c.requires.marks c.lowest-size.ensures.set
-    c.lowest-size.ensures.below in
+    let r = c.lowest_mark-size.result in
+    let e = marks_end c.args.separator text _ r c.requires.marks c.lowest_mark-size.ensures.set
+    c.lowest_mark-size.ensures.below in
     let size = length-drop (r + 1) text in
     let whole : take (length text - (r + 1)) (drop (r + 1) text) ≡ drop (r + 1) text =
     take_all (length text - (r + 1)) (drop (r + 1) text) (omega (arith, size)) in

@@ -67,7 +67,7 @@ pub(in crate::algorithm) fn place_after_few<T: Integer>(bytes: &[u8]) -> Option<
 pub(in crate::algorithm) fn fault_after_many<T: Integer>(bytes: &[u8]) -> Option<Error>
     ensures { IfSome result (λ error. complete standard T.TYPE bytes.now ≡ Err error) }
 {
-    let Ok((negative, start)) = sign_of::<T>(bytes, &format::STANDARD) else {
+    let Ok((is_negative, start)) = sign_of::<T>(bytes, &format::STANDARD) else {
         return None;
     };
     let digits = &bytes[start..];
@@ -75,13 +75,13 @@ pub(in crate::algorithm) fn fault_after_many<T: Integer>(bytes: &[u8]) -> Option
     if digits.len() <= count {
         return None;
     }
-    let mut value = value_of_digits::<T>(&digits[..count], negative)?;
+    let mut value = value_of_digits::<T>(&digits[..count], is_negative)?;
     while count < digits.len() {
         let place = start + count;
         let Some(digit) = char_to_digit(digits[count], 10) else {
             return Some(Error::InvalidDigit(place));
         };
-        match join_checked::<T>(value, digit, 10, place, negative) {
+        match join_checked::<T>(value, digit, 10, place, is_negative) {
             Ok(next) => value = next,
             Err(fault) => return Some(fault),
         }

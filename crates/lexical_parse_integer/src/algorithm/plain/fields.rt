@@ -35,10 +35,10 @@ pub fn field_in_front<T: Integer>(
     ensures answer { IfSome result (λ found.
         complete format.now T.TYPE (take found.1 text.now) ≡ Ok (T.number found.0)) }
 {
-    let (negative, digits) = behind_minus::<T>(text);
-    match front_of_digits::<T>(digits, format, negative) {
+    let (is_negative, digits) = behind_minus::<T>(text);
+    match front_of_digits::<T>(digits, format, is_negative) {
         Some(found) => {
-            let stop = usize::from(negative) + found.1;
+            let stop = usize::from(is_negative) + found.1;
             if stop < text.len() && text[stop] == separator {
                 Some((found.0, stop))
             } else {

@@ -4,7 +4,7 @@ ghost use Rattle.lexical_parse_integer.specs.Plain.{BeginsWith, keeps_zero_rule}
 ghost use Rattle.lexical_digits.specs.WrittenNumbers.{WritesFirst};
 
 use lexical_digits::fronts::number_behind;
-use lexical_digits::values::value_of_two;
+use lexical_digits::values::value_of_parts;
 use lexical_util::format::NumberFormat;
 use lexical_util::num::Integer;
 
@@ -38,20 +38,20 @@ pub(super) fn front_after_first<T: Integer>(
     digits: &[u8],
     format: &NumberFormat,
     first: u32,
-    negative: bool,
+    is_negative: bool,
 ) -> Option<(T, usize)>
-    requires minus { IsTrue negative → IsTrue T.TYPE.is_signed }
+    requires minus { IsTrue is_negative → IsTrue T.TYPE.is_signed }
     requires first { WritesFirst digits.now first 8 }
     requires small { first < 100000000 }
     requires rule { keeps_zero_rule format.now (take 8 digits.now) ≡ true }
     ensures { IfSome result
-        (λ found. BeginsWith format.now T.TYPE negative digits.now (T.number found.0) found.1) }
+        (λ found. BeginsWith format.now T.TYPE is_negative digits.now (T.number found.0) found.1) }
 {
     let (second, count) = number_behind(digits, 8);
     if count == 8 {
-        return front_after_second::<T>(digits, format, first, second, negative);
+        return front_after_second::<T>(digits, format, first, second, is_negative);
     }
-    match value_of_two::<T>(first, second, power_of_ten(count), negative) {
+    match value_of_parts::<T>(first, second, power_of_ten(count), is_negative) {
         Some(value) => Some((value, 8 + count)),
         None => None,
     }
@@ -65,16 +65,16 @@ fn front_after_second<T: Integer>(
     format: &NumberFormat,
     first: u32,
     second: u32,
-    negative: bool,
+    is_negative: bool,
 ) -> Option<(T, usize)>
-    requires minus { IsTrue negative → IsTrue T.TYPE.is_signed }
+    requires minus { IsTrue is_negative → IsTrue T.TYPE.is_signed }
     requires first { WritesFirst digits.now first 8 }
     requires second { WritesFirst (slice_range digits.now 8 (length digits.now)) second 8 }
     requires first_small { first < 100000000 }
     requires second_small { second < 100000000 }
     requires rule { keeps_zero_rule format.now (take 8 digits.now) ≡ true }
     ensures { IfSome result
-        (λ found. BeginsWith format.now T.TYPE negative digits.now (T.number found.0) found.1) }
+        (λ found. BeginsWith format.now T.TYPE is_negative digits.now (T.number found.0) found.1) }
 {
     if T::BITS <= 32 {
         return None;
@@ -83,9 +83,9 @@ fn front_after_second<T: Integer>(
     if count == 8 {
         return None;
     }
-    let front = value_of_two::<T>(first, second, 100_000_000, negative)?;
+    let front = value_of_parts::<T>(first, second, 100_000_000, is_negative)?;
     let scale = T::from_u32(power_of_ten(count));
-    match front.checked_mul_add(scale, T::from_u32(third), negative) {
+    match front.checked_mul_add(scale, T::from_u32(third), is_negative) {
         Some(value) => Some((value, 16 + count)),
         None => None,
     }

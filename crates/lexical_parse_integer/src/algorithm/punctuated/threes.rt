@@ -74,43 +74,43 @@ fn three_at(bytes: &[u8], place: usize, separator: u8) -> Option<u32>
 
 // The value with three digits more, where the type has it.
 #[inline(always)]
-fn with_three<T: Integer>(value: T, three: u32, negative: bool) -> Option<T>
+fn with_three<T: Integer>(value: T, three: u32, is_negative: bool) -> Option<T>
     requires bits { 32 ≤ T.TYPE.bits }
     requires small { three < 1000 }
-    requires sign { HasSign negative (T.number value) }
-    ensures value { IfSome result (λ next. T.number next ≡ mul_add negative (T.number value)
+    requires sign { HasSign is_negative (T.number value) }
+    ensures value { IfSome result (λ next. T.number next ≡ mul_add is_negative (T.number value)
         (pos 1000) (pos three)) }
     ensures fits { IfSome result (λ next. IsNumber T.TYPE (T.number next)) }
 {
-    value.checked_mul_add(T::from_u32(1000), T::from_u32(three), negative)
+    value.checked_mul_add(T::from_u32(1000), T::from_u32(three), is_negative)
 }
 
-// The value of digits that stand so, behind a minus where that is negative.
+// The value of digits that stand so, with a minus where `is_negative`.
 #[inline(always)]
 pub(super) fn value_of_threes<T: Integer>(
     bytes: &[u8],
     format: &NumberFormat,
     separator: u8,
-    negative: bool,
+    is_negative: bool,
 ) -> Option<T>
     requires bits { 32 ≤ T.TYPE.bits }
     requires some { 1 ≤ length bytes.now }
     requires separator { format.now.digit_separator ≡ Some separator }
     requires internal { format.now.integer_internal_digit_separator ≡ true }
     requires no_digit { digit separator 10 ≡ None }
-    requires minus { IsTrue negative → IsTrue T.TYPE.is_signed }
+    requires minus { IsTrue is_negative → IsTrue T.TYPE.is_signed }
     ensures grouped { IfSome result (λ value. AreGrouped format.now 10 bytes.now) }
     ensures worth { IfSome result
-        (λ value. AreWorth T.TYPE 10 negative bytes.now (T.number value)) }
+        (λ value. AreWorth T.TYPE 10 is_negative bytes.now (T.number value)) }
 {
     if bytes.len() <= 4 {
-        return value_of_digits::<T>(bytes, negative);
+        return value_of_digits::<T>(bytes, is_negative);
     }
     let mut place = guess_of_first(bytes, separator);
-    let mut value = value_of_digits::<T>(&bytes[..place], negative)?;
+    let mut value = value_of_digits::<T>(&bytes[..place], is_negative)?;
     while place + 4 <= bytes.len() {
         match three_at(bytes, place, separator) {
-            Some(three) => match with_three::<T>(value, three, negative) {
+            Some(three) => match with_three::<T>(value, three, is_negative) {
                 Some(next) => value = next,
                 None => return None,
             },

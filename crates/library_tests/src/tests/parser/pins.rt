@@ -34,7 +34,7 @@ fn format_behind_answer(text: &[u8], format: &NumberFormat) -> NumberFormat
 }
 
 // At position 0 nothing was read: it answers how many digits were. The radix is the format's, where no octal zero can
-// have put another in force.
+// have chosen another.
 fn digits_at_front(c: &Cursor<'_>) -> usize
     requires front { c.now.position ≡ 0 }
     ensures none { result ≡ 0 }
@@ -48,7 +48,7 @@ fn digits_at_front(c: &Cursor<'_>) -> usize
     c.digits()
 }
 
-// Where a format has neither literal prefixes nor octal zeros, its radix is in force wherever the cursor is.
+// Where a format has neither literal prefixes nor octal zeros, its radix is the effective one wherever the cursor is.
 fn radix_anywhere(c: &Cursor<'_>) -> u32
     requires no_prefixes { c.now.format.literal_prefixes ≡ false }
     requires no_octal_zeros { c.now.format.literal_octal_zero ≡ false }

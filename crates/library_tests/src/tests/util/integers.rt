@@ -50,21 +50,21 @@ fn digits_that_never_overflow(rt: HostRuntime) {
 }
 
 // A decimal digit behind the front leads to the end of the type, and the next greater one out of it.
-fn reaches_end<T: Integer + Debug>(rt: &impl Abort, front: T, digit: u32, negative: bool, end: T)
+fn reaches_end<T: Integer + Debug>(rt: &impl Abort, front: T, digit: u32, is_negative: bool, end: T)
     requires small { digit < 10 }
     requires ten { IsNumber T.TYPE (pos 10) }
     requires digit { IsNumber T.TYPE (pos digit) }
     requires next { IsNumber T.TYPE (pos (digit + 1)) }
-    requires sign { HasSign negative (T.number front) }
+    requires sign { HasSign is_negative (T.number front) }
     requires fits { IsNumber T.TYPE
-        (mul_add negative (T.number front) (pos 10) (pos digit)) }
+        (mul_add is_negative (T.number front) (pos 10) (pos digit)) }
 {
     let ten = T::from_u32(10);
     let last = T::from_u32(digit);
     let next = T::from_u32(digit + 1);
-    answers(rt, front.mul_add(ten, last, negative), end);
-    answers(rt, front.checked_mul_add(ten, last, negative), Some(end));
-    answers(rt, front.checked_mul_add(ten, next, negative), None);
+    answers(rt, front.mul_add(ten, last, is_negative), end);
+    answers(rt, front.checked_mul_add(ten, last, is_negative), Some(end));
+    answers(rt, front.checked_mul_add(ten, next, is_negative), None);
 }
 
 #[test]

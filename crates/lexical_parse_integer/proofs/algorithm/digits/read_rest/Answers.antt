@@ -17,14 +17,14 @@ returns-in_err-value-clause-leaves g c =
     let i = c.loop-digit.invariant in
     let at = c.place-place.ensures in
     let behind : c.read_digit.new.self.position ≡ c.in-Some.ensures.step.place + 1 = ap (λ (v : CursorView). v.position) c.in-Some.ensures.step.after in
-    rw (p.1, p.2) (reads_leaves _ c.args.negative c.args.c.now c.loop-digit.c c.read_digit.new.self c.in-Some.digit c.radix.result _ _ _ i.goes_on c.in-Some.ensures.step i.reads c.radix.ensures (omega arith) c.in_err-value.ensures.leaves.0 c.in_err-value.ensures.leaves.1)
+    rw (p.1, p.2) (reads_leaves _ c.args.is_negative c.args.c.now c.loop-digit.c c.read_digit.new.self c.in-Some.digit c.radix.result _ _ _ i.goes_on c.in-Some.ensures.step i.reads c.radix.ensures (omega arith) c.in_err-value.ensures.leaves.0 c.in_err-value.ensures.leaves.1)
 
 pub loop-digit-preserved : goal.loop-digit-preserved
 loop-digit-preserved g c =
     let i = c.loop-digit.invariant in
     record {
       goes_on = goes_on_digit c.args.c.now c.loop-digit.c c.read_digit.new.self c.in-Some.digit i.goes_on c.in-Some.ensures.step c.in-Some.ensures.sound;
-      reads = reads_next _ c.args.negative c.args.c.now c.loop-digit.c c.read_digit.new.self c.in-Some.digit c.radix.result _ _ i.goes_on c.in-Some.ensures.step i.reads c.radix.ensures c.in_ok-value.ensures.fits.0 c.in_ok-value.ensures.fits.1;
+      reads = reads_next _ c.args.is_negative c.args.c.now c.loop-digit.c c.read_digit.new.self c.in-Some.digit c.radix.result _ _ i.goes_on c.in-Some.ensures.step i.reads c.radix.ensures c.in_ok-value.ensures.fits.0 c.in_ok-value.ensures.fits.1;
       turns =
           let digits : c.read_digit.new.self.digits ≡ c.loop-digit.c.digits + 1 = ap (λ (v : CursorView). v.digits) c.in-Some.ensures.step.after in
           let turns : c.read_digit.new.self.turns ≡ c.loop-digit.c.turns + 1 = ap (λ (v : CursorView). v.turns) c.in-Some.ensures.step.after in
@@ -34,13 +34,13 @@ loop-digit-preserved g c =
     }
 
 pub returns-clause-all : goal.returns-clause-all
-returns-clause-all g c = reads_end _ c.args.negative c.args.c.now c.loop-digit.c c.read_digit.new.self _ c.loop-digit.invariant.goes_on c.in_default.ensures.step c.loop-digit.invariant.reads
+returns-clause-all g c = reads_end _ c.args.is_negative c.args.c.now c.loop-digit.c c.read_digit.new.self _ c.loop-digit.invariant.goes_on c.in_default.ensures.step c.loop-digit.invariant.reads
 
 pub returns-in_err-value-clause-count : goal.returns-in_err-value-clause-count
 returns-in_err-value-clause-count g c = taken_count_from c.args.c.now c.loop-digit.c c.read_digit.new.self c.in-Some.digit c.loop-digit.invariant.goes_on c.in-Some.ensures.step
 
 pub join_checked-requires-clause-sign : goal.join_checked-requires-clause-sign
-join_checked-requires-clause-sign g c = reads_sign _ c.args.negative _ _ _ c.loop-digit.invariant.reads
+join_checked-requires-clause-sign g c = reads_sign _ c.args.is_negative _ _ _ c.loop-digit.invariant.reads
 
 pub join_checked-requires-clause-radix : goal.join_checked-requires-clause-radix
 join_checked-requires-clause-radix g c = rw c.radix.ensures (fact_of c.in-Some.ensures.sound).radix

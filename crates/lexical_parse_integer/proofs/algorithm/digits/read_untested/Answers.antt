@@ -16,11 +16,11 @@ from_u32-requires g c =
     small_is_number _ _ c.in-Some.digit g.met.T.Integer.width_law
     (digit_small c.args.c.now c.loop-radix.c c.read_digit.new.self c.in-Some.digit (fact_of c.requires.ready.sound) c.loop-radix.invariant.goes_on c.in-Some.ensures.step)
 
-joins_next : (g : Over) (c : goal.In-Some g) (digit : ℤ) → digit ≡ pos c.in-Some.digit → JoinsDigit g.T.Integer.TYPE.bits g.T.Integer.TYPE.is_signed c.args.negative c.args.c.now c.read_digit.new.self (mul_add c.args.negative (g.T.Integer.number c.loop-radix.value) (g.T.Integer.number c.from_u32-radix.result) digit)
+joins_next : (g : Over) (c : goal.In-Some g) (digit : ℤ) → digit ≡ pos c.in-Some.digit → JoinsDigit g.T.Integer.TYPE.bits g.T.Integer.TYPE.is_signed c.args.is_negative c.args.c.now c.read_digit.new.self (mul_add c.args.is_negative (g.T.Integer.number c.loop-radix.value) (g.T.Integer.number c.from_u32-radix.result) digit)
 joins_next g c digit is_digit =
     let i = c.loop-radix.invariant in
     let count = c.digits.ensures in
-    joins_digit _ _ c.args.negative c.args.c.now c.loop-radix.c c.read_digit.new.self c.args.most c.in-Some.digit _ _ _
+    joins_digit _ _ c.args.is_negative c.args.c.now c.loop-radix.c c.read_digit.new.self c.args.most c.in-Some.digit _ _ _
     (fact_of c.requires.ready.sound) i.goes_on c.in-Some.ensures.step c.requires.room c.requires.ready.minus (omega (arith, c.loop-radix-test.true)) i.reads i.radix is_digit
 
 pub mul_add-value-requires-clause-fits : goal.mul_add-value-requires-clause-fits
@@ -53,7 +53,7 @@ pub returns-clause-on : goal.returns-clause-on
 returns-clause-on g c = record { reads = c.loop-radix.invariant.reads; goes_on = c.loop-radix.invariant.goes_on }
 
 pub mul_add-value-requires-clause-sign : goal.mul_add-value-requires-clause-sign
-mul_add-value-requires-clause-sign g c = reads_sign _ c.args.negative _ _ _ c.loop-radix.invariant.reads
+mul_add-value-requires-clause-sign g c = reads_sign _ c.args.is_negative _ _ _ c.loop-radix.invariant.reads
 
 pub from_u32-radix-requires : goal.from_u32-radix-requires
 from_u32-radix-requires g c =

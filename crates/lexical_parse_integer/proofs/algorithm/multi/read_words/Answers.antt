@@ -24,7 +24,7 @@ mul_add-value-requires-clause-scale g c =
     let one = one-le-pow (digits_per_word g.T.Integer.BITS) c.args.c.now.radix (omega arith) in
     rw c.loop-scale.invariant.scale (omega (arith, ints))
 
-the_word : (g : Over) (c : goal.In-Some g) → ReadsWord g.T.Integer.TYPE.bits g.T.Integer.TYPE.is_signed c.args.negative c.args.c.now c.loop-scale.c (digits_per_word g.T.Integer.BITS) (mul_add c.args.negative (g.T.Integer.number c.loop-scale.value) (g.T.Integer.number c.word_scale-scale.result) (g.T.Integer.number c.in-Some.word))
+the_word : (g : Over) (c : goal.In-Some g) → ReadsWord g.T.Integer.TYPE.bits g.T.Integer.TYPE.is_signed c.args.is_negative c.args.c.now c.loop-scale.c (digits_per_word g.T.Integer.BITS) (mul_add c.args.is_negative (g.T.Integer.number c.loop-scale.value) (g.T.Integer.number c.word_scale-scale.result) (g.T.Integer.number c.in-Some.word))
 the_word g c =
     let i = c.loop-scale.invariant in
     let same : c.loop-scale.c.radix ≡ c.args.c.now.radix = i.goes_on.radix in
@@ -33,7 +33,7 @@ the_word g c =
     let le : c.digits.result + digits_per_word g.T.Integer.BITS ≤ c.args.most = c.has_room.ensures.0 c.loop-scale-test.true in
     let count = c.digits.ensures in
     let ten = c.requires.radix in
-    reads_word _ _ c.args.negative c.args.c.now c.loop-scale.c (digits_per_word g.T.Integer.BITS) c.args.most _ _ _ (word_some g.T.Integer.BITS) i.goes_on (omega arith) room c.requires.ready.minus (omega arith) (c.in-Some.ensures.digits.0 refl) i.reads
+    reads_word _ _ c.args.is_negative c.args.c.now c.loop-scale.c (digits_per_word g.T.Integer.BITS) c.args.most _ _ _ (word_some g.T.Integer.BITS) i.goes_on (omega arith) room c.requires.ready.minus (omega arith) (c.in-Some.ensures.digits.0 refl) i.reads
     (i.scale ∙ ap (λ r. pos (r ^ digits_per_word g.T.Integer.BITS)) (sym same)) c.in-Some.ensures.value
 
 pub mul_add-value-requires-clause-fits : goal.mul_add-value-requires-clause-fits

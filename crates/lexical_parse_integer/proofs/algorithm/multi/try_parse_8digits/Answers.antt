@@ -1,7 +1,7 @@
 use Rattle.std.proofs.Common.{◌<◌, ◌^◌, ◌∙◌, ap, arith, pos, refl, sym}
 use Rattle.std.proofs.lemmas.Bool.{false≢true}
 use Rattle.lexical_parse_integer.proofs.Folds.{fact_of}
-use Rattle.lexical_parse_integer.proofs.words.LentBytes.{are_lent, lanes_small, lent_size, none_told, some_told}
+use Rattle.lexical_parse_integer.proofs.words.BorrowedBytes.{are_lent, lanes_small, lent_size, none_told, some_told}
 use Rattle.lexical_parse_integer.proofs.words.WordsInTexts.{past_end, word_number}
 use Rattle.lexical_parse_integer.proofs.algorithm.multi.try_parse_8digits.Goals as goal
 
@@ -35,7 +35,7 @@ returns-in-None-value_of_8lanes-clause-digits g c =
     (λ e. absurd (false≢true e), λ all. absurd (false≢true (sym (none_told _ _ c.in-None-value_of_8lanes.ensures) ∙ w.back all)))
 
 pub value_of_8lanes-requires-clause-least : goal.value_of_8lanes-requires-clause-least
-value_of_8lanes-requires-clause-least g c = let low = (fact_of c.sound.ensures).radix.low in omega (arith, c.radix.ensures)
+value_of_8lanes-requires-clause-least g c = let low = (fact_of c.assert_invariant.ensures).radix.low in omega (arith, c.radix.ensures)
 
 pub value_of_8lanes-requires-clause-greatest : goal.value_of_8lanes-requires-clause-greatest
 value_of_8lanes-requires-clause-greatest g c = let ten = c.requires.radix in omega (arith, c.radix.ensures)

@@ -8,11 +8,11 @@ returns g c =
     let some = some_bytes _ _ c.is_empty.ensures c.if-is_empty.false in
     let rule = sym c.keeps_zero_rule.ensures ∙ c.if-not-keeps_zero_rule.false in
     if_found c.value_of_digits.result
-    (λ v w. table_read _ _ 10 _ c.args.bytes.now _ _ c.requires.plain c.requires.decimal (record { low = omega arith; high = omega arith }) c.behind_minus-negative.ensures.behind some rule w) c.value_of_digits.ensures
+    (λ v w. table_read _ _ 10 _ c.args.bytes.now _ _ c.requires.plain c.requires.decimal (record { low = omega arith; high = omega arith }) c.behind_minus-is_negative.ensures.behind some rule w) c.value_of_digits.ensures
 
 pub returns-then-digits-le4 : goal.returns-then-digits-le4
 returns-then-digits-le4 g c =
     let some = some_bytes _ _ c.is_empty.ensures c.if-is_empty.false in
     let rule = sym c.keeps_zero_rule.ensures ∙ c.if-not-keeps_zero_rule.false in
-    if_found c.value_of.result
-    (λ v w. table_read _ _ 10 _ c.args.bytes.now _ _ c.requires.plain c.requires.decimal (record { low = omega arith; high = omega arith }) c.behind_minus-negative.ensures.behind some rule w) c.value_of.ensures
+    if_found c.value_to_16.result
+    (λ v w. table_read _ _ 10 _ c.args.bytes.now _ _ c.requires.plain c.requires.decimal (record { low = omega arith; high = omega arith }) c.behind_minus-is_negative.ensures.behind some rule w) c.value_to_16.ensures

@@ -15,7 +15,7 @@ pub returns-then-has_more-clause-fault : goal.returns-then-has_more-clause-fault
 returns-then-has_more-clause-fault g c =
     let at = c.place-place.ensures in
     let behind : c.read_digit.new.self.position ≡ c.in-Some.ensures.step.place + 1 = ap (λ (v : CursorView). v.position) c.in-Some.ensures.step.after in
-    ap (λ z. option_or z (range_fault g.T.Integer.TYPE c.args.negative (numeral_of c.args.c.now)))
+    ap (λ z. option_or z (range_fault g.T.Integer.TYPE c.args.is_negative (numeral_of c.args.c.now)))
     (leading_zeros c.args.c.now c.read_digit.new.self c.in-Some.digit (fact_of c.requires.front.sound) c.requires.front.still_open c.requires.front.none c.in-Some.ensures.step c.in-Some.ensures.sound
     c.args.radix_chosen _ c.if-digit-eq0.true (cc (c.no_integer_leading_zeros.ensures, c.format.ensures)) c.if-radix_chosen.false (omega arith) c.if-has_more.ensures.answer)
 
@@ -26,7 +26,7 @@ pub returns-clause-fault : goal.returns-clause-fault
 returns-clause-fault g c =
     let at = c.place-place.ensures in
     let behind : c.read_digit.new.self.position ≡ c.in-Some.ensures.step.place + 1 = ap (λ (v : CursorView). v.position) c.in-Some.ensures.step.after in
-    MatchResult-weaker c.join_checked.result c.join_checked.ensures.leaves (λ x h. h) (λ e h. leaves_first _ c.args.negative c.args.radix_chosen c.args.c.now c.read_digit.new.self c.in-Some.digit c.radix.result _ _ e (fact_of c.requires.front.sound) c.requires.front.still_open c.requires.front.none c.in-Some.ensures.step c.if-digit-eq0.false (ap g.T.Integer.number c.ZERO-2.ensures ∙ g.met.T.Integer.zero_law) c.radix.ensures (omega arith) h.0 h.1)
+    MatchResult-weaker c.join_checked.result c.join_checked.ensures.leaves (λ x h. h) (λ e h. leaves_first _ c.args.is_negative c.args.radix_chosen c.args.c.now c.read_digit.new.self c.in-Some.digit c.radix.result _ _ e (fact_of c.requires.front.sound) c.requires.front.still_open c.requires.front.none c.in-Some.ensures.step c.if-digit-eq0.false (ap g.T.Integer.number c.ZERO-2.ensures ∙ g.met.T.Integer.zero_law) c.radix.ensures (omega arith) h.0 h.1)
 
 pub returns-then-ne-clause-first : goal.returns-then-ne-clause-first
 returns-then-ne-clause-first g c =
@@ -56,7 +56,7 @@ returns-clause-ahead g c = looks_at_digit c.args.c.now c.read_digit.new.self c.i
 pub returns-clause-first : goal.returns-clause-first
 returns-clause-first g c =
     IfOk-weaker c.join_checked.result _ _ (λ x h. record {
-      reads = reads_first _ c.args.negative c.args.c.now c.read_digit.new.self c.in-Some.digit c.radix.result _ _ (fact_of c.requires.front.sound) c.requires.front.still_open c.requires.front.none c.in-Some.ensures.step (ap g.T.Integer.number c.ZERO-2.ensures ∙ g.met.T.Integer.zero_law) c.radix.ensures h.0 h.1;
+      reads = reads_first _ c.args.is_negative c.args.c.now c.read_digit.new.self c.in-Some.digit c.radix.result _ _ (fact_of c.requires.front.sound) c.requires.front.still_open c.requires.front.none c.in-Some.ensures.step (ap g.T.Integer.number c.ZERO-2.ensures ∙ g.met.T.Integer.zero_law) c.radix.ensures h.0 h.1;
       no_zeros = other_first c.args.c.now c.read_digit.new.self c.in-Some.digit c.args.radix_chosen (fact_of c.requires.front.sound) c.requires.front.still_open c.requires.front.none c.in-Some.ensures.step c.if-digit-eq0.false;
       lone = λ none. elim c.else-is_contiguous.branch [
         | else-is_contiguous-via-then-is_contiguous+else-ne w ↦

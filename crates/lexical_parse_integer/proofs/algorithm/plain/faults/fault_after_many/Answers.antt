@@ -10,27 +10,27 @@ use Rattle.lexical_parse_integer.proofs.theorems.CompleteByPartial.{sign_within}
 use Rattle.lexical_parse_integer.proofs.algorithm.plain.faults.fault_after_many.Goals as goal
 
 pub slice_bounds-digits-count : goal.slice_bounds-digits-count
-slice_bounds-digits-count g c = sign_within standard g.T.Integer.TYPE c.args.bytes.now (c.in-Ok.negative, c.in-Ok.start) (sym c.in-Ok.ensures)
+slice_bounds-digits-count g c = sign_within standard g.T.Integer.TYPE c.args.bytes.now (c.in-Ok.is_negative, c.in-Ok.start) (sym c.in-Ok.ensures)
 
 pub slice_bounds-digits-start : goal.slice_bounds-digits-start
-slice_bounds-digits-start g c = sign_within standard g.T.Integer.TYPE c.args.bytes.now (c.in-Ok.negative, c.in-Ok.start) (sym c.in-Ok.ensures)
+slice_bounds-digits-start g c = sign_within standard g.T.Integer.TYPE c.args.bytes.now (c.in-Ok.is_negative, c.in-Ok.start) (sym c.in-Ok.ensures)
 
 pub value_of_digits-requires-clause-minus : goal.value_of_digits-requires-clause-minus
-value_of_digits-requires-clause-minus g c = signed_minus standard g.T.Integer.TYPE c.args.bytes.now (c.in-Ok.negative, c.in-Ok.start) (sym c.in-Ok.ensures)
+value_of_digits-requires-clause-minus g c = signed_minus standard g.T.Integer.TYPE c.args.bytes.now (c.in-Ok.is_negative, c.in-Ok.start) (sym c.in-Ok.ensures)
 
 pub join_checked-requires-clause-sign : goal.join_checked-requires-clause-sign
-join_checked-requires-clause-sign g c = sign_of_value _ 10 c.in-Ok.negative _ _ c.loop-count.invariant.writes
+join_checked-requires-clause-sign g c = sign_of_value _ 10 c.in-Ok.is_negative _ _ c.loop-count.invariant.writes
 
 pub returns-in_default-char_to_digit : goal.returns-in_default-char_to_digit
-returns-in_default-char_to_digit g c = byte_behind g.T.Integer.TYPE c.args.bytes.now (c.in-Ok.negative, c.in-Ok.start) _ (sym c.in-Ok.ensures) _ c.loop-count.invariant.some c.loop-count-test.true (ap is_some (sym c.char_to_digit.ensures ∙ c.in_default-char_to_digit.is)) c.loop-count.invariant.writes
+returns-in_default-char_to_digit g c = byte_behind g.T.Integer.TYPE c.args.bytes.now (c.in-Ok.is_negative, c.in-Ok.start) _ (sym c.in-Ok.ensures) _ c.loop-count.invariant.some c.loop-count-test.true (ap is_some (sym c.char_to_digit.ensures ∙ c.in_default-char_to_digit.is)) c.loop-count.invariant.writes
 
 pub returns-in-Err : goal.returns-in-Err
 returns-in-Err g c =
-    let leaves = leaves_after _ c.in-Ok.negative c.loop-count.count c.in-Some.digit (slice_range c.args.bytes.now c.in-Ok.start (length c.args.bytes.now)) _ c.loop-count.invariant.writes c.loop-count-test.true (sym c.in-Some.ensures) c.in-Err.ensures.leaves.1 in
-    signed_leaving_read g.T.Integer.TYPE c.args.bytes.now (c.in-Ok.negative, c.in-Ok.start) _ _ (sym c.in-Ok.ensures) refl leaves ∙ ap (λ (e : Error). Err e) (sym c.in-Err.ensures.leaves.0)
+    let leaves = leaves_after _ c.in-Ok.is_negative c.loop-count.count c.in-Some.digit (slice_range c.args.bytes.now c.in-Ok.start (length c.args.bytes.now)) _ c.loop-count.invariant.writes c.loop-count-test.true (sym c.in-Some.ensures) c.in-Err.ensures.leaves.1 in
+    signed_leaving_read g.T.Integer.TYPE c.args.bytes.now (c.in-Ok.is_negative, c.in-Ok.start) _ _ (sym c.in-Ok.ensures) refl leaves ∙ ap (λ (e : Error). Err e) (sym c.in-Err.ensures.leaves.0)
 
 pub loop-count-preserved : goal.loop-count-preserved
 loop-count-preserved g c = record {
   some = omega arith;
-  writes = next_value _ c.in-Ok.negative c.loop-count.count c.in-Some.digit (slice_range c.args.bytes.now c.in-Ok.start (length c.args.bytes.now)) _ _ c.loop-count.invariant.writes c.loop-count-test.true (sym c.in-Some.ensures) c.in-Ok-join_checked.ensures.fits.0 c.in-Ok-join_checked.ensures.fits.1;
+  writes = next_value _ c.in-Ok.is_negative c.loop-count.count c.in-Some.digit (slice_range c.args.bytes.now c.in-Ok.start (length c.args.bytes.now)) _ _ c.loop-count.invariant.writes c.loop-count-test.true (sym c.in-Some.ensures) c.in-Ok-join_checked.ensures.fits.0 c.in-Ok-join_checked.ensures.fits.1;
 }

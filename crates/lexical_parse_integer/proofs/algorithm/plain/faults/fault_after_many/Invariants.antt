@@ -5,7 +5,7 @@ use Rattle.lexical_parse_integer.proofs.algorithm.plain.faults.fault_after_many.
 abbrev pub invariant-loop-count : goal.invariant-loop-count
 invariant-loop-count g l = record {
   some : 1 ≤ l.count;
-  writes : StandsFor g.T.Integer.TYPE 10 l.negative (take l.count l.digits) (g.T.Integer.number l.value);
+  writes : StandsFor g.T.Integer.TYPE 10 l.is_negative (take l.count l.digits) (g.T.Integer.number l.value);
 }
 
 abbrev pub decreases-loop-count : goal.decreases-loop-count

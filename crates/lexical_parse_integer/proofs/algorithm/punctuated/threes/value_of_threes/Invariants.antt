@@ -8,7 +8,7 @@ invariant-loop-place g l = record {
   within : l.place ≤ length l.bytes;
   parted : IsParted 10 l.separator l.fn.format.integer_consecutive_digit_separator l.bytes l.place true;
   ends : is_digit_in 10 l.bytes (l.place - 1) ≡ true;
-  worth : AreWorth g.T.Integer.TYPE 10 l.negative (take l.place l.bytes) (g.T.Integer.number l.value);
+  worth : AreWorth g.T.Integer.TYPE 10 l.is_negative (take l.place l.bytes) (g.T.Integer.number l.value);
 }
 
 abbrev pub decreases-loop-place : goal.decreases-loop-place

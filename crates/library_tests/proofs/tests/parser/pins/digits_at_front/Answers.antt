@@ -10,7 +10,7 @@ returns-clause-turns c = (is_fresh c.args.c.now c.cursor.ensures.sound c.require
 
 pub returns-clause-radix : goal.returns-clause-radix
 returns-clause-radix c = λ off.
-    elim (is_fresh c.args.c.now c.cursor.ensures.sound c.requires.front).in_force [
+    elim (is_fresh c.args.c.now c.cursor.ensures.sound c.requires.front).effective [
       | inl own ↦ own
       | inr bare ↦ bare ∙ rw (not_asked c.args.c.now.format c.args.c.now.bytes c.args.c.now.start off) refl
     ]

@@ -1,6 +1,6 @@
 use Rattle.std.proofs.Common.{arith, ◌∙◌}
 use Rattle.lexical_digits.proofs.LongNumbers.{joined_fit, parts_worth, word_fits, from_zero}
-use Rattle.lexical_digits.proofs.values.joined.Goals as goal
+use Rattle.lexical_digits.proofs.values.join_parts.Goals as goal
 
 pub from_u32-requires : goal.from_u32-requires
 from_u32-requires g c = word_fits _ c.args.high g.met.T.Integer.width_law c.requires.bits (omega (arith, c.requires.high))

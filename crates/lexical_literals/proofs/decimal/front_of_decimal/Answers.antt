@@ -2,7 +2,7 @@ use Rattle.std.proofs.Common.{arith, false, refl, sym}
 use Rattle.lexical_util.specs.Format.{standard}
 use Rattle.lexical_util.specs.Number.{integer_type}
 use Rattle.lexical_literals.proofs.DecimalFronts.{decimal_read}
-use Rattle.lexical_literals.proofs.decimal.decimal_front.Goals as goal
+use Rattle.lexical_literals.proofs.decimal.front_of_decimal.Goals as goal
 
 pub returns-then-stand_alone : goal.returns-then-stand_alone
 returns-then-stand_alone c =

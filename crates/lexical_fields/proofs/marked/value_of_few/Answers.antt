@@ -1,8 +1,0 @@
-use Rattle.std.proofs.Common.{take}
-use Rattle.lexical_digits.proofs.LongNumbers.{value_written}
-use Rattle.lexical_fields.proofs.marked.value_of_few.Goals as goal
-
-pub returns : goal.returns
-returns g c =
-    value_written g.T.Integer.number g.T.Integer.TYPE c.args.negative (take c.args.count c.args.digits.now) _
-    c.value_of_two.result c.in_ok-high.ensures.writes c.value_of_two.ensures.value c.value_of_two.ensures.fits
