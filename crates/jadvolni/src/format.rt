@@ -1,4 +1,6 @@
 //! Formats as C writes them, and what is wrong with one.
+//!
+//! Its lists of fields are written from tools/fields.txt, by `make docs`.
 
 ghost use Rattle.std.specs.Prelude.{◌≡◌, ◌↔◌, ◌&&◌, ◌∷◌, [], IsTrue};
 ghost use Rattle.lexical_util.specs.Format.{standard};
