@@ -95,6 +95,10 @@ test("fronts stop where their numbers end", () => {
   assert.deepEqual(parseFront("12px", "u16"), { value: 12, stop: 2 });
   assert.deepEqual(parsePartial("x", "i64"), { value: 0n, stop: 0 });
   assert.equal(told(() => parseFront("x", "i64")), "Empty(0)");
+  assert.equal(told(() => parseFront("+a", "i64")), "Empty(1)");
+  assert.equal(told(() => parseFront("-x", "i64")), "Empty(1)");
+  assert.equal(told(() => parseFront("[- 5]", "i64", formats.JSON)), "Empty(0)");
+  assert.equal(told(() => parseFront("0xg", "u64", formats.RUST)), "Empty(2)");
   assert.deepEqual(parseFront("0x1F;", "u8", formats.RUST), { value: 31, stop: 4 });
 });
 
