@@ -71,6 +71,14 @@ if has cargo; then
     cp "$work"/cargo/package/*.crate dist
 fi
 
+echo "JavaScript, and the page to try a format on"
+mkdir "$work/tree/package"
+cp bindings/js/*.js bindings/js/index.d.ts bindings/js/package.json bindings/js/README.md build/jadvolni.wasm \
+    LICENSE-APACHE LICENSE-MIT NOTICE "$work/tree/package"
+packed "jadvolni-$version.tgz" package
+cp -R build/page "$work/tree/jadvolni-page-$version"
+packed "jadvolni-page-$version.tar.gz" "jadvolni-page-$version"
+
 if has dpkg-buildpackage dh dh_python3; then
     echo "Debian packages"
     tree=$work/debian/jadvolni maintainer=$(git log -1 --format='%an <%ae>')

@@ -67,6 +67,7 @@ git ls-files -z | xargs -0 cp --parents -t "$copy"
 {
     in_copy libraries make -s build/libjadvolni.a
     in_copy javascript make -s test-js
+    in_copy page make -s test-page
     in_copy programs python3 tools/must_not_compile.py
     in_copy callers make -s test-c
 } &
@@ -80,7 +81,7 @@ told() { # NAME
 # A crate that a user has changed is named, and stays; what was copied is what stands here.
 vendor() {
     user="$copy/a user"
-    set -- make -s vendor DEST="$user" WITH="lexical_fields lexical_formats lexical_laws lexical_literals"
+    set -- make -s vendor DEST="$user" WITH="lexical_fields lexical_formats lexical_laws lexical_literals lexical_tables"
     mkdir "$user" && "$@" || return 1
     echo >> "$user/crates/lexical_util/README.md"
     "$@" 2>&1 | grep 'crates/lexical_util has other contents' || return 1
@@ -103,6 +104,7 @@ part shells tests/shell_snippet.sh crates/lexint/out/lexint
 part jad tests/jad.sh crates/jad/out/jad
 part libraries told libraries
 part javascript told javascript
+part page told page
 part programs told programs
 part callers told callers
 echo "$passed parts passed, $failed failed, $skipped skipped"

@@ -15,7 +15,7 @@ SHARED := $(if $(shell command -v $(CC) 2>/dev/null),build/libjadvolni.so)
 LIBRARY_CRATES := jadvolni lexical_fields lexical_literals lexical_parse_integer lexical_digits lexical_util
 LIBRARY_SOURCES := $(shell find $(LIBRARY_CRATES:%=crates/%) -name out -prune -o -type f \( -name '*.rt' -o -name '*.antt' \) -print) crates.txt
 
-.PHONY: lib symbols wasm install-lib uninstall-lib test-c check-c test-js
+.PHONY: lib symbols wasm serve install-lib uninstall-lib test-c check-c test-js test-page
 
 lib: build/libjadvolni.a $(SHARED) ## proves and builds the library for C, as build/libjadvolni.a and build/libjadvolni.so
 	$(if $(SHARED),,@echo "there is no $(CC): build/libjadvolni.so, the shared library, is left out")
@@ -104,6 +104,24 @@ NODE_FLAGS = $(shell node -p 'parseInt(process.versions.node) < 24 ? "--experime
 
 test-js: $(if $(NODE),wasm) ## runs the calls of JavaScript; a part of the gate
 	@$(if $(NODE),node $(NODE_FLAGS) --test tests/js/*.test.js,echo "skipped: there is no node")
+
+# The page to try a format on, with what it takes, as it is served and released.
+PORT ?= 8000
+build/page: build/jadvolni.wasm $(wildcard docs/try/* bindings/js/*.js) docs/GRAMMAR.md
+	@rm -rf $@
+	@mkdir -p $@/try/jadvolni
+	@cp docs/try/*.html docs/try/*.css docs/try/*.js $@/try
+	@cp bindings/js/*.js build/jadvolni.wasm $@/try/jadvolni
+	@cp docs/GRAMMAR.md $@
+
+serve: build/page ## serves the page to try a format on, to this machine alone: PORT=8000
+	@echo "http://127.0.0.1:$(PORT)/try/"
+	@python3 -m http.server --bind 127.0.0.1 --directory build/page $(PORT)
+
+# What the page needs to be seen: a browser, and what drives it.
+BROWSER := $(if $(NODE),$(shell command -v chromium 2>/dev/null))
+test-page: $(if $(BROWSER),build/page) ## has Chromium show the page every test vector; a part of the gate
+	@$(if $(BROWSER),node --test tests/page/page.test.mjs,echo "skipped: there is no chromium, or no node to drive it")
 
 # What the random run asks for: the seed that a run before has printed, and how many parses and formats.
 PARSES ?= 1000000

@@ -1,0 +1,191 @@
+// The call that the page makes, as each language writes it.
+import { escaped, isPrintable } from "./bytes.js";
+
+const OF_C = {
+  u8: "uint8_t", u16: "uint16_t", u32: "uint32_t", u64: "uint64_t", u128: "jadvolni_uint128",
+  usize: "size_t", i8: "int8_t", i16: "int16_t", i32: "int32_t", i64: "int64_t",
+  i128: "jadvolni_int128", isize: "ptrdiff_t",
+};
+const NUL_BITS = {
+  digit_separator: "JADVOLNI_NUL_IS_SEPARATOR",
+  base_prefix: "JADVOLNI_NUL_IS_PREFIX",
+  base_suffix: "JADVOLNI_NUL_IS_SUFFIX",
+};
+
+/** A value by its kind: what a flag, a radix, a byte or no byte is in a language. */
+function valueIn(words, { kind, value }) {
+  if (kind === "flag") return value ? words.yes : words.no;
+  if (kind === "radix") return String(value);
+  return value === null ? words.none : words.byte(value);
+}
+
+/** A byte within quotes of C, where a letter behind an octal escape is no part of it. */
+function escapedInC(byte, quote) {
+  if (byte === 63) return "\\?"; // (two of them begin a trigraph)
+  return isPrintable(byte) ? escaped(byte, quote) : `\\${byte.toString(8).padStart(3, "0")}`;
+}
+
+function quotedInC(bytes) {
+  return `"${Array.from(bytes, (byte) => escapedInC(byte, '"')).join("")}"`;
+}
+
+function quoted(bytes) {
+  return `b"${Array.from(bytes, (byte) => escaped(byte, '"')).join("")}"`;
+}
+
+/** A string of JavaScript. What can't be seen, or changes how the line is shown, is escaped. */
+function quotedText(text) {
+  const characters = Array.from(text, (character) => {
+    const code = character.codePointAt(0);
+    return isPrintable(code) ? escaped(code, '"') : `\\u{${code.toString(16)}}`;
+  });
+  return `"${characters.join("")}"`;
+}
+
+/** Bytes as a string of JavaScript where they are UTF-8, and else as an array. */
+function quotedInScript(bytes) {
+  try {
+    return quotedText(new TextDecoder("utf-8", { fatal: true, ignoreBOM: true }).decode(bytes));
+  } catch {
+    return `Uint8Array.of(${Array.from(bytes).join(", ")})`;
+  }
+}
+
+const WORDS_OF_C = {
+  yes: "1", no: "0", none: "0",
+  byte: (byte) => (isPrintable(byte) ? `'${escapedInC(byte, "'")}'` : String(byte)),
+};
+
+/** The lines that change a format of C or C++. */
+function changesInC(changes) {
+  const lines = changes.map((it) => `format.${it.name} = ${valueIn(WORDS_OF_C, it)};`);
+  const bits = changes.filter((it) => it.kind === "punctuation" && it.value === 0)
+    .map((it) => NUL_BITS[it.name]);
+  if (bits.length) lines.push(`format.nul_is_punctuation = ${bits.join(" | ")};`);
+  return lines;
+}
+
+function inC({ bytes, type, call, base, changes }) {
+  const under = Boolean(base || changes.length);
+  const name = `jadvolni_parse_${type}${call === "whole" ? "" : `_${call}`}${under ? "_with_format" : ""}`;
+  const format = `jadvolni_format format = JADVOLNI_FORMAT_${base ? base.toUpperCase() : "STANDARD"};`;
+  return [
+    "#include <jadvolni.h>", "",
+    `const char text[] = ${quotedInC(bytes)};`,
+    ...(under ? [format, ...changesInC(changes)] : []),
+    `${OF_C[type]} value;`,
+    `jadvolni_result r = ${name}(text, sizeof text - 1, ${under ? "&format, " : ""}&value);`,
+  ];
+}
+
+function inCpp({ bytes, type, call, base, changes }) {
+  const ready = base ? `jadvolni::formats::${base}` : "jadvolni::standard";
+  const native = type.endsWith("128") ? OF_C[type].replace("_", "_native_") : `std::${OF_C[type]}`;
+  const under = changes.length ? ", format" : base ? `, ${ready}` : "";
+  const name = call === "whole" ? "parse" : `parse_${call}`;
+  return [
+    "#include <jadvolni.hpp>", "",
+    "using namespace std::string_view_literals;",
+    ...(changes.length ? [`auto format = ${ready};`, ...changesInC(changes)] : []),
+    `auto r = jadvolni::${name}<${native}>(${quotedInC(bytes)}sv${under});`,
+  ];
+}
+
+const WORDS_OF_RUST = {
+  yes: "true", no: "false", none: "None",
+  byte: (byte) => `Some(b'${escaped(byte, "'")}')`,
+};
+
+function settersOf(fields) {
+  return fields.map((it) => `    .${it.name}(${valueIn(WORDS_OF_RUST, it)})`);
+}
+
+function inRust({ bytes, type, call, base, changes }) {
+  const under = Boolean(base || changes.length);
+  const name = `${call === "whole" ? "parse" : `parse_${call}`}${under ? "_with_format" : ""}`;
+  const ready = `let format = Format::${base ? base.toUpperCase() : "STANDARD"}`;
+  return [
+    under ? `use jadvolni::{${name}, Format};` : `use jadvolni::${name};`, "",
+    ...(under ? `${[ready, ...settersOf(changes)].join("\n")};`.split("\n") : []),
+    `let answer = ${name}::<${type}>(${quoted(bytes)}${under ? ", &format" : ""});`,
+  ];
+}
+
+const WORDS_OF_PYTHON = {
+  yes: "True", no: "False", none: "None",
+  byte: (byte) => quoted([byte]),
+};
+
+function inPython({ bytes, type, call, base, changes }) {
+  const given = changes.map((it) => `${it.name}=${valueIn(WORDS_OF_PYTHON, it)}`);
+  const ready = base && `jadvolni.formats.${base.toUpperCase()}`;
+  const made = base ? `dataclasses.replace(${[ready, ...given].join(", ")})`
+    : `jadvolni.Format(${given.join(", ")})`;
+  const under = changes.length ? ", form" : base ? `, ${ready}` : "";
+  const name = call === "whole" ? "parse" : `parse_${call}`;
+  return [
+    ...(base && changes.length ? ["import dataclasses"] : []), "import jadvolni", "",
+    ...(changes.length ? [`form = ${made}`] : []),
+    `${call === "whole" ? "value" : "value, place"} = jadvolni.${name}(${quoted(bytes)}, "${type}"${under})`,
+  ];
+}
+
+const WORDS_OF_SCRIPT = {
+  yes: "true", no: "false", none: "null",
+  byte: (byte) => (byte < 128 ? quotedText(String.fromCharCode(byte)) : String(byte)),
+};
+
+function inScript({ bytes, type, call, base, changes }) {
+  const name = { whole: "parse", front: "parseFront", partial: "parsePartial" }[call];
+  const ready = base && `formats.${base.toUpperCase()}`;
+  const given = [...(base ? [`...${ready}`] : []),
+    ...changes.map((it) => `${it.name}: ${valueIn(WORDS_OF_SCRIPT, it)}`)];
+  const under = changes.length ? `, new Format({ ${given.join(", ")} })` : base ? `, ${ready}` : "";
+  const imports = [...(changes.length ? ["Format"] : []), ...(base ? ["formats"] : []), name];
+  const value = call === "whole" ? "value" : "{ value, stop }";
+  return [
+    `import { ${imports.join(", ")} } from "jadvolni";`, "",
+    `const ${value} = ${name}(${quotedInScript(bytes)}, "${type}"${under});`,
+  ];
+}
+
+/** Rattle's builder begins with the standard format: what a ready format sets is written out. */
+function inRattle({ bytes, type, call, base, changes, fields, isValid }) {
+  const build = `    .${isValid ? "build_strict" : "build_unchecked"}();`;
+  const made = changes.length
+    ? ["let format = NumberFormatBuilder::new()", ...settersOf(fields), build]
+    : base ? [`let format = lexical_formats::${base}();`] : [];
+  const under = made.length > 0;
+  const builder = changes.length ? ["NumberFormatBuilder"] : [];
+  if (call === "front") {
+    const standard = under ? [] : ["format"];
+    return [
+      `use lexical_parse_integer::{${[...builder, ...standard, "number_in_front"].join(", ")}};`, "",
+      ...made,
+      `let answer = number_in_front::<${type}>(${quoted(bytes)}, ${under ? "&format" : "&format::STANDARD"});`,
+    ];
+  }
+  const name = `from_lexical${call === "partial" ? "_partial" : ""}${under ? "_with_options" : ""}`;
+  const imports = under ? ["FromLexicalWithOptions", ...builder, "options"] : ["FromLexical"];
+  const braced = imports.length > 1 ? `{${imports.join(", ")}}` : imports[0];
+  return [
+    `use lexical_parse_integer::${braced};`, "",
+    ...made,
+    `let answer = ${type}::${name}(${quoted(bytes)}${under ? ", &format, &options::STANDARD" : ""});`,
+  ];
+}
+
+const WRITERS = {
+  C: inC, "C++": inCpp, Rust: inRust, Python: inPython, JavaScript: inScript, Rattle: inRattle,
+};
+
+/**
+ * The lines of a call in a language of `CALLERS`. `wanted` has the text's `bytes`, the `type` and the
+ * `call`; the name of the ready format that the format is made from as `base`, `""` for the standard
+ * one; the fields that differ from it as `changes`, and those that differ from the standard format
+ * as `fields`, each as `{ name, kind, value }`, where the value of punctuation is a byte or null; and
+ * `isValid`, whether the format breaks no rule.
+ */
+export function callIn(caller, wanted) {
+  return WRITERS[caller](wanted).join("\n");
+}

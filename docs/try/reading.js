@@ -1,0 +1,171 @@
+// What the library answers of a state. No text is read here: which part of it each byte is, the proved
+// parser tells, asked on parts of the text and under formats with fields taken away.
+import { FIELDS, Format, formats, ParseError, parse, parseFront, parsePartial } from "./jadvolni/index.js";
+import { bytesOf, escaped } from "./bytes.js";
+
+const CALLS = { whole: parse, front: parseFront, partial: parsePartial };
+const STANDARD = plainOf(new Format());
+
+/** What forbids or requires something, and moves no part of a text. */
+const PERMISSIVE = {
+  required_integer_digits: false,
+  required_mantissa_digits: false,
+  no_positive_mantissa_sign: false,
+  required_mantissa_sign: false,
+  no_integer_leading_zeros: false,
+};
+const RUN_FLAGS = FIELDS.map((it) => it.name).filter((it) => it.endsWith("digit_separator") && it !== "digit_separator");
+const ZERO = 48;
+const TEN = [49, 48];
+
+/** A field's control has something that the field can't have. */
+export class Unfit extends Error {
+  constructor(field, message) {
+    super(message);
+    this.field = field;
+  }
+}
+
+/** The fields of a format, with punctuation as bytes. */
+function plainOf(format) {
+  return Object.fromEntries(FIELDS.map(({ name, kind }) => {
+    const value = format[name];
+    return [name, kind === "punctuation" && typeof value === "string" ? value.charCodeAt(0) : value];
+  }));
+}
+
+/** The fields that a state's format begins with. */
+export function baseOf(state) {
+  return state.format ? plainOf(formats[state.format.toUpperCase()]) : STANDARD;
+}
+
+/** The byte of punctuation that was typed, null where there is none. */
+function punctuationOf(name, typed) {
+  const bytes = bytesOf(typed);
+  if (bytes.length > 1) throw new Unfit(name, `${name} has to be one byte, and this has ${bytes.length}`);
+  return bytes[0] ?? null;
+}
+
+/** Punctuation as one types it. */
+export function typedOf(byte) {
+  return byte === null ? "" : escaped(byte, "");
+}
+
+/** The fields of a state's format. */
+function fieldsOf(state) {
+  const fields = { ...baseOf(state) };
+  for (const { name, kind } of FIELDS) {
+    const given = state.fields[name];
+    if (given !== undefined) fields[name] = kind === "punctuation" ? punctuationOf(name, given) : given;
+  }
+  return fields;
+}
+
+/** The fields in which two formats differ, in the order of the first one's. */
+function differing(fields, others) {
+  return FIELDS.filter(({ name }) => fields[name] !== others[name])
+    .map(({ name, kind }) => ({ name, kind, value: fields[name] }));
+}
+
+/** What a call answers: `value` and `stop`, or the `kind` and `place` of a fault of the text. */
+function answerOf(call, bytes, type, fields) {
+  try {
+    const answer = call(bytes, type, new Format(fields));
+    return call === parse ? { value: answer, stop: bytes.length } : answer;
+  } catch (fault) {
+    if (!(fault instanceof ParseError)) throw fault;
+    return { kind: fault.kind, place: fault.place };
+  }
+}
+
+/** Where the numeral ends, by an answer under a format without suffix: a digit too many is its last. */
+function endOf(answer) {
+  const isRange = answer.kind === "Overflow" || answer.kind === "Underflow";
+  return answer.stop ?? answer.place + Number(isRange);
+}
+
+/** The parts of the numeral: separators are those bytes of it that are no digits. */
+function partsOfNumeral(bytes, from, to, separator) {
+  const parts = [];
+  for (let at = from; at < to; at += 1) {
+    const role = bytes[at] === separator ? "separator" : "digit";
+    const last = parts.at(-1);
+    if (last?.role === role) last.to = at + 1;
+    else parts.push({ role, from: at, to: at + 1 });
+  }
+  return parts;
+}
+
+/** The radix in force for digits from a place on: what `10` is worth there. A zero may choose it. */
+function radixAt(bytes, from, type, fields) {
+  const zero = bytes[from] === ZERO ? [ZERO] : [];
+  const { value } = answerOf(parsePartial, Uint8Array.of(...bytes.subarray(0, from), ...zero, ...TEN), type, fields);
+  return Math.abs(Number(value));
+}
+
+/** The flags without which the numeral would end earlier: they let its separators pass. */
+function flagsThatPass(bytes, end, type, fields) {
+  return RUN_FLAGS.filter((name) => fields[name]
+    && endOf(answerOf(parsePartial, bytes.subarray(0, end), type, { ...fields, [name]: false })) < end);
+}
+
+/**
+ * The parts of a text under a valid format, in their order: each has its `role` (sign, prefix, digit,
+ * separator, suffix or rest) and the places from which and to which it goes. Behind a digit with
+ * which the number leaves its type all is rest, since no parser looks at it. `radix` is that in force,
+ * and `flags` are those that let separators pass.
+ */
+export function partsOf(bytes, type, fields) {
+  const permissive = { ...fields, ...PERMISSIVE };
+  const bare = { ...permissive, base_suffix: null };
+  const answer = (length, under) => answerOf(parsePartial, bytes.subarray(0, length), type, under);
+  const required = { required_mantissa_sign: true, required_mantissa_digits: false };
+  const signed = answer(1, required).stop === 1 ? 1 : 0;
+  const front = answer(signed + 2, permissive);
+  const begin = front.kind === "Empty" ? signed + 2 : signed;
+  const end = endOf(answer(bytes.length, bare));
+  const stop = Math.max(end, answer(bytes.length, permissive).stop ?? end);
+  const parts = [
+    { role: "sign", from: 0, to: signed },
+    { role: "prefix", from: signed, to: begin },
+    ...partsOfNumeral(bytes, begin, end, fields.digit_separator),
+    { role: "suffix", from: end, to: stop },
+    { role: "rest", from: stop, to: bytes.length },
+  ].filter((part) => part.from < part.to);
+  const has = (role) => parts.some((part) => part.role === role);
+  return {
+    parts,
+    radix: has("digit") ? radixAt(bytes, begin, type, bare) : null,
+    flags: has("separator") ? flagsThatPass(bytes, end, type, bare) : [],
+  };
+}
+
+/** An answer as Rust writes it. */
+function writtenOf(call, answer) {
+  if (answer.kind) return answer.place === undefined ? `Err(${answer.kind})` : `Err(${answer.kind}(${answer.place}))`;
+  return call === "whole" ? `Ok(${answer.value})` : `Ok((${answer.value}, ${answer.stop}))`;
+}
+
+/**
+ * What the library answers of a state: the `bytes` of the text, the `fields` of the format, those that
+ * differ from the ready format as `changes` and from the standard format as `settings`, the `answer`,
+ * how Rust writes it as `written`, and the `parts`. An invalid format has no parts, and its answer is
+ * a `kind` with a `message`. Throws `Unfit` where the state says no format, and RangeError where the
+ * text is too long.
+ */
+export function reading(state) {
+  const bytes = bytesOf(state.text);
+  const fields = fieldsOf(state);
+  const found = {
+    bytes, fields, changes: differing(fields, baseOf(state)), settings: differing(fields, STANDARD),
+  };
+  let answer;
+  try {
+    answer = answerOf(CALLS[state.call], bytes, state.type, fields);
+  } catch (fault) {
+    if (fault.name !== "FormatError") throw fault;
+    answer = { kind: fault.kind, message: fault.message };
+    return { ...found, answer, written: writtenOf(state.call, answer), parts: [], flags: [], radix: null };
+  }
+  return { ...found, answer, written: writtenOf(state.call, answer), ...partsOf(bytes, state.type, fields) };
+}

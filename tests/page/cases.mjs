@@ -1,0 +1,53 @@
+// Texts whose parts and rules were worked out by hand from docs/GRAMMAR.md, and fragments that mean harm.
+
+/**
+ * Each case: the fragment without its text, the text as one types it, the answer, a letter for the part
+ * of each byte (s sign, p prefix, d digit, _ separator, x suffix, r rest), and the heading of GRAMMAR.md
+ * that the last rule links to.
+ */
+export const CASES = [
+  ["type=u64", "18446744073709551616", "Err(Overflow(19))", "d".repeat(20), "values-outside-the-type"],
+  ["type=i8", "-1290", "Err(Underflow(3))", "sdddr", "values-outside-the-type"],
+  ["type=u8", "2566x", "Err(Overflow(2))", "dddrr", "values-outside-the-type"],
+  ["type=i32", "+12", "Ok(12)", "sdd", "the-numeral-and-its-value"],
+  ["type=u8", "-1", "Err(InvalidDigit(0))", "rr", "the-sign"],
+  ["type=i32", "--1", "Err(InvalidDigit(1))", "srr", "digits"],
+  ["type=i32&no_positive_mantissa_sign=1", "+1", "Err(InvalidPositiveSign(0))", "sd", "the-sign"],
+  ["type=i32&required_mantissa_sign=1", "1", "Err(MissingSign(0))", "d", "the-sign"],
+  ["type=i32", "", "Err(Empty(0))", "", "required-digits"],
+  ["type=i32", "+", "Err(Empty(1))", "s", "required-digits"],
+  ["type=i32&call=front", "x", "Err(Empty(0))", "r", "required-digits"],
+  ["type=i32&call=partial", "x", "Ok((0, 0))", "r", "the-partial-parser"],
+  ["type=i32&required_mantissa_digits=0", "+", "Ok(0)", "s", "required-digits"],
+  ["type=i32&base_prefix=x", "-0x12", "Ok(-12)", "sppdd", "the-numeral-and-its-value"],
+  ["type=i32&base_prefix=x", "-0x", "Err(Empty(3))", "spp", "the-prefix"],
+  ["type=i32&base_prefix=x&case_sensitive_base_prefix=1", "0X1", "Err(InvalidDigit(1))", "drr", "digits"],
+  ["type=u32&format=rust", "0x_1_F", "Ok(31)", "pp_d_d", "the-numeral-and-its-value"],
+  ["type=u32&format=rust", "_1", "Err(InvalidDigit(0))", "rr", "separators"],
+  ["type=u32&format=rust", "0b12", "Err(InvalidDigit(3))", "ppdr", "digits"],
+  ["type=u32&format=go", "0x__1", "Err(InvalidDigit(2))", "pprrr", "separators"],
+  ["type=u32&format=c", "0777", "Ok(511)", "dddd", "the-numeral-and-its-value"],
+  ["type=u32&format=c", "08", "Err(InvalidDigit(1))", "dr", "digits"],
+  ["type=i32&format=json", "-01", "Err(InvalidLeadingZeros(1))", "sdd", "leading-zeros"],
+  ["type=i32&base_suffix=h", "12h", "Ok(12)", "ddx", "the-numeral-and-its-value"],
+  ["type=i32&base_suffix=h", "1hh", "Err(InvalidDigit(2))", "dxr", "the-suffix-and-where-reading-stops"],
+  ["type=i64&base_suffix=h&digit_separator=_&integer_trailing_digit_separator=1", "1_h", "Ok(1)", "d_x",
+    "the-numeral-and-its-value"],
+  ["type=u8&digit_separator=%5Cx00&integer_internal_digit_separator=1", "1\\02", "Ok(12)", "d_d",
+    "the-numeral-and-its-value"],
+  ["type=u64&call=front", "1234 }", "Ok((1234, 4))", "ddddrr", "the-numeral-and-its-value"],
+  ["type=u8&mantissa_radix=37", "1", "Err(InvalidMantissaRadix)", "r", "valid-formats"],
+  ["type=u8&digit_separator=é", "1", "digit_separator has to be one byte, and this has 2", "", undefined],
+  ["type=i32", "12\\n", "Err(InvalidDigit(2))", "ddr", "digits"],
+];
+
+/** Fragments that no link of the page is: each shows an answer all the same. */
+export const HOSTILE = [
+  "", "&&&===", "text", "text=%", "text=%FF%FE", "text=%00", "text=\\x", "text=\\xZZ\\",
+  "text=<img src=x onerror=window.harmed=1>", "text=%3Cscript%3Ewindow.harmed=1%3C/script%3E",
+  "format=<img src=x onerror=window.harmed=1>", "caller=<b>", "type=__proto__", "format=constructor",
+  "call=toString", "caller=__proto__", "__proto__=1&constructor=2&toString=3", "mantissa_radix=-1",
+  "mantissa_radix=999999999999", "mantissa_radix=1e1", "mantissa_radix=", "literal_prefixes=2",
+  "digit_separator=%F0%9F%98%80", "digit_separator=__&base_prefix=__", "text=1&text=2&type=u8&type=i8",
+  "type=U64", "format=RUST", "text=\u{1F600}\u200E\u202E1", "text=\\'\\\"&caller=Python",
+];
