@@ -92,10 +92,10 @@ function putAscii(text) {
   return true;
 }
 
-/** The bytes of a text. */
+/** The bytes of a text. An array of bytes may be another frame's or context's. */
 export function bytesOf(text) {
   if (typeof text === "string") return encoder.encode(text);
-  if (text instanceof Uint8Array) return text;
+  if (ArrayBuffer.isView(text) && text.BYTES_PER_ELEMENT === 1) return text;
   throw new TypeError(`text has to be a string or a Uint8Array, and not ${told(text)}`);
 }
 
