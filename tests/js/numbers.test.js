@@ -2,11 +2,13 @@
 
 import assert from "node:assert/strict";
 import { test } from "node:test";
+import { runInNewContext } from "node:vm";
 import {
   Format,
   formats,
   LONGEST,
   parse,
+  parseColumn,
   ParseError,
   parseFront,
   parseLiteral,
@@ -129,6 +131,11 @@ test("each single byte is a digit or a fault", () => {
     const answer = told(() => parse(Uint8Array.of(byte), "u8"));
     assert.equal(answer, isDigit ? byte - 48 : sign);
   }
+});
+
+test("bytes of another context are read", () => {
+  assert.equal(parse(runInNewContext("Uint8Array.of(49, 50)"), "u8"), 12);
+  assert.deepEqual(parseColumn(runInNewContext("Uint8Array.of(49, 10)"), "u8"), Uint8Array.of(1));
 });
 
 test("the longest text is read, and a longer one refused", () => {
