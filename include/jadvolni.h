@@ -710,8 +710,6 @@ JADVOLNI_ASSERT_(format_has_32_bytes, sizeof(jadvolni_format) == 32);
 JADVOLNI_ASSERT_(mantissa_radix_is_at_0, offsetof(jadvolni_format, mantissa_radix) == 0);
 JADVOLNI_ASSERT_(base_suffix_is_at_3, offsetof(jadvolni_format, base_suffix) == 3);
 JADVOLNI_ASSERT_(literal_prefixes_is_at_16, offsetof(jadvolni_format, literal_prefixes) == 16);
-JADVOLNI_ASSERT_(nul_is_punctuation_is_at_18, offsetof(jadvolni_format, nul_is_punctuation) == 18);
-JADVOLNI_ASSERT_(reserved_is_at_19, offsetof(jadvolni_format, reserved) == 19);
 JADVOLNI_ASSERT_(uint128_has_16_bytes, sizeof(jadvolni_uint128) == 16);
 JADVOLNI_ASSERT_(uint128_high_is_at_8, offsetof(jadvolni_uint128, high) == 8);
 JADVOLNI_ASSERT_(int128_has_16_bytes, sizeof(jadvolni_int128) == 16);

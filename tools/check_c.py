@@ -31,11 +31,11 @@ import check_misuse  # noqa: E402
 from c_calls import DECLARED  # noqa: E402
 from callers import (C_COMPILERS, CXX17, CXX_COMPILERS, OPTIMISED, SANITIZED, TOP,  # noqa: E402
                      Failed, Place, Skipped, Step, build, needs, needs_shared, run, source, text_of)
+from row_data import TYPES  # noqa: E402
 
 LIBDIR = "/usr/lib/x86_64-linux-gnu"
 INSTALLED = ["PREFIX=/usr", f"LIBDIR={LIBDIR}"]
 BUILT = ["-o", "build/libjadvolni.a", "-o", "build/symbols.map", "-o", "build/libjadvolni.so"]
-TYPES = [f"{sign}{size}" for sign in "ui" for size in ("8", "16", "32", "64", "128", "size")]
 FORMS = [what + under for what in ("", "_front", "_partial") for under in ("", "_with_format")]
 # The structs of the header, by their names in the crate. jadvolni-sys has the header's names.
 STRUCTS = {"result": "Outcome", "format": "FormatFields", "uint128": "Unsigned128",
@@ -59,16 +59,23 @@ def exported(names: Iterable[str]) -> str:
     return f"{len(found)} names"
 
 
+def out_of_line() -> List[str]:
+    """The functions that docs/DECISIONS.md lists, by the command that it gives."""
+    command = re.findall(r"`(grep [^`]*)` lists", text_of("docs", "DECISIONS.md"))
+    return re.findall(r"fn (\w+)", run(["sh", "-c", *command], cwd=TOP))
+
+
 def static_library(place: Place) -> str:
-    """It needs nothing, has no data, and exports the calls of the header alone."""
+    """It needs nothing, has no data, exports the header's calls, makes those listed or std's."""
     needs("nm")
     said = run(["nm", place.library("libjadvolni.a")])
-    symbols = re.findall(r"^(?:[0-9a-f]+)? +([A-Za-z]) (\S+)$", said, re.M)
-    undefined = [name for kind, name in symbols if kind == "U"]
-    data = [name for kind, name in symbols if kind in "dDbBcC"]
-    if undefined or data:
-        raise Failed(f"undefined: {undefined}, data: {data}")
-    return exported(name for kind, name in symbols if kind == "T")
+    symbols = re.findall(r"(?m)^\w* +(\w) (core::)?(?:\w+::)*(\w+)", said)
+    undefined = [name for kind, _, name in symbols if kind == "U"]
+    data = [name for kind, _, name in symbols if kind in "dDbBcC"]
+    unlisted = {name for kind, std, name in symbols if kind == "t" and not std} - set(out_of_line())
+    if undefined or data or unlisted:
+        raise Failed(f"undefined: {undefined}, data: {data}, out of line: {sorted(unlisted)}")
+    return exported(name for kind, _, name in symbols if kind == "T")
 
 
 def shared_library(place: Place) -> str:

@@ -19,7 +19,7 @@ to its first assertion; `imports and body of NAME` the file's `use` lines too; a
 file's text after the comment that it begins with, `definitions` that after its imports too. `what
 it stands on` lists a file of definitions behind those that it imports, in reading order. With `as
 CRATE` at the end, `crate::` is that crate's name, as a caller elsewhere writes it. A link to a
-function, as [`read`](lib.rt#L1), gets the line on which that begins.
+function or a definition, as [`read`](lib.rt#L1), gets the line on which that begins.
 """
 from __future__ import annotations
 
@@ -38,8 +38,9 @@ TOP = os.path.dirname(os.path.dirname(os.path.abspath(__file__)))
 BLOCK = re.compile(
     r"(?m)^(<!-- block: (?P<file>[^:\n]+): (?P<what>[^\n]*?)(?: as (?P<crate>\w+))? -->\n"
     r"```\w+\n)(?s:.*?)^```$")
-# A link to a function of a source file, with the line on which it begins.
-LINE_LINK = re.compile(r"(?P<text>\[`(?P<name>[\w:]+)`\]\((?P<file>[^()#\s]+\.rt)#L)\d+")
+# A link to a function or a definition of a source file, with the line on which it begins.
+LINE_LINK = re.compile(
+    r"(?P<text>\[`(?P<name>[\w:]+)`\]\((?P<file>[^()#\s]+\.(?:rt|antt))#L)\d+")
 IMPORTED = re.compile(r"(?m)^(?:pub )?use Rattle\.(\w+)\.specs\.([\w.]+)\.\{")
 CODE_LINE = re.compile(r"(?m)^(?!\s*--|(?:pub )?use |\s*$).+")
 
@@ -78,6 +79,16 @@ def only_function(file: str, text: str, name: str) -> source.Function:
     if len(found) != 1:
         raise Unfit(f"{file} has {len(found)} functions `{name}`, and not one")
     return found[0]
+
+
+def begin_of(file: str, text: str, name: str) -> int:
+    """Where the function, or the definition, of this name begins."""
+    if file.endswith(".rt"):
+        return only_function(file, text, name).head
+    found = re.search(rf"(?m)^(?:\w+ )?pub (?:record |data )?{name} ", text)
+    if not found:
+        raise Unfit(f"{file} has no definition `{name}`")
+    return found.start()
 
 
 def function_text(file: str, text: str, name: str) -> str:
@@ -153,16 +164,16 @@ def with_blocks(top: str, path: str, faults: list[str]) -> str:
 
 
 def with_lines(top: str, path: str, text: str, faults: list[str]) -> str:
-    """A document whose links to functions lead to the lines on which these begin."""
+    """A document whose links to functions and definitions lead to the lines where these begin."""
     def fill(link: re.Match[str]) -> str:
         file = os.path.normpath(os.path.join(top, os.path.dirname(path), link["file"]))
         try:
             code = source.read(file)
-            head = only_function(link["file"], code, link["name"]).head
+            begin = begin_of(link["file"], code, link["name"])
         except (OSError, Unfit) as fault:
             faults.append(f"{path}: {fault}")
             return link[0]
-        return f"{link['text']}{code.count(chr(10), 0, head) + 1}"
+        return f"{link['text']}{code.count(chr(10), 0, begin) + 1}"
 
     return LINE_LINK.sub(fill, text)
 

@@ -1,4 +1,4 @@
-"""The lists of a format's fields and of statuses in each language that has calls, from two lists.
+"""The lists of a format's fields and of statuses, in each language, from two lists.
 
 Fields are those of tools/fields.txt, and what statuses mean is that of bindings/errors.txt.
 """
@@ -15,7 +15,8 @@ LIST = os.path.join("tools", "fields.txt")
 STATUSES = os.path.join("bindings", "errors.txt")
 # The fields of the standard format that aren't 0.
 STANDARD = {"mantissa_radix": 10, "required_mantissa_digits": True}
-FORMAT_OF_PYTHON = "bindings/python/src/jadvolni/_format.py"
+# The bytes of C's struct but that of nul_is_punctuation.
+ROOM = 31
 
 
 class Field(NamedTuple):
@@ -27,6 +28,34 @@ class Field(NamedTuple):
     bit: int = 0
     word: str = ""
 
+    @property
+    def type(self) -> str:
+        """Its kind, as the name of an enum."""
+        return self.kind.title()
+
+    @property
+    def variant(self) -> str:
+        """Its name, as one of an enum's."""
+        return self.name.title().replace("_", "")
+
+    @property
+    def standard(self) -> object:
+        """The number or truth value that the standard format has."""
+        return STANDARD.get(self.name, False)
+
+    @property
+    def truth(self) -> str:
+        """The truth value that the standard format has, as Rust and Rattle write it."""
+        return str(self.standard).lower()
+
+    @property
+    def argument(self) -> str:
+        """What the setter of a flag takes where its word stands in a test vector."""
+        return "(false)" if self.standard else ""
+
+
+Written = Callable[[list[Field]], str]
+
 
 class Region(NamedTuple):
     """A part of a file, by the texts before and behind it, and how it is written."""
@@ -34,7 +63,7 @@ class Region(NamedTuple):
     file: str
     begin: str
     end: str
-    written: Callable[[list[Field]], str]
+    written: Written
 
 
 def rows_of(top: str, path: str, between: str) -> list[list[str]]:
@@ -107,31 +136,50 @@ def in_c(fields: list[Field]) -> str:
     return "\n".join(lines) + "\n"
 
 
-def in_struct(fields: list[Field]) -> str:
-    """A struct of Rust, or of Rattle."""
-    return "".join(f"    pub {field.name}: u8,\n" for field in fields)
+def each(**texts: str) -> Written:
+    """A text for each field of these kinds. A tab breaks it where a line would be too long."""
+    def written(fields: list[Field]) -> str:
+        made = [texts[it.kind].format(it=it) for it in fields if it.kind in texts]
+        return "".join(it.replace("\t", " " if len(it) < 102 else "\n    ") for it in made)
+
+    return written
+
+
+def alike(text: str) -> Written:
+    """A text for each field of every kind."""
+    return each(radix=text, punctuation=text, flag=text)
+
+
+def named(kind: str) -> Written:
+    """The names of the fields of a kind, between commas."""
+    return lambda fields: ", ".join(f"`{it.name}`" for it in fields if it.kind == kind)
 
 
 def in_builder(fields: list[Field]) -> str:
-    """The setters of Rattle's builder, punctuation last."""
-    def setter(field: Field) -> str:
-        if field.kind == "punctuation":
-            return f"punctuation(self.{field.name}, has_bit(nul, {field.bit}))"
-        return f"flag(self.{field.name})" if field.kind == "flag" else f"self.{field.name}"
+    """The setters of Rattle's builder, in the order that compiles to the shortest code."""
+    others = [field for field in fields if field.kind != "punctuation"]
+    marks = [field for field in fields if field.kind == "punctuation"]
+    return each(radix="            .{it.name}(self.{it.name})\n",
+                flag="            .{it.name}(flag(self.{it.name}))\n",
+                punctuation="            .{it.name}(punctuation(self.{it.name}, "
+                            "has_bit(nul, {it.bit})))\n")([*others[9:], *others[8::-1], *marks])
 
-    ordered = sorted(fields, key=lambda field: field.kind == "punctuation")
-    return "".join(f"            .{field.name}({setter(field)})\n" for field in ordered)
+
+def nested(between: str, radix: str, flag: str, punctuation: str) -> Written:
+    """These texts with an operator between them, each next one in brackets."""
+    def written(fields: list[Field]) -> str:
+        last = each(punctuation=punctuation)(fields)
+        made = (each(radix=radix, flag=flag)(fields) + last).splitlines()
+        return f"\n    {between} (".join(made) + ")" * (len(made) - 1) + "\n"
+
+    return written
 
 
-def in_record(fields: list[Field]) -> str:
-    """The format that the fields stand for, as the definition has it."""
-    def value(field: Field) -> str:
-        if field.kind == "punctuation":
-            nul = f"(has_bit {field.bit} fields.nul_is_punctuation)"
-            return f"punctuation fields.{field.name} {nul}"
-        return f"{'flag ' if field.kind == 'flag' else ''}fields.{field.name}"
-
-    return "".join(f"  {field.name} = {value(field)};\n" for field in fields)
+def in_dataclass(punctuation: str) -> Written:
+    """The fields of Python, with the standard format's values."""
+    return each(radix="    {it.name}: int = {it.standard}\n",
+                punctuation=f"    {{it.name}}: {punctuation} = None\n",
+                flag="    {it.name}: bool = {it.standard}\n")
 
 
 def in_setters(kind: str, fields: list[Field]) -> str:
@@ -151,14 +199,6 @@ def in_help(fields: list[Field]) -> str:
                    for field in fields)
 
 
-def in_dataclass(fields: list[Field]) -> str:
-    """The fields of Python's Format, with their defaults."""
-    kinds = {"radix": ("int", 0), "punctuation": ("Punctuation", None), "flag": ("bool", False)}
-    rows = [(it.name, *kinds[it.kind]) for it in fields]
-    return "".join(f"    {name}: {kind} = {STANDARD.get(name, unset)}\n"
-                   for name, kind, unset in rows)
-
-
 def in_types(fields: list[Field]) -> str:
     """The fields of JavaScript's Format, with their types."""
     kinds = {"radix": "number", "punctuation": "Byte | null", "flag": "boolean"}
@@ -166,39 +206,101 @@ def in_types(fields: list[Field]) -> str:
                    + f"\n  {it.name}: {kinds[it.kind]};\n" for it in fields)
 
 
-def in_grammar(fields: list[Field]) -> str:
-    """The words of the test vectors, and the setters that they stand for."""
-    values = {"radix": "=N", "punctuation": "=B", "flag": ""}
-    return "".join(
-        f"| `{field.word}{values[field.kind]}` | `{field.name}"
-        f"{'(false)' if STANDARD.get(field.name) is True else ''}` |\n" for field in fields)
-
-
+BYTES = alike("    pub {it.name}: u8,\n")
+SAME_NAMES = alike("      {it.name} = a.{it.name};\n")
+HEADER, OF_SYS = "include/jadvolni.h", "bindings/rust/jadvolni-sys/src/lib.rs"
+COLUMN_ROWS = "crates/jadvolni/proofs/ColumnRows.antt"
+SAME = "crates/lexical_util/proofs/Same.antt"
+ANSWERS = "crates/answer_lines/"
+OF_C, OF_RATTLE = "crates/jadvolni/src/format.rt", "crates/lexical_util/src/format.rt"
+OF_PYTHON = "bindings/python/src/jadvolni/_format.py"
+OF_RUST = "bindings/rust/jadvolni/src/format.rs"
 REGIONS = [
-    Region("include/jadvolni.h", "typedef struct jadvolni_format {\n", "    /* Bits: ", in_c),
-    Region("crates/jadvolni/src/format.rt", "pub struct FormatFields {\n",
-           "    pub nul_is_punctuation", in_struct),
-    Region("crates/jadvolni/src/format.rt", "        NumberFormatBuilder::new()\n",
-           "            .build_unchecked()", in_builder),
+    Region(OF_RATTLE, "    mantissa_radix: u8,\n", "    // These stand last",
+           each(flag="    {it.name}: bool,\n")),
+    Region(OF_RATTLE, "ghost view = { λ a. record {\n", "    }", SAME_NAMES),
+    Region(OF_RATTLE, "ghost inverse = { λ a. record {\n", "    }", SAME_NAMES),
+    Region(OF_RATTLE, "pub const STANDARD: NumberFormat = NumberFormat {\n", "}",
+           each(radix="    {it.name}: {it.standard},\n", punctuation="    {it.name}: None,\n",
+                flag="    {it.name}: {it.truth},\n")),
+    Region("crates/lexical_util/specs/Format.antt", "pub record Format : Type 0 where\n", "\n--",
+           each(radix="  pub {it.name} : ℕ\n", punctuation="  pub {it.name} : Option ℕ\n",
+                flag="  pub {it.name} : Bool\n")),
+    Region("crates/lexical_util/specs/Format.antt", "standard = record {\n", "}",
+           each(radix="  {it.name} = {it.standard};\n", punctuation="  {it.name} = None;\n",
+                flag="  {it.name} = {it.truth};\n")),
+    Region(SAME, "HaveSameFields format other =\n    ", "\nsame_from_fields",
+           nested("×", *["(format.{it.name} ≡ other.{it.name})\n"] * 3)),
+    Region(SAME, "format_eq format other =\n    ", "\n-- it says whether",
+           nested("&&", "(format.{it.name} == other.{it.name})\n",
+                  "beq format.{it.name} other.{it.name}\n",
+                  "option_eq ◌==◌ format.{it.name} other.{it.name}\n")),
+    Region(HEADER, "typedef struct jadvolni_format {\n", "    /* Bits: ", in_c),
+    Region(OF_C, "pub struct FormatFields {\n", "    pub nul_is_punctuation", BYTES),
+    Region(OF_C, "        NumberFormatBuilder::new()\n", "            .build_unchecked()",
+           in_builder),
     Region("crates/jadvolni/specs/FormatFields.antt", "format_of fields = record {\n", "}\n",
-           in_record),
-    Region("bindings/rust/jadvolni-sys/src/lib.rs", "pub struct jadvolni_format {\n",
-           "    pub nul_is_punctuation", in_struct),
-    Region("bindings/rust/jadvolni/src/format.rs", "    punctuation! {\n", "    }\n",
+           each(radix="  {it.name} = fields.{it.name};\n",
+                punctuation="  {it.name} = punctuation fields.{it.name} "
+                            "(has_bit {it.bit} fields.nul_is_punctuation);\n",
+                flag="  {it.name} = flag fields.{it.name};\n")),
+    Region(OF_SYS, "pub struct jadvolni_format {\n", "    pub nul_is_punctuation", BYTES),
+    *(Region(file, begin, "]", lambda fields: str(ROOM - len(fields))) for file, begin in (
+        (HEADER, "    uint8_t reserved["), (OF_SYS, "    pub reserved: [u8; "),
+        (OF_C, "    pub reserved: [u8; "))),
+    Region(COLUMN_ROWS, "fields_of radix reserved = record {\n", "  nul_is_punctuation",
+           each(radix="  {it.name} = radix;\n", punctuation="  {it.name} = 0;\n",
+                flag="  {it.name} = {it.standard:d};\n")),
+    Region(COLUMN_ROWS, "  reserved = ", "reserved ∷ []",
+           lambda fields: "0 ∷ " * (ROOM - 1 - len(fields))),
+    Region(OF_RUST, "    punctuation! {\n", "    }\n",
            lambda fields: in_setters("punctuation", fields)),
-    Region("bindings/rust/jadvolni/src/format.rs", "    flags! {\n", "    }\n",
-           lambda fields: in_setters("flag", fields)),
-    Region(FORMAT_OF_PYTHON, "one that breaks a rule isn't made.\n\n", "\n    FormatError tells",
-           in_help),
-    Region(FORMAT_OF_PYTHON, "    # The fields, in the order of their bytes.\n",
-           "\n    def __post_init__", in_dataclass),
+    Region(OF_RUST, "    flags! {\n", "    }\n", lambda fields: in_setters("flag", fields)),
+    Region(OF_PYTHON, "one that breaks a rule isn't made.\n\n", "\n    FormatError tells", in_help),
+    Region(OF_PYTHON, "    # The fields, in the order of their bytes.\n", "\n    def __post_init__",
+           in_dataclass("Punctuation")),
     Region("bindings/js/index.d.ts", "export interface Fields {\n", "}\n", in_types),
+    Region("tools/reference.py", "those of the standard one.\"\"\"\n\n", "\n\nSTANDARD = ",
+           in_dataclass("Optional[int]")),
     Region("docs/GRAMMAR.md", "| Field | Setter of `NumberFormatBuilder` |\n|---|---|\n",
-           "\n`required_digits` sets both", in_grammar),
+           "\n`required_digits` sets both",
+           each(radix="| `{it.word}=N` | `{it.name}` |\n",
+                punctuation="| `{it.word}=B` | `{it.name}` |\n",
+                flag="| `{it.word}` | `{it.name}{it.argument}` |\n")),
+    Region(ANSWERS + "src/field.rt", "    Field::MantissaRadix,\n", "    Field::RequiredDigits",
+           each(punctuation="    Field::Punctuation(Punctuation::{it.variant}),\n",
+                flag="    Field::Flag(Flag::{it.variant}),\n")),
+    Region(ANSWERS + "specs/Field.antt", "    field.MantissaRadix\n", "    ∷ field.RequiredDigits",
+           each(punctuation="    ∷ field.Punctuation punctuation.{it.variant}\n",
+                flag="    ∷ field.Flag flag.{it.variant}\n")),
+    Region("crates/lexint/README.md", "`16`, `+2` or `007` |\n| ", " | one byte, or `none` |",
+           named("punctuation")),
+    Region("crates/lexint/README.md", "one byte, or `none` |\n| ", ", `required_digits` (",
+           named("flag")),
 ]
 
+# What the answers to lines have once for each byte of punctuation, and once for each flag.
+OF_KINDS = [
+    ("src/field.rt", "pub enum {type} {{\n", "}}\n", "    {it.variant},\n"),
+    ("src/field.rt", "{kind}_name self }}\n    {{\n        match self {{\n", "        }}\n",
+     "            {it.type}::{it.variant} => \"{it.name}\",\n"),
+    ("src/settings.rt", "    match {kind} {{\n", "    }}\n",
+     "        {it.type}::{it.variant} => format.{it.name}(value),\n"),
+    ("specs/Field.antt", "{kind}_name : {type} → List ℕ\n", "\n--",
+     "{it.kind}_name {it.kind}.{it.variant} = codes \"{it.name}\"\n"),
+    ("specs/Change.antt", "with_{kind} : {type} → {value} → Format → Format\n", "\n--",
+     "with_{it.kind} {it.kind}.{it.variant} value format ="
+     "\trecord format {{ {it.name} = value }}\n"),
+    ("specs/Given.antt", "{kind}_value : {type} → Format → {value}\n", "\n--",
+     "{it.kind}_value {it.kind}.{it.variant} format = format.{it.name}\n"),
+]
+for kind, value in ("punctuation", "Option ℕ"), ("flag", "Bool"):
+    REGIONS += [Region(ANSWERS + file, begin.format(kind=kind, type=kind.title(), value=value),
+                       end.format(), each(**{kind: line}))
+                for file, begin, end, line in OF_KINDS]
 
-HEADER, SWITCH = "include/jadvolni.h", "(uint32_t status)\n{\n    switch (status) {\n"
+
+SWITCH = "(uint32_t status)\n{\n    switch (status) {\n"
 OF_STATUSES = [
     Region(HEADER, f"jadvolni_status_name{SWITCH}", "    default: return \"Unknown",
            lambda them: in_cases(them, lambda it: f'"{it.name}"')),

@@ -6,8 +6,7 @@ import itertools
 from typing import Iterator, List, NamedTuple
 
 from fuzz_lines import CAPITALS, SMALL, as_numeral
-from fuzz_short import (BEHIND, INTERNAL, CONSECUTIVE, LITERAL, NO_PLUS, NO_ZEROS, OCTAL, PREFIX,
-                        SEPARATOR, SUFFIX, choices_of_flags, runs_under)
+from fuzz_short import RUNS, runs_under
 from reference import TYPES
 
 # longer than the digits of a type of 128 bits, and than any length that is read in a way of its own
@@ -18,25 +17,26 @@ NAMES = [name for name in TYPES if name not in (b"usize", b"isize")]
 
 
 class Setting(NamedTuple):
-    """The fields of a format, what stands before and behind its digits, and their radix."""
+    """A format, what stands before and behind its digits, and their radix."""
 
-    fields: List[bytes]
+    form: str
     head: bytes = b""
     tail: bytes = b""
     radix: int = 10
 
 
 LENGTHS = (
-    Setting([]), Setting([NO_ZEROS, NO_PLUS]), Setting([b"mantissa_radix 16"], radix=16),
-    Setting([b"mantissa_radix 8"], radix=8), Setting([b"mantissa_radix 36"], radix=36),
-    Setting([SEPARATOR, INTERNAL, SUFFIX], tail=b"h"),
-    Setting([LITERAL, SEPARATOR, INTERNAL, CONSECUTIVE]),
-    Setting([LITERAL, OCTAL], b"0x", radix=16), Setting([PREFIX, SUFFIX], b"0x", b"h"),
+    Setting("standard"), Setting("no-leading-zeros no-plus"), Setting("radix=16", radix=16),
+    Setting("radix=8", radix=8), Setting("radix=36", radix=36),
+    Setting("separator=_ internal suffix=h", tail=b"h"),
+    Setting("literal-prefixes separator=_ internal consecutive"),
+    Setting("literal-prefixes octal-zero", b"0x", radix=16),
+    Setting("prefix=x suffix=h", b"0x", b"h"),
 )
 PARTED = (
-    Setting([]), Setting([], b"-"), Setting([PREFIX, SUFFIX], b"0x", b"h"),
-    Setting([LITERAL, BEHIND], b"-0b", radix=2),
-    Setting([NO_ZEROS, b"mantissa_radix 16", SUFFIX], radix=16),
+    Setting(""), Setting("", b"-"), Setting("prefix=x suffix=h", b"0x", b"h"),
+    Setting("literal-prefixes behind-prefix", b"-0b", radix=2),
+    Setting("no-leading-zeros radix=16 suffix=h", radix=16),
 )
 
 
@@ -120,9 +120,8 @@ def of_parted(setting: Setting) -> Iterator[bytes]:
 def edge_runs(length: int) -> Iterator[List[bytes]]:
     """Runs of about that many lines."""
     for setting in LENGTHS:
-        yield from runs_under(setting.fields, of_lengths(setting), length)
+        yield from runs_under(setting.form, of_lengths(setting), length)
     for radix in range(2, 37):
-        yield from runs_under([b"mantissa_radix %d" % radix], of_ends(radix), length)
-    for setting, flags in itertools.product(PARTED, choices_of_flags()):
-        fields = setting.fields + [SEPARATOR] + flags
-        yield from runs_under(fields, of_parted(setting), length)
+        yield from runs_under(f"radix={radix}", of_ends(radix), length)
+    for setting, places in itertools.product(PARTED, RUNS):
+        yield from runs_under(f"{setting.form} {places}", of_parted(setting), length)

@@ -103,7 +103,7 @@ NODE := $(shell command -v node 2>/dev/null)
 NODE_FLAGS = $(shell node -p 'parseInt(process.versions.node) < 24 ? "--experimental-wasm-memory64" : ""')
 
 test-js: $(if $(NODE),wasm) ## runs the calls of JavaScript; a part of the gate
-	@$(if $(NODE),node $(NODE_FLAGS) --test tests/js,echo "skipped: there is no node")
+	@$(if $(NODE),node $(NODE_FLAGS) --test tests/js/*.test.js,echo "skipped: there is no node")
 
 # The page to try a format on, with what it takes, as it is served and released.
 PORT ?= 8000

@@ -7,6 +7,7 @@ import sys
 from dataclasses import dataclass, field
 from typing import List, NamedTuple, Optional, Tuple, Union
 
+import reference
 from field_lists import fields_of
 
 TOP = os.path.dirname(os.path.dirname(os.path.abspath(__file__)))
@@ -21,8 +22,7 @@ BYTES = {it.word: it.name for it in fields_of(TOP) if it.kind == "punctuation"}
 HEADING = re.compile(r"(={2,3}) (\w+): (.+)")
 # what a line of tools/languages.txt tells a user, before the rows of its language
 TOLD = re.compile(r"(reference|rule|suffixes|more|less|otherwise) \| (.+)")
-TYPES = {sign + str(bits): (bits, sign == "i") for sign in "ui" for bits in (8, 16, 32, 64, 128)}
-TYPES.update(usize=(64, False), isize=(64, True))
+TYPES = [name.decode() for name in reference.TYPES]
 OF_TEXTS = [
     "Overflow", "Underflow", "InvalidDigit", "Empty", "MissingSign", "InvalidPositiveSign",
     "InvalidLeadingZeros",

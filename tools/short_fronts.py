@@ -7,33 +7,26 @@ reference_lines.py: a digit was read where its reading has one.
 """
 from __future__ import annotations
 
+import dataclasses
 import itertools
 import struct
 import sys
-from typing import Iterator, List, Tuple
+from typing import Iterator, Tuple
 
 sys.dont_write_bytecode = True
 
 import c_calls  # noqa: E402
-import fuzz_short  # noqa: E402
-from fuzz_short import BEHIND, LITERAL, OCTAL, OPTIONAL, PREFIX, SEPARATOR, TRAILING  # noqa: E402
-from reference import (TYPES, Fault, Format, IntegerType, format_fault,  # noqa: E402
+from fuzz_short import FORMATS, texts  # noqa: E402
+from reference import (STANDARD, TYPES, Fault, Format, IntegerType, format_fault,  # noqa: E402
                        number_in_front)
-from reference_lines import Session  # noqa: E402
+from row_data import read_fields  # noqa: E402
 
 NONE, NO_NUMBER, OUT_OF_RANGE = range(3)
 BEFORE = 77
 RECORD = struct.Struct("=32s8sQ4I")
 # Under these texts of four bytes are asked for too: a sign, a prefix and a byte have room in them.
-LONGER = [[OPTIONAL, PREFIX, SEPARATOR, BEHIND], [OPTIONAL, LITERAL, OCTAL, SEPARATOR, TRAILING]]
-
-
-def form_of(fields: List[bytes]) -> Format:
-    """The format of lines of fields."""
-    session = Session()
-    for field in fields:
-        session.answer(b"f " + field)
-    return session.form
+LONGER = ["digits-optional prefix=x separator=_ behind-prefix",
+          "digits-optional literal-prefixes octal-zero separator=_ trailing"]
 
 
 def front_of(form: Format, kind: IntegerType, text: bytes) -> Tuple[int, int, int]:
@@ -49,7 +42,7 @@ def front_of(form: Format, kind: IntegerType, text: bytes) -> Tuple[int, int, in
 def records(form: Format, longest: int) -> Iterator[bytes]:
     """The records of all texts of up to that many bytes."""
     made = bytes(c_calls.c_format(form))
-    for text, name in itertools.product(fuzz_short.texts(longest), (b"i8", b"u64")):
+    for text, name in itertools.product(texts(longest), (b"i8", b"u64")):
         fault, stop, value = front_of(form, TYPES[name], text)
         signed = TYPES[name].signed
         yield RECORD.pack(made, text, value % 2 ** 64, len(text), stop, fault, signed)
@@ -57,11 +50,11 @@ def records(form: Format, longest: int) -> Iterator[bytes]:
 
 def main() -> None:
     """The command line."""
-    asked = [(fields, 3) for fields in fuzz_short.FORMATS]
-    asked += [([OPTIONAL, *fields], 3) for fields in fuzz_short.FORMATS if OPTIONAL not in fields]
-    asked += [(fields, 4) for fields in LONGER]
-    for fields, longest in asked:
-        sys.stdout.buffer.writelines(records(form_of(fields), longest))
+    shorter = [*FORMATS, *(f"digits-optional {it}" for it in FORMATS if "optional" not in it)]
+    asked = [*((form, 3) for form in shorter), *((form, 4) for form in LONGER)]
+    for form, longest in asked:
+        made = dataclasses.replace(STANDARD, **dict(read_fields(form)))
+        sys.stdout.buffer.writelines(records(made, longest))
 
 
 if __name__ == "__main__":

@@ -22,7 +22,7 @@ export function byteOf(name, value) {
 
 /** What a table has under a name. */
 export function ofTable(table, name, value) {
-  const found = typeof value === "string" ? table.get(value) : undefined;
+  const found = table.get(value);
   if (found === undefined) {
     const names = [...table.keys()].join(", ");
     throw new TypeError(`${name} has to be one of ${names}, and not ${told(value)}`);

@@ -92,9 +92,15 @@ test("a format can't be changed, and begins another", () => {
 });
 
 test("the byte 0 may be punctuation", () => {
-  const format = new Format({ digit_separator: "\0", integer_internal_digit_separator: true });
-  assert.equal(parse("1\0" + "2", "u8", format), 12);
-  assert.throws(() => parse("1\0" + "2", "u8"), ParseError);
+  const texts = [
+    [{ digit_separator: "\0", integer_internal_digit_separator: true }, "1\u00002"],
+    [{ base_prefix: "\0" }, "0\u000012"],
+    [{ base_suffix: 0 }, "12\0"],
+  ];
+  for (const [fields, text] of texts) {
+    assert.equal(parse(text, "u8", new Format(fields)), 12);
+    assert.throws(() => parse(text, "u8"), ParseError);
+  }
 });
 
 test("errors have one class above them", () => {

@@ -68,7 +68,7 @@ test("1,000,000 random texts are read as BigInt reads them", () => {
   const below = (count) => draw.next().value % count;
   const next = () => {
     const digits = Array.from({ length: below(22) }, () => below(10)).join("");
-    const odd = below(4) === 0 ? "+-_ x\0é٣"[below(8)] : "";
+    const odd = below(4) === 0 ? "+-_ x\0é\u0131"[below(8)] : "";
     const at = below(3) === 0 ? below(digits.length + 1) : 0;
     return digits.slice(0, at) + odd + digits.slice(at);
   };
@@ -113,6 +113,7 @@ test("a fault says what is wrong, and at which byte of UTF-8", () => {
     field: undefined,
   });
   assert.equal(told(() => parse("1é", "u8")), "InvalidDigit(1)");
+  assert.equal(told(() => parse("1\u0131", "u8")), "InvalidDigit(1)"); // its low byte is a digit
   assert.equal(told(() => parse("12\ud800", "u8")), "InvalidDigit(2)");
   assert.equal(told(() => parse("", "u8")), "Empty(0)");
 });

@@ -30,7 +30,7 @@ test("rows are answered, from bytes and from strings", () => {
   assert.ok(ROWS.length > 1600);
 });
 
-test("a ready format has the fields of its language", () => {
+test("a preset has the fields of its language", () => {
   const standard = new Format();
   for (const { language, fields } of ROWS.filter((row) => row.language)) {
     const format = formats[language.toUpperCase()];

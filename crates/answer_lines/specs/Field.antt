@@ -1,4 +1,5 @@
 -- The fields that an `f` line names, and the values that it has for them.
+-- Its lists of fields are written from tools/fields.txt, by `make docs`.
 use Rattle.std.specs.Prelude.{ℕ, Bool, true, false, List, [], ◌∷◌, codes, Option, None, Some, Result, Ok, Err, pos, negsuc, find, option_map, if◌then◌else◌}
 use Rattle.std.specs.Str.{bytes_eq}
 use lib.IntN.{ℤ}
@@ -7,9 +8,9 @@ use Rattle.lexical_util.specs.Format.{standard}
 use Rattle.lexical_util.specs.Number.{integer_type}
 use Rattle.lexical_parse_integer.specs.Grammar.{complete}
 use Rattle.answer_lines.specs.declared.field.Punctuation.{Punctuation}
-use Rattle.answer_lines.specs.declared.field.Punctuation.TheVariants.{DigitSeparator, BasePrefix, BaseSuffix}
+use Rattle.answer_lines.specs.declared.field.Punctuation.TheVariants as punctuation
 use Rattle.answer_lines.specs.declared.field.Flag.{Flag}
-use Rattle.answer_lines.specs.declared.field.Flag.TheVariants.{CaseSensitiveBasePrefix, CaseSensitiveBaseSuffix, RequiredIntegerDigits, RequiredMantissaDigits, NoPositiveMantissaSign, RequiredMantissaSign, NoIntegerLeadingZeros, IntegerLeadingDigitSeparator, IntegerInternalDigitSeparator, IntegerTrailingDigitSeparator, IntegerConsecutiveDigitSeparator, IntegerPrefixDigitSeparator, LiteralPrefixes, LiteralOctalZero}
+use Rattle.answer_lines.specs.declared.field.Flag.TheVariants as flag
 use Rattle.answer_lines.specs.declared.field.Field.{Field}
 use Rattle.answer_lines.specs.declared.field.Field.TheVariants as field
 use Rattle.answer_lines.specs.declared.field.Change.{Change}
@@ -19,26 +20,26 @@ use Rattle.answer_lines.specs.declared.field.Change.TheVariants as change
 
 -- the name of a field that is one byte or none
 abbrev pub punctuation_name : Punctuation → List ℕ
-punctuation_name DigitSeparator = codes "digit_separator"
-punctuation_name BasePrefix = codes "base_prefix"
-punctuation_name BaseSuffix = codes "base_suffix"
+punctuation_name punctuation.DigitSeparator = codes "digit_separator"
+punctuation_name punctuation.BasePrefix = codes "base_prefix"
+punctuation_name punctuation.BaseSuffix = codes "base_suffix"
 
 -- the name of a field that is true or false
 abbrev pub flag_name : Flag → List ℕ
-flag_name CaseSensitiveBasePrefix = codes "case_sensitive_base_prefix"
-flag_name CaseSensitiveBaseSuffix = codes "case_sensitive_base_suffix"
-flag_name RequiredIntegerDigits = codes "required_integer_digits"
-flag_name RequiredMantissaDigits = codes "required_mantissa_digits"
-flag_name NoPositiveMantissaSign = codes "no_positive_mantissa_sign"
-flag_name RequiredMantissaSign = codes "required_mantissa_sign"
-flag_name NoIntegerLeadingZeros = codes "no_integer_leading_zeros"
-flag_name IntegerLeadingDigitSeparator = codes "integer_leading_digit_separator"
-flag_name IntegerInternalDigitSeparator = codes "integer_internal_digit_separator"
-flag_name IntegerTrailingDigitSeparator = codes "integer_trailing_digit_separator"
-flag_name IntegerConsecutiveDigitSeparator = codes "integer_consecutive_digit_separator"
-flag_name IntegerPrefixDigitSeparator = codes "integer_prefix_digit_separator"
-flag_name LiteralPrefixes = codes "literal_prefixes"
-flag_name LiteralOctalZero = codes "literal_octal_zero"
+flag_name flag.CaseSensitiveBasePrefix = codes "case_sensitive_base_prefix"
+flag_name flag.CaseSensitiveBaseSuffix = codes "case_sensitive_base_suffix"
+flag_name flag.RequiredIntegerDigits = codes "required_integer_digits"
+flag_name flag.RequiredMantissaDigits = codes "required_mantissa_digits"
+flag_name flag.NoPositiveMantissaSign = codes "no_positive_mantissa_sign"
+flag_name flag.RequiredMantissaSign = codes "required_mantissa_sign"
+flag_name flag.NoIntegerLeadingZeros = codes "no_integer_leading_zeros"
+flag_name flag.IntegerLeadingDigitSeparator = codes "integer_leading_digit_separator"
+flag_name flag.IntegerInternalDigitSeparator = codes "integer_internal_digit_separator"
+flag_name flag.IntegerTrailingDigitSeparator = codes "integer_trailing_digit_separator"
+flag_name flag.IntegerConsecutiveDigitSeparator = codes "integer_consecutive_digit_separator"
+flag_name flag.IntegerPrefixDigitSeparator = codes "integer_prefix_digit_separator"
+flag_name flag.LiteralPrefixes = codes "literal_prefixes"
+flag_name flag.LiteralOctalZero = codes "literal_octal_zero"
 
 -- the name of a field
 abbrev pub field_name : Field → List ℕ
@@ -52,16 +53,24 @@ field_name field.NoMultiDigit = codes "no_multi_digit"
 abbrev pub all_fields : List Field
 all_fields =
     field.MantissaRadix
-    ∷ field.Punctuation DigitSeparator ∷ field.Punctuation BasePrefix ∷ field.Punctuation BaseSuffix
-    ∷ field.Flag CaseSensitiveBasePrefix ∷ field.Flag CaseSensitiveBaseSuffix
-    ∷ field.Flag RequiredIntegerDigits ∷ field.Flag RequiredMantissaDigits ∷ field.RequiredDigits
-    ∷ field.Flag NoPositiveMantissaSign ∷ field.Flag RequiredMantissaSign
-    ∷ field.Flag NoIntegerLeadingZeros
-    ∷ field.Flag IntegerLeadingDigitSeparator ∷ field.Flag IntegerInternalDigitSeparator
-    ∷ field.Flag IntegerTrailingDigitSeparator ∷ field.Flag IntegerConsecutiveDigitSeparator
-    ∷ field.Flag IntegerPrefixDigitSeparator ∷ field.Flag LiteralPrefixes
-    ∷ field.Flag LiteralOctalZero
-    ∷ field.NoMultiDigit ∷ []
+    ∷ field.Punctuation punctuation.DigitSeparator
+    ∷ field.Punctuation punctuation.BasePrefix
+    ∷ field.Punctuation punctuation.BaseSuffix
+    ∷ field.Flag flag.CaseSensitiveBasePrefix
+    ∷ field.Flag flag.CaseSensitiveBaseSuffix
+    ∷ field.Flag flag.RequiredIntegerDigits
+    ∷ field.Flag flag.RequiredMantissaDigits
+    ∷ field.Flag flag.NoPositiveMantissaSign
+    ∷ field.Flag flag.RequiredMantissaSign
+    ∷ field.Flag flag.NoIntegerLeadingZeros
+    ∷ field.Flag flag.IntegerLeadingDigitSeparator
+    ∷ field.Flag flag.IntegerInternalDigitSeparator
+    ∷ field.Flag flag.IntegerTrailingDigitSeparator
+    ∷ field.Flag flag.IntegerConsecutiveDigitSeparator
+    ∷ field.Flag flag.IntegerPrefixDigitSeparator
+    ∷ field.Flag flag.LiteralPrefixes
+    ∷ field.Flag flag.LiteralOctalZero
+    ∷ field.RequiredDigits ∷ field.NoMultiDigit ∷ []
 
 -- the field of a name
 abbrev pub field_named : List ℕ → Option Field

@@ -1,5 +1,6 @@
 -- What the settings come to: each field has the value that the last accepted `f` line after the last
 -- `r` line gave it.
+-- Its lists of fields are written from tools/fields.txt, by `make docs`.
 use Rattle.std.specs.Prelude.{◌≡◌, ℕ, Bool, true, List, [], ◌∷◌, ◌++◌, codes, Option, None, Some, ◌||◌, fold, if◌then◌else◌}
 use Rattle.std.specs.List.{after_last, filter_map}
 use Rattle.std.specs.Str.{bytes_eq}
@@ -10,9 +11,9 @@ use Rattle.answer_lines.specs.Field.{flag_name, punctuation_name}
 use Rattle.answer_lines.specs.Output.{answer_to, answers_to, settings_after}
 use Rattle.answer_lines.specs.Settings.{Settings, standard_settings}
 use Rattle.answer_lines.specs.declared.field.Punctuation.{Punctuation}
-use Rattle.answer_lines.specs.declared.field.Punctuation.TheVariants.{DigitSeparator, BasePrefix, BaseSuffix}
+use Rattle.answer_lines.specs.declared.field.Punctuation.TheVariants as punctuation
 use Rattle.answer_lines.specs.declared.field.Flag.{Flag}
-use Rattle.answer_lines.specs.declared.field.Flag.TheVariants.{CaseSensitiveBasePrefix, CaseSensitiveBaseSuffix, RequiredIntegerDigits, RequiredMantissaDigits, NoPositiveMantissaSign, RequiredMantissaSign, NoIntegerLeadingZeros, IntegerLeadingDigitSeparator, IntegerInternalDigitSeparator, IntegerTrailingDigitSeparator, IntegerConsecutiveDigitSeparator, IntegerPrefixDigitSeparator, LiteralPrefixes, LiteralOctalZero}
+use Rattle.answer_lines.specs.declared.field.Flag.TheVariants as flag
 use Rattle.answer_lines.specs.declared.field.Change.{Change}
 use Rattle.answer_lines.specs.declared.field.Change.TheVariants as set
 
@@ -20,26 +21,26 @@ use Rattle.answer_lines.specs.declared.field.Change.TheVariants as set
 
 -- the value of a byte of punctuation in a format
 abbrev pub punctuation_value : Punctuation → Format → Option ℕ
-punctuation_value DigitSeparator format = format.digit_separator
-punctuation_value BasePrefix format = format.base_prefix
-punctuation_value BaseSuffix format = format.base_suffix
+punctuation_value punctuation.DigitSeparator format = format.digit_separator
+punctuation_value punctuation.BasePrefix format = format.base_prefix
+punctuation_value punctuation.BaseSuffix format = format.base_suffix
 
 -- the value of a flag in a format
 abbrev pub flag_value : Flag → Format → Bool
-flag_value CaseSensitiveBasePrefix format = format.case_sensitive_base_prefix
-flag_value CaseSensitiveBaseSuffix format = format.case_sensitive_base_suffix
-flag_value RequiredIntegerDigits format = format.required_integer_digits
-flag_value RequiredMantissaDigits format = format.required_mantissa_digits
-flag_value NoPositiveMantissaSign format = format.no_positive_mantissa_sign
-flag_value RequiredMantissaSign format = format.required_mantissa_sign
-flag_value NoIntegerLeadingZeros format = format.no_integer_leading_zeros
-flag_value IntegerLeadingDigitSeparator format = format.integer_leading_digit_separator
-flag_value IntegerInternalDigitSeparator format = format.integer_internal_digit_separator
-flag_value IntegerTrailingDigitSeparator format = format.integer_trailing_digit_separator
-flag_value IntegerConsecutiveDigitSeparator format = format.integer_consecutive_digit_separator
-flag_value IntegerPrefixDigitSeparator format = format.integer_prefix_digit_separator
-flag_value LiteralPrefixes format = format.literal_prefixes
-flag_value LiteralOctalZero format = format.literal_octal_zero
+flag_value flag.CaseSensitiveBasePrefix format = format.case_sensitive_base_prefix
+flag_value flag.CaseSensitiveBaseSuffix format = format.case_sensitive_base_suffix
+flag_value flag.RequiredIntegerDigits format = format.required_integer_digits
+flag_value flag.RequiredMantissaDigits format = format.required_mantissa_digits
+flag_value flag.NoPositiveMantissaSign format = format.no_positive_mantissa_sign
+flag_value flag.RequiredMantissaSign format = format.required_mantissa_sign
+flag_value flag.NoIntegerLeadingZeros format = format.no_integer_leading_zeros
+flag_value flag.IntegerLeadingDigitSeparator format = format.integer_leading_digit_separator
+flag_value flag.IntegerInternalDigitSeparator format = format.integer_internal_digit_separator
+flag_value flag.IntegerTrailingDigitSeparator format = format.integer_trailing_digit_separator
+flag_value flag.IntegerConsecutiveDigitSeparator format = format.integer_consecutive_digit_separator
+flag_value flag.IntegerPrefixDigitSeparator format = format.integer_prefix_digit_separator
+flag_value flag.LiteralPrefixes format = format.literal_prefixes
+flag_value flag.LiteralOctalZero format = format.literal_octal_zero
 
 -- ---- what a change gives a field
 

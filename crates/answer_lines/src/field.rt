@@ -1,4 +1,6 @@
 //! The fields that an `f` line names, and the values that it has for them.
+//!
+//! Its lists of fields are written from tools/fields.txt, by `make docs`.
 
 ghost use Rattle.std.specs.Prelude.{◌≡◌};
 ghost use Rattle.std.specs.Str.{bytes_eq};
@@ -93,7 +95,7 @@ impl Flag {
 }
 
 /// Every field.
-const FIELDS: [Field; 20] = [
+const FIELDS: &[Field] = &[
     Field::MantissaRadix,
     Field::Punctuation(Punctuation::DigitSeparator),
     Field::Punctuation(Punctuation::BasePrefix),
@@ -102,7 +104,6 @@ const FIELDS: [Field; 20] = [
     Field::Flag(Flag::CaseSensitiveBaseSuffix),
     Field::Flag(Flag::RequiredIntegerDigits),
     Field::Flag(Flag::RequiredMantissaDigits),
-    Field::RequiredDigits,
     Field::Flag(Flag::NoPositiveMantissaSign),
     Field::Flag(Flag::RequiredMantissaSign),
     Field::Flag(Flag::NoIntegerLeadingZeros),
@@ -113,6 +114,7 @@ const FIELDS: [Field; 20] = [
     Field::Flag(Flag::IntegerPrefixDigitSeparator),
     Field::Flag(Flag::LiteralPrefixes),
     Field::Flag(Flag::LiteralOctalZero),
+    Field::RequiredDigits,
     Field::NoMultiDigit,
 ];
 

@@ -1,4 +1,6 @@
 //! What the lines so far have set.
+//!
+//! Its lists of fields are written from tools/fields.txt, by `make docs`.
 
 ghost use Rattle.std.specs.Prelude.{◌≡◌};
 ghost use Rattle.answer_lines.specs.Change.{with_change, with_flag, with_punctuation};

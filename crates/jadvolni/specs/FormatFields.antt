@@ -1,4 +1,5 @@
 -- A format as C writes it, byte by byte.
+-- Its lists of fields are written from tools/fields.txt, by `make docs`.
 use Rattle.std.specs.Prelude.{◌==◌, ℕ, Bool, true, ◌&&◌, not, nat_lt, List, [], ◌∷◌, Option, Some, None, if◌then◌else◌}
 use Rattle.std.specs.Int.Bits.{bit_and}
 use Rattle.lexical_util.specs.Format.{Format}

@@ -1,5 +1,6 @@
 -- When the derived test calls two formats equal: where all their fields are.
-use Rattle.std.proofs.Common.{◌≡◌, ℕ, Bool, Option, Some, None, ◌&&◌, refl, ap, subst}
+-- Its lists of fields are written from tools/fields.txt, by `make docs`.
+use Rattle.std.proofs.Common.{◌≡◌, ℕ, Bool, Option, Some, None, ◌&&◌, refl, ap, arith}
 use Rattle.std.specs.Prelude.{◌==◌}
 use Rattle.std.specs.Bool.{Decides}
 use Rattle.std.specs.Cmp.{booleans_Decides}
@@ -37,97 +38,13 @@ HaveSameFields format other =
     × ((format.literal_octal_zero ≡ other.literal_octal_zero)
     × ((format.digit_separator ≡ other.digit_separator)
     × ((format.base_prefix ≡ other.base_prefix)
-    × (format.base_suffix ≡ other.base_suffix)))))))))))))))))
+    × ((format.base_suffix ≡ other.base_suffix))))))))))))))))))
 
 same_from_fields : (format other : Format) → HaveSameFields format other → format ≡ other
-same_from_fields format other (
-  mantissa_radix,
-  (
-    case_sensitive_base_prefix,
-    (
-      case_sensitive_base_suffix,
-      (
-        required_integer_digits,
-        (
-          required_mantissa_digits,
-          (
-            no_positive_mantissa_sign,
-            (
-              required_mantissa_sign,
-              (
-                no_integer_leading_zeros,
-                (
-                  integer_leading_digit_separator,
-                  (
-                    integer_internal_digit_separator,
-                    (
-                      integer_trailing_digit_separator,
-                      (
-                        integer_consecutive_digit_separator,
-                        (
-                          integer_prefix_digit_separator,
-                          (
-                            literal_prefixes,
-                            (literal_octal_zero, (digit_separator, (base_prefix, base_suffix))),
-                          ),
-                        ),
-                      ),
-                    ),
-                  ),
-                ),
-              ),
-            ),
-          ),
-        ),
-      ),
-    ),
-  ),
-) =
-    λ i. record {
-      mantissa_radix = mantissa_radix i;
-      case_sensitive_base_prefix = case_sensitive_base_prefix i;
-      case_sensitive_base_suffix = case_sensitive_base_suffix i;
-      required_integer_digits = required_integer_digits i;
-      required_mantissa_digits = required_mantissa_digits i;
-      no_positive_mantissa_sign = no_positive_mantissa_sign i;
-      required_mantissa_sign = required_mantissa_sign i;
-      no_integer_leading_zeros = no_integer_leading_zeros i;
-      integer_leading_digit_separator = integer_leading_digit_separator i;
-      integer_internal_digit_separator = integer_internal_digit_separator i;
-      integer_trailing_digit_separator = integer_trailing_digit_separator i;
-      integer_consecutive_digit_separator = integer_consecutive_digit_separator i;
-      integer_prefix_digit_separator = integer_prefix_digit_separator i;
-      literal_prefixes = literal_prefixes i;
-      literal_octal_zero = literal_octal_zero i;
-      digit_separator = digit_separator i;
-      base_prefix = base_prefix i;
-      base_suffix = base_suffix i;
-    }
+same_from_fields format other same = grind arith
 
 fields_from_same : (format other : Format) → format ≡ other → HaveSameFields format other
-fields_from_same format other e =
-    subst (HaveSameFields format) e (
-      refl,
-      (
-        refl,
-        (
-          refl,
-          (
-            refl,
-            (
-              refl,
-              (
-                refl,
-                (
-                  refl,
-                  (refl, (refl, (refl, (refl, (refl, (refl, (refl, (refl, (refl, (refl, refl)))))))))),
-                ),
-              ),
-            ),
-          ),
-        ),
-      ),
-    )
+fields_from_same format other same = grind arith
 
 -- the derived test, in the order of the struct's fields
 abbrev pub format_eq : Format → Format → Bool
@@ -155,21 +72,4 @@ format_eq format other =
 pub format_eq_decides : (format other : Format) → Decides (format_eq format other) (format ≡ other)
 format_eq_decides format other =
     Decides-like _ (same_from_fields format other) (fields_from_same format other)
-    (both (Decides-eqb _ _)
-    (both (booleans_Decides _ _)
-    (both (booleans_Decides _ _)
-    (both (booleans_Decides _ _)
-    (both (booleans_Decides _ _)
-    (both (booleans_Decides _ _)
-    (both (booleans_Decides _ _)
-    (both (booleans_Decides _ _)
-    (both (booleans_Decides _ _)
-    (both (booleans_Decides _ _)
-    (both (booleans_Decides _ _)
-    (both (booleans_Decides _ _)
-    (both (booleans_Decides _ _)
-    (both (booleans_Decides _ _)
-    (both (booleans_Decides _ _)
-    (both (byte_Decides _ _)
-    (both (byte_Decides _ _)
-    (byte_Decides _ _))))))))))))))))))
+    (search (both, Decides-eqb, booleans_Decides, byte_Decides) depth 100)

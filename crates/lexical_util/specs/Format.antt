@@ -1,4 +1,5 @@
 -- Formats, as contracts see them: the records of their fields.
+-- Its lists of fields are written from tools/fields.txt, by `make docs`.
 use Rattle.std.specs.Prelude.{ℕ, Bool, true, false, Option, None}
 
 -- What a format says of the texts that it admits. `NumberFormat` has a getter for each field, which says what it does.

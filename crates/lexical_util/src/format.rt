@@ -3,6 +3,7 @@
 //! A format is made by a [`NumberFormatBuilder`] from [`STANDARD`], field by field, and is then
 //! handed to a parser by reference. The names of the fields are those of the Rust crate
 //! `lexical-util`; a field for floats has no place here.
+//! Its lists of fields are written from tools/fields.txt, by `make docs`.
 
 ghost use Rattle.std.specs.Prelude.{◌≡◌, ◌↔◌, ◌||◌, IsTrue, None, is_some};
 ghost use Rattle.lexical_util.specs.Format.{json, standard};

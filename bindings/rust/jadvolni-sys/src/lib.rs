@@ -69,10 +69,6 @@ const _: () = {
     assert!(
         size_of::<jadvolni_format>() == 32 && offset_of!(jadvolni_format, literal_prefixes) == 16
     );
-    assert!(
-        offset_of!(jadvolni_format, nul_is_punctuation) == 18
-            && offset_of!(jadvolni_format, reserved) == 19
-    );
     assert!(size_of::<jadvolni_uint128>() == 16 && offset_of!(jadvolni_uint128, high) == 8);
     assert!(size_of::<jadvolni_int128>() == 16 && offset_of!(jadvolni_int128, high) == 8);
 };

@@ -308,10 +308,10 @@ groups_read f t text h value r valid head radix some rule grouped worth =
     whole_punctuated f t text h bytes value m (ap (stop_after f text) place ∙ no_suffix_past f text)
 
 -- digits alone
-pub digits_read : (f : Format) (t : IntegerType) (text : List ℕ) (h : Head) (value : ℤ) → IsNone (fault f) → head_of f t text ≡ Ok h → h.start < length text →
-    (chooses_radix h || keeps_zero_rule f (slice_range text h.start (length text))) ≡ true → StandsFor t h.radix h.is_negative (slice_range text h.start (length text)) value → complete f t text ≡ Ok value
-digits_read f t text h value valid head some rule stands =
+pub digits_read : (f : Format) (t : IntegerType) (text : List ℕ) (h : Head) (value : ℤ) (r : ℕ) → IsNone (fault f) → head_of f t text ≡ Ok h → h.radix ≡ r → h.start < length text →
+    (chooses_radix h || keeps_zero_rule f (slice_range text h.start (length text))) ≡ true → StandsFor t r h.is_negative (slice_range text h.start (length text)) value → complete f t text ≡ Ok value
+digits_read f t text h value r valid head radix some rule stands =
     let bytes : List ℕ = slice_range text h.start (length text) in
     let size : h.start + (length text - h.start) ≡ length text = omega arith in
     let count : length bytes ≡ length text - h.start = subst (λ (k : ℕ). length (slice_range text h.start k) ≡ length text - h.start) size (length-ahead text h.start (length text - h.start) (omega arith)) in
-    groups_read f t text h value h.radix valid head refl some rule (row_grouped f h.radix bytes (omega arith) (digits_alone t h.radix h.is_negative bytes value stands)) (digits_worth t h.radix h.is_negative bytes value stands)
+    groups_read f t text h value r valid head radix some rule (row_grouped f r bytes (omega arith) (digits_alone t r h.is_negative bytes value stands)) (digits_worth t r h.is_negative bytes value stands)

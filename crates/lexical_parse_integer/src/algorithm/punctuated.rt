@@ -3,18 +3,17 @@
 //
 // As under formats without punctuation, only what is sure is answered: a value that its type has. `None` says nothing: what
 // is left is read from its front.
-ghost use Rattle.std.specs.Prelude.{◌≡◌, ◌<◌, ◌≤◌, IfSome, IsNone, IsTrue, None, Ok, Some, length, false};
+ghost use Rattle.std.specs.Prelude.{◌≡◌, ◌+◌, ◌<◌, IfSome, IsNone, IsTrue, None, Some, Ok, false, length};
 ghost use Rattle.lexical_util.specs.Ascii.{letter_x};
 ghost use Rattle.lexical_util.specs.Validity.{fault};
 ghost use Rattle.lexical_parse_integer.specs.Affixes.{named_radix, octal_zero_at, prefix_radix};
 ghost use Rattle.lexical_parse_integer.specs.Grammar.{complete};
-ghost use Rattle.lexical_parse_integer.specs.Head.{head_of, sign};
-ghost use Rattle.lexical_digits.specs.WrittenNumbers.{StandsFor};
+ghost use Rattle.lexical_parse_integer.specs.Head.{sign};
 
 mod threes;
 pub(crate) mod validity;
 
-use crate::algorithm::front::{Head, head_of, sign_of};
+use crate::algorithm::front::sign_of;
 use crate::algorithm::plain::keeps_zero_rule;
 use crate::algorithm::punctuated::threes::value_of_threes;
 use crate::algorithm::punctuated::validity::{is_valid_with_separator, is_valid_without_separator};
@@ -23,31 +22,22 @@ use lexical_digits::nibbles::value_of_nibbles;
 use lexical_util::format::NumberFormat;
 use lexical_util::num::Integer;
 
-// The value of digits of radix 10 or 16 alone.
+// Whether there is a minus, and how many bytes it has, where a minus or a digit stands in front, as most often.
 #[inline(always)]
-fn value_in_radix<T: Integer>(digits: &[u8], radix: u32, is_negative: bool) -> Option<T>
-    requires some { 1 ≤ length digits.now }
-    requires minus { IsTrue is_negative → IsTrue T.TYPE.is_signed }
-    ensures { IfSome result
-        (λ value. StandsFor T.TYPE radix is_negative digits.now (T.number value)) }
+#[tactic(auto, unfolding(crate::specs::Head::sign))]
+fn minus_of<T: Integer>(bytes: &[u8], format: &NumberFormat) -> Option<(bool, usize)>
+    ensures { IfSome result (λ found. sign format.now T.TYPE bytes.now ≡ Ok found) }
 {
-    match radix {
-        10 => value_of_digits::<T>(digits, is_negative),
-        16 => value_of_nibbles::<T>(digits, is_negative),
-        _ => None,
+    if bytes.is_empty() {
+        return None;
     }
-}
-
-// Whether a text begins behind the digit 0, where no sign is asked for: a sign is less, so neither it nor a prefix is
-// there.
-#[inline(always)]
-#[tactic(auto, unfolding(crate::specs::Head::sign, crate::specs::Affixes::prefix_radix, crate::specs::Affixes::octal_zero_at, crate::specs::Runs::are_same))]
-fn is_bare<T: Integer>(bytes: &[u8], format: &NumberFormat) -> bool
-    ensures sign { IsTrue result → sign format.now T.TYPE bytes.now ≡ Ok (false, 0) }
-    ensures prefix { IsTrue result → None ≡ prefix_radix format.now bytes.now 0 }
-    ensures octal_zero { IsTrue result → false ≡ octal_zero_at format.now bytes.now 0 }
-{
-    !bytes.is_empty() && bytes[0] > b'0' && !format.required_mantissa_sign()
+    if T::IS_SIGNED && bytes[0] == b'-' {
+        return Some((true, 1));
+    }
+    if bytes[0] < b'0' || format.required_mantissa_sign() {
+        return None;
+    }
+    Some((false, 0))
 }
 
 // Whether the effective radix behind `0x` is 16.
@@ -62,57 +52,33 @@ fn is_x_hexadecimal(format: &NumberFormat) -> bool
     }
 }
 
-// Whether a text begins with `0x`, behind which the effective radix is 16, where no sign is asked for.
+// Whether `0x` stands at a place with more behind it, where the effective radix is then 16.
 #[inline(always)]
-#[tactic(auto, unfolding(crate::specs::Head::sign, crate::specs::Affixes::prefix_radix, crate::specs::Runs::are_same))]
-fn is_behind_x<T: Integer>(bytes: &[u8], format: &NumberFormat) -> bool
-    ensures sign { IsTrue result → sign format.now T.TYPE bytes.now ≡ Ok (false, 0) }
-    ensures prefix { IsTrue result → Some 16 ≡ prefix_radix format.now bytes.now 0 }
+#[tactic(auto, unfolding(crate::specs::Affixes::prefix_radix, crate::specs::Runs::are_same))]
+fn is_x_at(bytes: &[u8], format: &NumberFormat, place: usize) -> bool
+    ensures prefix { IsTrue result → Some 16 ≡ prefix_radix format.now bytes.now place }
+    ensures more { IsTrue result → place + 2 < length bytes.now }
 {
     bytes.len() > 2
-        && bytes[0] == b'0'
-        && bytes[1] == b'x'
+        && place < bytes.len() - 2
+        && bytes[place] == b'0'
+        && bytes[place + 1] == b'x'
         && is_x_hexadecimal(format)
-        && !format.required_mantissa_sign()
 }
 
-// The value of the whole text behind its head, where that is digits alone.
+// Whether a byte above the digit 0 stands at a place: there is neither a prefix nor an octal zero.
 #[inline(always)]
-fn value_behind<T: Integer>(bytes: &[u8], format: &NumberFormat, head: Head) -> Option<T>
-    requires valid { IsNone (fault format.now) }
-    requires head { head_of format.now T.TYPE bytes.now ≡ Ok (record {
-      is_negative = head.is_negative;
-      is_prefixed = head.is_prefixed;
-      is_octal = head.is_octal;
-      start = head.start;
-      radix = head.radix;
-    }) }
-    ensures { IfSome result (λ value. complete format.now T.TYPE bytes.now ≡ Ok (T.number value)) }
+#[tactic(auto, unfolding(crate::specs::Affixes::prefix_radix, crate::specs::Affixes::octal_zero_at, crate::specs::Runs::are_same))]
+fn is_bare_at(bytes: &[u8], format: &NumberFormat, place: usize) -> bool
+    ensures some { IsTrue result → place < length bytes.now }
+    ensures prefix { IsTrue result → None ≡ prefix_radix format.now bytes.now place }
+    ensures octal_zero { IsTrue result → false ≡ octal_zero_at format.now bytes.now place }
 {
-    if bytes.len() <= head.start {
-        return None;
-    }
-    let digits = &bytes[head.start..];
-    if !(head.chooses_radix() | keeps_zero_rule(format, digits)) {
-        return None;
-    }
-    value_in_radix::<T>(digits, head.radix, head.is_negative)
+    place < bytes.len() && bytes[place] > b'0'
 }
 
-// The value of the whole text, where digits alone stand behind any head. Why out of line: docs/DECISIONS.md, code.
-#[inline(never)]
-fn value_behind_any_head<T: Integer>(bytes: &[u8], format: &NumberFormat) -> Option<T>
-    requires { IsNone (fault format.now) }
-    ensures { IfSome result (λ value. complete format.now T.TYPE bytes.now ≡ Ok (T.number value)) }
-{
-    match head_of::<T>(bytes, format) {
-        Ok(head) => value_behind::<T>(bytes, format, head),
-        Err(_) => None,
-    }
-}
-
-// The value of the whole text under a format without separator that may be invalid, where digits alone stand behind its
-// head.
+// The value of the whole text under a format without separator that may be invalid, where digits alone stand behind a
+// minus or none: hexadecimal ones behind `0x`, or those of the format's radix, without a zero in front.
 #[inline(never)]
 pub(crate) fn value_of_row<T: Integer>(bytes: &[u8], format: &NumberFormat) -> Option<T>
     requires { format.now.digit_separator ≡ None }
@@ -123,27 +89,20 @@ pub(crate) fn value_of_row<T: Integer>(bytes: &[u8], format: &NumberFormat) -> O
     if !is_valid_without_separator(format) {
         return None;
     }
-    if is_behind_x::<T>(bytes, format) {
-        let head = Head {
-            is_negative: false,
-            is_prefixed: true,
-            is_octal: false,
-            start: 2,
-            radix: 16,
-        };
-        return value_behind::<T>(bytes, format, head);
+    let Some((is_negative, start)) = minus_of::<T>(bytes, format) else {
+        return None;
+    };
+    if is_x_at(bytes, format, start) {
+        return value_of_nibbles::<T>(&bytes[start + 2..], is_negative);
     }
-    if is_bare::<T>(bytes, format) {
-        let head = Head {
-            is_negative: false,
-            is_prefixed: false,
-            is_octal: false,
-            start: 0,
-            radix: format.mantissa_radix(),
-        };
-        return value_behind::<T>(bytes, format, head);
+    if !is_bare_at(bytes, format, start) || !keeps_zero_rule(format, &bytes[start..]) {
+        return None;
     }
-    value_behind_any_head::<T>(bytes, format)
+    match format.mantissa_radix() {
+        10 => value_of_digits::<T>(&bytes[start..], is_negative),
+        16 => value_of_nibbles::<T>(&bytes[start..], is_negative),
+        _ => None,
+    }
 }
 
 // The value of the whole text under a format with a separator that may be invalid, where decimal digits with a

@@ -25,31 +25,6 @@ struct Call<'a> {
     format: &'a NumberFormat,
 }
 
-// The complete answer for a text that the quick ways leave.
-#[inline(always)]
-fn general_complete<T: Integer>(call: &Call<'_>) -> Result<T>
-    ensures { view_of T.number result
-        ≡ complete_if_valid call.now.format.now T.TYPE call.now.bytes.now }
-{
-    complete_if_valid::<T>(call)
-}
-
-// The complete answer under a format that may be invalid: a short decimal text is read in place, and else there is a
-// reader for the format's kind, and one call for what that leaves.
-#[inline(always)]
-fn complete<T: Integer>(bytes: &[u8], format: &NumberFormat) -> Result<T>
-    ensures { view_of T.number result ≡ complete_if_valid format.now T.TYPE bytes.now }
-{
-    if let Some(value) = value_if_short::<T>(bytes, format) {
-        return Ok(value);
-    }
-    let call = Call { bytes, format };
-    match value_for_format::<T>(bytes, format) {
-        Some(value) => Ok(value),
-        None => general_complete::<T>(&call),
-    }
-}
-
 // The value of the whole text, by the reader for its format, where `value_if_short` has left it. Why each answers in
 // registers: docs/DECISIONS.md, code.
 #[inline(always)]
@@ -76,17 +51,6 @@ fn complete_if_valid<T: Integer>(call: &Call<'_>) -> Result<T>
     match fault_of(call.format) {
         Some(invalid) => Err(invalid),
         None => complete_from_front::<T>(call.bytes, call.format),
-    }
-}
-
-// The partial answer under a format that may be invalid.
-#[inline(always)]
-fn partial<T: Integer>(bytes: &[u8], format: &NumberFormat) -> Result<(T, usize)>
-    ensures { view_of (with_place T.number) result ≡ partial_if_valid format.now T.TYPE bytes.now }
-{
-    match front_if_plain::<T>(bytes, format) {
-        Some(found) => Ok(found),
-        None => partial_if_valid::<T>(bytes, format),
     }
 }
 
@@ -122,13 +86,22 @@ impl<T: Integer> FromLexical for T {
 impl<T: Integer> FromLexicalWithOptions for T {
     type Options = Options;
 
+    // A short decimal text is read in place; else there is a reader for the format's kind, and one call for what that
+    // leaves.
     #[inline(always)]
     fn from_lexical_with_options(
         bytes: &[u8],
         format: &NumberFormat,
         options: &Options,
     ) -> Result<T> {
-        complete::<T>(bytes, format)
+        if let Some(value) = value_if_short::<T>(bytes, format) {
+            return Ok(value);
+        }
+        let call = Call { bytes, format };
+        match value_for_format::<T>(bytes, format) {
+            Some(value) => Ok(value),
+            None => complete_if_valid::<T>(&call),
+        }
     }
 
     #[inline(always)]
@@ -137,6 +110,9 @@ impl<T: Integer> FromLexicalWithOptions for T {
         format: &NumberFormat,
         options: &Options,
     ) -> Result<(T, usize)> {
-        partial::<T>(bytes, format)
+        match front_if_plain::<T>(bytes, format) {
+            Some(found) => Ok(found),
+            None => partial_if_valid::<T>(bytes, format),
+        }
     }
 }

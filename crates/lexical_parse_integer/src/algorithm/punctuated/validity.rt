@@ -1,21 +1,9 @@
 // Which formats are valid, by few tests for those with one byte of punctuation at most.
-ghost use Rattle.std.specs.Prelude.{◌≡◌, IsTrue, None, Some, false, true};
-ghost use Rattle.lexical_util.specs.Digit.{IsRadix};
-ghost use Rattle.lexical_util.specs.Validity.{fault, is_unfit_byte};
+ghost use Rattle.std.specs.Prelude.{◌≡◌, IsTrue, None, Some, false};
+ghost use Rattle.lexical_util.specs.Validity.{fault};
 
 use lexical_util::error::Error;
 use lexical_util::format::NumberFormat;
-
-// Whether a byte may stand among decimal digits.
-#[inline(always)]
-fn is_fit_among_decimals(byte: u8) -> bool
-    ensures { IsTrue result → is_unfit_byte 10 byte ≡ false }
-{
-    if byte > b'9' {
-        return byte < 128;
-    }
-    byte < b'0' && byte != b'+' && byte != b'-'
-}
 
 // Whether a format with a separator is surely valid: it is decimal, and has no other punctuation.
 #[inline(always)]
@@ -35,18 +23,10 @@ pub(super) fn is_valid_with_separator(format: &NumberFormat, separator: u8) -> b
     {
         return false;
     }
-    is_fit_among_decimals(separator)
-}
-
-// Whether a format without prefix has a radix that its literal prefixes allow.
-#[inline(always)]
-fn has_plain_radix(format: &NumberFormat) -> bool
-    ensures literals { IsTrue result → format.now.literal_prefixes ≡ true
-        → format.now.mantissa_radix ≡ 10 }
-    ensures radix { IsTrue result → IsRadix format.now.mantissa_radix }
-{
-    let radix = format.mantissa_radix();
-    radix == 10 || (!format.literal_prefixes() && radix >= 2 && radix <= 36)
+    if separator > b'9' {
+        return separator < 128;
+    }
+    separator < b'0' && separator != b'+' && separator != b'-'
 }
 
 // Whether a format without separator is surely valid: it has a prefix beside hexadecimal digits, or none.
@@ -63,7 +43,10 @@ pub(super) fn is_valid_without_separator(format: &NumberFormat) -> bool
             let is_past_digits = prefix > b'f' && prefix < 128;
             format.mantissa_radix() == 16 && !format.literal_prefixes() && is_past_digits
         }
-        None => has_plain_radix(format),
+        None => {
+            let radix = format.mantissa_radix();
+            radix == 10 || (!format.literal_prefixes() && radix >= 2 && radix <= 36)
+        }
     }
 }
 
