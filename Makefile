@@ -57,7 +57,7 @@ uninstall-programs:
 	for program in lexint jad; do \
 	    rm -f "$(DESTDIR)$(PREFIX)/bin/$$program" "$(DESTDIR)$(MANDIR)/man1/$$program.1" || exit 1; done
 
-vendor: ## copies the Rattle crates into your repository: DEST=../yours WITH="lexical_literals lexical_fields lexical_formats"
+vendor: ## copies the Rattle crates into your repository: DEST=../yours WITH="lexical_literals lexical_tables lexical_formats"
 	@packaging/vendor.sh
 
 dist: lib lexint jad build/page ## writes dist/, the archives of a release, from a clean tree: docs/RELEASING.md

@@ -81,6 +81,15 @@ def answer(library: Library, text: str, group: Group) -> tuple[str, int, int, in
     return STATUSES[result.status], value[0] + (value[1] << 64), suffix.value, result.place
 
 
+def is_read(library: Library, text: str, group: Group, number: str, value: int) -> bool:
+    """Whether the library reads a literal; one of more than 128 bits, as NumPy's headers have, has
+    to be refused."""
+    said = answer(library, text, group)
+    if value >= 1 << 128:
+        return said[0] == "Overflow"
+    return said == ("Ok", value, len(number), len(text))
+
+
 def wrong_answers(library: Library, sources: Sources) -> list[str]:
     """What is read otherwise of a language."""
     found = list(literals_of(sources))
@@ -95,7 +104,7 @@ def wrong_answers(library: Library, sources: Sources) -> list[str]:
     return wrong + [
         f"{group.name}: {text}" for group in groups_of(LANGUAGES) if group.name in sources.formats
         for text, value in values.items() if not (group.name == "c" and "'" in text)
-        if answer(library, text, group) != ("Ok", value, len(numbers[text]), len(text))]
+        if not is_read(library, text, group, numbers[text], value)]
 
 
 if __name__ == "__main__":

@@ -81,7 +81,7 @@ told() { # NAME
 # A crate that a user has changed is named, and stays; what was copied is what stands here.
 vendor() {
     user="$copy/a user"
-    set -- make -s vendor DEST="$user" WITH="lexical_fields lexical_formats lexical_laws lexical_literals"
+    set -- make -s vendor DEST="$user" WITH="lexical_fields lexical_formats lexical_laws lexical_literals lexical_tables"
     mkdir "$user" && "$@" || return 1
     echo >> "$user/crates/lexical_util/README.md"
     "$@" 2>&1 | grep 'crates/lexical_util has other contents' || return 1

@@ -1,10 +1,11 @@
-"""Tests of the formats of languages: each row of the list that they are written from."""
+"""Tests of the formats of languages: each field and row of the list that they are written from."""
 
+import dataclasses
 import pathlib
 import sys
 import unittest
 
-from jadvolni import ParseError, formats, parse
+from jadvolni import Format, ParseError, formats, parse
 
 TOOLS = pathlib.Path(__file__).resolve().parents[3] / "tools"
 
@@ -20,7 +21,16 @@ def groups():
 
 
 class Languages(unittest.TestCase):
-    """The rows of tools/languages.txt, by jadvolni.formats."""
+    """The fields and rows of tools/languages.txt, by jadvolni.formats."""
+
+    def test_fields(self):
+        standard = dataclasses.asdict(Format())
+        for group in groups():
+            format = getattr(formats, group.name.upper())
+            for name, value in {**standard, **dict(group.fields or ())}.items():
+                is_byte = standard[name] is None and value is not None
+                with self.subTest(language=group.name, field=name):
+                    self.assertEqual(getattr(format, name), bytes([value]) if is_byte else value)
 
     def test_rows(self):
         for group in groups():

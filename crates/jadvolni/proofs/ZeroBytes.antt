@@ -1,11 +1,11 @@
--- When words of eight bytes are 0.
-use Rattle.std.proofs.Common.{◌≡◌, ◌∙◌, ◌<◌, ℕ, Bool, zero, suc, ◌+◌, ◌*◌, ◌&&◌, nat_eq, nat_lt, true, false, List, [], ◌∷◌, ◌++◌, length, get_or, map, refl, ap, ap₂, sym, arith}
+-- When words of bytes are 0.
+use Rattle.std.proofs.Common.{◌≡◌, ◌∙◌, ℕ, Bool, zero, suc, ◌+◌, ◌*◌, ◌&&◌, nat_eq, nat_lt, true, false, List, [], ◌∷◌, ◌++◌, length, get_or, map, refl, ap, ap₂, sym, arith}
 use Rattle.std.proofs.lemmas.Bool.Decides.{nat_tests}
 use Rattle.std.proofs.lemmas.List.{ext_get_or}
 use Rattle.std.proofs.lemmas.List.FromFn.{get_or-map-range_with_len, length-map-range_with_len}
 use Rattle.std.proofs.lemmas.Nat.{and_le_l, and_le_r}
 use Rattle.std.specs.Int.Bits.{bit_or, or_add_and}
-use Rattle.std.specs.Int.{from_le_bytes, w64}
+use Rattle.std.specs.Int.{from_le_bytes, w16, w32, w64}
 use Rattle.std.specs.List.{range_with_len}
 use Rattle.jadvolni.specs.FormatFields.{are_zeros, has_bit}
 
@@ -89,31 +89,31 @@ words_of_zeros a b c rest size =
     ∙ in_two_parts (a ∷ b ∷ c ∷ at 0 ∷ at 1 ∷ at 2 ∷ at 3 ∷ at 4 ∷ []) (at 5 ∷ at 6 ∷ at 7 ∷ at 8 ∷ at 9 ∷ at 10 ∷ at 11 ∷ at 12 ∷ [])
     ∙ ap (λ xs. are_zeros (a ∷ b ∷ c ∷ xs)) (by_places rest 13 size)
 
--- a word whose third byte is below 8, and whose bytes behind that are 0
-low_word : (a b c d e f g h : ℕ) → a < 256 → b < 256 → let bytes =
-    a ∷ b ∷ c ∷ d ∷ e ∷ f ∷ g ∷ h ∷ [] in nat_lt (from_le_bytes w64 bytes) 524288 ≡ (nat_lt c 8 && are_zeros (d ∷ e ∷ f ∷ g ∷ h ∷ []))
-low_word a b c d e f g h small_a small_b =
-    let bytes = a ∷ b ∷ c ∷ d ∷ e ∷ f ∷ g ∷ h ∷ [] in
-    let rest = d + 256 * (e + 256 * (f + 256 * (g + 256 * (h + 256 * 0)))) in
-    let parted : nat_lt (from_le_bytes w64 bytes) 524288 ≡ (nat_lt c 8 && nat_eq rest 0) = grind (arith, nat_tests) in
-    parted
-    ∙ ap (λ x. nat_lt c 8 && x) (above d (e + 256 * (f + 256 * (g + 256 * (h + 256 * 0))))
-    ∙ ap (λ x. nat_eq d 0 && x) (above e (f + 256 * (g + 256 * (h + 256 * 0)))
-    ∙ ap (λ x. nat_eq e 0 && x) (above f (g + 256 * (h + 256 * 0))
-    ∙ ap (λ x. nat_eq f 0 && x) (above g (h + 256 * 0)
-    ∙ ap (λ x. nat_eq g 0 && x) (above h 0)))))
+-- two bytes as a number are below 8 where the first is, and the second is 0
+low_bytes : (a b : ℕ) → nat_lt (from_le_bytes w16 (a ∷ b ∷ [])) 8 ≡ (nat_lt a 8 && nat_eq b 0)
+low_bytes a b = grind (arith, nat_tests)
 
--- the two last words of a format, of which the last thirteen bytes are kept for later versions
-pub last_words : (a b c : ℕ) (rest : List ℕ) → a < 256 → b < 256 → length rest ≡ 13 → let at = (λ (k : ℕ). get_or rest k 0) in
-    (nat_lt (from_le_bytes w64 (a ∷ b ∷ c ∷ at 0 ∷ at 1 ∷ at 2 ∷ at 3 ∷ at 4 ∷ [])) 524288
-    && nat_eq (from_le_bytes w64 (at 5 ∷ at 6 ∷ at 7 ∷ at 8 ∷ at 9 ∷ at 10 ∷ at 11 ∷ at 12 ∷ [])) 0) ≡ (nat_lt c 8 && are_zeros rest)
-last_words a b c rest small_a small_b size =
-    let at : ℕ → ℕ = λ k. get_or rest k 0 in
-    ap₂ (λ x y. x && y) (low_word a b c (at 0) (at 1) (at 2) (at 3) (at 4) small_a small_b)
+-- four bytes as a number are 0 where each is
+four_zeros : (a b c d : ℕ) → nat_eq (from_le_bytes w32 (a ∷ b ∷ c ∷ d ∷ [])) 0 ≡ are_zeros (a ∷ b ∷ c ∷ d ∷ [])
+four_zeros a b c d =
+    let parted : from_le_bytes w32 (a ∷ b ∷ c ∷ d ∷ []) ≡ a + 256 * (b + 256 * (c + 256 * (d + 256 * 0))) = omega arith in
+    ap (λ n. nat_eq n 0) parted
+    ∙ above a (b + 256 * (c + 256 * (d + 256 * 0)))
+    ∙ ap (λ x. nat_eq a 0 && x) (above b (c + 256 * (d + 256 * 0))
+    ∙ ap (λ x. nat_eq b 0 && x) (above c (d + 256 * 0)
+    ∙ ap (λ x. nat_eq c 0 && x) (above d 0)))
+
+-- the last bytes of a format: those of which some bits have no meaning, and thirteen that are kept for later versions
+pub last_bytes : (byte : ℕ) (kept : List ℕ) → length kept ≡ 13 → let at = (λ (k : ℕ). get_or kept k 0) in
+    ((nat_lt (from_le_bytes w16 (byte ∷ at 0 ∷ [])) 8 && nat_eq (from_le_bytes w32 (at 1 ∷ at 2 ∷ at 3 ∷ at 4 ∷ [])) 0)
+    && nat_eq (from_le_bytes w64 (at 5 ∷ at 6 ∷ at 7 ∷ at 8 ∷ at 9 ∷ at 10 ∷ at 11 ∷ at 12 ∷ [])) 0) ≡ (nat_lt byte 8 && are_zeros kept)
+last_bytes byte kept size =
+    let at : ℕ → ℕ = λ k. get_or kept k 0 in
+    ap₂ (λ x y. x && y) (ap₂ (λ x y. x && y) (low_bytes byte (at 0)) (four_zeros (at 1) (at 2) (at 3) (at 4))
+    ∙ and_assoc (nat_lt byte 8) (nat_eq (at 0) 0) (are_zeros (at 1 ∷ at 2 ∷ at 3 ∷ at 4 ∷ [])))
     (word_of_zeros (at 5) (at 6) (at 7) (at 8) (at 9) (at 10) (at 11) (at 12))
-    ∙ and_assoc (nat_lt c 8) (are_zeros (at 0 ∷ at 1 ∷ at 2 ∷ at 3 ∷ at 4 ∷ [])) (are_zeros (at 5 ∷ at 6 ∷ at 7 ∷ at 8 ∷ at 9 ∷ at 10 ∷ at 11 ∷ at 12 ∷ []))
-    ∙ ap (λ zeros. nat_lt c 8 && zeros) (in_two_parts (at 0 ∷ at 1 ∷ at 2 ∷ at 3 ∷ at 4 ∷ []) (at 5 ∷ at 6 ∷ at 7 ∷ at 8 ∷ at 9 ∷ at 10 ∷ at 11 ∷ at 12 ∷ [])
-    ∙ ap are_zeros (by_places rest 13 size))
+    ∙ and_assoc (nat_lt byte 8) (are_zeros (at 0 ∷ at 1 ∷ at 2 ∷ at 3 ∷ at 4 ∷ [])) (are_zeros (at 5 ∷ at 6 ∷ at 7 ∷ at 8 ∷ at 9 ∷ at 10 ∷ at 11 ∷ at 12 ∷ []))
+    ∙ ap (λ zeros. nat_lt byte 8 && zeros) (in_two_parts (at 0 ∷ at 1 ∷ at 2 ∷ at 3 ∷ at 4 ∷ []) (at 5 ∷ at 6 ∷ at 7 ∷ at 8 ∷ at 9 ∷ at 10 ∷ at 11 ∷ at 12 ∷ []) ∙ ap are_zeros (by_places kept 13 size))
 
 -- a byte below 8 that has none of three bits is 0
 pub no_bits : (n : ℕ) → nat_lt n 8 ≡ true → has_bit 1 n ≡ false → has_bit 2 n ≡ false → has_bit 4 n ≡ false → n ≡ 0

@@ -147,18 +147,10 @@ impl FormatFields {
         ensures { result ≡ are_known self.now }
     {
         let [a, b, c, d, e, f, g, h, i, j, k, l, m] = self.reserved;
-        let third = u64::from_le_bytes([
-            self.literal_prefixes,
-            self.literal_octal_zero,
-            self.nul_is_punctuation,
-            a,
-            b,
-            c,
-            d,
-            e,
-        ]);
-        let fourth = u64::from_le_bytes([f, g, h, i, j, k, l, m]);
-        third < 0x8_0000 && fourth == 0
+        let low = u16::from_le_bytes([self.nul_is_punctuation, a]);
+        let middle = u32::from_le_bytes([b, c, d, e]);
+        let high = u64::from_le_bytes([f, g, h, i, j, k, l, m]);
+        (low < 8) & (middle == 0) & (high == 0)
     }
 
     /// Whether all fields but the radix are those of the standard format.

@@ -35,7 +35,7 @@ reading_starts T number f t s text old =
     }
 
 -- what is behind a field is the text's end too
-tail_goes : (text rest behind : List ℕ) (n : ℕ) → length rest ≤ length text
+pub tail_goes : (text rest behind : List ℕ) (n : ℕ) → length rest ≤ length text
     → rest ≡ drop (length text - length rest) text → behind ≡ drop (n + 1) rest
     → behind ≡ drop (length text - length behind) text
 tail_goes text rest behind n low tail back = by_order (cases_lt n (length rest))
@@ -51,7 +51,7 @@ tail_goes text rest behind n low tail back = by_order (cases_lt n (length rest))
         none ∙ sym (drop_all (length text - length behind) text (omega (arith, size)))
 
 -- what is left begins where the text has what is left
-start_of_left : (s : ℕ) (text rest : List ℕ)
+pub start_of_left : (s : ℕ) (text rest : List ℕ)
     → next_start (length text) (left_of s text rest) ≡ length text - length rest
 start_of_left s text [] = omega arith
 start_of_left s text (b ∷ bs) =

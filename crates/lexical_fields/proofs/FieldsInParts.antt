@@ -43,7 +43,7 @@ whole_cons separator place (byte ∷ rest) h =
     rw h (fields_cons separator place byte (take (whole_fields separator rest) rest))
 
 -- a test says one or the other
-either : (b : Bool) → (b ≡ true) ⊎ (b ≡ false)
+pub either : (b : Bool) → (b ≡ true) ⊎ (b ≡ false)
 either true = inl refl
 either false = inr refl
 
@@ -54,12 +54,12 @@ same_place : (place : ℕ) → place ≡ place + 0
 same_place place = omega arith
 
 -- the fields of a text behind a separator, or behind another byte
-here : (separator place byte : ℕ) (rest : List ℕ) → (byte == separator) ≡ true
+pub here : (separator place byte : ℕ) (rest : List ℕ) → (byte == separator) ≡ true
     → fields_from separator place (byte ∷ rest)
     ≡ record { start = place; text = [] } ∷ fields_from separator (place + 1) rest
 here separator place byte rest e = rw e refl
 
-on : (separator place byte : ℕ) (rest : List ℕ) → (byte == separator) ≡ false
+pub on : (separator place byte : ℕ) (rest : List ℕ) → (byte == separator) ≡ false
     → fields_from separator place (byte ∷ rest)
     ≡ onto_field place byte (fields_from separator (place + 1) rest)
 on separator place byte rest e = rw e refl

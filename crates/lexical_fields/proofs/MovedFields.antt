@@ -39,7 +39,7 @@ fields_moved separator more place (byte ∷ rest) =
 further : (p q k : ℕ) → p + (q + k) ≡ p + q + k
 further p q k = omega arith
 
-error_moved : (p q : ℕ) (e : Error) → error_in_text p (error_in_text q e) ≡ error_in_text (p + q) e
+pub error_moved : (p q : ℕ) (e : Error) → error_in_text p (error_in_text q e) ≡ error_in_text (p + q) e
 error_moved p q (Overflow k) = ap Overflow (further p q k)
 error_moved p q (Underflow k) = ap Underflow (further p q k)
 error_moved p q (InvalidDigit k) = ap InvalidDigit (further p q k)

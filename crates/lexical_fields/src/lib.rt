@@ -21,4 +21,5 @@ mod threes;
 pub use columns::{Column, ColumnError, read_column};
 pub use iterator::{Field, Fields};
 pub use parts::{read_column_part, reads_in_parts, whole_fields};
+pub use places::error_in_text;
 pub use split::field_length;

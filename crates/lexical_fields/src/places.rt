@@ -10,8 +10,10 @@ use lexical_parse_integer::laws::grammar::fault_places;
 use lexical_parse_integer::parse::ParseInteger;
 use lexical_parse_integer::{Error, NumberFormat, Options, Result};
 
-// A fault of a field, with its place counted from the start of the text. A fault of a format has none.
-fn error_in_text(start: usize, error: Error) -> Error
+/// A fault of a field that starts at a place, with its own place counted from the start of the text.
+///
+/// A caller who cuts a text, and reads a part, tells the part's fault by it. The fault of a format has no place.
+pub fn error_in_text(start: usize, error: Error) -> Error
     requires { IfSome (place_of error) (λ place. start + place < 2 ^ 64) }
     ensures { result ≡ error_in_text start error }
 {

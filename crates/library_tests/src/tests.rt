@@ -5,6 +5,7 @@ mod lines;
 mod literals;
 mod parser;
 mod readers;
+mod tables;
 mod util;
 
 use std::fmt::Debug;

@@ -127,7 +127,8 @@ class Format:
         values = {**numbers, **punctuation, "mantissa_radix": radix}.values()
         given = enumerate(punctuation.values())
         nul_is_punctuation = sum(1 << bit for bit, byte in given if byte == 0)
-        return bytes([*(value or 0 for value in values), nul_is_punctuation, *bytes(13)])
+        fields = bytes([*(value or 0 for value in values), nul_is_punctuation])
+        return fields.ljust(32, b"\0")
 
     def __repr__(self) -> str:
         given = ", ".join(f"{name}={value!r}" for name, value in self._given().items())

@@ -1,5 +1,8 @@
-//! The rows of `tools/languages.txt`, under the constants for languages.
+//! The fields and the rows of `tools/languages.txt`, under the constants for languages.
 use jadvolni::{parse_with_format, Error, Format, Integer};
+
+const LANGUAGES: &str = include_str!("../../../../tools/languages.txt");
+const FIELDS: &str = include_str!("../../../../tools/fields.txt");
 
 /// A text of the list: its bytes, of which some are escaped.
 fn bytes_of(text: &str) -> Vec<u8> {
@@ -30,7 +33,7 @@ fn answer<T: Integer + std::fmt::Display>(text: &[u8], format: &Format) -> Strin
 #[test]
 fn rows_of_languages() {
     let mut rows = 0;
-    for line in include_str!("../../../../tools/languages.txt").lines() {
+    for line in LANGUAGES.lines() {
         let Some(row) = line.strip_prefix("complete | ") else { continue };
         let (head, rest) = row.split_once(" | \"").unwrap();
         let (text, wanted) = rest.rsplit_once("\" ").unwrap();
@@ -50,4 +53,37 @@ fn rows_of_languages() {
     }
     assert!(rows > 350 && Format::LANGUAGES.len() > 25, "{rows} rows");
     assert_eq!(Format::LANGUAGES.iter().find_map(|it| it.1.error()), None::<Error>);
+}
+
+/// The byte of a field, where a language has these words: `word` stands for the field, and `standard` is its byte
+/// without that.
+fn byte_of(words: &str, word: &str, standard: u8) -> u8 {
+    let Some(given) = words.split(' ').find(|it| it.split('=').next() == Some(word)) else {
+        return standard;
+    };
+    match given.split_once('=').map(|(_, value)| (value, value.strip_prefix("0x"))) {
+        None => 1 - standard,
+        Some((_, Some(code))) => u8::from_str_radix(code, 16).unwrap(),
+        Some((number, _)) if word == "radix" => number.parse().unwrap(),
+        Some((byte, _)) => byte.as_bytes()[0],
+    }
+}
+
+#[test]
+fn fields_of_languages() {
+    for (language, format) in Format::LANGUAGES {
+        let begin = format!("fields | {language} | ");
+        let words = LANGUAGES.lines().find_map(|line| line.strip_prefix(&begin)).unwrap();
+        let said = format!("{format:?}");
+        for line in FIELDS.lines().filter(|line| !line.starts_with('#')) {
+            let [name, _, word]: [&str; 3] =
+                line.split(" | ").take(3).collect::<Vec<_>>().try_into().unwrap();
+            let standard = match name {
+                "mantissa_radix" => 10,
+                _ => u8::from(name == "required_mantissa_digits"),
+            };
+            let wanted = format!(" {name}: {},", byte_of(words, word, standard));
+            assert!(said.contains(&wanted), "{language} has no{wanted} but {said}");
+        }
+    }
 }

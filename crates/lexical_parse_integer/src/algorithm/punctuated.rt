@@ -66,15 +66,17 @@ fn is_x_at(bytes: &[u8], format: &NumberFormat, place: usize) -> bool
         && is_x_hexadecimal(format)
 }
 
-// Whether a byte above the digit 0 stands at a place: there is neither a prefix nor an octal zero.
+// Whether a byte above the digit 0 stands at a place, or any byte that is the last: there is neither a prefix nor an
+// octal zero.
 #[inline(always)]
-#[tactic(auto, unfolding(crate::specs::Affixes::prefix_radix, crate::specs::Affixes::octal_zero_at, crate::specs::Runs::are_same))]
+#[tactic(auto, unfolding(crate::specs::Affixes::prefix_radix, crate::specs::Affixes::named_radix, crate::specs::Affixes::is_affix, crate::specs::Affixes::literal_radix, crate::specs::Affixes::octal_zero_at, crate::specs::Runs::are_same))]
 fn is_bare_at(bytes: &[u8], format: &NumberFormat, place: usize) -> bool
     ensures some { IsTrue result → place < length bytes.now }
     ensures prefix { IsTrue result → None ≡ prefix_radix format.now bytes.now place }
     ensures octal_zero { IsTrue result → false ≡ octal_zero_at format.now bytes.now place }
 {
-    place < bytes.len() && bytes[place] > b'0'
+    place < bytes.len()
+        && (bytes[place] > b'0' || (place == bytes.len() - 1 && !format.literal_octal_zero()))
 }
 
 // The value of the whole text under a format without separator that may be invalid, where digits alone stand behind a

@@ -1,0 +1,43 @@
+//! What is answered of a table.
+
+use lexical_parse_integer::Error;
+
+/// How far a table was read.
+#[derive(Debug, Copy, Clone, PartialEq, Eq)]
+pub struct Table {
+    /// How many rows were read.
+    pub rows: usize,
+    /// The place in the text where reading stopped: its end, or the start of the first row for which the
+    /// slice had no room.
+    pub stop: usize,
+}
+
+/// What is wrong with a cell, or with the end of its row. Places count the text's bytes from 0.
+#[derive(Debug, Copy, Clone, PartialEq, Eq)]
+pub enum CellFault {
+    /// The cell is no number of the type.
+    NotNumber(Error),
+    /// The row ends at this place, before the cell.
+    TooFewCells(usize),
+    /// A cell that the row shouldn't have starts at this place.
+    TooManyCells(usize),
+    /// The line feed at this place has no carriage return before it.
+    MissingReturn(usize),
+}
+
+/// Why a table isn't read to its end.
+#[derive(Debug, Copy, Clone, PartialEq, Eq)]
+pub enum TableError {
+    /// The format is invalid, and nothing was read.
+    InvalidFormat(Error),
+    /// A cell is wrong. It is the first in reading order: row by row, and in a row cell by cell, then
+    /// their number, then the return.
+    InvalidCell {
+        /// Its row, counted from 0: so many rows were read.
+        row: usize,
+        /// Its column, counted from 0: so many cells of the row were read.
+        column: usize,
+        /// What is wrong.
+        fault: CellFault,
+    },
+}

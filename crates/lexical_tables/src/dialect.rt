@@ -1,0 +1,12 @@
+//! How a table is written.
+
+/// How a table is written.
+#[derive(Debug, Copy, Clone, PartialEq, Eq)]
+pub struct Dialect {
+    /// The byte between two cells of a row. It may be any byte, but within a row no line feed is left.
+    pub separator: u8,
+    /// How many cells each row has. With 0 no row is read.
+    pub columns: usize,
+    /// Whether a carriage return stands before each line feed. Without it a return is a byte of its cell.
+    pub has_returns: bool,
+}

@@ -1,0 +1,80 @@
+//! The rows of a text.
+
+ghost use Rattle.std.specs.Prelude.{◌≡◌, ◌+◌, ◌≤◌, ◌<◌, ◌^◌, length, take, drop};
+ghost use Rattle.lexical_fields.specs.Columns.{next_start};
+ghost use Rattle.lexical_fields.specs.Fields.{fields, field_length};
+ghost use Rattle.lexical_tables.specs.Rows.{ends_in, line_feed, row_of, view_of_row};
+
+use lexical_fields::field_length;
+
+// A row: the place at which it starts, its bytes without what ends it, and whether that lacks its return.
+#[derive(Debug, Copy, Clone)]
+pub(crate) struct Row<'a> {
+    pub start: usize,
+    pub text: &'a [u8],
+    pub lacks_return: bool,
+}
+
+// Whether a text's last byte is this one.
+#[inline(always)]
+pub(crate) fn ends_in(text: &[u8], byte: u8) -> bool
+    ensures { result ≡ ends_in byte text.now }
+{
+    !text.is_empty() && text[text.len() - 1] == byte
+}
+
+// The first row of a text that starts at a place, and what is behind it.
+#[inline(always)]
+pub(crate) fn first_row(start: usize, text: &[u8], has_returns: bool) -> (Row<'_>, &[u8])
+    requires some { 0 < length text.now }
+    ensures row { view_of_row result.0 ≡ row_of has_returns (start + length text.now) (record {
+      start = start;
+      text = take (field_length line_feed text.now) text.now;
+    }) }
+    ensures behind { result.1.now ≡ drop (field_length line_feed text.now + 1) text.now }
+    ensures within { length result.0.text.now ≤ length text.now }
+    ensures shorter { length result.1.now < length text.now }
+{
+    let (line, end) = text.split_at(field_length(text, b'\n'));
+    if end.is_empty() {
+        let row = Row {
+            start,
+            text: line,
+            lacks_return: false,
+        };
+        return (row, end);
+    }
+    let behind = &end[1..];
+    if has_returns && ends_in(line, b'\r') {
+        let row = Row {
+            start,
+            text: &line[..line.len() - 1],
+            lacks_return: false,
+        };
+        (row, behind)
+    } else {
+        let row = Row {
+            start,
+            text: line,
+            lacks_return: has_returns,
+        };
+        (row, behind)
+    }
+}
+
+/// The place behind the first lines of a text, so many, or its end where it has no more.
+///
+/// A table's rows begin there, if a header of so many lines stands in front of it. What stands in the header
+/// isn't judged.
+pub fn after_lines(text: &[u8], count: usize) -> usize
+    ensures value { result ≡ next_start (length text.now) (drop count (fields line_feed text.now)) }
+    ensures within { result ≤ length text.now }
+{
+    let mut rest = text;
+    let mut left = count;
+    while left > 0 && !rest.is_empty() {
+        (_, rest) = first_row(0, rest, false);
+        left -= 1;
+    }
+    text.len() - rest.len()
+}
