@@ -121,7 +121,7 @@ serve: build/page ## serves the page to try a format on, to this machine alone: 
 # What the page needs to be seen: a browser, and what drives it.
 BROWSER := $(if $(NODE),$(shell command -v chromium 2>/dev/null))
 test-page: $(if $(BROWSER),build/page) ## has Chromium show the page every test vector; a part of the gate
-	@$(if $(BROWSER),node --test tests/page/page.test.mjs,echo "skipped: there is no chromium, or no node to drive it")
+	@$(if $(BROWSER),node --test tests/page/*.test.mjs,echo "skipped: there is no chromium, or no node to drive it")
 
 # What the random run asks for: the seed that a run before has printed, and how many parses and formats.
 PARSES ?= 1000000
