@@ -51,7 +51,7 @@ build/libjadvolni.so: build/libjadvolni.a build/symbols.map
 wasm: build/jadvolni.wasm ## proves and builds the library for JavaScript, and puts it into bindings/js
 	@cp $< bindings/js
 
-# A crate is built for one machine: here it is the copy of a crate. Its memory can't grow.
+# crates.txt says for which machine a crate is built, so it is built once more in a copy. Its memory can't grow.
 build/jadvolni.wasm: $(LIBRARY_SOURCES)
 	@mkdir -p build/wasm
 	@find build/wasm -name out -prune -o -type f -exec rm {} +
@@ -121,7 +121,7 @@ serve: build/page ## serves the page to try a format on, to this machine alone: 
 # What the page needs to be seen: a browser, and what drives it.
 BROWSER := $(if $(NODE),$(shell command -v chromium 2>/dev/null))
 test-page: $(if $(BROWSER),build/page) ## has Chromium show the page every test vector; a part of the gate
-	@$(if $(BROWSER),node --test tests/page/page.test.mjs,echo "skipped: there is no chromium, or no node to drive it")
+	@$(if $(BROWSER),node --test tests/page/*.test.mjs,echo "skipped: there is no chromium, or no node to drive it")
 
 # What the random run asks for: the seed that a run before has printed, and how many parses and formats.
 PARSES ?= 1000000

@@ -67,26 +67,27 @@ function changesInC(changes) {
 
 function inC({ bytes, type, call, base, changes }) {
   const under = Boolean(base || changes.length);
-  const name = `jadvolni_parse_${type}${call === "whole" ? "" : `_${call}`}${under ? "_with_format" : ""}`;
-  const format = `jadvolni_format format = JADVOLNI_FORMAT_${base ? base.toUpperCase() : "STANDARD"};`;
+  const kind = call === "whole" ? "" : `_${call}`;
+  const name = `jadvolni_parse_${type}${kind}${under ? "_with_format" : ""}`;
+  const preset = `JADVOLNI_FORMAT_${base ? base.toUpperCase() : "STANDARD"}`;
   return [
     "#include <jadvolni.h>", "",
     `const char text[] = ${quotedInC(bytes)};`,
-    ...(under ? [format, ...changesInC(changes)] : []),
+    ...(under ? [`jadvolni_format format = ${preset};`, ...changesInC(changes)] : []),
     `${OF_C[type]} value;`,
     `jadvolni_result r = ${name}(text, sizeof text - 1, ${under ? "&format, " : ""}&value);`,
   ];
 }
 
 function inCpp({ bytes, type, call, base, changes }) {
-  const ready = base ? `jadvolni::formats::${base}` : "jadvolni::standard";
+  const preset = base ? `jadvolni::formats::${base}` : "jadvolni::standard";
   const native = type.endsWith("128") ? OF_C[type].replace("_", "_native_") : `std::${OF_C[type]}`;
-  const under = changes.length ? ", format" : base ? `, ${ready}` : "";
+  const under = changes.length ? ", format" : base ? `, ${preset}` : "";
   const name = call === "whole" ? "parse" : `parse_${call}`;
   return [
     "#include <jadvolni.hpp>", "",
     "using namespace std::string_view_literals;",
-    ...(changes.length ? [`auto format = ${ready};`, ...changesInC(changes)] : []),
+    ...(changes.length ? [`auto format = ${preset};`, ...changesInC(changes)] : []),
     `auto r = jadvolni::${name}<${native}>(${quotedInC(bytes)}sv${under});`,
   ];
 }
@@ -103,10 +104,10 @@ function settersOf(fields) {
 function inRust({ bytes, type, call, base, changes }) {
   const under = Boolean(base || changes.length);
   const name = `${call === "whole" ? "parse" : `parse_${call}`}${under ? "_with_format" : ""}`;
-  const ready = `let format = Format::${base ? base.toUpperCase() : "STANDARD"}`;
+  const preset = `let format = Format::${base ? base.toUpperCase() : "STANDARD"}`;
   return [
     under ? `use jadvolni::{${name}, Format};` : `use jadvolni::${name};`, "",
-    ...(under ? `${[ready, ...settersOf(changes)].join("\n")};`.split("\n") : []),
+    ...(under ? `${[preset, ...settersOf(changes)].join("\n")};`.split("\n") : []),
     `let answer = ${name}::<${type}>(${quoted(bytes)}${under ? ", &format" : ""});`,
   ];
 }
@@ -118,15 +119,18 @@ const WORDS_OF_PYTHON = {
 
 function inPython({ bytes, type, call, base, changes }) {
   const given = changes.map((it) => `${it.name}=${valueIn(WORDS_OF_PYTHON, it)}`);
-  const ready = base && `jadvolni.formats.${base.toUpperCase()}`;
-  const made = base ? `dataclasses.replace(${[ready, ...given].join(", ")})`
+  const preset = base && `jadvolni.formats.${base.toUpperCase()}`;
+  const made = base ? `dataclasses.replace(${[preset, ...given].join(", ")})`
     : `jadvolni.Format(${given.join(", ")})`;
-  const under = changes.length ? ", form" : base ? `, ${ready}` : "";
+  const under = changes.length ? ", form" : base ? `, ${preset}` : "";
   const name = call === "whole" ? "parse" : `parse_${call}`;
+  const value = call === "whole" ? "value" : "value, place";
   return [
-    ...(base && changes.length ? ["import dataclasses"] : []), "import jadvolni", "",
+    ...(base && changes.length ? ["import dataclasses"] : []),
+    "import jadvolni",
+    "",
     ...(changes.length ? [`form = ${made}`] : []),
-    `${call === "whole" ? "value" : "value, place"} = jadvolni.${name}(${quoted(bytes)}, "${type}"${under})`,
+    `${value} = jadvolni.${name}(${quoted(bytes)}, "${type}"${under})`,
   ];
 }
 
@@ -137,10 +141,11 @@ const WORDS_OF_SCRIPT = {
 
 function inScript({ bytes, type, call, base, changes }) {
   const name = { whole: "parse", front: "parseFront", partial: "parsePartial" }[call];
-  const ready = base && `formats.${base.toUpperCase()}`;
-  const given = [...(base ? [`...${ready}`] : []),
-    ...changes.map((it) => `${it.name}: ${valueIn(WORDS_OF_SCRIPT, it)}`)];
-  const under = changes.length ? `, new Format({ ${given.join(", ")} })` : base ? `, ${ready}` : "";
+  const preset = base && `formats.${base.toUpperCase()}`;
+  const given = changes.map((it) => `${it.name}: ${valueIn(WORDS_OF_SCRIPT, it)}`);
+  if (base) given.unshift(`...${preset}`);
+  const made = changes.length ? `new Format({ ${given.join(", ")} })` : preset;
+  const under = made ? `, ${made}` : "";
   const imports = [...(changes.length ? ["Format"] : []), ...(base ? ["formats"] : []), name];
   const value = call === "whole" ? "value" : "{ value, stop }";
   return [
@@ -149,29 +154,36 @@ function inScript({ bytes, type, call, base, changes }) {
   ];
 }
 
-/** Rattle's builder begins with the standard format: what a ready format sets is written out. */
+/** The line that imports names of the parser for Rattle, and an empty one. */
+function used(names) {
+  const braced = names.length > 1 ? `{${names.join(", ")}}` : names[0];
+  return [`use lexical_parse_integer::${braced};`, ""];
+}
+
+/** Rattle's builder begins with the standard format: what a preset sets is written out. */
 function inRattle({ bytes, type, call, base, changes, fields, isValid }) {
   const build = `    .${isValid ? "build_strict" : "build_unchecked"}();`;
+  const preset = base ? [`let format = lexical_formats::${base}();`] : [];
   const made = changes.length
     ? ["let format = NumberFormatBuilder::new()", ...settersOf(fields), build]
-    : base ? [`let format = lexical_formats::${base}();`] : [];
+    : preset;
   const under = made.length > 0;
   const builder = changes.length ? ["NumberFormatBuilder"] : [];
   if (call === "front") {
-    const standard = under ? [] : ["format"];
+    const imports = [...builder, ...(under ? [] : ["format"]), "number_in_front"];
+    const format = under ? "&format" : "&format::STANDARD";
     return [
-      `use lexical_parse_integer::{${[...builder, ...standard, "number_in_front"].join(", ")}};`, "",
+      ...used(imports),
       ...made,
-      `let answer = number_in_front::<${type}>(${quoted(bytes)}, ${under ? "&format" : "&format::STANDARD"});`,
+      `let answer = number_in_front::<${type}>(${quoted(bytes)}, ${format});`,
     ];
   }
   const name = `from_lexical${call === "partial" ? "_partial" : ""}${under ? "_with_options" : ""}`;
-  const imports = under ? ["FromLexicalWithOptions", ...builder, "options"] : ["FromLexical"];
-  const braced = imports.length > 1 ? `{${imports.join(", ")}}` : imports[0];
+  const more = under ? ", &format, &options::STANDARD" : "";
   return [
-    `use lexical_parse_integer::${braced};`, "",
+    ...used(under ? ["FromLexicalWithOptions", ...builder, "options"] : ["FromLexical"]),
     ...made,
-    `let answer = ${type}::${name}(${quoted(bytes)}${under ? ", &format, &options::STANDARD" : ""});`,
+    `let answer = ${type}::${name}(${quoted(bytes)}${more});`,
   ];
 }
 
@@ -180,11 +192,11 @@ const WRITERS = {
 };
 
 /**
- * The lines of a call in a language of `CALLERS`. `wanted` has the text's `bytes`, the `type` and the
- * `call`; the name of the ready format that the format is made from as `base`, `""` for the standard
- * one; the fields that differ from it as `changes`, and those that differ from the standard format
- * as `fields`, each as `{ name, kind, value }`, where the value of punctuation is a byte or null; and
- * `isValid`, whether the format breaks no rule.
+ * A call in a language of `CALLERS`. `wanted` has the text's `bytes`, the `type` and the `call`; as
+ * `base` the name of the preset that the format is made from, "" for the standard one; the fields
+ * that differ from it as `changes`, and those that differ from the standard format as `fields`, each
+ * as `{ name, kind, value }`, where the value of punctuation is a byte or null; and `isValid`, whether
+ * the format breaks no rule.
  */
 export function callIn(caller, wanted) {
   return WRITERS[caller](wanted).join("\n");

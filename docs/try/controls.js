@@ -13,7 +13,7 @@ export function element(name, properties = {}, ...children) {
   return made;
 }
 
-/** The names of the ready formats, as the fragment has them; the standard one has none. */
+/** The names of the presets, as the fragment has them; the standard one has none. */
 export const FORMATS = ["", ...Object.keys(formats).map((it) => it.toLowerCase())];
 
 const INPUTS = {
@@ -26,11 +26,13 @@ const INPUTS = {
 function controlOf({ name, kind, meaning }) {
   const input = element("input", { id: name, ...INPUTS[kind] });
   input.setAttribute("aria-describedby", `${name}-about ${name}-wrong`);
-  const label = element("label", { htmlFor: name }, name);
-  const about = element("small", { id: `${name}-about`, className: "about" }, meaning);
+  // A long name may break behind each underscore.
+  const words = name.split(/(?<=_)/).flatMap((word) => [word, element("wbr")]);
+  const label = element("label", { htmlFor: name }, ...words);
+  const about = element("small", { id: `${name}-about` }, meaning);
   const wrong = element("span", { id: `${name}-wrong`, className: "wrong" });
-  const order = kind === "flag" ? [input, " ", label] : [label, input];
-  return element("div", { className: "field" }, ...order, about, wrong);
+  const order = kind === "flag" ? [input, label] : [label, input];
+  return element("div", { className: `field ${kind}` }, ...order, about, wrong);
 }
 
 function options(id, values, titleOf) {
@@ -50,9 +52,13 @@ export function makeControls(changed) {
   for (const id of ["type", "call"]) {
     at(id).addEventListener("change", (event) => changed({ [id]: event.target.value }));
   }
-  // A ready format takes the place of all fields.
-  at("format").addEventListener("change", (event) => changed({ format: event.target.value, fields: {} }));
-  at("controls").addEventListener("input", ({ target }) => changed({ field: target.id, value: valueOf(target) }));
+  // A preset takes the place of all fields.
+  at("format").addEventListener("change", ({ target }) => {
+    changed({ format: target.value, fields: {} });
+  });
+  at("controls").addEventListener("input", ({ target }) => {
+    changed({ field: target.id, value: valueOf(target) });
+  });
   at("callers").addEventListener("change", (event) => changed({ caller: event.target.value }));
 }
 
@@ -82,10 +88,11 @@ export function showControls(state) {
   for (const field of FIELDS) {
     put(at(field.name), field.kind === "flag" ? "checked" : "value", shownOf(state, base, field));
   }
-  for (const input of at("callers").querySelectorAll("input")) input.checked = input.value === state.caller;
+  const callers = at("callers").querySelectorAll("input");
+  for (const input of callers) input.checked = input.value === state.caller;
 }
 
-/** A state after a change of one field; a value that the ready format has is no change. */
+/** A state after a change of one field; a value that the preset has is no change. */
 export function withField(state, name, value) {
   const fields = { ...state.fields, [name]: value };
   const field = FIELDS.find((it) => it.name === name);

@@ -1,7 +1,16 @@
 // What the library answers of a state. No text is read here: which part of it each byte is, the proved
 // parser tells, asked on parts of the text and under formats with fields taken away.
-import { FIELDS, Format, formats, ParseError, parse, parseFront, parsePartial } from "./jadvolni/index.js";
 import { bytesOf, escaped } from "./bytes.js";
+import {
+  FIELDS,
+  Format,
+  FormatError,
+  formats,
+  ParseError,
+  parse,
+  parseFront,
+  parsePartial,
+} from "./jadvolni/index.js";
 
 const CALLS = { whole: parse, front: parseFront, partial: parsePartial };
 const STANDARD = plainOf(new Format());
@@ -14,7 +23,7 @@ const PERMISSIVE = {
   required_mantissa_sign: false,
   no_integer_leading_zeros: false,
 };
-const RUN_FLAGS = FIELDS.map((it) => it.name).filter((it) => it.endsWith("digit_separator") && it !== "digit_separator");
+const RUN_FLAGS = FIELDS.map((it) => it.name).filter((it) => it.endsWith("_digit_separator"));
 const ZERO = 48;
 const TEN = [49, 48];
 
@@ -28,10 +37,8 @@ export class Unfit extends Error {
 
 /** The fields of a format, with punctuation as bytes. */
 function plainOf(format) {
-  return Object.fromEntries(FIELDS.map(({ name, kind }) => {
-    const value = format[name];
-    return [name, kind === "punctuation" && typeof value === "string" ? value.charCodeAt(0) : value];
-  }));
+  const byteOf = (value) => (typeof value === "string" ? value.charCodeAt(0) : value);
+  return Object.fromEntries(FIELDS.map(({ name }) => [name, byteOf(format[name])]));
 }
 
 /** The fields that a state's format begins with. */
@@ -41,9 +48,9 @@ export function baseOf(state) {
 
 /** The byte of punctuation that was typed, null where there is none. */
 function punctuationOf(name, typed) {
-  const bytes = bytesOf(typed);
-  if (bytes.length > 1) throw new Unfit(name, `${name} has to be one byte, and this has ${bytes.length}`);
-  return bytes[0] ?? null;
+  const { length, 0: byte = null } = bytesOf(typed);
+  if (length > 1) throw new Unfit(name, `${name} has to be one byte, and this has ${length}`);
+  return byte;
 }
 
 /** Punctuation as one types it. */
@@ -56,7 +63,8 @@ function fieldsOf(state) {
   const fields = { ...baseOf(state) };
   for (const { name, kind } of FIELDS) {
     const given = state.fields[name];
-    if (given !== undefined) fields[name] = kind === "punctuation" ? punctuationOf(name, given) : given;
+    if (given === undefined) continue;
+    fields[name] = kind === "punctuation" ? punctuationOf(name, given) : given;
   }
   return fields;
 }
@@ -78,7 +86,7 @@ function answerOf(call, bytes, type, fields) {
   }
 }
 
-/** Where the numeral ends, by an answer under a format without suffix: a digit too many is its last. */
+/** Where the numeral ends, by an answer under a format without suffix: a digit too many is last. */
 function endOf(answer) {
   const isRange = answer.kind === "Overflow" || answer.kind === "Underflow";
   return answer.stop ?? answer.place + Number(isRange);
@@ -96,24 +104,27 @@ function partsOfNumeral(bytes, from, to, separator) {
   return parts;
 }
 
-/** The radix in force for digits from a place on: what `10` is worth there. A zero may choose it. */
+/** The effective radix from a place on, which is what `10` is worth there: a zero may choose it. */
 function radixAt(bytes, from, type, fields) {
   const zero = bytes[from] === ZERO ? [ZERO] : [];
-  const { value } = answerOf(parsePartial, Uint8Array.of(...bytes.subarray(0, from), ...zero, ...TEN), type, fields);
+  const asked = Uint8Array.of(...bytes.subarray(0, from), ...zero, ...TEN);
+  const { value } = answerOf(parsePartial, asked, type, fields);
   return Math.abs(Number(value));
 }
 
 /** The flags without which the numeral would end earlier: they let its separators pass. */
 function flagsThatPass(bytes, end, type, fields) {
-  return RUN_FLAGS.filter((name) => fields[name]
-    && endOf(answerOf(parsePartial, bytes.subarray(0, end), type, { ...fields, [name]: false })) < end);
+  const endWithout = (name) => endOf(
+    answerOf(parsePartial, bytes.subarray(0, end), type, { ...fields, [name]: false }),
+  );
+  return RUN_FLAGS.filter((name) => fields[name] && endWithout(name) < end);
 }
 
 /**
  * The parts of a text under a valid format, in their order: each has its `role` (sign, prefix, digit,
- * separator, suffix or rest) and the places from which and to which it goes. Behind a digit with
- * which the number leaves its type all is rest, since no parser looks at it. `radix` is that in force,
- * and `flags` are those that let separators pass.
+ * separator, suffix or rest) and the places from which and to which it goes. All behind a digit with
+ * which the number leaves its type is rest, since no answer depends on it. `radix` is the effective
+ * one, and `flags` are those that let separators pass.
  */
 export function partsOf(bytes, type, fields) {
   const permissive = { ...fields, ...PERMISSIVE };
@@ -142,30 +153,30 @@ export function partsOf(bytes, type, fields) {
 
 /** An answer as Rust writes it. */
 function writtenOf(call, answer) {
-  if (answer.kind) return answer.place === undefined ? `Err(${answer.kind})` : `Err(${answer.kind}(${answer.place}))`;
+  const { kind, place } = answer;
+  if (kind) return place === undefined ? `Err(${kind})` : `Err(${kind}(${place}))`;
   return call === "whole" ? `Ok(${answer.value})` : `Ok((${answer.value}, ${answer.stop}))`;
 }
 
 /**
  * What the library answers of a state: the `bytes` of the text, the `fields` of the format, those that
- * differ from the ready format as `changes` and from the standard format as `settings`, the `answer`,
- * how Rust writes it as `written`, and the `parts`. An invalid format has no parts, and its answer is
- * a `kind` with a `message`. Throws `Unfit` where the state says no format, and RangeError where the
- * text is too long.
+ * differ from the preset as `changes` and from the standard format as `settings`, the `answer`, how
+ * Rust writes it as `written`, and what `partsOf` answers. An invalid format has no parts, and its
+ * answer is a `kind` with a `message`. Throws `Unfit` where the state says no format, and RangeError
+ * where the text is too long.
  */
 export function reading(state) {
+  const { call, type } = state;
   const bytes = bytesOf(state.text);
   const fields = fieldsOf(state);
-  const found = {
-    bytes, fields, changes: differing(fields, baseOf(state)), settings: differing(fields, STANDARD),
-  };
-  let answer;
+  const changes = differing(fields, baseOf(state));
+  const found = { bytes, fields, changes, settings: differing(fields, STANDARD) };
   try {
-    answer = answerOf(CALLS[state.call], bytes, state.type, fields);
+    const answer = answerOf(CALLS[call], bytes, type, fields);
+    return { ...found, answer, written: writtenOf(call, answer), ...partsOf(bytes, type, fields) };
   } catch (fault) {
-    if (fault.name !== "FormatError") throw fault;
-    answer = { kind: fault.kind, message: fault.message };
-    return { ...found, answer, written: writtenOf(state.call, answer), parts: [], flags: [], radix: null };
+    if (!(fault instanceof FormatError)) throw fault;
+    const answer = { kind: fault.kind, message: fault.message };
+    return { ...found, answer, written: writtenOf(call, answer), parts: [], flags: [], radix: null };
   }
-  return { ...found, answer, written: writtenOf(state.call, answer), ...partsOf(bytes, state.type, fields) };
 }

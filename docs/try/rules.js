@@ -14,8 +14,7 @@ export const HEADINGS = {
   zeros: "Leading zeros",
   suffix: "The suffix, and where reading stops",
   required: "Required digits",
-  whole: "The complete parser",
-  front: "The partial parser",
+  partial: "The partial parser",
   formats: "Valid formats",
 };
 
@@ -23,50 +22,66 @@ export const HEADINGS = {
 export function addressOf(rule) {
   const heading = HEADINGS[rule];
   const anchor = heading.toLowerCase().replace(/[^\w\- ]/g, "").replaceAll(" ", "-");
-  return `../GRAMMAR.md#${anchor}:~:text=${encodeURIComponent(`## ${heading}`).replaceAll("-", "%2D")}`;
+  return `../GRAMMAR.md#${anchor}:~:text=${encodeURIComponent(`## ${heading}`)}`;
 }
 
-/** A byte as sentences name it. */
-function named(byte) {
-  return byte === undefined ? "the end of the text" : `“${typedOf(byte)}”`;
+function hasPart(found, role) {
+  return found.parts.some((part) => part.role === role);
 }
 
-/** What is said of each part that has its role. */
-const OF_PARTS = {
-  sign: (found, type, byte) => ({
-    rule: "sign",
-    says: byte === 45 ? `A minus, which ${type} may have: the number is negative.` : "A plus.",
-  }),
-  prefix: ({ fields, radix }) => (fields.literal_prefixes
-    ? { rule: "literal", says: `A literal prefix: ${radix ? `the digits behind it have radix ${radix}` : "it chooses the radix"}.` }
-    : { rule: "prefix", says: "A zero and the prefix. They say nothing of the radix." }),
-  digit: ({ radix, fields, parts }) => (radix === 8 && fields.literal_octal_zero && parts.every((it) => it.role !== "prefix")
-    ? { rule: "octal", says: "Digits of radix 8, as the zero in front says." }
-    : { rule: "digits", says: `Digits of radix ${radix}.` }),
-  separator: ({ flags }) => ({
-    rule: "separators",
-    says: flags.length ? `Separators, which pass by ${flags.join(" and ")}.` : "Separators that pass.",
-  }),
+function ofPrefix(found) {
+  if (!found.fields.literal_prefixes) {
+    return { rule: "prefix", says: "A zero and the prefix. They say nothing of the radix." };
+  }
+  const { radix } = found;
+  const chosen = radix === null ? "it chooses the radix" : `the digits behind it have radix ${radix}`;
+  return { rule: "literal", says: `A literal prefix: ${chosen}.` };
+}
+
+function ofDigits(found) {
+  const isOctal = found.fields.literal_octal_zero && found.radix === 8 && !hasPart(found, "prefix");
+  if (isOctal) return { rule: "octal", says: "Digits of radix 8, as the zero in front says." };
+  return { rule: "digits", says: `Digits of radix ${found.radix}.` };
+}
+
+function ofSeparators({ flags }) {
+  const passing = flags.length ? `Separators, which pass by ${flags.join(" and ")}.` : "Separators.";
+  return { rule: "separators", says: passing };
+}
+
+function ofSign(found, type) {
+  const isMinus = found.bytes[0] === 45;
+  return { rule: "sign", says: isMinus ? `A minus, which ${type} may have.` : "A plus." };
+}
+
+/** What is said of the parts that have a role. */
+const OF_ROLES = {
+  sign: ofSign,
+  prefix: ofPrefix,
+  digit: ofDigits,
+  separator: ofSeparators,
   suffix: () => ({ rule: "suffix", says: "The suffix." }),
   rest: () => ({ rule: "suffix", says: "Reading has stopped here." }),
 };
 
 /** Why the whole text isn't a number: what stands where reading stopped. */
-function ofInvalidDigit({ bytes, fields, parts, radix }, type, place) {
-  const byte = bytes[place];
-  const before = parts.find((it) => it.to === place);
-  if (byte === fields.digit_separator) {
-    return { rule: "separators", says: `The run of separators that begins with ${named(byte)} may not stand here.` };
+function ofInvalidDigit(found, type, place) {
+  const byte = found.bytes[place];
+  const named = `“${typedOf(byte)}”`;
+  const isBehindSuffix = found.parts.some((part) => part.role === "suffix" && part.to === place);
+  if (byte === found.fields.digit_separator) {
+    return { rule: "separators", says: `A run of separators may not stand here.` };
   }
-  if (before?.role === "suffix") return { rule: "suffix", says: `${named(byte)} stands behind the suffix.` };
+  if (isBehindSuffix) return { rule: "suffix", says: `${named} stands behind the suffix.` };
   if (place === 0 && byte === 45) return { rule: "sign", says: `A minus is no sign for ${type}.` };
-  return { rule: "digits", says: `${named(byte)} is no digit${radix ? ` of radix ${radix}` : ""}, and the text goes on with it.` };
+  const radix = found.radix === null ? "" : ` of radix ${found.radix}`;
+  return { rule: "digits", says: `${named} is no digit${radix}, and the text goes on with it.` };
 }
 
 /** Why a digit is missing. */
 function ofEmpty({ bytes, parts }, place) {
   if (parts.at(-1)?.role === "prefix") return { rule: "prefix", says: "The text ends with its prefix." };
-  const behind = place === bytes.length ? "the text ends" : `${named(bytes[place])} is none`;
+  const behind = place === bytes.length ? "the text ends" : `“${typedOf(bytes[place])}” is none`;
   return { rule: "required", says: `A digit has to be here, and ${behind}.` };
 }
 
@@ -74,34 +89,44 @@ function ofEmpty({ bytes, parts }, place) {
 function ofFault(found, type) {
   const { kind, place } = found.answer;
   switch (kind) {
-    case "InvalidPositiveSign": return { rule: "sign", says: "The format refuses a plus." };
-    case "MissingSign": return { rule: "sign", says: "The format requires a sign." };
+    case "InvalidPositiveSign":
+      return { rule: "sign", says: "The format refuses a plus." };
+    case "MissingSign":
+      return { rule: "sign", says: "The format requires a sign." };
     case "InvalidLeadingZeros":
       return { rule: "zeros", says: "The format refuses a zero before another digit." };
-    case "Overflow": return { rule: "range", says: `With this digit the number exceeds the greatest ${type}.` };
-    case "Underflow": return { rule: "range", says: `With this digit the number is below the least ${type}.` };
-    case "Empty": return ofEmpty(found, place);
-    default: return ofInvalidDigit(found, type, place);
+    case "Overflow":
+      return { rule: "range", says: `With this digit the number exceeds the greatest ${type}.` };
+    case "Underflow":
+      return { rule: "range", says: `With this digit the number is below the least ${type}.` };
+    case "Empty":
+      return ofEmpty(found, place);
+    default:
+      return ofInvalidDigit(found, type, place);
   }
 }
 
 /** What is said of a number. */
 function ofNumber(found, { type, call }) {
-  const hasDigit = found.parts.some((part) => part.role === "digit");
-  if (!hasDigit) return { rule: call === "whole" ? "required" : "front", says: "No digit is required, and the number is 0." };
-  return { rule: "value", says: `The digits are worth ${found.answer.value}, a number of ${type}.` };
+  if (hasPart(found, "digit")) {
+    return { rule: "value", says: `The digits are worth ${found.answer.value}, a number of ${type}.` };
+  }
+  const rule = call === "whole" ? "required" : "partial";
+  return { rule, says: "No digit is required, and the number is 0." };
 }
 
 /**
  * The rules behind a reading, in the order of the text: each has the `rule`, a key of `HEADINGS`, what
- * it `says`, and the `role` and the places `from` and `to` of the part that it is about. The last one
- * is about the answer, and has no role.
+ * it `says`, the `role` that it is about, and the `parts` that have the role. The last one is about the
+ * answer, and has no role.
  */
-export function rulesOf(found, state) {
-  if (found.answer.message) return [{ rule: "formats", says: `The format is invalid: ${found.answer.message}.` }];
-  const parts = found.parts.map((part) => ({
-    ...part, ...OF_PARTS[part.role](found, state.type, found.bytes[part.from]),
-  }));
-  const isFault = found.answer.kind !== undefined;
-  return [...parts, isFault ? ofFault(found, state.type) : ofNumber(found, state)];
+export function rulesOf(found, { type, call }) {
+  const { kind, message } = found.answer;
+  if (message) return [{ rule: "formats", says: `The format is invalid: ${message}.` }];
+  const roles = [...new Set(found.parts.map((part) => part.role))];
+  const rules = roles.map((role) => {
+    const parts = found.parts.filter((part) => part.role === role);
+    return { role, parts, ...OF_ROLES[role](found, type) };
+  });
+  return [...rules, kind === undefined ? ofNumber(found, { type, call }) : ofFault(found, type)];
 }

@@ -5,11 +5,19 @@ import { at, element, showWrong } from "./controls.js";
 import { reading, Unfit } from "./reading.js";
 import { addressOf, HEADINGS, rulesOf } from "./rules.js";
 
+/** What the page calls each role. */
 const ROLES = {
-  sign: "sign", prefix: "prefix", digit: "digits", separator: "separators", suffix: "suffix", rest: "not read",
+  sign: "sign",
+  prefix: "prefix",
+  digit: "digits",
+  separator: "separators",
+  suffix: "suffix",
+  rest: "not read",
 };
 /** So many bytes of a longer text are shown, those around its fault. */
 const SHOWN = 240;
+/** So many parts of one role are told by their places. */
+const TOLD = 8;
 
 /** The field whose rule an invalid format breaks. */
 const FIELD_OF_RULE = {
@@ -45,29 +53,41 @@ function showText({ bytes, parts, answer }) {
     : `Bytes ${first} to ${last - 1} of ${bytes.length} are shown.`;
 }
 
-/** The places of a part, as a reader of the page's rules sees them. */
-function placesOf({ from, to }) {
-  return to - from === 1 ? `byte ${from}` : `bytes ${from} to ${to - 1}`;
+/** The places of parts, as a reader of the rules sees them. */
+function placesOf(parts) {
+  const told = parts.slice(0, TOLD)
+    .map(({ from, to }) => (to - from === 1 ? String(from) : `${from} to ${to - 1}`));
+  const isOne = parts.length === 1 && parts[0].to - parts[0].from === 1;
+  return `${isOne ? "byte" : "bytes"} ${told.join(", ")}${parts.length > TOLD ? " .." : ""}`;
+}
+
+/** What a rule is about: a part of the text, in its colour, or the answer. */
+function subjectOf(rule, { kind, place }) {
+  if (!rule.role) {
+    const where = place === undefined ? "" : ` at byte ${place}`;
+    return [kind ? `fault${where}` : "number"];
+  }
+  return [
+    element("span", { className: `cell ${rule.role}` }, element("b", {}, ROLES[rule.role])),
+    " ",
+    element("span", { className: "places" }, placesOf(rule.parts)),
+  ];
 }
 
 function ruleItem(rule, answer) {
-  const about = rule.role
-    ? element("span", {}, element("span", { className: `part ${rule.role}` }, ROLES[rule.role]), " ",
-      element("span", { className: "places" }, placesOf(rule)))
-    : element("span", {}, answer.kind ? `fault${answer.place === undefined ? "" : ` at byte ${answer.place}`}` : "number");
+  const isFault = !rule.role && answer.kind !== undefined;
   const link = element("a", { href: addressOf(rule.rule) }, HEADINGS[rule.rule]);
-  return element("li", { className: !rule.role && answer.kind ? "fault" : "" }, about,
-    element("span", {}, `${rule.says} `, link));
+  return element(
+    "li",
+    { className: isFault ? "fault" : "" },
+    element("span", {}, ...subjectOf(rule, answer)),
+    element("span", {}, `${rule.says} `, link),
+  );
 }
 
-/** Shows the rules, the first so many of a text with very many parts, and that of the answer. */
+/** Shows the rules of the parts, which are the legend of their colours too, and of the answer. */
 function showRules(found, state) {
-  const rules = rulesOf(found, state);
-  const shown = rules.length > SHOWN ? [...rules.slice(0, SHOWN - 1), rules.at(-1)] : rules;
-  at("rules").replaceChildren(...shown.map((rule) => ruleItem(rule, found.answer)));
-  const roles = [...new Set(found.parts.map((part) => part.role))];
-  at("legend").replaceChildren(...roles.map((role) => element("li", {},
-    element("span", { className: `cell ${role}` }, element("b", {}, ROLES[role])))));
+  at("rules").replaceChildren(...rulesOf(found, state).map((rule) => ruleItem(rule, found.answer)));
 }
 
 /** Shows an answer, or a sentence in its place. */
@@ -79,7 +99,7 @@ function showAnswer(text, isFault) {
 /** Shows a sentence where there is no answer, and nothing below it. */
 function showNothing(sentence) {
   showAnswer(sentence, true);
-  for (const id of ["cells", "more", "legend", "rules", "code"]) at(id).replaceChildren();
+  for (const id of ["cells", "more", "rules", "code"]) at(id).replaceChildren();
 }
 
 /** Shows what the library answers of a state. */
