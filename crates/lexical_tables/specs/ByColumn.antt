@@ -101,7 +101,8 @@ put_row row (value ∷ values) (target ∷ targets) =
     put_number row value target ∷ put_row row values targets
 
 -- targets with the numbers of rows, where these are counted from a number on
-abbrev pub put_rows : ℕ → List (List (Option ℤ)) → List (Option TargetView) → List (Option TargetView)
+abbrev pub put_rows : ℕ → List (List (Option ℤ)) → List (Option TargetView)
+    → List (Option TargetView)
 put_rows row [] targets = targets
 put_rows row (values ∷ more) targets = put_rows (row + 1) more (put_row row values targets)
 
@@ -142,7 +143,8 @@ put_at row (suc column) value (target ∷ targets) = target ∷ put_at row colum
 -- ---- tables
 
 -- what is read of rows, up to the first wrong one
-abbrev pub values_to_fault : List (Option Kind) → Dialect → ℕ → List RowView → List (List (Option ℤ))
+abbrev pub values_to_fault : List (Option Kind) → Dialect → ℕ → List RowView
+    → List (List (Option ℤ))
 values_to_fault kinds dialect index [] = []
 values_to_fault kinds dialect index (row ∷ more) = row_values kinds dialect row
     ∷ (if is_none (row_fault kinds dialect index row)
@@ -164,7 +166,8 @@ columns_answer kinds dialect room text =
     }))
 
 -- what `read_columns` leaves in targets
-unfoldable pub columns_put : Dialect → ℕ → List ℕ → List (Option TargetView) → List (Option TargetView)
+unfoldable pub columns_put : Dialect → ℕ → List ℕ → List (Option TargetView)
+    → List (Option TargetView)
 columns_put dialect room text targets = put_rows 0 (values_to_fault (kinds_of targets) dialect 0
     (take room (rows dialect.has_returns text))) targets
 

@@ -80,10 +80,12 @@ fn read_cells(
 /// Reads a table's columns into slices of their own, for as many rows as are asked for at most.
 ///
 /// Each cell of a row has a target, or none: then it isn't read, and may hold any bytes but the separator
-/// and a line feed. So it is with the cells for which there is no target in `targets`. The number of a cell
-/// is put at its row's place in the column's slice, and all else in the slices is as it was, also after a
-/// fault: then the numbers are those of all cells before the wrong one. Where the text has more rows than
-/// are asked for, `stop` is where the next one starts.
+/// and a line feed. So it is with cells behind the last target. The number of a cell is put at its row's
+/// place in the target's slice, and all else in the slices is as it was, also after a fault: then the
+/// numbers are those of all cells before the wrong one. Where the text has more rows than are asked for,
+/// `stop` is where the next one starts.
+///
+/// The formats of the targets have to be valid, and their slices have to have room for so many rows.
 ///
 /// With a comma, three columns and targets of `u64` for the first and of `i8` for the third, `1,a,-2\n`
 /// puts 1 and -2 at place 0, and stops at 7.

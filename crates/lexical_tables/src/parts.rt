@@ -4,13 +4,16 @@ ghost use Rattle.std.specs.Prelude.{◌≡◌, ℕ, List, length, take, drop, ma
 ghost use Rattle.lexical_util.specs.Format.{Format};
 ghost use Rattle.lexical_util.specs.Number.{IntegerType};
 ghost use Rattle.lexical_fields.specs.Parts.{readable};
+ghost use Rattle.lexical_tables.specs.ByColumn.{AreUsable, StopsAt, columns_answer, columns_put, kinds_of, views_of};
 ghost use Rattle.lexical_tables.specs.Parts.{ReadsInParts};
 ghost use Rattle.lexical_tables.specs.Rows.{line_feed};
 ghost use Rattle.lexical_tables.specs.Tables.{GoesOn, answer_of, numbers_of};
 
 use crate::answers::{Table, TableError};
+use crate::by_column::read_columns;
 use crate::dialect::Dialect;
 use crate::read::read_table;
+use crate::targets::Target;
 use lexical_fields::whole_fields;
 use lexical_parse_integer::parse::ParseInteger;
 use lexical_parse_integer::{NumberFormat, Options};
@@ -50,6 +53,30 @@ pub fn read_table_part<T: ParseInteger>(
     }
     let whole = &text[..whole_fields(text, b'\n')];
     read_table::<T>(whole, dialect, format, options, values)
+}
+
+/// Reads the columns of the whole rows of a part of a text, as [`read_columns`](crate::read_columns) does in a
+/// whole text. What a part is, [`read_table_part`](crate::read_table_part) says.
+pub fn read_columns_part(
+    text: &[u8],
+    is_last: bool,
+    dialect: &Dialect,
+    options: &Options,
+    rows: usize,
+    targets: &mut [Option<Target<'_>>],
+) -> Result<Table, TableError>
+    requires usable { AreUsable rows (views_of targets.old) }
+    ensures answer { result ≡ columns_answer (kinds_of (views_of targets.old)) dialect.now rows
+        (readable is_last line_feed text.now) }
+    ensures targets { views_of targets.new ≡ columns_put dialect.now rows
+        (readable is_last line_feed text.now) (views_of targets.old) }
+    ensures goes_on { IfOk result (StopsAt rows (readable is_last line_feed text.now)) }
+{
+    if is_last {
+        return read_columns(text, dialect, options, rows, targets);
+    }
+    let whole = &text[..whole_fields(text, b'\n')];
+    read_columns(whole, dialect, options, rows, targets)
 }
 
 /// The law of parts: wherever a text is cut, its whole rows in front of the cut, and then all that is left, give

@@ -13,14 +13,21 @@ use lexical_parse_integer::{Error, NumberFormat, Options};
 /// The slice that a column's numbers go to. It says their type.
 #[derive(Drop)]
 pub enum Numbers<'a> {
-    /// Numbers of `u8`, and so on.
+    /// Numbers of 8 bits without a sign.
     U8(&'a mut [u8]),
+    /// Numbers of 16 bits without a sign.
     U16(&'a mut [u16]),
+    /// Numbers of 32 bits without a sign.
     U32(&'a mut [u32]),
+    /// Numbers of 64 bits without a sign.
     U64(&'a mut [u64]),
+    /// Numbers of 8 bits with a sign.
     I8(&'a mut [i8]),
+    /// Numbers of 16 bits with a sign.
     I16(&'a mut [i16]),
+    /// Numbers of 32 bits with a sign.
     I32(&'a mut [i32]),
+    /// Numbers of 64 bits with a sign.
     I64(&'a mut [i64]),
 }
 

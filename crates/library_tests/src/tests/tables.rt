@@ -4,8 +4,12 @@ use crate::tests::answers;
 use lexical_parse_integer::format::STANDARD;
 use lexical_parse_integer::{Error, NumberFormat, NumberFormatBuilder, options};
 use lexical_tables::{
-    CellFault, Dialect, Table, TableError, after_lines, read_table, read_table_part,
+    CellFault, Dialect, Numbers, Table, TableError, Target, after_lines, read_columns,
+    read_columns_part, read_table, read_table_part,
 };
+use std::alloc::{AllocError, Global};
+use std::slice;
+use std::test::Fail;
 
 // What reading a table answers.
 type Answer = Result<Table, TableError>;
@@ -109,6 +113,51 @@ fn a_header_is_stepped_over(rt: HostRuntime) {
     );
 }
 
+/// The first and the third of three columns, for as many rows as both slices have room for.
+fn read_ledger<'a>(
+    alloc: Global,
+    text: &[u8],
+    days: &'a mut [u16],
+    cents: &'a mut [i64],
+) -> Result<Answer, AllocError> {
+    let rows = days.len().min(cents.len());
+    let mut targets = Vec::new(alloc);
+    targets.push(Some(Target {
+        format: STANDARD,
+        numbers: Numbers::U16(days),
+    }))?;
+    targets.push(None)?;
+    targets.push(Some(Target {
+        format: STANDARD,
+        numbers: Numbers::I64(cents),
+    }))?;
+    let dialect = Dialect {
+        separator: b';',
+        columns: 3,
+        has_returns: true,
+    };
+    Ok(read_columns(text, &dialect, &options::STANDARD, rows, &mut targets))
+}
+
+#[test]
+fn columns_go_into_slices_of_their_own(rt: HostRuntime) -> Result<(), Fail> {
+    let mut days = [9; 3];
+    let mut cents = [9; 3];
+    let answer = read_ledger(
+        rt.alloc(),
+        b"1;rent, paid;-80000\r\n365;;7\r\n",
+        &mut days,
+        &mut cents,
+    )?;
+    answers(&rt, answer, table(2, 29));
+    answers(&rt, (days, cents), ([1, 365, 9], [-80000, 7, 9]));
+    let answer = read_ledger(rt.alloc(), b"2;a;0\r\n3;b;x\r\n", &mut days, &mut cents)?;
+    let letter = fault_in(1, 2, CellFault::NotNumber(Error::InvalidDigit(11)));
+    answers(&rt, answer, letter);
+    answers(&rt, (days, cents), ([2, 3, 9], [0, 7, 9]));
+    Ok(())
+}
+
 #[test]
 fn a_part_has_whole_rows(rt: HostRuntime) {
     let mut values = [0; 4];
@@ -126,4 +175,13 @@ fn a_part_has_whole_rows(rt: HostRuntime) {
     let answer = read_table_part::<u64>(part, true, &pairs(false), &STANDARD, options, &mut values);
     answers(&rt, answer, table(2, 7));
     answers(&rt, values, [1, 2, 3, 4]);
+    let mut column = [9_u8; 3];
+    let mut target = Some(Target {
+        format: STANDARD,
+        numbers: Numbers::U8(&mut column),
+    });
+    let targets = slice::from_mut(&mut target);
+    let answer = read_columns_part(part, false, &pairs(false), options, 3, targets);
+    answers(&rt, answer, table(1, 4));
+    answers(&rt, column, [1, 9, 9]);
 }
