@@ -3,6 +3,7 @@ pub mod CellSteps
 pub mod ColumnRows
 pub mod ColumnSteps
 pub mod ColumnTables
+pub mod ColumnsInParts
 pub mod FaultPlaces
 pub mod LineSteps
 pub mod PutSteps

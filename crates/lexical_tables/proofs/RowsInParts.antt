@@ -75,7 +75,7 @@ row_by has_returns line ended = record {
 }
 
 -- a row that starts so many bytes further behind
-abbrev row_behind : ℕ → RowView → RowView
+abbrev pub row_behind : ℕ → RowView → RowView
 row_behind bytes row = record { start = bytes + row.start; text = row.text; lacks_return = row.lacks_return }
 
 -- lines that end before two places are the same rows of texts that end there
@@ -107,7 +107,7 @@ rows_moved r bytes end (line ∷ more) =
     (rows_moved r bytes end more)
 
 -- the rows of a text that is cut
-rows_split : (r : Bool) (part more : List ℕ) (size : ℕ) → size ≡ whole_fields line_feed part → size ≤ length part
+pub rows_split : (r : Bool) (part more : List ℕ) (size : ℕ) → size ≡ whole_fields line_feed part → size ≤ length part
     → rows r (part ++ more) ≡ rows r (take size part) ++ map (row_behind size) (rows r (drop size part ++ more))
 rows_split r part more size is within =
     let front = fields_from line_feed 0 (take size part) in
@@ -143,7 +143,7 @@ abbrev or_by : Bool → Bool → Bool
 or_by a b = a || b
 
 -- the whole lines of a text are some of its bytes
-whole_within : (s : ℕ) (text : List ℕ) → whole_fields s text ≤ length text
+pub whole_within : (s : ℕ) (text : List ℕ) → whole_fields s text ≤ length text
 whole_within s [] = omega arith
 whole_within s (byte ∷ rest) = by_test (list_any (λ b. b == s) (byte ∷ rest)) (whole_within s rest)
   where
@@ -152,7 +152,7 @@ whole_within s (byte ∷ rest) = by_test (list_any (λ b. b == s) (byte ∷ rest
     by_test false low = omega arith
 
 -- a row further behind has its fault there
-fault_moved : (d : Dialect) (before bytes index : ℕ) (row : RowView) (answer : Result Column ColumnError)
+pub fault_moved : (d : Dialect) (before bytes index : ℕ) (row : RowView) (answer : Result Column ColumnError)
     → fault_by d (before + index) (row_behind bytes row) answer
     ≡ option_map (error_behind before bytes) (fault_by d index row answer)
 fault_moved d before bytes index row (Err (unread.InvalidFormat error)) = refl

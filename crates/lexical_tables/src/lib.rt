@@ -18,7 +18,7 @@ mod targets;
 pub use answers::{CellFault, Table, TableError};
 pub use by_column::read_columns;
 pub use dialect::Dialect;
-pub use parts::{read_columns_part, read_table_part, reads_in_parts};
+pub use parts::{columns_in_parts, read_columns_part, read_table_part, reads_in_parts};
 pub use read::read_table;
 pub use rows::after_lines;
 pub use targets::{Numbers, Target};

@@ -1,11 +1,11 @@
 //! Tables of a text that comes in parts, as a file that is read in blocks.
 
-ghost use Rattle.std.specs.Prelude.{◌≡◌, ℕ, List, length, take, drop, map, IfOk};
+ghost use Rattle.std.specs.Prelude.{◌≡◌, ℕ, List, Option, length, take, drop, map, IfOk};
 ghost use Rattle.lexical_util.specs.Format.{Format};
 ghost use Rattle.lexical_util.specs.Number.{IntegerType};
 ghost use Rattle.lexical_fields.specs.Parts.{readable};
-ghost use Rattle.lexical_tables.specs.ByColumn.{AreUsable, StopsAt, columns_answer, columns_put, kinds_of, views_of};
-ghost use Rattle.lexical_tables.specs.Parts.{ReadsInParts};
+ghost use Rattle.lexical_tables.specs.ByColumn.{AreUsable, Kind, StopsAt, columns_answer, columns_put, kinds_of, views_of};
+ghost use Rattle.lexical_tables.specs.Parts.{AreValid, ColumnsInParts, ReadsInParts};
 ghost use Rattle.lexical_tables.specs.Rows.{line_feed};
 ghost use Rattle.lexical_tables.specs.Tables.{GoesOn, answer_of, numbers_of};
 
@@ -56,7 +56,8 @@ pub fn read_table_part<T: ParseInteger>(
 }
 
 /// Reads the columns of the whole rows of a part of a text, as [`read_columns`](crate::read_columns) does in a
-/// whole text. What a part is, [`read_table_part`](crate::read_table_part) says.
+/// whole text. What a part is, [`read_table_part`](crate::read_table_part) says. Read so, all parts give the
+/// numbers and the first fault of the whole text ([`columns_in_parts`]).
 pub fn read_columns_part(
     text: &[u8],
     is_last: bool,
@@ -86,4 +87,12 @@ pub fn read_columns_part(
 pub fn reads_in_parts()
     ensures { (format : Format) (type : IntegerType) (dialect : Dialect) (part more : List ℕ)
         → ReadsInParts format type dialect part more }
+{}
+
+/// The law of parts for columns: so do their parts, where each column's format is valid.
+///
+/// The call does nothing. A proof that needs the law makes it, and has its clause.
+pub fn columns_in_parts()
+    ensures { (kinds : List (Option Kind)) (dialect : Dialect) (part more : List ℕ)
+        → AreValid kinds → ColumnsInParts kinds dialect part more }
 {}

@@ -1,0 +1,189 @@
+-- What is read of the columns of a text that is cut.
+use Rattle.std.proofs.Common.{◌≡◌, ◌∙◌, ℕ, zero, suc, ◌+◌, List, [], ◌∷◌, ◌++◌, length, take, drop, map, cond, ℤ, Result, Option, Some, None, Ok, Err, refl, ap, ap₂, sym, arith, append_assoc, length-take-le}
+use Rattle.std.specs.Prelude.{is_none, option_map}
+use Rattle.lexical_util.specs.declared.error.Error.{Error}
+use Rattle.lexical_fields.specs.Columns as columns
+use Rattle.lexical_fields.specs.Fields.{FieldView, fields_from}
+use Rattle.lexical_fields.specs.Parts.{whole_fields}
+use Rattle.lexical_fields.specs.Places.{error_in_text, in_text}
+use Rattle.lexical_fields.specs.ReadFields.{field_answer}
+use Rattle.lexical_fields.proofs.MovedFields.{answer_moved, fields_moved, moved}
+use Rattle.lexical_tables.specs.ByColumn.{Kind, answer_as, cell_answers, cells_of, extent_of, fault_of, first_fault, row_answers, row_fault, row_values, some_number, values_to_fault}
+use Rattle.lexical_tables.specs.Parts.{AreValid, ColumnsInParts, column_fault_in, error_behind, values_in}
+use Rattle.lexical_tables.specs.Rows.{RowView, line_feed, rows}
+use Rattle.lexical_tables.specs.Tables.{first_of}
+use Rattle.lexical_tables.specs.declared.answers.CellFault.TheVariants.{NotNumber}
+use Rattle.lexical_tables.specs.declared.answers.TableError.{TableError}
+use Rattle.lexical_tables.specs.declared.answers.TableError.TheVariants.{InvalidCell}
+use Rattle.lexical_tables.specs.declared.dialect.Dialect.{Dialect}
+use Rattle.lexical_tables.proofs.RowsInParts.{fault_moved, row_behind, rows_split, whole_within}
+
+take_map : {X Y : Type 0} (f : X → Y) (n : ℕ) (xs : List X) → take n (map f xs) ≡ map f (take n xs)
+take_map f zero xs = refl
+take_map f (suc n) [] = refl
+take_map f (suc n) (x ∷ xs) = ap (λ l. f x ∷ l) (take_map f n xs)
+
+-- ---- a row further behind
+
+some_moved : (bytes : ℕ) (answer : Result ℤ Error) → some_number (in_text bytes answer) ≡ in_text bytes (some_number answer)
+some_moved bytes (Ok number) = refl
+some_moved bytes (Err error) = refl
+
+answers_moved : (bytes : ℕ) (kinds : List (Option Kind)) (cells : List FieldView) → AreValid kinds
+    → cell_answers kinds (map (moved bytes) cells) ≡ map (in_text bytes) (cell_answers kinds cells)
+answers_moved bytes kinds [] valid = nothing kinds
+  where
+    nothing : (ks : List (Option Kind)) → cell_answers ks [] ≡ map (in_text bytes) (cell_answers ks [])
+    nothing [] = refl
+    nothing (k ∷ ks) = refl
+answers_moved bytes [] (cell ∷ cells) valid = ap (λ l. Ok None ∷ l) (answers_moved bytes [] cells tt)
+answers_moved bytes (None ∷ kinds) (cell ∷ cells) valid = ap (λ l. Ok None ∷ l) (answers_moved bytes kinds cells valid)
+answers_moved bytes (Some kind ∷ kinds) (cell ∷ cells) valid =
+    ap₂ (λ a l. a ∷ l)
+    (ap some_number (sym (answer_moved kind.format kind.type bytes valid.0 cell))
+    ∙ some_moved bytes (field_answer kind.format kind.type cell))
+    (answers_moved bytes kinds cells valid.1)
+
+values_same : (bytes : ℕ) (answers : List (Result (Option ℤ) Error))
+    → columns.values_before_fault (map (in_text bytes) answers) ≡ columns.values_before_fault answers
+values_same bytes [] = refl
+values_same bytes (Ok value ∷ more) = ap (λ l. value ∷ l) (values_same bytes more)
+values_same bytes (Err error ∷ more) = refl
+
+first_moved : (bytes : ℕ) (answers : List (Result (Option ℤ) Error))
+    → columns.first_fault (map (in_text bytes) answers) ≡ option_map (error_in_text bytes) (columns.first_fault answers)
+first_moved bytes [] = refl
+first_moved bytes (Ok value ∷ more) = first_moved bytes more
+first_moved bytes (Err error ∷ more) = refl
+
+-- one fault behind another
+first_assoc : (a b c : Option TableError) → first_of a (first_of b c) ≡ first_of (first_of a b) c
+first_assoc None b c = refl
+first_assoc (Some it) b c = refl
+
+next_index : (a b : ℕ) → a + 1 + b ≡ a + suc b
+next_index a b = omega arith
+
+index_of_none : (n : ℕ) → n ≡ n + 0
+index_of_none n = omega arith
+
+module _ (kinds : List (Option Kind)) (d : Dialect) where
+  -- rows and more
+  first_append : (index : ℕ) (xs ys : List RowView) → first_fault kinds d index (xs ++ ys)
+      ≡ first_of (first_fault kinds d index xs) (first_fault kinds d (index + length xs) ys)
+  first_append index [] ys = ap (λ k. first_fault kinds d k ys) (index_of_none index)
+  first_append index (x ∷ xs) ys =
+      ap (first_of (row_fault kinds d index x)) (first_append (index + 1) xs ys
+      ∙ ap (λ k. first_of (first_fault kinds d (index + 1) xs) (first_fault kinds d k ys)) (next_index index (length xs)))
+      ∙ first_assoc (row_fault kinds d index x) (first_fault kinds d (index + 1) xs)
+      (first_fault kinds d (index + suc (length xs)) ys)
+
+  values_append : (index : ℕ) (xs ys : List RowView) → values_to_fault kinds d index (xs ++ ys)
+      ≡ values_to_fault kinds d index xs
+      ++ cond (is_none (first_fault kinds d index xs)) (values_to_fault kinds d (index + length xs) ys) []
+  values_append index [] ys = ap (λ k. values_to_fault kinds d k ys) (index_of_none index)
+  values_append index (x ∷ xs) ys =
+      by_fault (row_fault kinds d index x) (values_append (index + 1) xs ys
+      ∙ ap (λ k. values_to_fault kinds d (index + 1) xs
+      ++ cond (is_none (first_fault kinds d (index + 1) xs)) (values_to_fault kinds d k ys) []) (next_index index (length xs)))
+    where
+      by_fault : (e : Option TableError) → values_to_fault kinds d (index + 1) (xs ++ ys)
+          ≡ values_to_fault kinds d (index + 1) xs
+          ++ cond (is_none (first_fault kinds d (index + 1) xs)) (values_to_fault kinds d (index + suc (length xs)) ys) []
+          → row_values kinds d x ∷ cond (is_none e) (values_to_fault kinds d (index + 1) (xs ++ ys)) []
+          ≡ (row_values kinds d x ∷ cond (is_none e) (values_to_fault kinds d (index + 1) xs) [])
+          ++ cond (is_none (first_of e (first_fault kinds d (index + 1) xs)))
+          (values_to_fault kinds d (index + suc (length xs)) ys) []
+      by_fault None there = ap (λ l. row_values kinds d x ∷ l) there
+      by_fault (Some it) there = refl
+
+  module _ (valid : AreValid kinds) where
+    row_moved : (bytes : ℕ) (row : RowView)
+        → row_answers kinds d (row_behind bytes row) ≡ map (in_text bytes) (row_answers kinds d row)
+    row_moved bytes row =
+        ap (λ l. cell_answers kinds (take d.columns l)) (sym (fields_moved d.separator bytes row.start row.text))
+        ∙ ap (cell_answers kinds) (take_map (moved bytes) d.columns (cells_of d row))
+        ∙ answers_moved bytes kinds (take d.columns (cells_of d row)) valid
+
+    row_values_moved : (bytes : ℕ) (row : RowView) → row_values kinds d (row_behind bytes row) ≡ row_values kinds d row
+    row_values_moved bytes row =
+        ap columns.values_before_fault (row_moved bytes row) ∙ values_same bytes (row_answers kinds d row)
+
+    row_fault_moved : (before bytes index : ℕ) (row : RowView) → row_fault kinds d (before + index) (row_behind bytes row)
+        ≡ option_map (error_behind before bytes) (row_fault kinds d index row)
+    row_fault_moved before bytes index row =
+        ap₂ (λ n e. fault_of d (before + index) (row_behind bytes row) n e)
+        (ap length (row_values_moved bytes row))
+        (ap columns.first_fault (row_moved bytes row) ∙ first_moved bytes (row_answers kinds d row))
+        ∙ by_error (length (row_values kinds d row)) (columns.first_fault (row_answers kinds d row))
+      where
+        by_error : (n : ℕ) (e : Option Error)
+            → fault_of d (before + index) (row_behind bytes row) n (option_map (error_in_text bytes) e)
+            ≡ option_map (error_behind before bytes) (fault_of d index row n e)
+        by_error n None = fault_moved d before bytes index row (Ok (extent_of d row))
+        by_error n (Some error) = refl
+
+    rows_first_moved : (before bytes index : ℕ) (lines : List RowView)
+        → first_fault kinds d (before + index) (map (row_behind bytes) lines)
+        ≡ option_map (error_behind before bytes) (first_fault kinds d index lines)
+    rows_first_moved before bytes index [] = refl
+    rows_first_moved before bytes index (row ∷ more) =
+        ap₂ first_of (row_fault_moved before bytes index row)
+        (ap (λ k. first_fault kinds d k (map (row_behind bytes) more)) (next before index)
+        ∙ rows_first_moved before bytes (index + 1) more)
+        ∙ both (row_fault kinds d index row) (first_fault kinds d (index + 1) more)
+      where
+        next : (a b : ℕ) → a + b + 1 ≡ a + (b + 1)
+        next a b = omega arith
+
+        both : (a b : Option TableError)
+            → first_of (option_map (error_behind before bytes) a) (option_map (error_behind before bytes) b)
+            ≡ option_map (error_behind before bytes) (first_of a b)
+        both None b = refl
+        both (Some it) b = refl
+
+    values_moved : (before bytes index : ℕ) (lines : List RowView)
+        → values_to_fault kinds d (before + index) (map (row_behind bytes) lines) ≡ values_to_fault kinds d index lines
+    values_moved before bytes index [] = refl
+    values_moved before bytes index (row ∷ more) =
+        ap₂ (λ v l. v ∷ l) (row_values_moved bytes row)
+        (ap₂ (λ e later. cond (is_none e) later []) (row_fault_moved before bytes index row)
+        (ap (λ k. values_to_fault kinds d k (map (row_behind bytes) more)) (next before index)
+        ∙ values_moved before bytes (index + 1) more)
+        ∙ ap (λ b. cond b (values_to_fault kinds d (index + 1) more) []) (none_moved (row_fault kinds d index row)))
+      where
+        next : (a b : ℕ) → a + b + 1 ≡ a + (b + 1)
+        next a b = omega arith
+
+        none_moved : (a : Option TableError) → is_none (option_map (error_behind before bytes) a) ≡ is_none a
+        none_moved None = refl
+        none_moved (Some it) = refl
+
+-- the law of parts
+pub columns_in_parts : (kinds : List (Option Kind)) (d : Dialect) (part more : List ℕ) → AreValid kinds
+    → ColumnsInParts kinds d part more
+columns_in_parts kinds d part more valid =
+    let size = whole_fields line_feed part in
+    let front = take size part in
+    let left = drop size part ++ more in
+    let r = d.has_returns in
+    let count = length (rows r front) in
+    let within = whole_within line_feed part in
+    let cut = rows_split r part more size refl within in
+    let long = sym (length-take-le size part within) in
+    let none : 0 + count ≡ count + 0 = omega arith in
+    record {
+      values =
+          ap (values_to_fault kinds d 0) cut
+          ∙ values_append kinds d 0 (rows r front) (map (row_behind size) (rows r left))
+          ∙ ap (λ l. values_in kinds d front ++ cond (is_none (column_fault_in kinds d front)) l [])
+          (ap (λ k. values_to_fault kinds d k (map (row_behind size) (rows r left))) none
+          ∙ values_moved kinds d valid count size 0 (rows r left));
+      fault =
+          ap (first_fault kinds d 0) cut
+          ∙ first_append kinds d 0 (rows r front) (map (row_behind size) (rows r left))
+          ∙ ap (first_of (column_fault_in kinds d front))
+          (ap (λ k. first_fault kinds d k (map (row_behind size) (rows r left))) none
+          ∙ rows_first_moved kinds d valid count size 0 (rows r left)
+          ∙ ap (λ n. option_map (error_behind count n) (column_fault_in kinds d left)) long);
+    }
