@@ -144,13 +144,14 @@ function inScript({ bytes, type, call, base, changes }) {
   const preset = base && `formats.${base.toUpperCase()}`;
   const given = changes.map((it) => `${it.name}: ${valueIn(WORDS_OF_SCRIPT, it)}`);
   if (base) given.unshift(`...${preset}`);
-  const made = changes.length ? `new Format({ ${given.join(", ")} })` : preset;
-  const under = made ? `, ${made}` : "";
+  const made = changes.length ? [`const format = new Format({ ${given.join(", ")} });`] : [];
+  const under = changes.length ? "format" : preset;
   const imports = [...(changes.length ? ["Format"] : []), ...(base ? ["formats"] : []), name];
   const value = call === "whole" ? "value" : "{ value, stop }";
   return [
     `import { ${imports.join(", ")} } from "jadvolni";`, "",
-    `const ${value} = ${name}(${quotedInScript(bytes)}, "${type}"${under});`,
+    ...made,
+    `const ${value} = ${name}(${quotedInScript(bytes)}, "${type}"${under ? `, ${under}` : ""});`,
   ];
 }
 
@@ -194,9 +195,9 @@ const WRITERS = {
 /**
  * A call in a language of `CALLERS`. `wanted` has the text's `bytes`, the `type` and the `call`; as
  * `base` the name of the preset that the format is made from, "" for the standard one; the fields
- * that differ from it as `changes`, and those that differ from the standard format as `fields`, each
- * as `{ name, kind, value }`, where the value of punctuation is a byte or null; and `isValid`, whether
- * the format breaks no rule.
+ * that differ from it as `changes`, and those that differ from the standard format as `fields`,
+ * each as `{ name, kind, value }`, where the value of punctuation is a byte or null; and `isValid`,
+ * whether the format breaks no rule.
  */
 export function callIn(caller, wanted) {
   return WRITERS[caller](wanted).join("\n");
