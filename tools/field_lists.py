@@ -315,6 +315,8 @@ def fill(top: str, found: dict[str, str], regions: list[Region], listed: list[Fi
     """Writes what is listed into regions of files, as `found` has these, or else the disk."""
     for region in regions:
         text = found.get(region.file) or source.read(os.path.join(top, region.file))
+        if region.begin not in text:
+            raise KeyError(f"{region.file} has no line before a list: {region.begin}")
         before, begin, rest = text.partition(region.begin)
         behind = rest[rest.index(region.end):]
         found[region.file] = before + begin + region.written(listed) + behind

@@ -6,7 +6,7 @@ import itertools
 from typing import Iterator, List, NamedTuple
 
 from fuzz_lines import CAPITALS, SMALL, as_numeral
-from fuzz_short import RUNS, runs_under
+from fuzz_short import RUNS, parses, runs_under
 from reference import TYPES
 
 # longer than the digits of a type of 128 bits, and than any length that is read in a way of its own
@@ -38,11 +38,6 @@ PARTED = (
     Setting("literal-prefixes behind-prefix", b"-0b", radix=2),
     Setting("no-leading-zeros radix=16 suffix=h", radix=16),
 )
-
-
-def parses(name: bytes, text: bytes) -> Iterator[bytes]:
-    """Both parses of a text as a type."""
-    return (b"%c %s %s" % (parser, name, text) for parser in b"cp")
 
 
 # ---- lengths

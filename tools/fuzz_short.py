@@ -61,10 +61,9 @@ def texts(longest: int) -> Iterator[bytes]:
         yield from map(bytes, itertools.product(ALPHABET, repeat=length))
 
 
-def parses(longest: int) -> Iterator[bytes]:
-    """Both parses of each text as each of the types."""
-    for text, name, parser in itertools.product(texts(longest), NAMES, b"cp"):
-        yield b"%c %s %s" % (parser, name, text)
+def parses(name: bytes, text: bytes) -> Iterator[bytes]:
+    """Both parses of a text as a type."""
+    return (b"%c %s %s" % (parser, name, text) for parser in b"cp")
 
 
 def runs_under(form: str, lines: Iterator[bytes], length: int) -> Iterator[List[bytes]]:
@@ -77,4 +76,6 @@ def runs_under(form: str, lines: Iterator[bytes], length: int) -> Iterator[List[
 def short_runs(longest: int, length: int) -> Iterator[List[bytes]]:
     """Runs of about that many lines: all texts under all formats."""
     for form in FORMATS:
-        yield from runs_under(form, parses(longest), length)
+        asked = itertools.product(NAMES, texts(longest))
+        lines = itertools.chain.from_iterable(itertools.starmap(parses, asked))
+        yield from runs_under(form, lines, length)

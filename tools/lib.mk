@@ -51,7 +51,7 @@ build/libjadvolni.so: build/libjadvolni.a build/symbols.map
 wasm: build/jadvolni.wasm ## proves and builds the library for JavaScript, and puts it into bindings/js
 	@cp $< bindings/js
 
-# A crate is built for one machine: here it is the copy of a crate. Its memory can't grow.
+# crates.txt says for which machine a crate is built, so it is built once more in a copy. Its memory can't grow.
 build/jadvolni.wasm: $(LIBRARY_SOURCES)
 	@mkdir -p build/wasm
 	@find build/wasm -name out -prune -o -type f -exec rm {} +

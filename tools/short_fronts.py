@@ -16,7 +16,7 @@ from typing import Iterator, Tuple
 sys.dont_write_bytecode = True
 
 import c_calls  # noqa: E402
-from fuzz_short import FORMATS, texts  # noqa: E402
+from fuzz_short import FORMATS, NAMES, texts  # noqa: E402
 from reference import (STANDARD, TYPES, Fault, Format, IntegerType, format_fault,  # noqa: E402
                        number_in_front)
 from row_data import read_fields  # noqa: E402
@@ -42,7 +42,7 @@ def front_of(form: Format, kind: IntegerType, text: bytes) -> Tuple[int, int, in
 def records(form: Format, longest: int) -> Iterator[bytes]:
     """The records of all texts of up to that many bytes."""
     made = bytes(c_calls.c_format(form))
-    for text, name in itertools.product(texts(longest), (b"i8", b"u64")):
+    for text, name in itertools.product(texts(longest), NAMES):
         fault, stop, value = front_of(form, TYPES[name], text)
         signed = TYPES[name].signed
         yield RECORD.pack(made, text, value % 2 ** 64, len(text), stop, fault, signed)

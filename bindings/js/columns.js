@@ -7,7 +7,7 @@ import * as memory from "./memory.js";
 
 const { ANSWER, COUNT, FORMAT, TEXT } = memory;
 
-// A fifth of the memory is for text: each number has a digit and a separator, and takes 8 bytes.
+// A fifth of the memory is for text, of which two bytes give a number of at most eight.
 const PIECE = Math.floor(memory.LONGEST / 5);
 export const LONGEST_FIELD = PIECE - 1; // and behind it the separator
 const numbersPlace = Math.ceil((memory.textPlace + PIECE) / 16) * 16;

@@ -45,19 +45,18 @@ export interface Literal {
 }
 
 /**
- * The number that the whole text stands for.
+ * The number that the whole text stands for. Without a format that is decimal digits, after "+" or
+ * nothing, or after "-" where the type is signed.
  *
- * Throws `ParseError` where the text is no number of the type under the format, which is by default
- * decimal digits after "+" or nothing, or after "-" where the type is signed. Throws `TypeError`
- * where an argument is none of what it may be, and `RangeError` where the text is longer than
- * `LONGEST`: so do the calls below.
+ * Throws `ParseError` where the text is no number of the type under the format, `TypeError` where
+ * an argument is none of what it may be, and `RangeError` where the text has more than `LONGEST`
+ * bytes. So do the calls below.
  */
 export function parse<T extends NumberType>(text: Text, type: T, format?: Format): NumberOf<T>;
 
 /**
- * The number in front of a text: "12px" gives 12, and stops at 2.
- *
- * Throws `ParseError` of the kind "Empty" where no digit was read, whatever the format says.
+ * The number in front of a text: "12px" gives 12, and stops at 2. Where no digit was read, it throws
+ * a `ParseError` of the kind "Empty", whatever the format says.
  */
 export function parseFront<T extends NumberType>(
   text: Text,
@@ -86,10 +85,12 @@ export function parseLiteral(text: Text, format?: Format): Literal;
 
 /**
  * The numbers of a text's fields. A field is the bytes up to the separator, by default a line feed;
- * a last separator starts no further field. The text may be of any length, and a field at most as
- * long as `LONGEST_FIELD`: a longer one is a `RangeError`.
+ * a last separator starts no further field. The text may be of any length; a field of more than
+ * `LONGEST_FIELD` bytes is a `RangeError`. Careful: the end of a text ends its last field. So cut a
+ * file only behind separators.
  *
- * Throws `ParseError` for the first field that is no number of the type under the format.
+ * Throws `ParseError` for the first field that is no number of the type under the format, with its
+ * index.
  */
 export function parseColumn<T extends keyof Columns>(
   text: Text,

@@ -56,7 +56,7 @@ const textBytes = new Uint8Array(buffer, textPlace);
 const encoder = new TextEncoder();
 const decoder = new TextDecoder();
 // Up to this length a loop is faster than the encoder.
-const SHORT = 64;
+const SHORT = 24;
 
 // What the last call has answered. The memory is so small that 32 bits are enough for each.
 export const status = () => answer[0];
@@ -92,23 +92,30 @@ function putAscii(text) {
   return true;
 }
 
-/** The bytes of a text. */
+/** The bytes of a text. An array of bytes may be another frame's or context's. */
 export function bytesOf(text) {
   if (typeof text === "string") return encoder.encode(text);
-  if (text instanceof Uint8Array) return text;
+  if (ArrayBuffer.isView(text) && text.BYTES_PER_ELEMENT === 1) return text;
   throw new TypeError(`text has to be a string or a Uint8Array, and not ${told(text)}`);
+}
+
+function tooLong() {
+  return new RangeError(`text has more than ${LONGEST} bytes`);
 }
 
 /** Copies bytes, and answers how many they are. */
 export function putBytes(bytes) {
   const { length } = bytes;
-  if (length > LONGEST) throw new RangeError(`text has more than ${LONGEST} bytes`);
+  if (length > LONGEST) throw tooLong();
   textBytes.set(bytes);
   return length;
 }
 
 /** Copies a text, and answers how many bytes it has. */
 export function putText(text) {
-  const isShort = typeof text === "string" && text.length <= SHORT;
-  return isShort && putAscii(text) ? text.length : putBytes(bytesOf(text));
+  if (typeof text !== "string") return putBytes(bytesOf(text));
+  if (text.length <= SHORT && putAscii(text)) return text.length;
+  const { read, written } = encoder.encodeInto(text, textBytes);
+  if (read < text.length) throw tooLong();
+  return written;
 }

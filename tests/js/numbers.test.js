@@ -2,11 +2,13 @@
 
 import assert from "node:assert/strict";
 import { test } from "node:test";
+import { runInNewContext } from "node:vm";
 import {
   Format,
   formats,
   LONGEST,
   parse,
+  parseColumn,
   ParseError,
   parseFront,
   parseLiteral,
@@ -95,6 +97,10 @@ test("fronts stop where their numbers end", () => {
   assert.deepEqual(parseFront("12px", "u16"), { value: 12, stop: 2 });
   assert.deepEqual(parsePartial("x", "i64"), { value: 0n, stop: 0 });
   assert.equal(told(() => parseFront("x", "i64")), "Empty(0)");
+  assert.equal(told(() => parseFront("+a", "i64")), "Empty(1)");
+  assert.equal(told(() => parseFront("-x", "i64")), "Empty(1)");
+  assert.equal(told(() => parseFront("[- 5]", "i64", formats.JSON)), "Empty(0)");
+  assert.equal(told(() => parseFront("0xg", "u64", formats.RUST)), "Empty(2)");
   assert.deepEqual(parseFront("0x1F;", "u8", formats.RUST), { value: 31, stop: 4 });
 });
 
@@ -125,6 +131,11 @@ test("each single byte is a digit or a fault", () => {
     const answer = told(() => parse(Uint8Array.of(byte), "u8"));
     assert.equal(answer, isDigit ? byte - 48 : sign);
   }
+});
+
+test("bytes of another context are read", () => {
+  assert.equal(parse(runInNewContext("Uint8Array.of(49, 50)"), "u8"), 12);
+  assert.deepEqual(parseColumn(runInNewContext("Uint8Array.of(49, 10)"), "u8"), Uint8Array.of(1));
 });
 
 test("the longest text is read, and a longer one refused", () => {

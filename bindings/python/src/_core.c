@@ -9,7 +9,7 @@
 typedef struct question {
     const number_type *type;
     jadvolni_format format;
-    lent_text text;
+    borrowed_text text;
 } question;
 
 /* What a call was asked, by its arguments. The text has to be given back where it is 0. */
@@ -23,7 +23,7 @@ static int question_of(PyObject *module, const char *call, PyObject *const *args
     asked->type = type_of(found[1]);
     if (!asked->type || format_of(PyModule_GetState(module), found[2], &asked->format) < 0)
         return -1;
-    return lend("text", found[0], &asked->text);
+    return borrow("text", found[0], &asked->text);
 }
 
 static PyObject *parse(PyObject *module, PyObject *const *args, Py_ssize_t count,
@@ -103,10 +103,10 @@ static PyObject *parse_literal(PyObject *module, PyObject *const *args, Py_ssize
     jadvolni_format format;
     jadvolni_uint128 value;
     size_t suffix;
-    lent_text text;
+    borrowed_text text;
     PyObject *found[2], *result = NULL;
     if (arguments("parse_literal", args, count, keywords, names, 2, found) < 0
-        || format_of(state, found[1], &format) < 0 || lend("text", found[0], &text) < 0)
+        || format_of(state, found[1], &format) < 0 || borrow("text", found[0], &text) < 0)
         return NULL;
     jadvolni_result answer = jadvolni_parse_literal(text.bytes, text.len, &format, &value, &suffix);
     if (answer.status == JADVOLNI_OK)
@@ -131,7 +131,7 @@ static size_t field_count(const char *text, size_t len, uint8_t separator)
 /* Raises the fault of a column: of its format, or of the field with this index. The text stands behind
  * fields that were read before: its first one has their count as index, and starts where they end. */
 static void raise_column(const core_state *state, jadvolni_result answer, size_t index,
-                         const lent_text *text, uint8_t separator, const field_place *first)
+                         const borrowed_text *text, uint8_t separator, const field_place *first)
 {
     if (is_of_format(answer.status)) {
         raise_format(state, answer.status);
@@ -155,9 +155,9 @@ static PyObject *zeros(const core_state *state, const number_type *type, size_t 
 }
 
 /* Reads a text into a new array. */
-static PyObject *column_of(const core_state *state, const number_type *type, const lent_text *text,
-                           uint8_t separator, const jadvolni_format *format,
-                           const field_place *first)
+static PyObject *column_of(const core_state *state, const number_type *type,
+                           const borrowed_text *text, uint8_t separator,
+                           const jadvolni_format *format, const field_place *first)
 {
     Py_buffer room;
     size_t capacity, count;
@@ -188,7 +188,7 @@ static PyObject *column_of(const core_state *state, const number_type *type, con
 static PyObject *column_behind(PyObject *module, PyObject *const *found, const field_place *first)
 {
     jadvolni_format format;
-    lent_text text;
+    borrowed_text text;
     const number_type *type = type_of(found[1]);
     if (!type)
         return NULL;
@@ -200,7 +200,7 @@ static PyObject *column_behind(PyObject *module, PyObject *const *found, const f
     const core_state *state = PyModule_GetState(module);
     int separator = separator_of(found[2]);
     if (separator < 0 || format_of(state, found[3], &format) < 0
-        || lend("text", found[0], &text) < 0)
+        || borrow("text", found[0], &text) < 0)
         return NULL;
     PyObject *values = column_of(state, type, &text, (uint8_t)separator, &format, first);
     give_back(&text);

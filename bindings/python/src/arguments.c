@@ -99,55 +99,55 @@ static const char *no_bytes(const Py_buffer *view)
 }
 
 /* Lends an object with the buffer protocol. */
-static int lend_view(const char *name, PyObject *text, lent_text *lent)
+static int borrow_view(const char *name, PyObject *text, borrowed_text *borrowed)
 {
     static const char wanted[] = "a str or contiguous bytes";
     if (!PyObject_CheckBuffer(text)) {
         raise_type(name, wanted, text, "");
         return -1;
     }
-    if (PyObject_GetBuffer(text, &lent->view, PyBUF_FULL_RO) < 0)
+    if (PyObject_GetBuffer(text, &borrowed->view, PyBUF_FULL_RO) < 0)
         return -1;
-    const char *detail = no_bytes(&lent->view);
+    const char *detail = no_bytes(&borrowed->view);
     if (detail) {
-        PyBuffer_Release(&lent->view);
+        PyBuffer_Release(&borrowed->view);
         raise_type(name, wanted, text, detail);
         return -1;
     }
-    lent->has_view = 1;
-    lent->bytes = lent->view.buf;
-    lent->len = (size_t)lent->view.len;
+    borrowed->has_view = 1;
+    borrowed->bytes = borrowed->view.buf;
+    borrowed->len = (size_t)borrowed->view.len;
     return 0;
 }
 
-int lend(const char *name, PyObject *text, lent_text *lent)
+int borrow(const char *name, PyObject *text, borrowed_text *borrowed)
 {
     Py_ssize_t size = 0;
-    lent->has_view = 0;
+    borrowed->has_view = 0;
     if (PyUnicode_Check(text)) {
-        lent->bytes = PyUnicode_AsUTF8AndSize(text, &size);
+        borrowed->bytes = PyUnicode_AsUTF8AndSize(text, &size);
     } else if (PyBytes_Check(text)) {
-        lent->bytes = PyBytes_AsString(text);
+        borrowed->bytes = PyBytes_AsString(text);
         size = PyBytes_Size(text);
     } else {
-        return lend_view(name, text, lent);
+        return borrow_view(name, text, borrowed);
     }
-    lent->len = (size_t)size;
-    return lent->bytes ? 0 : -1;
+    borrowed->len = (size_t)size;
+    return borrowed->bytes ? 0 : -1;
 }
 
-void give_back(lent_text *lent)
+void give_back(borrowed_text *borrowed)
 {
-    if (lent->has_view)
-        PyBuffer_Release(&lent->view);
+    if (borrowed->has_view)
+        PyBuffer_Release(&borrowed->view);
 }
 
 int separator_of(PyObject *separator)
 {
     if (!separator)
         return '\n';
-    lent_text text;
-    if (lend("separator", separator, &text) < 0)
+    borrowed_text text;
+    if (borrow("separator", separator, &text) < 0)
         return -1;
     int byte = text.len == 1 ? (unsigned char)text.bytes[0] : -1;
     if (byte < 0)

@@ -96,13 +96,13 @@ void raise_fault(const core_state *state, jadvolni_result answer, const char *te
 
 /* ---- arguments.c ---- */
 
-/* A text that was lent: a str, which is read as UTF-8, or an object of contiguous bytes. */
-typedef struct lent_text {
+/* A text that was borrowed: a str, which is read as UTF-8, or an object of contiguous bytes. */
+typedef struct borrowed_text {
     const char *bytes;
     size_t len;
     Py_buffer view;
     int has_view;
-} lent_text;
+} borrowed_text;
 
 /* Puts arguments, by place and by name, to the slots of their names. The first has to be there. */
 int arguments(const char *call, PyObject *const *args, Py_ssize_t count, PyObject *keywords,
@@ -115,9 +115,9 @@ void raise_type(const char *name, const char *wanted, PyObject *given, const cha
 int format_of(const core_state *state, PyObject *format, jadvolni_format *fields);
 
 /* Lends the text that an argument of a name is, to be given back. -1 with an exception. */
-int lend(const char *name, PyObject *text, lent_text *lent);
+int borrow(const char *name, PyObject *text, borrowed_text *borrowed);
 
-void give_back(lent_text *lent);
+void give_back(borrowed_text *borrowed);
 
 /* The byte of a separator, and a line feed for NULL. -1 with an exception. */
 int separator_of(PyObject *separator);

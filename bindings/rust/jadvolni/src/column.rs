@@ -103,7 +103,7 @@ pub fn parse_column_with_format<T: ColumnInteger>(
     values: &mut [T],
 ) -> Result<Column, ColumnError> {
     let (text, mut count) = (text.as_ref(), 0);
-    // SAFETY: the pointers are those of slices with their lengths, of a format that is lent, and of the
+    // SAFETY: the pointers are those of slices with their lengths, of a borrowed format, and of the
     // count; `values` and the count are this call's alone.
     let outcome = unsafe {
         T::COLUMN(

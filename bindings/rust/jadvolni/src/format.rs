@@ -124,7 +124,7 @@ impl Format {
     /// assert_eq!(Format::JSON.mantissa_radix(37).error(), Some(Error::InvalidMantissaRadix));
     /// ```
     pub fn error(&self) -> Option<Error> {
-        // SAFETY: the call reads the format that is lent to it, and nothing else.
+        // SAFETY: the call reads the format that it borrows, and nothing else.
         let status = unsafe { sys::jadvolni_format_error(&self.0) };
         Error::of(sys::jadvolni_result { status, place: 0 })
     }

@@ -46,7 +46,7 @@ fn call_under<T: Calls>(
     call: CallUnder<T::Kept>,
 ) -> Result<(T, usize), Error> {
     let mut kept = T::Kept::default();
-    // SAFETY: as above, and the format is lent.
+    // SAFETY: as above, and the format is borrowed.
     let outcome = unsafe { call(text.as_ptr().cast(), text.len(), &format.0, &mut kept) };
     match Error::of(outcome) {
         None => Ok((T::number(kept), outcome.place)),

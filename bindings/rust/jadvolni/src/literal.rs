@@ -29,7 +29,7 @@ pub struct Literal {
 /// Which suffixes a language has is for the caller to ask: `1e5` is 1 with the suffix `e5`.
 pub fn parse_literal(text: impl AsRef<[u8]>, format: &Format) -> Result<Literal, Error> {
     let (text, mut value, mut number_stop) = (text.as_ref(), sys::jadvolni_uint128::default(), 0);
-    // SAFETY: the pointers are those of a slice with its length, of a format that is lent, and of two values
+    // SAFETY: the pointers are those of a slice with its length, of a borrowed format, and of two values
     // that are this call's alone.
     let outcome = unsafe {
         sys::jadvolni_parse_literal(
