@@ -112,7 +112,7 @@ build/page: build/jadvolni.wasm $(wildcard docs/try/* bindings/js/*.js) docs/GRA
 	@mkdir -p $@/try/jadvolni
 	@cp docs/try/*.html docs/try/*.css docs/try/*.js $@/try
 	@cp bindings/js/*.js build/jadvolni.wasm $@/try/jadvolni
-	@cp docs/GRAMMAR.md $@
+	@cp docs/GRAMMAR.md $(LICENCES) $@
 
 serve: build/page ## serves the page to try a format on, to this machine alone: PORT=8000
 	@echo "http://127.0.0.1:$(PORT)/try/"

@@ -13,7 +13,7 @@ import { CASES, HOSTILE } from "./cases.mjs";
 
 const TOP = fileURLToPath(new URL("../../", import.meta.url));
 const { PICTURES } = process.env;
-const READY = "document.getElementById('answer')?.textContent";
+const READY = "document.getElementById('callers')?.querySelector('input')";
 // A longer text is no text that one tries in a page; tests/js asks the library of it.
 const LONGEST = 2000;
 const WITH_FAULT = "text=0x_1FG&type=u32&call=whole&format=rust";
@@ -230,6 +230,22 @@ test("the address keeps what is set, and a link to it shows the same", async () 
   isQuiet();
 });
 
+test("the call and a link are copied", async () => {
+  await browser.send("Browser.grantPermissions", {
+    permissions: ["clipboardReadWrite", "clipboardSanitizedWrite"],
+  });
+  await browser.send("Emulation.setFocusEmulationEnabled", { enabled: true });
+  await browser.open(`${server.address}try/#text=7&type=u8&caller=Python`, READY);
+  const copied = async (button) => {
+    await browser.value(`document.getElementById("${button}").click()`);
+    return browser.value("navigator.clipboard.readText()");
+  };
+  assert.equal(await copied("copy-call"), 'import jadvolni\n\nvalue = jadvolni.parse(b"7", "u8")');
+  const link = await copied("copy-link");
+  assert.equal(link, `${server.address}try/#text=7&type=u8&call=whole&caller=Python`);
+  isQuiet();
+});
+
 test("the keyboard is enough, and each control has a name", async () => {
   await browser.open(`${server.address}try/#text=1&type=u8`, READY);
   const focused = () => browser.value("(({ id, tagName }) => id || tagName)(document.activeElement)");
@@ -295,8 +311,14 @@ test("light and dark, every text stands out from its ground", async () => {
 test("an engine without 64-bit memory is told so", async () => {
   const source = "WebAssembly.validate = () => false";
   const { identifier } = await browser.send("Page.addScriptToEvaluateOnNewDocument", { source });
-  await browser.open(`${server.address}try/`, READY);
+  await browser.open(`${server.address}try/`, "!/needs JavaScript/.test(document.body.textContent)");
   const { answer } = await browser.value(`(${shown})()`);
   assert.match(answer, /no 64-bit WebAssembly memory/);
   await browser.send("Page.removeScriptToEvaluateOnNewDocument", { identifier });
+});
+
+test("a page without a server says that it needs one", async () => {
+  browser.errors = []; // (the browser complains of a module that it may not load)
+  await browser.open(new URL("../../build/page/try/index.html", import.meta.url).href, "true");
+  assert.match((await browser.value(`(${shown})()`)).answer, /needs JavaScript, and a server/);
 });
