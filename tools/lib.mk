@@ -107,12 +107,13 @@ test-js: $(if $(NODE),wasm) ## runs the calls of JavaScript; a part of the gate
 
 # The page to try a format on, with what it takes, as it is served and released.
 PORT ?= 8000
-build/page: build/jadvolni.wasm $(wildcard docs/try/* bindings/js/*.js) docs/GRAMMAR.md
+build/page: build/jadvolni.wasm $(wildcard docs/try/* bindings/js/*.js) docs/GRAMMAR.md packaging/grammar.awk
 	@rm -rf $@
 	@mkdir -p $@/try/jadvolni
 	@cp docs/try/*.html docs/try/*.css docs/try/*.js $@/try
 	@cp bindings/js/*.js build/jadvolni.wasm $@/try/jadvolni
-	@cp docs/GRAMMAR.md $(LICENCES) $@
+	@awk -f packaging/grammar.awk docs/GRAMMAR.md > $@/GRAMMAR.html
+	@cp $(LICENCES) $@
 
 serve: build/page ## serves the page to try a format on, to this machine alone: PORT=8000
 	@echo "http://127.0.0.1:$(PORT)/try/"

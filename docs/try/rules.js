@@ -18,11 +18,10 @@ export const HEADINGS = {
   formats: "Valid formats",
 };
 
-/** The address of a heading; where a browser shows the page as plain text, it finds the words. */
+/** The address of a heading. */
 export function addressOf(rule) {
-  const heading = HEADINGS[rule];
-  const anchor = heading.toLowerCase().replace(/[^\w\- ]/g, "").replaceAll(" ", "-");
-  return `../GRAMMAR.md#${anchor}:~:text=${encodeURIComponent(`## ${heading}`)}`;
+  const anchor = HEADINGS[rule].toLowerCase().replace(/[^\w\- ]/g, "").replaceAll(" ", "-");
+  return `../GRAMMAR.html#${anchor}`;
 }
 
 function hasPart(found, role) {

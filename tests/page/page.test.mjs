@@ -142,16 +142,20 @@ function checkParts(row, roles) {
   if (name === "InvalidLeadingZeros") assert.match(roles.slice(place), /^d_*d/, row.at);
 }
 
-const GRAMMAR = readFileSync(join(TOP, "docs", "GRAMMAR.md"), "utf8").split("\n");
-const HEADINGS = new Set(GRAMMAR.filter((line) => line.startsWith("## ")));
+/** A heading of the grammar as its anchor, by GRAMMAR.md itself. */
+const ANCHORS = new Map(
+  readFileSync(join(TOP, "docs", "GRAMMAR.md"), "utf8").split("\n")
+    .filter((line) => line.startsWith("## "))
+    .map((line) => [line.slice(3).toLowerCase().replace(/[^\w ]/g, "").replaceAll(" ", "-"), line]),
+);
+const GRAMMAR = readFileSync(join(TOP, "build", "page", "GRAMMAR.html"), "utf8");
 
-/** A link has to lead to a heading of the grammar, by its anchor and by its words. */
+/** A link has to lead to a heading of the grammar. */
 function checkLink(link) {
-  const [, anchor, text] = link.match(/^\.\.\/GRAMMAR\.md#([\w-]+):~:text=([^-,&]+)$/);
-  const heading = decodeURIComponent(text);
-  assert.ok(HEADINGS.has(heading), heading);
-  const words = heading.slice(3).toLowerCase().replace(/[^\w\- ]/g, "");
-  assert.equal(anchor, words.replaceAll(" ", "-"));
+  const [page, anchor] = link.split("#");
+  assert.equal(page, "../GRAMMAR.html");
+  assert.ok(ANCHORS.has(anchor), link);
+  assert.ok(GRAMMAR.includes(`<b id="${anchor}">${ANCHORS.get(anchor)}</b>`), link);
   return anchor;
 }
 
