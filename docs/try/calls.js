@@ -82,7 +82,8 @@ function inC({ bytes, type, call, base, changes }) {
 function inCpp({ bytes, type, call, base, changes }) {
   const preset = base ? `jadvolni::formats::${base}` : "jadvolni::standard";
   const native = type.endsWith("128") ? OF_C[type].replace("_", "_native_") : `std::${OF_C[type]}`;
-  const under = changes.length ? ", format" : base ? `, ${preset}` : "";
+  const given = changes.length ? "format" : base && preset;
+  const under = given ? `, ${given}` : "";
   const name = call === "whole" ? "parse" : `parse_${call}`;
   return [
     "#include <jadvolni.hpp>", "",
@@ -122,7 +123,8 @@ function inPython({ bytes, type, call, base, changes }) {
   const preset = base && `jadvolni.formats.${base.toUpperCase()}`;
   const made = base ? `dataclasses.replace(${[preset, ...given].join(", ")})`
     : `jadvolni.Format(${given.join(", ")})`;
-  const under = changes.length ? ", form" : base ? `, ${preset}` : "";
+  const named = changes.length ? "form" : preset;
+  const under = named ? `, ${named}` : "";
   const name = call === "whole" ? "parse" : `parse_${call}`;
   const value = call === "whole" ? "value" : "value, place";
   return [

@@ -315,7 +315,7 @@ test("light and dark, every text stands out from its ground", async () => {
 test("an engine without 64-bit memory is told so", async () => {
   const source = "WebAssembly.validate = () => false";
   const { identifier } = await browser.send("Page.addScriptToEvaluateOnNewDocument", { source });
-  await browser.open(`${server.address}try/`, "!/needs JavaScript/.test(document.body.textContent)");
+  await browser.open(`${server.address}try/`, "!/Loading/.test(document.body.textContent)");
   const { answer } = await browser.value(`(${shown})()`);
   assert.match(answer, /no 64-bit WebAssembly memory/);
   await browser.send("Page.removeScriptToEvaluateOnNewDocument", { identifier });
@@ -324,5 +324,5 @@ test("an engine without 64-bit memory is told so", async () => {
 test("a page without a server says that it needs one", async () => {
   browser.errors = []; // (the browser complains of a module that it may not load)
   await browser.open(new URL("../../build/page/try/index.html", import.meta.url).href, "true");
-  assert.match((await browser.value(`(${shown})()`)).answer, /needs JavaScript, and a server/);
+  assert.match((await browser.value(`(${shown})()`)).answer, /needs JavaScript and a server/);
 });
