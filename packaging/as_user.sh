@@ -75,6 +75,20 @@ END
     is "crates: Rust by cargo" env JADVOLNI_LIB_DIR="$tree/lib" cargo -q run --offline --manifest-path crates/Cargo.toml
 fi
 
+if has node; then
+    tar xzf jadvolni-[0-9]*.tgz
+    cat > call.mjs << 'END'
+import { parse } from "./package/index.js";
+try {
+    parse("18446744073709551616", "u64");
+} catch (wrong) {
+    console.log("err", wrong.kind, wrong.place);
+}
+END
+    flag=$(node -p 'parseInt(process.versions.node) < 24 ? "--experimental-wasm-memory64" : "--no-deprecation"')
+    is "npm package: JavaScript" node "$flag" call.mjs
+fi
+
 python3 -m venv venv
 venv/bin/pip -q install --no-index jadvolni-*.whl
 JADVOLNI_LIBRARY="$tree/lib/libjadvolni.a" venv/bin/python -m unittest discover -s "$sources/bindings/python/tests" 2> wheel.log || { cat wheel.log; exit 1; }

@@ -99,20 +99,21 @@ test-c: build/libjadvolni.a $(SHARED) ## runs the callers in C, C++, Rust and Py
 	@python3 tools/check_c.py
 
 # Node has 64-bit memories without a flag from 24 on.
-NODE := $(shell command -v node 2>/dev/null)
+NODE := $(shell node -p 'parseInt(process.versions.node) < 20 ? "" : process.execPath' 2>/dev/null)
 NODE_FLAGS = $(shell node -p 'parseInt(process.versions.node) < 24 ? "--experimental-wasm-memory64" : ""')
 
 test-js: $(if $(NODE),wasm) ## runs the calls of JavaScript; a part of the gate
-	@$(if $(NODE),node $(NODE_FLAGS) --test tests/js/*.test.js,echo "skipped: there is no node")
+	@$(if $(NODE),node $(NODE_FLAGS) --test tests/js/*.test.js,echo "skipped: there is no node from 20 on")
 
 # The page to try a format on, with what it takes, as it is served and released.
 PORT ?= 8000
-build/page: build/jadvolni.wasm $(wildcard docs/try/* bindings/js/*.js) docs/GRAMMAR.md
+build/page: build/jadvolni.wasm $(wildcard docs/try/* bindings/js/*.js) docs/GRAMMAR.md packaging/grammar.awk
 	@rm -rf $@
 	@mkdir -p $@/try/jadvolni
 	@cp docs/try/*.html docs/try/*.css docs/try/*.js $@/try
 	@cp bindings/js/*.js build/jadvolni.wasm $@/try/jadvolni
-	@cp docs/GRAMMAR.md $@
+	@awk -f packaging/grammar.awk docs/GRAMMAR.md > $@/GRAMMAR.html
+	@cp $(LICENCES) $@
 
 serve: build/page ## serves the page to try a format on, to this machine alone: PORT=8000
 	@echo "http://127.0.0.1:$(PORT)/try/"
@@ -121,7 +122,7 @@ serve: build/page ## serves the page to try a format on, to this machine alone: 
 # What the page needs to be seen: a browser, and what drives it.
 BROWSER := $(if $(NODE),$(shell command -v chromium 2>/dev/null))
 test-page: $(if $(BROWSER),build/page) ## has Chromium show the page every test vector; a part of the gate
-	@$(if $(BROWSER),node --test tests/page/*.test.mjs,echo "skipped: there is no chromium, or no node to drive it")
+	@$(if $(BROWSER),node --test tests/page/*.test.mjs,echo "skipped: there is no chromium, or no node from 20 on to drive it")
 
 # What the random run asks for: the seed that a run before has printed, and how many parses and formats.
 PARSES ?= 1000000

@@ -82,7 +82,8 @@ function inC({ bytes, type, call, base, changes }) {
 function inCpp({ bytes, type, call, base, changes }) {
   const preset = base ? `jadvolni::formats::${base}` : "jadvolni::standard";
   const native = type.endsWith("128") ? OF_C[type].replace("_", "_native_") : `std::${OF_C[type]}`;
-  const under = changes.length ? ", format" : base ? `, ${preset}` : "";
+  const given = changes.length ? "format" : base && preset;
+  const under = given ? `, ${given}` : "";
   const name = call === "whole" ? "parse" : `parse_${call}`;
   return [
     "#include <jadvolni.hpp>", "",
@@ -122,7 +123,8 @@ function inPython({ bytes, type, call, base, changes }) {
   const preset = base && `jadvolni.formats.${base.toUpperCase()}`;
   const made = base ? `dataclasses.replace(${[preset, ...given].join(", ")})`
     : `jadvolni.Format(${given.join(", ")})`;
-  const under = changes.length ? ", form" : base ? `, ${preset}` : "";
+  const named = changes.length ? "form" : preset;
+  const under = named ? `, ${named}` : "";
   const name = call === "whole" ? "parse" : `parse_${call}`;
   const value = call === "whole" ? "value" : "value, place";
   return [
@@ -144,13 +146,14 @@ function inScript({ bytes, type, call, base, changes }) {
   const preset = base && `formats.${base.toUpperCase()}`;
   const given = changes.map((it) => `${it.name}: ${valueIn(WORDS_OF_SCRIPT, it)}`);
   if (base) given.unshift(`...${preset}`);
-  const made = changes.length ? `new Format({ ${given.join(", ")} })` : preset;
-  const under = made ? `, ${made}` : "";
+  const made = changes.length ? [`const format = new Format({ ${given.join(", ")} });`] : [];
+  const under = changes.length ? "format" : preset;
   const imports = [...(changes.length ? ["Format"] : []), ...(base ? ["formats"] : []), name];
   const value = call === "whole" ? "value" : "{ value, stop }";
   return [
     `import { ${imports.join(", ")} } from "jadvolni";`, "",
-    `const ${value} = ${name}(${quotedInScript(bytes)}, "${type}"${under});`,
+    ...made,
+    `const ${value} = ${name}(${quotedInScript(bytes)}, "${type}"${under ? `, ${under}` : ""});`,
   ];
 }
 
@@ -194,9 +197,9 @@ const WRITERS = {
 /**
  * A call in a language of `CALLERS`. `wanted` has the text's `bytes`, the `type` and the `call`; as
  * `base` the name of the preset that the format is made from, "" for the standard one; the fields
- * that differ from it as `changes`, and those that differ from the standard format as `fields`, each
- * as `{ name, kind, value }`, where the value of punctuation is a byte or null; and `isValid`, whether
- * the format breaks no rule.
+ * that differ from it as `changes`, and those that differ from the standard format as `fields`,
+ * each as `{ name, kind, value }`, where the value of punctuation is a byte or null; and `isValid`,
+ * whether the format breaks no rule.
  */
 export function callIn(caller, wanted) {
   return WRITERS[caller](wanted).join("\n");

@@ -1,5 +1,5 @@
-// What the library answers of a state. No text is read here: which part of it each byte is, the proved
-// parser tells, asked on parts of the text and under formats with fields taken away.
+// What the library answers of a state. No text is read here: which part of it each byte is, the
+// proved parser tells, asked on parts of the text and under formats with fields taken away.
 import { bytesOf, escaped } from "./bytes.js";
 import {
   FIELDS,
@@ -121,10 +121,10 @@ function flagsThatPass(bytes, end, type, fields) {
 }
 
 /**
- * The parts of a text under a valid format, in their order: each has its `role` (sign, prefix, digit,
- * separator, suffix or rest) and the places from which and to which it goes. All behind a digit with
- * which the number leaves its type is rest, since no answer depends on it. `radix` is the effective
- * one, and `flags` are those that let separators pass.
+ * The parts of a text under a valid format, in their order: each has its `role` (sign, prefix,
+ * digit, separator, suffix or rest) and the places from which and to which it goes. All behind a
+ * digit with which the number leaves its type is rest, since no answer depends on it. `radix` is the
+ * effective one, and `flags` are those that let separators pass.
  */
 export function partsOf(bytes, type, fields) {
   const permissive = { ...fields, ...PERMISSIVE };
@@ -159,11 +159,11 @@ function writtenOf(call, answer) {
 }
 
 /**
- * What the library answers of a state: the `bytes` of the text, the `fields` of the format, those that
- * differ from the preset as `changes` and from the standard format as `settings`, the `answer`, how
- * Rust writes it as `written`, and what `partsOf` answers. An invalid format has no parts, and its
- * answer is a `kind` with a `message`. Throws `Unfit` where the state says no format, and RangeError
- * where the text is too long.
+ * What the library answers of a state: the `bytes` of the text, the `fields` of the format, those
+ * that differ from the preset as `changes` and from the standard format as `settings`, the `answer`,
+ * how Rust writes it as `written`, and what `partsOf` answers. An invalid format has no parts, and
+ * its answer is a `kind` with a `message`. Throws `Unfit` where the state says no format, and
+ * RangeError where the text is too long.
  */
 export function reading(state) {
   const { call, type } = state;
@@ -177,6 +177,7 @@ export function reading(state) {
   } catch (fault) {
     if (!(fault instanceof FormatError)) throw fault;
     const answer = { kind: fault.kind, message: fault.message };
-    return { ...found, answer, written: writtenOf(call, answer), parts: [], flags: [], radix: null };
+    const noParts = { parts: [], flags: [], radix: null };
+    return { ...found, answer, written: writtenOf(call, answer), ...noParts };
   }
 }

@@ -18,11 +18,10 @@ export const HEADINGS = {
   formats: "Valid formats",
 };
 
-/** The address of a heading; where a browser shows the page as plain text, it finds the words. */
+/** The address of a heading. */
 export function addressOf(rule) {
-  const heading = HEADINGS[rule];
-  const anchor = heading.toLowerCase().replace(/[^\w\- ]/g, "").replaceAll(" ", "-");
-  return `../GRAMMAR.md#${anchor}:~:text=${encodeURIComponent(`## ${heading}`)}`;
+  const anchor = HEADINGS[rule].toLowerCase().replace(/[^\w\- ]/g, "").replaceAll(" ", "-");
+  return `../GRAMMAR.html#${anchor}`;
 }
 
 function hasPart(found, role) {
@@ -34,8 +33,8 @@ function ofPrefix(found) {
     return { rule: "prefix", says: "A zero and the prefix. They say nothing of the radix." };
   }
   const { radix } = found;
-  const chosen = radix === null ? "it chooses the radix" : `the digits behind it have radix ${radix}`;
-  return { rule: "literal", says: `A literal prefix: ${chosen}.` };
+  const chosen = radix === null ? "the radix" : `the radix ${radix}`;
+  return { rule: "literal", says: `A literal prefix, which chooses ${chosen}.` };
 }
 
 function ofDigits(found) {
@@ -45,8 +44,8 @@ function ofDigits(found) {
 }
 
 function ofSeparators({ flags }) {
-  const passing = flags.length ? `Separators, which pass by ${flags.join(" and ")}.` : "Separators.";
-  return { rule: "separators", says: passing };
+  const passing = flags.length ? `, which pass by ${flags.join(" and ")}` : "";
+  return { rule: "separators", says: `Separators${passing}.` };
 }
 
 function ofSign(found, type) {
@@ -80,7 +79,8 @@ function ofInvalidDigit(found, type, place) {
 
 /** Why a digit is missing. */
 function ofEmpty({ bytes, parts }, place) {
-  if (parts.at(-1)?.role === "prefix") return { rule: "prefix", says: "The text ends with its prefix." };
+  const isBehindPrefix = parts.at(-1)?.role === "prefix";
+  if (isBehindPrefix) return { rule: "prefix", says: "The text ends with its prefix." };
   const behind = place === bytes.length ? "the text ends" : `“${typedOf(bytes[place])}” is none`;
   return { rule: "required", says: `A digit has to be here, and ${behind}.` };
 }
@@ -109,16 +109,17 @@ function ofFault(found, type) {
 /** What is said of a number. */
 function ofNumber(found, { type, call }) {
   if (hasPart(found, "digit")) {
-    return { rule: "value", says: `The digits are worth ${found.answer.value}, a number of ${type}.` };
+    const { value } = found.answer;
+    return { rule: "value", says: `The digits are worth ${value}, a number of ${type}.` };
   }
   const rule = call === "whole" ? "required" : "partial";
   return { rule, says: "No digit is required, and the number is 0." };
 }
 
 /**
- * The rules behind a reading, in the order of the text: each has the `rule`, a key of `HEADINGS`, what
- * it `says`, the `role` that it is about, and the `parts` that have the role. The last one is about the
- * answer, and has no role.
+ * The rules behind a reading, in the order of the text: each has the `rule`, a key of `HEADINGS`,
+ * what it `says`, the `role` that it is about, and the `parts` that have the role. The last one is
+ * about the answer, and has no role.
  */
 export function rulesOf(found, { type, call }) {
   const { kind, message } = found.answer;

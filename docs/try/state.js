@@ -33,8 +33,9 @@ function oneOf(names, written, first) {
 }
 
 /**
- * The state that a fragment says. What it doesn't say, or says wrongly, is as in `FIRST`; what nobody
- * knows is passed over. `known` has the names of presets as `formats`, and the `fields` of a format.
+ * The state that a fragment says. What it doesn't say, or says wrongly, is as in `FIRST`; what
+ * nobody knows is passed over. `known` has the names of presets as `formats`, and the `fields` of a
+ * format.
  */
 export function stateOf(fragment, known) {
   const written = new URLSearchParams(fragment.replace(/^#/, ""));

@@ -29,12 +29,19 @@ const FIELD_OF_RULE = {
   InvalidLiteralPrefixes: "literal_prefixes",
 };
 
-/** A byte of the text with its part's colour, and the caret where it is the fault's. */
-function cellOf(byte, role, isFault) {
-  const isPlain = byte === undefined || isPrintable(byte);
-  const shown = byte === undefined ? " " : isPlain ? String.fromCharCode(byte) : hexadecimal(byte);
-  return element("span", { className: `cell ${role} ${isPlain ? "" : "hex"}` },
-    element("b", {}, shown), element("i", {}, isFault ? "^" : ""));
+/** A cell with a byte of the text in its part's colour, and the caret where it is the fault's. */
+function cellOf(shown, role, isFault) {
+  return element(
+    "span",
+    { className: `cell ${role} ${shown.length > 1 ? "hex" : ""}` },
+    element("b", {}, shown),
+    element("i", {}, isFault ? "^" : ""),
+  );
+}
+
+/** A byte as its cell shows it: what can't be seen by two hexadecimal digits. */
+function shownOf(byte) {
+  return isPrintable(byte) ? String.fromCharCode(byte) : hexadecimal(byte);
 }
 
 /** Shows the text, one cell for each byte, and one behind it where the fault is at its end. */
@@ -45,9 +52,9 @@ function showText({ bytes, parts, answer }) {
   const roles = parts.flatMap(({ role, from, to }) => Array(to - from).fill(role));
   const cells = [];
   for (let place = first; place < last; place += 1) {
-    cells.push(cellOf(bytes[place], roles[place] ?? "rest", place === fault));
+    cells.push(cellOf(shownOf(bytes[place]), roles[place] ?? "rest", place === fault));
   }
-  if (fault === bytes.length) cells.push(cellOf(undefined, "end", true));
+  if (fault === bytes.length) cells.push(cellOf(" ", "end", true));
   at("cells").replaceChildren(...cells);
   at("more").textContent = last - first === bytes.length ? ""
     : `Bytes ${first} to ${last - 1} of ${bytes.length} are shown.`;

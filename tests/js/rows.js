@@ -54,10 +54,10 @@ function textOf(written) {
 }
 
 /**
- * The rows: where each stands, its `parser` ("complete", "partial", or "format", which has no type and
- * no text), the `language` whose format it names, "" where it has fields, these `fields` over the
- * standard format, with punctuation as bytes, the `type`, the bytes of the `text`, and the `answer` by
- * its `name` and `numbers`.
+ * The rows: where each stands, its `parser` ("complete", "partial", or "format", which has no type
+ * and no text), the `language` whose format it names, "" where it has fields, these `fields` over the
+ * standard format, with punctuation as bytes, the `type`, the bytes of the `text`, and the `answer`
+ * by its `name` and `numbers`.
  */
 export function rows() {
   const found = [];

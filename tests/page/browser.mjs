@@ -1,13 +1,18 @@
-// Chromium without a window, driven over a pipe by the DevTools protocol, and a server for one folder.
+// Chromium without a window, driven over a pipe by the DevTools protocol, and a server for a folder.
 import { spawn } from "node:child_process";
 import { mkdtemp, readFile, rm } from "node:fs/promises";
 import { createServer } from "node:http";
 import { tmpdir } from "node:os";
 import { extname, join, normalize } from "node:path";
 
-const TYPES = { ".html": "text/html", ".css": "text/css", ".js": "text/javascript", ".wasm": "application/wasm" };
+const TYPES = {
+  ".html": "text/html",
+  ".css": "text/css",
+  ".js": "text/javascript",
+  ".wasm": "application/wasm",
+};
 
-/** Serves a folder on a port of this machine alone. `missing` lists what was asked for and isn't there. */
+/** Serves a folder to this machine alone. `missing` lists what was asked for and isn't there. */
 export async function serve(folder) {
   const missing = [];
   const server = createServer(async (request, response) => {
@@ -22,7 +27,13 @@ export async function serve(folder) {
     }
   });
   await new Promise((resolve) => server.listen(0, "127.0.0.1", resolve));
-  return { address: `http://127.0.0.1:${server.address().port}/`, missing, close: () => server.close() };
+  const address = `http://127.0.0.1:${server.address().port}/`;
+  return { address, missing, close: () => server.close() };
+}
+
+/** What an exception in the page says. */
+function told({ exception, text }) {
+  return exception?.description ?? text;
 }
 
 /** A browser with one tab. */
@@ -45,7 +56,7 @@ export class Browser {
     browser.#folder = await mkdtemp(join(tmpdir(), "page-"));
     browser.#process = spawn("chromium", [
       "--headless", "--no-sandbox", "--disable-gpu", "--no-first-run", "--remote-debugging-pipe",
-      "--disable-ipc-flooding-protection", // (without it only 200 changes of the address count in ten seconds)
+      "--disable-ipc-flooding-protection", // (else 200 changes of the address are the most in 10 s)
       `--user-data-dir=${browser.#folder}`, "about:blank",
     ], { stdio: ["ignore", "ignore", "ignore", "pipe", "pipe"] });
     browser.#process.stdio[4].setEncoding("utf8").on("data", (data) => browser.#read(data));
@@ -53,7 +64,8 @@ export class Browser {
     const { targetId } = targetInfos.find((it) => it.type === "page");
     const { sessionId } = await browser.send("Target.attachToTarget", { targetId, flatten: true });
     browser.#session = sessionId;
-    for (const domain of ["Page", "Runtime", "Network", "Log", "Accessibility"]) await browser.send(`${domain}.enable`);
+    const domains = ["Page", "Runtime", "Network", "Log", "Accessibility"];
+    for (const domain of domains) await browser.send(`${domain}.enable`);
     return browser;
   }
 
@@ -61,7 +73,8 @@ export class Browser {
   send(method, params = {}) {
     this.#sent += 1;
     const id = this.#sent;
-    this.#process.stdio[3].write(`${JSON.stringify({ id, method, params, sessionId: this.#session })}\0`);
+    const command = JSON.stringify({ id, method, params, sessionId: this.#session });
+    this.#process.stdio[3].write(`${command}\0`);
     return new Promise((resolve, reject) => this.#waiting.set(id, { resolve, reject }));
   }
 
@@ -76,20 +89,24 @@ export class Browser {
     this.#waiting.delete(id);
     if (error) waiting?.reject(new Error(error.message));
     else waiting?.resolve(result);
-    if (method === "Page.loadEventFired") this.#loaded();
-    if (method === "Network.requestWillBeSent") this.requests.push(params.request.url);
-    if (method === "Network.loadingFailed") this.errors.push(params.errorText);
-    if (method === "Runtime.exceptionThrown") this.errors.push(params.exceptionDetails.exception?.description);
-    if (method === "Log.entryAdded" && params.entry.level === "error") this.errors.push(params.entry.text);
-    if (method === "Runtime.consoleAPICalled") this.errors.push(params.args.map((it) => it.value).join(" "));
+    this.#events[method]?.(params);
   }
+
+  #events = {
+    "Page.loadEventFired": () => this.#loaded(),
+    "Network.requestWillBeSent": ({ request }) => this.requests.push(request.url),
+    "Network.loadingFailed": ({ errorText }) => this.errors.push(errorText),
+    "Runtime.exceptionThrown": ({ exceptionDetails }) => this.errors.push(told(exceptionDetails)),
+    "Runtime.consoleAPICalled": ({ args }) => this.errors.push(args.map((it) => it.value).join(" ")),
+    "Log.entryAdded": ({ entry }) => entry.level === "error" && this.errors.push(entry.text),
+  };
 
   /** The value of an expression in the page, where a promise is waited for. */
   async value(expression) {
     const { result, exceptionDetails } = await this.send("Runtime.evaluate", {
       expression, awaitPromise: true, returnByValue: true,
     });
-    if (exceptionDetails) throw new Error(exceptionDetails.exception?.description ?? exceptionDetails.text);
+    if (exceptionDetails) throw new Error(told(exceptionDetails));
     return result.value;
   }
 

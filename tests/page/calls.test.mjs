@@ -5,10 +5,11 @@ import { test } from "node:test";
 import { fileURLToPath } from "node:url";
 
 import { callIn } from "../../docs/try/calls.js";
+import { TYPES } from "../../docs/try/state.js";
 
 const INCLUDE = fileURLToPath(new URL("../../include", import.meta.url));
 
-/** A call as the page has it: a text with a NUL, a quote and a byte that isn't UTF-8, under Rust's format. */
+/** A call under a changed preset, of a text with a NUL, a quote and a byte that isn't UTF-8. */
 const CHANGES = [
   { name: "digit_separator", kind: "punctuation", value: 0 },
   { name: "base_suffix", kind: "punctuation", value: 39 },
@@ -52,7 +53,8 @@ form = dataclasses.replace(jadvolni.formats.RUST, digit_separator=b"\\x00", base
 value, place = jadvolni.parse_front(b"1\\x002\\"\\xff?", "i128", form)`,
   JavaScript: `import { Format, formats, parseFront } from "jadvolni";
 
-const { value, stop } = parseFront(Uint8Array.of(49, 0, 50, 34, 255, 63), "i128", new Format({ ...formats.RUST, digit_separator: "\\u{0}", base_suffix: "'", literal_prefixes: false }));`,
+const format = new Format({ ...formats.RUST, digit_separator: "\\u{0}", base_suffix: "'", literal_prefixes: false });
+const { value, stop } = parseFront(Uint8Array.of(49, 0, 50, 34, 255, 63), "i128", format);`,
   Rattle: `use lexical_parse_integer::{NumberFormatBuilder, number_in_front};
 
 let format = NumberFormatBuilder::new()
@@ -69,8 +71,7 @@ for (const [caller, written] of Object.entries(WRITTEN)) {
 
 /** A program with each call, of every type and of each kind, in a function of its own. */
 function programOf(caller, used) {
-  const types = ["u8", "u16", "u32", "u64", "u128", "usize", "i8", "i16", "i32", "i64", "i128", "isize"];
-  const asked = types.flatMap((type) => ["whole", "front", "partial"].flatMap((call) => [
+  const asked = TYPES.flatMap((type) => ["whole", "front", "partial"].flatMap((call) => [
     { ...CALL, type, call },
     { ...CALL, type, call, base: "" },
     { ...CALL, type, call, changes: [], fields: [] },
@@ -90,8 +91,9 @@ const COMPILERS = [
   ["C++", "c++", ["-std=c++17", "-x", "c++"], "(void)r;"],
 ];
 for (const [caller, compiler, flags, used] of COMPILERS) {
-  const isThere = spawnSync(compiler, ["--version"]).status === 0;
-  test(`each call in ${caller} compiles`, { skip: isThere ? false : `there is no ${compiler}` }, () => {
+  const isMissing = spawnSync(compiler, ["--version"]).error !== undefined;
+  const skip = isMissing && `there is no ${compiler}`;
+  test(`each call in ${caller} compiles`, { skip }, () => {
     const words = [...flags, "-Wall", "-Wextra", "-Werror", "-fsyntax-only", "-I", INCLUDE, "-"];
     const { status, stderr } = spawnSync(compiler, words, { input: programOf(caller, used) });
     assert.equal(status, 0, String(stderr));

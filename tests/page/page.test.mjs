@@ -12,7 +12,8 @@ import { Browser, serve } from "./browser.mjs";
 import { CASES, HOSTILE } from "./cases.mjs";
 
 const TOP = fileURLToPath(new URL("../../", import.meta.url));
-const READY = "document.getElementById('answer')?.textContent";
+const { PICTURES } = process.env;
+const READY = "document.getElementById('callers')?.querySelector('input')";
 // A longer text is no text that one tries in a page; tests/js asks the library of it.
 const LONGEST = 2000;
 const WITH_FAULT = "text=0x_1FG&type=u32&call=whole&format=rust";
@@ -32,7 +33,9 @@ after(async () => {
 
 /** What the page shows. It is a function of the page's own, so it may name nothing of this file. */
 function shown() {
-  const letters = { sign: "s", prefix: "p", digit: "d", separator: "_", suffix: "x", rest: "r", end: "" };
+  const letters = {
+    sign: "s", prefix: "p", digit: "d", separator: "_", suffix: "x", rest: "r", end: "",
+  };
   const text = (id) => document.getElementById(id).textContent;
   const cells = [...document.querySelectorAll("#cells .cell")];
   return {
@@ -41,6 +44,7 @@ function shown() {
     caret: cells.findIndex((it) => it.lastChild.textContent === "^"),
     code: text("code"),
     more: text("more"),
+    rules: text("rules"),
     links: [...document.querySelectorAll("#rules a")].map((it) => it.getAttribute("href")),
   };
 }
@@ -51,9 +55,10 @@ function shownOf(fragments) {
     const shown = ${shown};
     const found = [];
     for (const [number, fragment] of ${JSON.stringify(fragments)}.entries()) {
-      const changed = new Promise((resolve) => addEventListener("hashchange", resolve, { once: true }));
-      location.hash = fragment + "&number=" + number;
-      await changed;
+      await new Promise((resolve) => {
+        addEventListener("hashchange", resolve, { once: true });
+        location.hash = fragment + "&number=" + number;
+      });
       found.push(shown());
     }
     location.hash = "";
@@ -137,16 +142,20 @@ function checkParts(row, roles) {
   if (name === "InvalidLeadingZeros") assert.match(roles.slice(place), /^d_*d/, row.at);
 }
 
-const HEADINGS = new Set(
-  readFileSync(join(TOP, "docs", "GRAMMAR.md"), "utf8").split("\n").filter((line) => /^## /.test(line)),
+/** A heading of the grammar as its anchor, by GRAMMAR.md itself. */
+const ANCHORS = new Map(
+  readFileSync(join(TOP, "docs", "GRAMMAR.md"), "utf8").split("\n")
+    .filter((line) => line.startsWith("## "))
+    .map((line) => [line.slice(3).toLowerCase().replace(/[^\w ]/g, "").replaceAll(" ", "-"), line]),
 );
+const GRAMMAR = readFileSync(join(TOP, "build", "page", "GRAMMAR.html"), "utf8");
 
-/** A link has to lead to a heading of the grammar, by its anchor and by its words. */
+/** A link has to lead to a heading of the grammar. */
 function checkLink(link) {
-  const [, anchor, words] = link.match(/^\.\.\/GRAMMAR\.md#([\w-]+):~:text=([^-,&]+)$/);
-  const heading = decodeURIComponent(words);
-  assert.ok(HEADINGS.has(heading), heading);
-  assert.equal(anchor, heading.slice(3).toLowerCase().replace(/[^\w\- ]/g, "").replaceAll(" ", "-"));
+  const [page, anchor] = link.split("#");
+  assert.equal(page, "../GRAMMAR.html");
+  assert.ok(ANCHORS.has(anchor), link);
+  assert.ok(GRAMMAR.includes(`<b id="${anchor}">${ANCHORS.get(anchor)}</b>`), link);
   return anchor;
 }
 
@@ -178,20 +187,22 @@ test("each test vector is shown with its answer, its fault and its parts", async
 });
 
 test("parts and rules worked out by hand", async (context) => {
-  const found = await shownOf(CASES.map(([fragment, text]) => `${fragment}&text=${encodeURIComponent(text)}`));
-  for (const [index, [fragment, text, answer, roles, heading]] of CASES.entries()) {
-    const { links, ...others } = found[index];
-    const asked = `${fragment} ${text}`;
-    assert.equal(others.answer, answer, asked);
-    assert.equal(others.roles, roles, asked);
-    assert.equal(links.length ? checkLink(links.at(-1)) : undefined, heading, asked);
+  const asked = CASES.map(([fragment, text]) => `${fragment}&text=${encodeURIComponent(text)}`);
+  const found = await shownOf(asked);
+  for (const [index, [, , answer, roles, heading, says = ""]] of CASES.entries()) {
+    const { links, rules, ...others } = found[index];
+    assert.equal(others.answer, answer, asked[index]);
+    assert.equal(others.roles, roles, asked[index]);
+    assert.ok(rules.includes(says), `${asked[index]}: ${rules}`);
+    assert.equal(links.length ? checkLink(links.at(-1)) : undefined, heading, asked[index]);
   }
   isQuiet();
   context.diagnostic(`${CASES.length} cases`);
 });
 
 test("a fragment that means harm shows an answer, and runs nothing", async (context) => {
-  const long = ["1".repeat(100000), "_".repeat(5000), "1_".repeat(5000)].map((it) => `format=rust&text=${it}`);
+  const texts = ["1".repeat(100000), "_".repeat(5000), "1_".repeat(5000)];
+  const long = texts.map((text) => `format=rust&text=${text}`);
   for (const { answer } of await shownOf([...HOSTILE, ...long])) assert.notEqual(answer, "");
   assert.equal(await browser.value("window.harmed"), undefined);
   isQuiet();
@@ -223,9 +234,25 @@ test("the address keeps what is set, and a link to it shows the same", async () 
   isQuiet();
 });
 
+test("the call and a link are copied", async () => {
+  await browser.send("Browser.grantPermissions", {
+    permissions: ["clipboardReadWrite", "clipboardSanitizedWrite"],
+  });
+  await browser.send("Emulation.setFocusEmulationEnabled", { enabled: true });
+  await browser.open(`${server.address}try/#text=7&type=u8&caller=Python`, READY);
+  const copied = async (button) => {
+    await browser.value(`document.getElementById("${button}").click()`);
+    return browser.value("navigator.clipboard.readText()");
+  };
+  assert.equal(await copied("copy-call"), 'import jadvolni\n\nvalue = jadvolni.parse(b"7", "u8")');
+  const link = await copied("copy-link");
+  assert.equal(link, `${server.address}try/#text=7&type=u8&call=whole&caller=Python`);
+  isQuiet();
+});
+
 test("the keyboard is enough, and each control has a name", async () => {
   await browser.open(`${server.address}try/#text=1&type=u8`, READY);
-  const focused = () => browser.value("document.activeElement.id || document.activeElement.tagName");
+  const focused = () => browser.value("(({ id, tagName }) => id || tagName)(document.activeElement)");
   assert.equal(await focused(), "text");
   await browser.send("Input.insertText", { text: "23" });
   assert.equal((await browser.value(`(${shown})()`)).answer, "Ok(123)");
@@ -239,17 +266,18 @@ test("the keyboard is enough, and each control has a name", async () => {
   await browser.press("Tab");
   assert.equal(await focused(), "mantissa_radix");
   const { nodes } = await browser.send("Accessibility.getFullAXTree");
-  const controls = nodes.filter((it) => it.properties?.some((its) => its.name === "focusable" && its.value.value)
-    && it.role.value !== "RootWebArea");
+  const isControl = ({ properties = [], role }) => role.value !== "RootWebArea"
+    && properties.some(({ name, value }) => name === "focusable" && value.value);
+  const controls = nodes.filter(isControl);
   assert.ok(controls.length > 30, `${controls.length} controls`);
   assert.deepEqual(controls.filter((it) => !it.name?.value).map((it) => it.role.value), []);
 });
 
-/** The texts of the page whose contrast with their ground is under 4.5. A function of the page's own. */
+/** The texts whose contrast with their ground is under 4.5, as WCAG counts it, in the page. */
 function faint() {
-  const channel = (value) => (value <= 10.3 ? value / 255 / 12.92 : ((value / 255 + 0.055) / 1.055) ** 2.4);
+  const channel = (value) => (value <= 0.04045 ? value / 12.92 : ((value + 0.055) / 1.055) ** 2.4);
   const light = (colour) => {
-    const [red, green, blue] = colour.match(/[\d.]+/g).map(Number);
+    const [red, green, blue] = colour.match(/[\d.]+/g).map((it) => it / 255);
     return 0.2126 * channel(red) + 0.7152 * channel(green) + 0.0722 * channel(blue);
   };
   const groundOf = (of) => {
@@ -261,8 +289,8 @@ function faint() {
   };
   return [...document.querySelectorAll("body *")].filter((of) => {
     if (![...of.childNodes].some((it) => it.nodeType === 3 && it.data.trim())) return false;
-    const [more, less] = [light(getComputedStyle(of).color), light(groundOf(of))].sort((a, b) => b - a);
-    return (more + 0.05) / (less + 0.05) < 4.5;
+    const lights = [light(getComputedStyle(of).color), light(groundOf(of))];
+    return (Math.max(...lights) + 0.05) / (Math.min(...lights) + 0.05) < 4.5;
   }).map((of) => `${of.tagName} ${of.className} ${of.textContent.slice(0, 20)}`);
 }
 
@@ -272,21 +300,29 @@ test("light and dark, every text stands out from its ground", async () => {
   });
   const texts = [WITH_FAULT, "format=javascript&type=i64&text=-0x1_Fn%20%7D&call=front"];
   for (const value of ["light", "dark"]) {
-    await browser.send("Emulation.setEmulatedMedia", { features: [{ name: "prefers-color-scheme", value }] });
+    const features = [{ name: "prefers-color-scheme", value }];
+    await browser.send("Emulation.setEmulatedMedia", { features });
     for (const fragment of texts) {
           await browser.open(`${server.address}try/#${fragment}`, READY);
       assert.deepEqual(await browser.value(`(${faint})()`), []);
     }
       await browser.open(`${server.address}try/#${WITH_FAULT}`, READY);
-    const { data } = await browser.send("Page.captureScreenshot", { format: "png", captureBeyondViewport: true });
-    if (process.env.PICTURES) writeFileSync(join(process.env.PICTURES, `${value}.png`), data, "base64");
+    const { data } = await browser.send("Page.captureScreenshot", { captureBeyondViewport: true });
+    if (PICTURES) writeFileSync(join(PICTURES, `${value}.png`), data, "base64");
   }
 });
 
 test("an engine without 64-bit memory is told so", async () => {
   const source = "WebAssembly.validate = () => false";
   const { identifier } = await browser.send("Page.addScriptToEvaluateOnNewDocument", { source });
-  await browser.open(`${server.address}try/`, READY);
-  assert.match(await browser.value("document.getElementById('answer').textContent"), /no 64-bit WebAssembly memory/);
+  await browser.open(`${server.address}try/`, "!/Loading/.test(document.body.textContent)");
+  const { answer } = await browser.value(`(${shown})()`);
+  assert.match(answer, /no 64-bit WebAssembly memory/);
   await browser.send("Page.removeScriptToEvaluateOnNewDocument", { identifier });
+});
+
+test("a page without a server says that it needs one", async () => {
+  browser.errors = []; // (the browser complains of a module that it may not load)
+  await browser.open(new URL("../../build/page/try/index.html", import.meta.url).href, "true");
+  assert.match((await browser.value(`(${shown})()`)).answer, /needs JavaScript and a server/);
 });

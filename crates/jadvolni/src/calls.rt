@@ -136,7 +136,7 @@ pub fn complete_under<T: FromLexicalWithOptions<Options = Options>, S: Slot<T>>(
     ensures { effect result (S.number value.new)
         ≡ complete_call_under fields.now T.TYPE text.now (S.number value.old) }
 {
-    if fields.mantissa_radix == 10 && fields.are_known() {
+    if fields.is_plain_decimal() {
         if let Some(number) = value_if_short::<T>(text, &fields.format()) {
             return store(Ok(number), text.len(), value);
         }
@@ -174,7 +174,7 @@ pub fn partial_under<T: FromLexicalWithOptions<Options = Options>, S: Slot<T>>(
     ensures { effect result (S.number value.new)
         ≡ partial_call_under fields.now T.TYPE text.now (S.number value.old) }
 {
-    if fields.mantissa_radix == 10 && fields.are_known() {
+    if fields.is_plain_decimal() {
         if let Some(found) = front_if_plain::<T>(text, &fields.format()) {
             return give_front(Ok(found), value);
         }

@@ -153,6 +153,20 @@ impl FormatFields {
         (low < 8) & (middle == 0) & (high == 0)
     }
 
+    /// Whether the format is known, decimal, and without punctuation and literals.
+    #[inline(always)]
+    pub(crate) fn is_plain_decimal(&self) -> bool
+        ensures { IsTrue result → IsTrue (are_known self.now) }
+    {
+        let first = u32::from_le_bytes([
+            self.mantissa_radix,
+            self.digit_separator,
+            self.base_prefix,
+            self.base_suffix,
+        ]);
+        first == 10 && asks_for_no_literals(self)
+    }
+
     /// Whether all fields but the radix are those of the standard format.
     ///
     /// The fields are asked in their order, as four words of eight bytes.

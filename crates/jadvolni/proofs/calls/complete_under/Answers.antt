@@ -1,8 +1,8 @@
-use Rattle.std.proofs.Common.{◌∙◌, ap, length, sym, Ok}
+use Rattle.std.proofs.Common.{◌≡◌, ◌∙◌, ap, length, true, Ok, rules}
 use Rattle.lexical_util.specs.Validity.{fault}
 use Rattle.lexical_parse_integer.specs.Grammar.{complete, complete_if_valid}
 use Rattle.jadvolni.specs.Effect.{complete_effect}
-use Rattle.jadvolni.specs.FormatFields.{format_of}
+use Rattle.jadvolni.specs.FormatFields.{are_known, format_of}
 use Rattle.jadvolni.proofs.SureAnswers.{if_all_known, if_sure}
 use Rattle.jadvolni.proofs.calls.complete_under.Goals as goal
 
@@ -14,7 +14,7 @@ returns-in-Some g c =
     let format = c.format.result in
     let before = g.S.Slot.number c.args.value.now in
     let number = g.T.Integer.number c.in-Some.number in
-    let known = sym c.are_known.ensures ∙ c.if-are_known.true in
+    let known : are_known fields ≡ true = search rules in
     let sure = if_sure (fault format) (complete format type text) (Ok number) c.in-Some.ensures.valid c.in-Some.ensures.answer in
     c.store.ensures
     ∙ ap (complete_effect (length text) before) (sure ∙ ap (λ f. complete_if_valid f type text) c.format.ensures)
