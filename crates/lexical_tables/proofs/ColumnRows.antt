@@ -1,14 +1,13 @@
 -- Tables with the columns that are read of them.
-use Rattle.std.specs.Prelude.{◌≡◌, ◌++◌, List, codes, [], ◌∷◌, ℤ, pos, negsuc, false, true, Option, Some, None, Ok, Err}
+use Rattle.std.specs.Prelude.{◌≡◌, ◌++◌, ℕ, Bool, List, codes, [], ◌∷◌, ℤ, pos, negsuc, false, true, Option, Some, None, Ok, Err}
 use Rattle.std.proofs.Common.{refl}
-use Rattle.lexical_util.specs.declared.error.Error.TheVariants.{InvalidDigit, Overflow}
+use Rattle.lexical_util.specs.declared.error.Error.TheVariants.{Empty, InvalidDigit, Overflow}
 use Rattle.lexical_util.specs.Format.{standard}
 use Rattle.lexical_util.specs.Number.{integer_type}
 use Rattle.lexical_parse_integer.specs.Computed.{grammar}
-use Rattle.lexical_tables.specs.ByColumn.{columns_answer, columns_put, kinds_of}
+use Rattle.lexical_tables.specs.ByColumn.{Kind, columns_answer, columns_put, kinds_of, wrong_cell}
 use Rattle.lexical_tables.specs.Targets.{TargetView}
-use Rattle.lexical_tables.specs.declared.answers.CellFault.TheVariants.{NotNumber, TooFewCells, TooManyCells}
-use Rattle.lexical_tables.specs.declared.answers.TableError.TheVariants.{InvalidCell}
+use Rattle.lexical_tables.specs.declared.answers.CellFault.TheVariants.{MissingReturn, NotNumber, TooFewCells, TooManyCells}
 use Rattle.lexical_tables.specs.declared.dialect.Dialect.{Dialect}
 
 -- four columns between commas
@@ -46,21 +45,142 @@ unfolding grammar columns_answer
 one_row_answer = refl
 
 -- the first wrong cell is told in its row, its column and its place, and the cells before it were read
-wrong_cell : columns_put four 3 (codes "1,a,f,b" ++ 10 ∷ codes "2,c,80,d" ++ 10 ∷ []) before
+first_wrong : columns_put four 3 (codes "1,a,f,b" ++ 10 ∷ codes "2,c,80,d" ++ 10 ∷ []) before
     ≡ targets (pos 1 ∷ pos 2 ∷ pos 77 ∷ []) (pos 15 ∷ pos 77 ∷ pos 77 ∷ [])
 unfolding grammar columns_put
-wrong_cell = refl
+first_wrong = refl
 
-wrong_cell_answer : columns_answer (kinds_of before) four 3 (codes "1,a,f,b" ++ 10 ∷ codes "2,c,80,d" ++ 10 ∷ [])
-    ≡ Err (InvalidCell 1 2 (NotNumber (Overflow 13)))
+first_wrong_answer : columns_answer (kinds_of before) four 3 (codes "1,a,f,b" ++ 10 ∷ codes "2,c,80,d" ++ 10 ∷ [])
+    ≡ Err (wrong_cell 1 2 (NotNumber (Overflow 13)))
 unfolding grammar columns_answer
-wrong_cell_answer = refl
+first_wrong_answer = refl
 
--- a row with a cell too few, and one with a cell too many
-too_few : columns_answer (kinds_of before) four 3 (codes "1,a,f" ++ 10 ∷ []) ≡ Err (InvalidCell 0 3 (TooFewCells 5))
+-- a last cell that isn't read may be empty
+empty_last : columns_answer (kinds_of before) four 3 (codes "1,a,f," ++ 10 ∷ []) ≡ Ok (record { rows = 1; stop = 7 })
+unfolding grammar columns_answer
+empty_last = refl
+
+-- ---- two columns of `u8`
+
+abbrev both : List (Option Kind)
+both =
+    Some (record { format = standard; type = integer_type 8 false })
+    ∷ Some (record { format = standard; type = integer_type 8 false }) ∷ []
+
+abbrev pairs : Bool → Dialect
+pairs has_returns = record { separator = 44; columns = 2; has_returns = has_returns }
+
+-- lines with a line feed, and with a return in front of it
+abbrev line : List ℕ → List ℕ
+line text = text ++ 10 ∷ []
+
+abbrev returned : List ℕ → List ℕ
+returned text = text ++ 13 ∷ 10 ∷ []
+
+-- the last row needs no line feed
+last_row : columns_answer both (pairs false) 4 (line (codes "1,2") ++ codes "3,4")
+    ≡ Ok (record { rows = 2; stop = 7 })
+unfolding grammar columns_answer
+last_row = refl
+
+-- the empty text has no row
+no_row : columns_answer both (pairs false) 4 []
+    ≡ Ok (record { rows = 0; stop = 0 })
+unfolding grammar columns_answer
+no_row = refl
+
+-- behind the rows that are asked for anything may stand
+room_for_one : columns_answer both (pairs false) 1 (line (codes "1,2") ++ codes "x")
+    ≡ Ok (record { rows = 1; stop = 4 })
+unfolding grammar columns_answer
+room_for_one = refl
+
+-- a cell that is no number is told by its row, its column and its place in the text
+no_number : columns_answer both (pairs false) 4 (line (codes "1,2") ++ codes "3,4x")
+    ≡ Err (wrong_cell 1 1 (NotNumber (InvalidDigit 7)))
+unfolding grammar columns_answer
+no_number = refl
+
+-- an empty cell has no digit
+empty_cell : columns_answer both (pairs false) 4 (line (codes "1,2") ++ codes ",4")
+    ≡ Err (wrong_cell 1 0 (NotNumber (Empty 4)))
+unfolding grammar columns_answer
+empty_cell = refl
+
+-- nor has an empty last one
+empty_last_cell : columns_answer both (pairs false) 4 (line (codes "1,"))
+    ≡ Err (wrong_cell 0 1 (NotNumber (Empty 2)))
+unfolding grammar columns_answer
+empty_last_cell = refl
+
+-- an empty row has one empty cell
+empty_row : columns_answer both (pairs false) 4 (line (codes "1,2") ++ line [] ++ line (codes "3,4"))
+    ≡ Err (wrong_cell 1 0 (NotNumber (Empty 4)))
+unfolding grammar columns_answer
+empty_row = refl
+
+-- a cell too few is told where the row ends
+too_few : columns_answer both (pairs false) 4 (line (codes "1,2") ++ line (codes "3"))
+    ≡ Err (wrong_cell 1 1 (TooFewCells 5))
 unfolding grammar columns_answer
 too_few = refl
 
-too_many : columns_answer (kinds_of before) four 3 (codes "1,a,f,b," ++ 10 ∷ []) ≡ Err (InvalidCell 0 4 (TooManyCells 8))
+-- a cell too many is told where it starts
+too_many : columns_answer both (pairs false) 4 (line (codes "1,2,x"))
+    ≡ Err (wrong_cell 0 2 (TooManyCells 4))
 unfolding grammar columns_answer
 too_many = refl
+
+-- also an empty one
+empty_extra_cell : columns_answer both (pairs false) 4 (line (codes "1,2,"))
+    ≡ Err (wrong_cell 0 2 (TooManyCells 4))
+unfolding grammar columns_answer
+empty_extra_cell = refl
+
+-- what is no number is told before the number of cells
+number_first : columns_answer both (pairs false) 4 (line (codes "1,x,3"))
+    ≡ Err (wrong_cell 0 1 (NotNumber (InvalidDigit 2)))
+unfolding grammar columns_answer
+number_first = refl
+
+-- quotes have no meaning
+quotes : columns_answer both (pairs false) 4 (codes "1,\"2\"")
+    ≡ Err (wrong_cell 0 1 (NotNumber (InvalidDigit 2)))
+unfolding grammar columns_answer
+quotes = refl
+
+-- with returns one stands before each line feed
+returns : columns_answer both (pairs true) 4 (returned (codes "1,2") ++ returned (codes "3,4"))
+    ≡ Ok (record { rows = 2; stop = 10 })
+unfolding grammar columns_answer
+returns = refl
+
+-- the last row needs none without a line feed
+last_return : columns_answer both (pairs true) 4 (returned (codes "1,2") ++ codes "3,4")
+    ≡ Ok (record { rows = 2; stop = 8 })
+unfolding grammar columns_answer
+last_return = refl
+
+-- without a line feed a return is a byte of its cell
+return_alone : columns_answer both (pairs true) 4 (codes "3,4" ++ 13 ∷ [])
+    ≡ Err (wrong_cell 0 1 (NotNumber (InvalidDigit 3)))
+unfolding grammar columns_answer
+return_alone = refl
+
+-- so it is without returns
+return_unasked : columns_answer both (pairs false) 4 (returned (codes "3,4"))
+    ≡ Err (wrong_cell 0 1 (NotNumber (InvalidDigit 3)))
+unfolding grammar columns_answer
+return_unasked = refl
+
+-- a line feed that lacks its return is told behind the cells
+no_return : columns_answer both (pairs true) 4 (returned (codes "1,2") ++ line (codes "3,4"))
+    ≡ Err (wrong_cell 1 2 (MissingReturn 8))
+unfolding grammar columns_answer
+no_return = refl
+
+-- a digit parts cells as any byte does
+digit_separator : columns_answer both (record (pairs false) { separator = 48 }) 4 (line (codes "102"))
+    ≡ Ok (record { rows = 1; stop = 4 })
+unfolding grammar columns_answer
+digit_separator = refl

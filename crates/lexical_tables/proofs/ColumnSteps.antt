@@ -1,46 +1,45 @@
 -- A row whose cells go into targets, one cell after another.
-use Rattle.std.proofs.Common.{◌≡◌, ◌∙◌, ℕ, suc, ◌+◌, ◌-◌, ◌<◌, ◌≤◌, List, [], ◌∷◌, ◌++◌, length, take, drop, ℤ, Result, Option, Some, None, Ok, Err, refl, ap, ap₂, sym, subst, arith, inl, inr, ◌⊎◌, length-take-le, take-append-drop}
-use Rattle.std.proofs.lemmas.List.{drop_all, drop-drop, take_all}
+use Rattle.std.proofs.Common.{◌≡◌, ◌∙◌, ℕ, suc, ◌+◌, ◌-◌, ◌<◌, ◌≤◌, List, [], ◌∷◌, ◌++◌, length, take, drop, Bool, true, false, not, cond, eqb, eq-eqb, ℤ, Result, Option, Some, None, Ok, Err, refl, ap, ap₂, sym, subst, arith, inl, inr, ◌⊎◌, length-append, length-take-le, take-append-drop}
+use Rattle.std.specs.Bool.{then_some}
+use Rattle.std.proofs.lemmas.Bool.Decides.{eqb_tells}
+use Rattle.std.proofs.lemmas.List.{drop_all, drop-append-le, drop-drop, take-append-le, take_all}
 use Rattle.lexical_util.specs.declared.error.Error.{Error}
 use Rattle.lexical_fields.specs.Columns as columns
-use Rattle.lexical_fields.specs.Columns.{next_start}
-use Rattle.lexical_fields.specs.Fields.{FieldView, field_length, fields, fields_from}
-use Rattle.lexical_fields.specs.ReadSoFar.{left_of}
-use Rattle.lexical_fields.proofs.ColumnSteps.{start_of_left}
+use Rattle.lexical_fields.specs.Fields.{FieldView, field_length, fields_from}
 use Rattle.lexical_fields.proofs.FieldSteps.{next_field}
-use Rattle.lexical_tables.specs.ByColumn.{AreUsable, Kind, answer_at, cell_answers, cells_of, extent_of, fault_in, fault_of, kinds_of, put_at, put_row, row_answers, row_fault, row_values, value_in}
+use Rattle.lexical_tables.specs.ByColumn.{AreUsable, Kind, answer_at, cell_answers, cells_of, end_fault, fault_in, fault_of, first_start, kinds_of, put_at, put_row, row_answers, row_fault, row_values, value_in, wrong_cell}
 use Rattle.lexical_tables.specs.Rows.{RowView}
-use Rattle.lexical_tables.specs.Tables.{fault_by}
 use Rattle.lexical_tables.specs.Targets.{TargetView}
 use Rattle.lexical_tables.specs.declared.answers.CellFault.TheVariants.{NotNumber}
 use Rattle.lexical_tables.specs.declared.answers.TableError.{TableError}
-use Rattle.lexical_tables.specs.declared.answers.TableError.TheVariants.{InvalidCell}
 use Rattle.lexical_tables.specs.declared.dialect.Dialect.{Dialect}
-use Rattle.lexical_tables.proofs.LineSteps.{next_left, none_of}
 use Rattle.lexical_tables.proofs.PutSteps.{answers_go, kinds_put, put_nothing, row_goes, use_put}
 
--- what is left of a row, as cells at their places in the text
-abbrev pub left_in : Dialect → RowView → List ℕ → List FieldView
-left_in d row rest = fields_from d.separator (row.start + (length row.text - length rest)) rest
+-- what is left of a row, as cells at their places in the text: none, if its last cell was read
+abbrev pub left_in : Dialect → RowView → Bool → List ℕ → List FieldView
+left_in d row ended rest =
+    cond ended [] (fields_from d.separator (row.start + (length row.text - length rest)) (rest ++ d.separator ∷ []))
 
 -- what those of them stand for that have a column
-abbrev pub answers_left : List (Option Kind) → Dialect → RowView → ℕ → List ℕ → List (Result (Option ℤ) Error)
-answers_left kinds d row column rest = cell_answers (drop column kinds) (take (d.columns - column) (left_in d row rest))
+abbrev pub answers_left : List (Option Kind) → Dialect → RowView → ℕ → Bool → List ℕ → List (Result (Option ℤ) Error)
+answers_left kinds d row column ended rest =
+    cell_answers (drop column kinds) (take (d.columns - column) (left_in d row ended rest))
 
 -- So many cells of a row were read, and what is read of those that are left, with them, is what is read of the row.
 pub record IsRowPut (kinds : List (Option Kind)) (d : Dialect) (index : ℕ) (row : RowView)
-    (old now : List (Option TargetView)) (column : ℕ) (rest : List ℕ) : Type 0 where
+    (old now : List (Option TargetView)) (column : ℕ) (ended : Bool) (rest : List ℕ) : Type 0 where
   pub within : length rest ≤ length row.text
   pub few : column ≤ d.columns
-  pub place : drop column (fields d.separator row.text) ≡ left_of d.separator row.text rest
-  pub counted : column + length (left_of d.separator row.text rest) ≡ length (fields d.separator row.text)
+  pub place : drop column (cells_of d row) ≡ left_in d row ended rest
+  pub counted : column + length (left_in d row ended rest) ≡ length (cells_of d row)
   pub kinds_are : kinds_of now ≡ kinds
   pub usable : AreUsable (index + 1) now
-  pub values : take column now ++ put_row index (columns.values_before_fault (answers_left kinds d row column rest))
-      (drop column now) ≡ put_row index (row_values kinds d row) old
-  pub size : column + length (columns.values_before_fault (answers_left kinds d row column rest))
+  pub values : take column now
+      ++ put_row index (columns.values_before_fault (answers_left kinds d row column ended rest)) (drop column now)
+      ≡ put_row index (row_values kinds d row) old
+  pub size : column + length (columns.values_before_fault (answers_left kinds d row column ended rest))
       ≡ length (row_values kinds d row)
-  pub first : columns.first_fault (answers_left kinds d row column rest)
+  pub first : columns.first_fault (answers_left kinds d row column ended rest)
       ≡ columns.first_fault (row_answers kinds d row)
 
 -- What is answered of a row, and what the targets then are.
@@ -51,24 +50,71 @@ pub record IsRowDone (kinds : List (Option Kind)) (d : Dialect) (index : ℕ) (r
 
 -- before the first cell
 pub row_starts : (kinds : List (Option Kind)) (d : Dialect) (index : ℕ) (row : RowView) (old : List (Option TargetView))
-    → kinds_of old ≡ kinds → AreUsable (index + 1) old → IsRowPut kinds d index row old old 0 row.text
+    → kinds_of old ≡ kinds → AreUsable (index + 1) old → IsRowPut kinds d index row old old 0 false row.text
 row_starts kinds d index row old same usable =
-    let start : length row.text - length row.text ≡ 0 = omega arith in
     let place : row.start + (length row.text - length row.text) ≡ row.start = omega arith in
     let all : d.columns - 0 ≡ d.columns = omega arith in
-    let answers : answers_left kinds d row 0 row.text ≡ row_answers kinds d row =
-    ap₂ (λ n p. cell_answers kinds (take n (fields_from d.separator p row.text))) all place in
+    let cells : left_in d row false row.text ≡ cells_of d row =
+    ap (λ p. fields_from d.separator p (row.text ++ d.separator ∷ [])) place in
+    let answers : answers_left kinds d row 0 false row.text ≡ row_answers kinds d row =
+    ap₂ (λ n l. cell_answers kinds (take n l)) all cells in
     record {
       within = omega arith;
       few = omega arith;
-      place = ap (λ k. fields_from d.separator k row.text) (sym start);
-      counted = omega (arith, ap (λ k. length (fields_from d.separator k row.text)) start);
+      place = sym cells;
+      counted = omega (arith, ap length cells);
       kinds_are = same;
       usable = usable;
       values = ap (λ l. put_row index (columns.values_before_fault l) old) answers;
       size = omega (arith, ap (λ l. length (columns.values_before_fault l)) answers);
       first = ap columns.first_fault answers;
     }
+
+-- ---- the first cell of what is left
+
+-- a separator that is added changes no first field
+length_behind : (s : ℕ) (bs : List ℕ) → field_length s (bs ++ s ∷ []) ≡ field_length s bs
+length_behind s [] = by_test (eqb s s) (eq-eqb s s refl)
+  where
+    by_test : (t : Bool) → t ≡ true → ◌≡◌ {A = ℕ} (cond (not t) 1 0) 0
+    by_test true is = refl
+    by_test false is = absurd cc
+length_behind s (b ∷ bs) = ap (λ n. cond (not (eqb b s)) (1 + n) 0) (length_behind s bs)
+
+-- the cells behind the first, by whether that is the last
+abbrev behind_first : ℕ → ℕ → Bool → List ℕ → List FieldView
+behind_first s place ended behind = cond ended [] (fields_from s place (behind ++ s ∷ []))
+
+next_cell : (s p : ℕ) (rest cell behind : List ℕ) → cell ≡ take (field_length s rest) rest
+    → behind ≡ drop (field_length s rest + 1) rest → length cell ≡ field_length s rest → length cell ≤ length rest
+    → fields_from s p (rest ++ s ∷ []) ≡ record { start = p; text = cell }
+    ∷ behind_first s (p + (length rest - length behind)) (eqb (length cell) (length rest)) behind
+next_cell s p rest cell behind front back sized within =
+    let bs = rest ++ s ∷ [] in
+    let n = field_length s rest in
+    let same = length_behind s rest in
+    let long : length bs ≡ length rest + 1 = length-append rest (s ∷ []) in
+    let low : n ≤ length rest = omega (arith, sized) in
+    let cell_is : cell ≡ take (field_length s bs) bs =
+    front ∙ sym (take-append-le n rest (s ∷ []) low) ∙ ap (λ k. take k bs) (sym same) in
+    let rest_of : drop (field_length s bs + 1) bs ≡ drop (n + 1) bs = ap (λ k. drop (k + 1) bs) same in
+    elim (eqb_tells (length cell) (length rest)) [
+      | inl is ↦
+          let none : [] ≡ drop (field_length s bs + 1) bs =
+          sym (rest_of ∙ drop_all (n + 1) bs (omega (arith, is.1, sized, long))) in
+          next_field s p bs cell [] (omega (arith, long)) cell_is none
+          ∙ ap (λ t. record { start = p; text = cell } ∷ behind_first s (p + (length rest - length behind)) t behind) (sym is.0)
+      | inr is ↦
+          let less : n < length rest = omega (arith, is.1, sized, within) in
+          let left : behind ++ s ∷ [] ≡ drop (field_length s bs + 1) bs =
+          ap (λ l. l ++ s ∷ []) back ∙ sym (drop-append-le (n + 1) rest (s ∷ []) (omega arith)) ∙ sym rest_of in
+          let behind_long : length (behind ++ s ∷ []) ≡ length behind + 1 = length-append behind (s ∷ []) in
+          let at : p + (length bs - length (behind ++ s ∷ [])) ≡ p + (length rest - length behind) =
+          omega (arith, long, behind_long) in
+          next_field s p bs cell (behind ++ s ∷ []) (omega (arith, long)) cell_is left
+          ∙ ap (λ k. record { start = p; text = cell } ∷ fields_from s k (behind ++ s ∷ [])) at
+          ∙ ap (λ t. record { start = p; text = cell } ∷ behind_first s (p + (length rest - length behind)) t behind) (sym is.0)
+    ]
 
 -- answers by their faults
 ok_of : (answer : Result (Option ℤ) Error) → None ≡ fault_in answer → answer ≡ Ok (value_in answer)
@@ -86,47 +132,67 @@ no_answers (kind ∷ kinds) = refl
 take_none : {X : Type 0} (n : ℕ) → take {A = X} n [] ≡ []
 take_none {X} n = take_all n [] (omega arith)
 
+-- something, if what is left isn't ended
+as_cond : (t : Bool) (place : ℕ) → then_some (not t) place ≡ cond t None (Some place)
+as_cond true place = refl
+as_cond false place = refl
+
 module _ (kinds : List (Option Kind)) (d : Dialect) (index : ℕ) (row : RowView) (old now : List (Option TargetView))
-    (column : ℕ) (rest : List ℕ) (reading : IsRowPut kinds d index row old now column rest) where
-  ended : (length rest ≡ 0) ⊎ (d.columns ≤ column) → answers_left kinds d row column rest ≡ []
-  ended (inl e) =
-      ap (λ r. cell_answers (drop column kinds) (take (d.columns - column) (left_in d row r))) (none_of rest e)
+    (column : ℕ) (ended : Bool) (rest : List ℕ) (reading : IsRowPut kinds d index row old now column ended rest) where
+  none_left : (ended ≡ true) ⊎ (d.columns ≤ column) → answers_left kinds d row column ended rest ≡ []
+  none_left (inl e) =
+      ap (λ t. cell_answers (drop column kinds) (take (d.columns - column) (left_in d row t rest))) e
       ∙ ap (cell_answers (drop column kinds)) (take_none (d.columns - column)) ∙ no_answers (drop column kinds)
-  ended (inr full) =
+  none_left (inr full) =
       let none : d.columns - column ≡ 0 = omega arith in
-      ap (λ n. cell_answers (drop column kinds) (take n (left_in d row rest))) none ∙ no_answers (drop column kinds)
+      ap (λ n. cell_answers (drop column kinds) (take n (left_in d row ended rest))) none
+      ∙ no_answers (drop column kinds)
 
-  left_size : length rest ≡ 0 → length (left_of d.separator row.text rest) ≡ 0
-  left_size e = ap (λ r. length (left_of d.separator row.text r)) (none_of rest e)
-
-  count_is : (length rest ≡ 0) ⊎ (d.columns ≤ column) → length (take d.columns (fields d.separator row.text)) ≡ column
+  count_is : (ended ≡ true) ⊎ (d.columns ≤ column) → length (take d.columns (cells_of d row)) ≡ column
   count_is (inl e) =
-      ap length (take_all d.columns (fields d.separator row.text)
-      (omega (arith, reading.few, reading.counted, left_size e))) ∙ omega (arith, reading.counted, left_size e)
+      let none : length (left_in d row ended rest) ≡ 0 = ap (λ t. length (left_in d row t rest)) e in
+      ap length (take_all d.columns (cells_of d row) (omega (arith, reading.few, reading.counted, none)))
+      ∙ omega (arith, reading.counted, none)
   count_is (inr full) =
-      length-take-le d.columns (fields d.separator row.text) (omega (arith, reading.few, reading.counted))
-      ∙ omega (arith, reading.few)
+      length-take-le d.columns (cells_of d row) (omega (arith, reading.few, reading.counted)) ∙ omega (arith, reading.few)
 
-  stop_is : (length rest ≡ 0) ⊎ (d.columns ≤ column)
-      → next_start (length row.text) (drop d.columns (fields d.separator row.text)) ≡ length row.text - length rest
-  stop_is (inl e) =
-      ap (next_start (length row.text)) (drop_all d.columns (fields d.separator row.text)
-      (omega (arith, reading.few, reading.counted, left_size e))) ∙ omega (arith, e)
-  stop_is (inr full) =
-      let at : d.columns ≡ column = omega (arith, reading.few) in
-      ap (λ n. next_start (length row.text) (drop n (fields d.separator row.text))) at
-      ∙ ap (next_start (length row.text)) reading.place ∙ start_of_left d.separator row.text rest
+  -- where one more cell starts, if there is one
+  extra_is : (ended ≡ true) ⊎ (d.columns ≤ column) → first_start (drop d.columns (cells_of d row))
+      ≡ cond ended None (Some (row.start + (length row.text - length rest)))
+  extra_is all = by_ended ended refl all
+    where
+      by_ended : (t : Bool) → ended ≡ t → (ended ≡ true) ⊎ (d.columns ≤ column)
+          → first_start (drop d.columns (cells_of d row)) ≡ cond t None (Some (row.start + (length row.text - length rest)))
+      by_ended true is all =
+          let none : length (left_in d row ended rest) ≡ 0 = ap (λ t. length (left_in d row t rest)) is in
+          ap first_start (drop_all d.columns (cells_of d row) (omega (arith, reading.few, reading.counted, none)))
+      by_ended false is (inl e) = absurd (false_true (sym is ∙ e))
+        where
+          false_true : false ≡ true → ⊥
+          false_true e = cc
+      by_ended false is (inr full) =
+          let at : d.columns ≡ column = omega (arith, reading.few) in
+          ap (λ n. first_start (drop n (cells_of d row))) at
+          ∙ ap first_start (reading.place ∙ ap (λ t. left_in d row t rest) is)
+          ∙ starts (rest ++ d.separator ∷ []) (omega (arith, length-append rest (d.separator ∷ [])))
+        where
+          starts : (bs : List ℕ) → 0 < length bs
+              → first_start (fields_from d.separator (row.start + (length row.text - length rest)) bs)
+              ≡ Some (row.start + (length row.text - length rest))
+          starts bs some =
+              ap first_start (next_field d.separator (row.start + (length row.text - length rest)) bs _ _ some refl refl)
 
   -- no cell more
-  pub row_ends : (answer : Option TableError) → (length rest ≡ 0) ⊎ (d.columns ≤ column)
-      → answer ≡ fault_by d index row (Ok (record { count = column; stop = length row.text - length rest }))
-      → IsRowDone kinds d index row old now answer
-  row_ends answer all told =
-      let none = ended all in
+  pub row_ends : (answer : Option TableError) (extra : Option ℕ) → (ended ≡ true) ⊎ (d.columns ≤ column)
+      → extra ≡ then_some (not ended) (row.start + (length row.text - length rest))
+      → answer ≡ end_fault d.columns index row column extra → IsRowDone kinds d index row old now answer
+  row_ends answer extra all place told =
+      let none = none_left all in
       let first : columns.first_fault (row_answers kinds d row) ≡ None = sym reading.first ∙ ap columns.first_fault none in
       record {
         fault_is =
-            told ∙ ap₂ (λ n k. fault_by d index row (Ok (record { count = n; stop = k }))) (sym (count_is all)) (sym (stop_is all))
+            told ∙ ap₂ (λ n e. end_fault d.columns index row n e) (sym (count_is all))
+            (place ∙ as_cond ended (row.start + (length row.text - length rest)) ∙ sym (extra_is all))
             ∙ ap (fault_of d index row (length (row_values kinds d row))) (sym first);
         targets_are =
             sym (take-append-drop column now)
@@ -134,45 +200,50 @@ module _ (kinds : List (Option Kind)) (d : Dialect) (index : ℕ) (row : RowView
             ∙ reading.values;
       }
 
-  module _ (cell behind : List ℕ) (some : 0 < length rest) (more : column < d.columns)
+  module _ (cell behind : List ℕ) (some : ended ≡ false) (more : column < d.columns)
       (front : cell ≡ take (field_length d.separator rest) rest)
       (back : behind ≡ drop (field_length d.separator rest + 1) rest)
-      (shorter : length behind < length rest) where
-    next : answers_left kinds d row column rest
-        ≡ answer_at kinds column (record { start = row.start + (length row.text - length rest); text = cell })
-        ∷ answers_left kinds d row (column + 1) behind
-    next =
+      (sized : length cell ≡ field_length d.separator rest) (short : length cell ≤ length rest)
+      (shorter : length behind ≤ length rest) where
+    next_place : left_in d row ended rest
+        ≡ record { start = row.start + (length row.text - length rest); text = cell }
+        ∷ left_in d row (eqb (length cell) (length rest)) behind
+    next_place =
         let place = row.start + (length row.text - length rest) in
-        let one : d.columns - column ≡ suc (d.columns - (column + 1)) = omega arith in
         let at : place + (length rest - length behind) ≡ row.start + (length row.text - length behind) =
         omega (arith, reading.within) in
-        let plus : suc column ≡ column + 1 = omega arith in
-        ap₂ (λ n l. cell_answers (drop column kinds) (take n l)) one
-        (next_field d.separator place rest cell behind some front back
-        ∙ ap (λ p. record { start = place; text = cell } ∷ fields_from d.separator p behind) at)
-        ∙ answers_go kinds column (record { start = place; text = cell })
-        (take (d.columns - (column + 1)) (left_in d row behind))
-        ∙ ap (λ k. answer_at kinds column (record { start = place; text = cell })
-        ∷ cell_answers (drop k kinds) (take (d.columns - (column + 1)) (left_in d row behind))) plus
+        ap (λ t. left_in d row t rest) some
+        ∙ next_cell d.separator place rest cell behind front back sized short
+        ∙ ap (λ p. record { start = place; text = cell }
+        ∷ behind_first d.separator p (eqb (length cell) (length rest)) behind) at
 
-    next_place : left_of d.separator row.text rest
-        ≡ record { start = length row.text - length rest; text = cell } ∷ left_of d.separator row.text behind
-    next_place = next_left d.separator row.text rest cell behind reading.within some front back (omega arith)
+    next : answers_left kinds d row column ended rest
+        ≡ answer_at kinds column (record { start = row.start + (length row.text - length rest); text = cell })
+        ∷ answers_left kinds d row (column + 1) (eqb (length cell) (length rest)) behind
+    next =
+        let place = row.start + (length row.text - length rest) in
+        let left = left_in d row (eqb (length cell) (length rest)) behind in
+        let one : d.columns - column ≡ suc (d.columns - (column + 1)) = omega arith in
+        let plus : suc column ≡ column + 1 = omega arith in
+        ap₂ (λ n l. cell_answers (drop column kinds) (take n l)) one next_place
+        ∙ answers_go kinds column (record { start = place; text = cell }) (take (d.columns - (column + 1)) left)
+        ∙ ap (λ k. answer_at kinds column (record { start = place; text = cell })
+        ∷ cell_answers (drop k kinds) (take (d.columns - (column + 1)) left)) plus
 
     -- one cell more
     pub cell_goes : (new : List (Option TargetView)) (value : Option ℤ)
         → answer_at kinds column (record { start = row.start + (length row.text - length rest); text = cell }) ≡ Ok value
-        → new ≡ put_at index column value now → IsRowPut kinds d index row old new (column + 1) behind
+        → new ≡ put_at index column value now
+        → IsRowPut kinds d index row old new (column + 1) (eqb (length cell) (length rest)) behind
     cell_goes new value told are =
-        let later = columns.values_before_fault (answers_left kinds d row (column + 1) behind) in
-        let at : answers_left kinds d row column rest ≡ Ok value ∷ answers_left kinds d row (column + 1) behind =
-        next ∙ ap (λ a. a ∷ answers_left kinds d row (column + 1) behind) told in
+        let later = columns.values_before_fault (answers_left kinds d row (column + 1) (eqb (length cell) (length rest)) behind) in
+        let at : answers_left kinds d row column ended rest ≡ Ok value ∷ answers_left kinds d row (column + 1) (eqb (length cell) (length rest)) behind =
+        next ∙ ap (λ a. a ∷ answers_left kinds d row (column + 1) (eqb (length cell) (length rest)) behind) told in
         let plus : column + 1 ≡ suc column = omega arith in
         record {
           within = omega (arith, reading.within);
           few = omega arith;
-          place =
-              sym (drop-drop 1 column (fields d.separator row.text)) ∙ ap (drop 1) (reading.place ∙ next_place);
+          place = sym (drop-drop 1 column (cells_of d row)) ∙ ap (drop 1) (reading.place ∙ next_place);
           counted = omega (arith, reading.counted, ap length next_place);
           kinds_are = ap kinds_of are ∙ kinds_put index column value now ∙ reading.kinds_are;
           usable = subst (AreUsable (index + 1)) (sym are) (use_put (index + 1) index column value now reading.usable);
@@ -188,17 +259,17 @@ module _ (kinds : List (Option Kind)) (d : Dialect) (index : ℕ) (row : RowView
     -- a cell that is no number
     pub cell_fault : (new : List (Option TargetView)) (error : Error)
         → answer_at kinds column (record { start = row.start + (length row.text - length rest); text = cell }) ≡ Err error
-        → new ≡ now → IsRowDone kinds d index row old new (Some (InvalidCell index column (NotNumber error)))
+        → new ≡ now → IsRowDone kinds d index row old new (Some (wrong_cell index column (NotNumber error)))
     cell_fault new error told same =
-        let at : answers_left kinds d row column rest ≡ Err error ∷ answers_left kinds d row (column + 1) behind =
-        next ∙ ap (λ a. a ∷ answers_left kinds d row (column + 1) behind) told in
+        let at : answers_left kinds d row column ended rest ≡ Err error ∷ answers_left kinds d row (column + 1) (eqb (length cell) (length rest)) behind =
+        next ∙ ap (λ a. a ∷ answers_left kinds d row (column + 1) (eqb (length cell) (length rest)) behind) told in
         let first : columns.first_fault (row_answers kinds d row) ≡ Some error =
         sym reading.first ∙ ap columns.first_fault at in
         let count : column ≡ length (row_values kinds d row) =
         omega (arith, reading.size, ap (λ l. length (columns.values_before_fault l)) at) in
         record {
           fault_is =
-              ap (λ n. Some (InvalidCell index n (NotNumber error))) count
+              ap (λ n. Some (wrong_cell index n (NotNumber error))) count
               ∙ ap (fault_of d index row (length (row_values kinds d row))) (sym first);
           targets_are =
               same ∙ sym (take-append-drop column now)
@@ -216,12 +287,13 @@ module _ (kinds : List (Option Kind)) (d : Dialect) (index : ℕ) (row : RowView
         (sym reading.kinds_are)
 
     pub after_cell : (new : List (Option TargetView)) → None ≡ fault_in answer_here
-        → new ≡ put_at index column (value_in answer_here) now → IsRowPut kinds d index row old new (column + 1) behind
+        → new ≡ put_at index column (value_in answer_here) now
+        → IsRowPut kinds d index row old new (column + 1) (eqb (length cell) (length rest)) behind
     after_cell new none are = cell_goes new (value_in answer_here) (as_here ∙ ok_of answer_here none) are
 
     pub after_fault : (new : List (Option TargetView)) (error : Error) → Some error ≡ fault_in answer_here
         → new ≡ put_at index column (value_in answer_here) now
-        → IsRowDone kinds d index row old new (Some (InvalidCell index column (NotNumber error)))
+        → IsRowDone kinds d index row old new (Some (wrong_cell index column (NotNumber error)))
     after_fault new error told are =
         let wrong = err_of answer_here error told in
         cell_fault new error (as_here ∙ wrong)

@@ -6,16 +6,18 @@ use Rattle.lexical_fields.specs.Columns.{next_start}
 use Rattle.lexical_fields.specs.Fields.{FieldView, field_length, fields, fields_from}
 use Rattle.lexical_fields.specs.ReadSoFar.{left_of}
 use Rattle.lexical_fields.proofs.ColumnSteps.{start_of_left, tail_goes}
-use Rattle.lexical_tables.specs.ByColumn.{AreUsable, Kind, StopsAt, columns_answer, columns_put, first_fault, kinds_of, put_row, put_rows, row_fault, row_values, values_to_fault}
+use Rattle.lexical_tables.specs.ByColumn.{AreUsable, Kind, StopsAt, columns_answer, columns_put, first_fault, first_of, kinds_of, put_row, put_rows, row_fault, row_values, unless, values_to_fault}
 use Rattle.lexical_tables.specs.Rows.{RowView, line_feed, row_of, rows}
-use Rattle.lexical_tables.specs.Tables.{first_of, unless}
 use Rattle.lexical_tables.specs.Targets.{TargetView}
 use Rattle.lexical_tables.specs.declared.answers.Table.{Table}
 use Rattle.lexical_tables.specs.declared.answers.TableError.{TableError}
 use Rattle.lexical_tables.specs.declared.dialect.Dialect.{Dialect}
 use Rattle.lexical_tables.proofs.LineSteps.{next_left, none_of}
 use Rattle.lexical_tables.proofs.PutSteps.{kinds_put_row, use_less, use_put_row}
-use Rattle.lexical_tables.proofs.TableSteps.{rows_left}
+
+-- the rows of what is left of a text
+abbrev rows_left : Dialect → List ℕ → List ℕ → List RowView
+rows_left d text rest = map (row_of d.has_returns (length text)) (left_of line_feed text rest)
 
 -- the rows that are left to read, of so many at most
 abbrev pub left_to_read : Dialect → ℕ → List ℕ → ℕ → List ℕ → List RowView

@@ -1,6 +1,7 @@
 -- What is read of the columns of a text that is cut.
-use Rattle.std.proofs.Common.{◌≡◌, ◌∙◌, ℕ, zero, suc, ◌+◌, List, [], ◌∷◌, ◌++◌, length, take, drop, map, cond, ℤ, Result, Option, Some, None, Ok, Err, refl, ap, ap₂, sym, arith, append_assoc, length-take-le}
-use Rattle.std.specs.Prelude.{is_none, option_map}
+use Rattle.std.proofs.Common.{◌≡◌, ◌∙◌, ℕ, zero, suc, ◌+◌, List, [], ◌∷◌, ◌++◌, length, take, drop, map, cond, true, false, Bool, ℤ, Result, Option, Some, None, Ok, Err, refl, ap, ap₂, sym, arith, append_assoc, length-take-le}
+use Rattle.std.specs.Prelude.{is_none, nat_lt, option_map}
+use Rattle.std.proofs.lemmas.List.{length-map}
 use Rattle.lexical_util.specs.declared.error.Error.{Error}
 use Rattle.lexical_fields.specs.Columns as columns
 use Rattle.lexical_fields.specs.Fields.{FieldView, fields_from}
@@ -8,22 +9,63 @@ use Rattle.lexical_fields.specs.Parts.{whole_fields}
 use Rattle.lexical_fields.specs.Places.{error_in_text, in_text}
 use Rattle.lexical_fields.specs.ReadFields.{field_answer}
 use Rattle.lexical_fields.proofs.MovedFields.{answer_moved, fields_moved, moved}
-use Rattle.lexical_tables.specs.ByColumn.{Kind, answer_as, cell_answers, cells_of, extent_of, fault_of, first_fault, row_answers, row_fault, row_values, some_number, values_to_fault}
-use Rattle.lexical_tables.specs.Parts.{AreValid, ColumnsInParts, column_fault_in, error_behind, values_in}
+use Rattle.lexical_tables.specs.ByColumn.{Kind, cell_answers, cells_of, end_fault, fault_of, first_fault, first_of, first_start, row_answers, row_fault, row_values, some_number, values_to_fault, wrong_cell}
+use Rattle.lexical_tables.specs.Parts.{AreValid, ColumnsInParts, fault_in, error_behind, values_in}
 use Rattle.lexical_tables.specs.Rows.{RowView, line_feed, rows}
-use Rattle.lexical_tables.specs.Tables.{first_of}
-use Rattle.lexical_tables.specs.declared.answers.CellFault.TheVariants.{NotNumber}
+use Rattle.lexical_tables.specs.declared.answers.CellFault.TheVariants.{MissingReturn, TooFewCells, TooManyCells}
 use Rattle.lexical_tables.specs.declared.answers.TableError.{TableError}
-use Rattle.lexical_tables.specs.declared.answers.TableError.TheVariants.{InvalidCell}
 use Rattle.lexical_tables.specs.declared.dialect.Dialect.{Dialect}
-use Rattle.lexical_tables.proofs.RowsInParts.{fault_moved, row_behind, rows_split, whole_within}
+use Rattle.lexical_tables.proofs.RowsInParts.{row_behind, rows_split, whole_within}
 
 take_map : {X Y : Type 0} (f : X → Y) (n : ℕ) (xs : List X) → take n (map f xs) ≡ map f (take n xs)
 take_map f zero xs = refl
 take_map f (suc n) [] = refl
 take_map f (suc n) (x ∷ xs) = ap (λ l. f x ∷ l) (take_map f n xs)
 
+drop_map : {X Y : Type 0} (f : X → Y) (n : ℕ) (xs : List X) → drop n (map f xs) ≡ map f (drop n xs)
+drop_map f zero xs = refl
+drop_map f (suc n) [] = refl
+drop_map f (suc n) (x ∷ xs) = drop_map f n xs
+
 -- ---- a row further behind
+
+start_moved : (bytes : ℕ) (cells : List FieldView)
+    → first_start (map (moved bytes) cells) ≡ option_map (λ place. bytes + place) (first_start cells)
+start_moved bytes [] = refl
+start_moved bytes (cell ∷ more) = refl
+
+-- the end of a row further behind has its fault there
+end_moved : (before bytes columns index : ℕ) (row : RowView) (count : ℕ) (extra : Option ℕ)
+    → end_fault columns (before + index) (row_behind bytes row) count (option_map (λ place. bytes + place) extra)
+    ≡ option_map (error_behind before bytes) (end_fault columns index row count extra)
+end_moved before bytes columns index row count extra =
+    let end : bytes + row.start + length row.text ≡ bytes + (row.start + length row.text) = omega arith in
+    by_extra extra end
+  where
+    by_tests : (few lacks : Bool) → bytes + row.start + length row.text ≡ bytes + (row.start + length row.text)
+        → cond few (Some (wrong_cell (before + index) count (TooFewCells (bytes + row.start + length row.text))))
+        (cond lacks (Some (wrong_cell (before + index) columns (MissingReturn (bytes + row.start + length row.text)))) None)
+        ≡ option_map (error_behind before bytes)
+        (cond few (Some (wrong_cell index count (TooFewCells (row.start + length row.text))))
+        (cond lacks (Some (wrong_cell index columns (MissingReturn (row.start + length row.text)))) None))
+    by_tests true lacks end = ap (λ k. Some (wrong_cell (before + index) count (TooFewCells k))) end
+    by_tests false true end = ap (λ k. Some (wrong_cell (before + index) columns (MissingReturn k))) end
+    by_tests false false end = refl
+
+    by_place : (few : Bool) (place : ℕ) → bytes + row.start + length row.text ≡ bytes + (row.start + length row.text)
+        → cond few (Some (wrong_cell (before + index) count (TooFewCells (bytes + row.start + length row.text))))
+        (Some (wrong_cell (before + index) columns (TooManyCells (bytes + place))))
+        ≡ option_map (error_behind before bytes)
+        (cond few (Some (wrong_cell index count (TooFewCells (row.start + length row.text))))
+        (Some (wrong_cell index columns (TooManyCells place))))
+    by_place true place end = ap (λ k. Some (wrong_cell (before + index) count (TooFewCells k))) end
+    by_place false place end = refl
+
+    by_extra : (extra : Option ℕ) → bytes + row.start + length row.text ≡ bytes + (row.start + length row.text)
+        → end_fault columns (before + index) (row_behind bytes row) count (option_map (λ place. bytes + place) extra)
+        ≡ option_map (error_behind before bytes) (end_fault columns index row count extra)
+    by_extra None end = by_tests (nat_lt count columns) row.lacks_return end
+    by_extra (Some place) end = by_place (nat_lt count columns) place end
 
 some_moved : (bytes : ℕ) (answer : Result ℤ Error) → some_number (in_text bytes answer) ≡ in_text bytes (some_number answer)
 some_moved bytes (Ok number) = refl
@@ -98,10 +140,13 @@ module _ (kinds : List (Option Kind)) (d : Dialect) where
       by_fault (Some it) there = refl
 
   module _ (valid : AreValid kinds) where
+    cells_moved : (bytes : ℕ) (row : RowView) → cells_of d (row_behind bytes row) ≡ map (moved bytes) (cells_of d row)
+    cells_moved bytes row = sym (fields_moved d.separator bytes row.start (row.text ++ d.separator ∷ []))
+
     row_moved : (bytes : ℕ) (row : RowView)
         → row_answers kinds d (row_behind bytes row) ≡ map (in_text bytes) (row_answers kinds d row)
     row_moved bytes row =
-        ap (λ l. cell_answers kinds (take d.columns l)) (sym (fields_moved d.separator bytes row.start row.text))
+        ap (λ l. cell_answers kinds (take d.columns l)) (cells_moved bytes row)
         ∙ ap (cell_answers kinds) (take_map (moved bytes) d.columns (cells_of d row))
         ∙ answers_moved bytes kinds (take d.columns (cells_of d row)) valid
 
@@ -120,7 +165,14 @@ module _ (kinds : List (Option Kind)) (d : Dialect) where
         by_error : (n : ℕ) (e : Option Error)
             → fault_of d (before + index) (row_behind bytes row) n (option_map (error_in_text bytes) e)
             ≡ option_map (error_behind before bytes) (fault_of d index row n e)
-        by_error n None = fault_moved d before bytes index row (Ok (extent_of d row))
+        by_error n None =
+            let cells = cells_of d row in
+            ap (λ l. end_fault d.columns (before + index) (row_behind bytes row) (length (take d.columns l))
+            (first_start (drop d.columns l))) (cells_moved bytes row)
+            ∙ ap₂ (λ c e. end_fault d.columns (before + index) (row_behind bytes row) c e)
+            (ap length (take_map (moved bytes) d.columns cells) ∙ length-map (take d.columns cells) (moved bytes))
+            (ap first_start (drop_map (moved bytes) d.columns cells) ∙ start_moved bytes (drop d.columns cells))
+            ∙ end_moved before bytes d.columns index row (length (take d.columns cells)) (first_start (drop d.columns cells))
         by_error n (Some error) = refl
 
     rows_first_moved : (before bytes index : ℕ) (lines : List RowView)
@@ -176,14 +228,14 @@ columns_in_parts kinds d part more valid =
       values =
           ap (values_to_fault kinds d 0) cut
           ∙ values_append kinds d 0 (rows r front) (map (row_behind size) (rows r left))
-          ∙ ap (λ l. values_in kinds d front ++ cond (is_none (column_fault_in kinds d front)) l [])
+          ∙ ap (λ l. values_in kinds d front ++ cond (is_none (fault_in kinds d front)) l [])
           (ap (λ k. values_to_fault kinds d k (map (row_behind size) (rows r left))) none
           ∙ values_moved kinds d valid count size 0 (rows r left));
       fault =
           ap (first_fault kinds d 0) cut
           ∙ first_append kinds d 0 (rows r front) (map (row_behind size) (rows r left))
-          ∙ ap (first_of (column_fault_in kinds d front))
+          ∙ ap (first_of (fault_in kinds d front))
           (ap (λ k. first_fault kinds d k (map (row_behind size) (rows r left))) none
           ∙ rows_first_moved kinds d valid count size 0 (rows r left)
-          ∙ ap (λ n. option_map (error_behind count n) (column_fault_in kinds d left)) long);
+          ∙ ap (λ n. option_map (error_behind count n) (fault_in kinds d left)) long);
     }

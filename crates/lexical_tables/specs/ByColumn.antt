@@ -1,5 +1,5 @@
 -- What is read of a table whose columns go into slices of their own.
-use Rattle.std.specs.Prelude.{◌≡◌, ◌+◌, ◌≤◌, ℕ, zero, suc, ℤ, if◌then◌else◌, List, [], ◌∷◌, length, take, drop, map, set, is_none, option_map, Option, Some, None, Result, Ok, Err}
+use Rattle.std.specs.Prelude.{◌≡◌, ◌+◌, ◌≤◌, ℕ, zero, suc, ℤ, if◌then◌else◌, List, [], ◌∷◌, ◌++◌, length, take, drop, map, set, is_none, nat_lt, option_map, Option, Some, None, Result, Ok, Err}
 use Rattle.lexical_util.specs.declared.error.Error.{Error}
 use Rattle.lexical_util.specs.Format.{Format}
 use Rattle.lexical_util.specs.Number.{IntegerType}
@@ -7,14 +7,12 @@ use Rattle.lexical_util.specs.Validity.{fault}
 use Rattle.lexical_fields.specs.Columns as columns
 use Rattle.lexical_fields.specs.Fields.{FieldView, fields, fields_from}
 use Rattle.lexical_fields.specs.ReadFields.{field_answer}
-use Rattle.lexical_fields.specs.declared.columns.Column.{Column}
 use Rattle.lexical_tables.specs.Rows.{RowView, line_feed, rows}
-use Rattle.lexical_tables.specs.Tables.{fault_by, first_of, unless}
 use Rattle.lexical_tables.specs.Targets.{TargetView, view_of_target}
-use Rattle.lexical_tables.specs.declared.answers.CellFault.TheVariants.{NotNumber}
+use Rattle.lexical_tables.specs.declared.answers.CellFault.{CellFault}
+use Rattle.lexical_tables.specs.declared.answers.CellFault.TheVariants.{MissingReturn, NotNumber, TooFewCells, TooManyCells}
 use Rattle.lexical_tables.specs.declared.answers.Table.{Table}
 use Rattle.lexical_tables.specs.declared.answers.TableError.{TableError}
-use Rattle.lexical_tables.specs.declared.answers.TableError.TheVariants.{InvalidCell}
 use Rattle.lexical_tables.specs.declared.dialect.Dialect.{Dialect}
 use Rattle.lexical_tables.specs.declared.targets.Target.{Target}
 
@@ -53,9 +51,9 @@ cell_answers kinds [] = []
 cell_answers [] (cell ∷ cells) = Ok None ∷ cell_answers [] cells
 cell_answers (kind ∷ kinds) (cell ∷ cells) = answer_as kind cell ∷ cell_answers kinds cells
 
--- the cells of a row, at their places in the text
+-- the cells of a row, at their places in the text: one more than it has separators
 abbrev pub cells_of : Dialect → RowView → List FieldView
-cells_of dialect row = fields_from dialect.separator row.start row.text
+cells_of dialect row = fields_from dialect.separator row.start (row.text ++ dialect.separator ∷ [])
 
 -- what the cells of a row stand for that have a column
 abbrev pub row_answers : List (Option Kind) → Dialect → RowView → List (Result (Option ℤ) Error)
@@ -65,19 +63,36 @@ row_answers kinds dialect row = cell_answers kinds (take dialect.columns (cells_
 abbrev pub row_values : List (Option Kind) → Dialect → RowView → List (Option ℤ)
 row_values kinds dialect row = columns.values_before_fault (row_answers kinds dialect row)
 
--- how many of a row's cells have a column, and where in the row the next one starts
-abbrev pub extent_of : Dialect → RowView → Column
-extent_of dialect row =
-    let cells = fields dialect.separator row.text in
-    record {
-      count = length (take dialect.columns cells);
-      stop = columns.next_start (length row.text) (drop dialect.columns cells);
-    }
+-- a fault of a cell
+abbrev pub wrong_cell : ℕ → ℕ → CellFault → TableError
+wrong_cell row column fault = record { row = row; column = column; fault = fault }
+
+-- where the first of some cells starts
+abbrev pub first_start : List FieldView → Option ℕ
+first_start [] = None
+first_start (cell ∷ more) = Some cell.start
+
+-- What is wrong with the end of a row, if so many of its cells have a column, and one more starts at a place: too few
+-- cells, a cell too many, or a return that lacks.
+abbrev pub end_fault : ℕ → ℕ → RowView → ℕ → Option ℕ → Option TableError
+end_fault columns index row count (Some place) =
+    if nat_lt count columns
+    then Some (wrong_cell index count (TooFewCells (row.start + length row.text)))
+    else Some (wrong_cell index columns (TooManyCells place))
+end_fault columns index row count None =
+    if nat_lt count columns
+    then Some (wrong_cell index count (TooFewCells (row.start + length row.text)))
+    else if row.lacks_return
+    then Some (wrong_cell index columns (MissingReturn (row.start + length row.text)))
+    else None
 
 -- a fault of the cell behind those that were read, or else of the row's end
 abbrev pub fault_of : Dialect → ℕ → RowView → ℕ → Option Error → Option TableError
-fault_of dialect index row count None = fault_by dialect index row (Ok (extent_of dialect row))
-fault_of dialect index row count (Some error) = Some (InvalidCell index count (NotNumber error))
+fault_of dialect index row count None =
+    let cells = cells_of dialect row in
+    end_fault dialect.columns index row (length (take dialect.columns cells))
+    (first_start (drop dialect.columns cells))
+fault_of dialect index row count (Some error) = Some (wrong_cell index count (NotNumber error))
 
 -- the fault of a row
 abbrev pub row_fault : List (Option Kind) → Dialect → ℕ → RowView → Option TableError
@@ -141,6 +156,16 @@ put_at row zero value (target ∷ targets) = put_number row value target ∷ tar
 put_at row (suc column) value (target ∷ targets) = target ∷ put_at row column value targets
 
 -- ---- tables
+
+-- the first of two that is there
+abbrev pub first_of : {A : Type 0} → Option A → Option A → Option A
+first_of None other = other
+first_of (Some it) other = Some it
+
+-- an answer, where nothing is wrong
+abbrev pub unless : {A E : Type 0} → Option E → Result A E → Result A E
+unless None answer = answer
+unless (Some fault) answer = Err fault
 
 -- what is read of rows, up to the first wrong one
 abbrev pub values_to_fault : List (Option Kind) → Dialect → ℕ → List RowView

@@ -2,5 +2,4 @@
 pub mod ByColumn
 pub mod Parts
 pub mod Rows
-pub mod Tables
 pub mod Targets

@@ -25,19 +25,14 @@ pub enum CellFault {
     MissingReturn(usize),
 }
 
-/// Why a table isn't read to its end.
+/// Why a table isn't read to its end: the first wrong cell in reading order, row by row, and in a row cell by
+/// cell, then their number, then the return.
 #[derive(Debug, Copy, Clone, PartialEq, Eq)]
-pub enum TableError {
-    /// The format is invalid, and nothing was read.
-    InvalidFormat(Error),
-    /// A cell is wrong. It is the first in reading order: row by row, and in a row cell by cell, then
-    /// their number, then the return.
-    InvalidCell {
-        /// Its row, counted from 0: so many rows were read.
-        row: usize,
-        /// Its column, counted from 0: so many cells of the row were read.
-        column: usize,
-        /// What is wrong.
-        fault: CellFault,
-    },
+pub struct TableError {
+    /// Its row, counted from 0: so many rows were read.
+    pub row: usize,
+    /// Its column, counted from 0: so many cells of the row were read.
+    pub column: usize,
+    /// What is wrong.
+    pub fault: CellFault,
 }

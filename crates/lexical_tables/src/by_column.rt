@@ -1,15 +1,13 @@
 //! Tables whose columns go into slices of their own.
 
 ghost use Rattle.std.specs.Prelude.{◌≡◌, ◌+◌, ◌<◌, ◌^◌, length, IfOk};
-ghost use Rattle.lexical_tables.specs.ByColumn.{AreUsable, StopsAt, answer_at, columns_answer, columns_put, fault_in, kinds_of, put_at, put_row, row_fault, row_values, value_in, views_of};
+ghost use Rattle.lexical_tables.specs.ByColumn.{AreUsable, StopsAt, answer_at, columns_answer, columns_put, end_fault, fault_in, kinds_of, put_at, put_row, row_fault, row_values, value_in, views_of};
 ghost use Rattle.lexical_tables.specs.Rows.{view_of_row};
 
 use crate::answers::{CellFault, Table, TableError};
 use crate::dialect::Dialect;
-use crate::read::end_fault;
 use crate::rows::{Row, first_row, split};
 use crate::targets::Target;
-use lexical_fields::Column;
 use lexical_parse_integer::{Error, Options};
 
 // Reads the cell of a column, if that has a target: its number goes to the row's place there.
@@ -38,6 +36,37 @@ fn read_cell(
     None
 }
 
+// What is wrong with the number of a row's cells, or with its end, if so many have a column, and one more starts there.
+fn end_fault(
+    row: &Row<'_>,
+    index: usize,
+    columns: usize,
+    count: usize,
+    extra: Option<usize>,
+) -> Option<TableError>
+    requires fits { row.now.start + length row.now.text.now < 2 ^ 64 }
+    ensures { result ≡ end_fault columns index (view_of_row row.now) count extra }
+{
+    let end = row.start + row.text.len();
+    if count < columns {
+        return Some(TableError {
+            row: index,
+            column: count,
+            fault: CellFault::TooFewCells(end),
+        });
+    }
+    let fault = match extra {
+        Some(place) => CellFault::TooManyCells(place),
+        None if row.lacks_return => CellFault::MissingReturn(end),
+        None => return None,
+    };
+    Some(TableError {
+        row: index,
+        column: columns,
+        fault,
+    })
+}
+
 // The numbers of a row go to its place in the targets, up to the row's fault.
 #[inline(always)]
 fn read_cells(
@@ -56,25 +85,25 @@ fn read_cells(
         (views_of targets.old) }
 {
     let mut rest = row.text;
+    let mut ended = false;
     let mut column = 0;
-    while column < dialect.columns && !rest.is_empty() {
+    while column < dialect.columns && !ended {
         let start = row.start + (row.text.len() - rest.len());
         let (cell, behind) = split(rest, dialect.separator);
         if let Some(error) = read_cell(targets, column, index, start, cell, options) {
-            return Some(TableError::InvalidCell {
+            return Some(TableError {
                 row: index,
                 column,
                 fault: CellFault::NotNumber(error),
             });
         }
+        ended = cell.len() == rest.len();
         rest = behind;
         column += 1;
     }
-    let cells = Column {
-        count: column,
-        stop: row.text.len() - rest.len(),
-    };
-    end_fault(row, index, dialect, cells)
+    let next = row.start + (row.text.len() - rest.len());
+    let extra = (!ended).then_some(next);
+    end_fault(row, index, dialect.columns, column, extra)
 }
 
 /// Reads a table's columns into slices of their own, for as many rows as are asked for at most.

@@ -26,12 +26,12 @@ pub(crate) fn ends_in(text: &[u8], byte: u8) -> bool
 // The bytes up to a separator, or all where there is none, and what is behind it.
 #[inline(always)]
 pub(crate) fn split(text: &[u8], separator: u8) -> (&[u8], &[u8])
-    requires some { 0 < length text.now }
     ensures front { result.0.now ≡ take (field_length separator text.now) text.now }
     ensures behind { result.1.now ≡ drop (field_length separator text.now + 1) text.now }
     ensures within { length result.0.now ≤ length text.now }
     ensures size { length result.0.now ≡ field_length separator text.now }
-    ensures shorter { length result.1.now < length text.now }
+    ensures left { length result.1.now ≤ length text.now }
+    ensures shorter { 0 < length text.now → length result.1.now < length text.now }
 {
     let (front, end) = text.split_at(field_length(text, separator));
     if end.is_empty() {

@@ -1,11 +1,11 @@
-// Tables, as callers have them. proofs/TableRows.antt of the crate has more texts.
+// Tables, as callers have them. proofs/ColumnRows.antt of the crate has more texts.
 
 use crate::tests::answers;
 use lexical_parse_integer::format::STANDARD;
-use lexical_parse_integer::{Error, NumberFormat, NumberFormatBuilder, options};
+use lexical_parse_integer::{Error, options};
 use lexical_tables::{
     CellFault, Dialect, Numbers, Table, TableError, Target, after_lines, read_columns,
-    read_columns_part, read_table, read_table_part,
+    read_columns_part,
 };
 use std::alloc::{AllocError, Global};
 use std::slice;
@@ -30,87 +30,41 @@ fn table(rows: usize, stop: usize) -> Answer {
 
 // The first wrong cell.
 fn fault_in(row: usize, column: usize, fault: CellFault) -> Answer {
-    Err(TableError::InvalidCell { row, column, fault })
+    Err(TableError { row, column, fault })
 }
 
-// What is read of a text into room for two rows and a half, and what that then holds.
-fn read(text: &[u8], has_returns: bool, format: &NumberFormat) -> (Answer, [i16; 5]) {
-    let mut room = [9; 5];
-    let answer = read_table(
-        text,
-        &pairs(has_returns),
-        format,
-        &options::STANDARD,
-        &mut room,
-    );
-    (answer, room)
-}
-
-/// The numbers behind a header, in two columns, as far as there is room for their rows.
-fn read_pairs(text: &[u8], values: &mut [u64]) -> Answer {
-    let rows = &text[after_lines(text, 1)..];
-    read_table(rows, &pairs(false), &STANDARD, &options::STANDARD, values)
-}
-
-#[test]
-fn tables_in_room_for_two_rows(rt: HostRuntime) {
-    answers(
-        &rt,
-        read(b"1,-2\n30,4\nx", false, &STANDARD),
-        (table(2, 10), [1, -2, 30, 4, 9]),
-    );
-    answers(
-        &rt,
-        read(b"1,2\r\n3,4", true, &STANDARD),
-        (table(2, 8), [1, 2, 3, 4, 9]),
-    );
-    let radix = NumberFormatBuilder::from_radix(1);
-    let invalid = TableError::InvalidFormat(Error::InvalidMantissaRadix);
-    answers(&rt, read(b"1,2", false, &radix), (Err(invalid), [9; 5]));
+// What is read of a text whose first column is read, in room for three rows, and what that then holds.
+fn read(text: &[u8], has_returns: bool) -> (Answer, [i16; 3]) {
+    let mut numbers = [9; 3];
+    let mut target = Some(Target {
+        format: STANDARD,
+        numbers: Numbers::I16(&mut numbers),
+    });
+    let targets = slice::from_mut(&mut target);
+    let answer = read_columns(text, &pairs(has_returns), &options::STANDARD, 3, targets);
+    (answer, numbers)
 }
 
 #[test]
 fn first_wrong_cells(rt: HostRuntime) {
-    let letter = fault_in(1, 1, CellFault::NotNumber(Error::InvalidDigit(7)));
-    answers(
-        &rt,
-        read(b"1,2\n3,4x\n,", false, &STANDARD),
-        (letter, [1, 2, 3, 9, 9]),
-    );
+    answers(&rt, read(b"1,\n-30,x", false), (table(2, 8), [1, -30, 9]));
+    let letter = fault_in(1, 0, CellFault::NotNumber(Error::InvalidDigit(5)));
+    answers(&rt, read(b"1,2\n3x,4\n,", false), (letter, [1, 9, 9]));
     let few = fault_in(1, 1, CellFault::TooFewCells(5));
-    answers(
-        &rt,
-        read(b"1,2\n3\n", false, &STANDARD),
-        (few, [1, 2, 3, 9, 9]),
-    );
+    answers(&rt, read(b"1,2\n3\n", false), (few, [1, 3, 9]));
     let many = fault_in(0, 2, CellFault::TooManyCells(4));
-    answers(
-        &rt,
-        read(b"1,2,", false, &STANDARD),
-        (many, [1, 2, 9, 9, 9]),
-    );
+    answers(&rt, read(b"1,2,", false), (many, [1, 9, 9]));
     let lacks = fault_in(0, 2, CellFault::MissingReturn(3));
-    answers(
-        &rt,
-        read(b"1,2\n", true, &STANDARD),
-        (lacks, [1, 2, 9, 9, 9]),
-    );
+    answers(&rt, read(b"1,2\n", true), (lacks, [1, 9, 9]));
 }
 
 #[test]
 fn a_header_is_stepped_over(rt: HostRuntime) {
-    let mut values = [0; 4];
-    answers(
-        &rt,
-        read_pairs(b"width,\"height\n1,2\n", &mut values),
-        table(1, 4),
-    );
-    answers(&rt, values, [1, 2, 0, 0]);
-    answers(
-        &rt,
-        [after_lines(b"a\nb", 2), after_lines(b"a\n\n", 1)],
-        [3, 2],
-    );
+    let text = b"width,\"height\n1,2\n";
+    let start = after_lines(text, 1);
+    answers(&rt, start, 14);
+    answers(&rt, read(&text[start..], false), (table(1, 4), [1, 9, 9]));
+    answers(&rt, [after_lines(b"a\nb", 2), after_lines(b"a\n\n", 1)], [3, 2]);
 }
 
 /// The first and the third of three columns, for as many rows as both slices have room for.
@@ -160,28 +114,14 @@ fn columns_go_into_slices_of_their_own(rt: HostRuntime) -> Result<(), Fail> {
 
 #[test]
 fn a_part_has_whole_rows(rt: HostRuntime) {
-    let mut values = [0; 4];
-    let part = b"1,2\n3,4";
-    let options = &options::STANDARD;
-    let answer = read_table_part::<u64>(
-        part,
-        false,
-        &pairs(false),
-        &STANDARD,
-        options,
-        &mut values,
-    );
-    answers(&rt, answer, table(1, 4));
-    let answer = read_table_part::<u64>(part, true, &pairs(false), &STANDARD, options, &mut values);
-    answers(&rt, answer, table(2, 7));
-    answers(&rt, values, [1, 2, 3, 4]);
     let mut column = [9_u8; 3];
     let mut target = Some(Target {
         format: STANDARD,
         numbers: Numbers::U8(&mut column),
     });
     let targets = slice::from_mut(&mut target);
-    let answer = read_columns_part(part, false, &pairs(false), options, 3, targets);
+    let options = &options::STANDARD;
+    let answer = read_columns_part(b"1,2\n3,4", false, &pairs(false), options, 3, targets);
     answers(&rt, answer, table(1, 4));
     answers(&rt, column, [1, 9, 9]);
 }

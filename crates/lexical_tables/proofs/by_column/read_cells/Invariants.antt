@@ -8,7 +8,7 @@ use Rattle.lexical_tables.proofs.by_column.read_cells.Given as goal
 abbrev pub invariant-loop-column : goal.invariant-loop-column
 invariant-loop-column l =
     IsRowPut (kinds_of (views_of l.initial.targets)) l.dialect l.index (view_of_row l.row) (views_of l.initial.targets)
-    (views_of l.targets) l.column l.rest
+    (views_of l.targets) l.column l.ended l.rest
 
 abbrev pub decreases-loop-column : goal.decreases-loop-column
 decreases-loop-column l = l.dialect.columns - l.column
