@@ -1,12 +1,12 @@
 -- A table whose columns go into targets, one row after another.
-use Rattle.std.proofs.Common.{◌≡◌, ◌∙◌, ℕ, suc, ◌+◌, ◌-◌, ◌<◌, ◌≤◌, List, [], ◌∷◌, length, take, drop, map, cond, ℤ, Result, Option, Some, None, Ok, Err, refl, ap, ap₂, sym, subst, arith, inl, inr, ◌⊎◌}
+use Rattle.std.proofs.Common.{◌≡◌, ◌∙◌, ℕ, suc, ◌+◌, ◌-◌, ◌<◌, ◌≤◌, List, [], ◌∷◌, length, take, drop, map, cond, Result, Option, Some, None, Ok, Err, refl, ap, ap₂, sym, subst, arith, inl, inr, ◌⊎◌}
 use Rattle.std.specs.Prelude.{IfOk, is_none}
 use Rattle.std.proofs.lemmas.List.{drop_all, drop-drop, take_all}
 use Rattle.lexical_fields.specs.Columns.{next_start}
-use Rattle.lexical_fields.specs.Fields.{FieldView, field_length, fields, fields_from}
+use Rattle.lexical_fields.specs.Fields.{field_length, fields, fields_from}
 use Rattle.lexical_fields.specs.ReadSoFar.{left_of}
 use Rattle.lexical_fields.proofs.ColumnSteps.{start_of_left, tail_goes}
-use Rattle.lexical_tables.specs.ByColumn.{AreUsable, Kind, StopsAt, columns_answer, columns_put, first_fault, first_of, kinds_of, put_row, put_rows, row_fault, row_values, unless, values_to_fault}
+use Rattle.lexical_tables.specs.ByColumn.{AreUsable, StopsAt, columns_answer, columns_put, first_fault, first_of, kinds_of, put_row, put_rows, row_fault, row_values, unless, values_to_fault}
 use Rattle.lexical_tables.specs.Rows.{RowView, line_feed, row_of, rows}
 use Rattle.lexical_tables.specs.Targets.{TargetView}
 use Rattle.lexical_tables.specs.declared.answers.Table.{Table}

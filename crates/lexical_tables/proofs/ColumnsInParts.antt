@@ -1,10 +1,10 @@
 -- What is read of the columns of a text that is cut.
-use Rattle.std.proofs.Common.{◌≡◌, ◌∙◌, ℕ, zero, suc, ◌+◌, List, [], ◌∷◌, ◌++◌, length, take, drop, map, cond, true, false, Bool, ℤ, Result, Option, Some, None, Ok, Err, refl, ap, ap₂, sym, arith, append_assoc, length-take-le}
+use Rattle.std.proofs.Common.{◌≡◌, ◌∙◌, ℕ, zero, suc, ◌+◌, List, [], ◌∷◌, ◌++◌, length, take, drop, map, cond, true, false, Bool, ℤ, Result, Option, Some, None, Ok, Err, refl, ap, ap₂, sym, arith, length-take-le}
 use Rattle.std.specs.Prelude.{is_none, nat_lt, option_map}
 use Rattle.std.proofs.lemmas.List.{length-map}
 use Rattle.lexical_util.specs.declared.error.Error.{Error}
 use Rattle.lexical_fields.specs.Columns as columns
-use Rattle.lexical_fields.specs.Fields.{FieldView, fields_from}
+use Rattle.lexical_fields.specs.Fields.{FieldView}
 use Rattle.lexical_fields.specs.Parts.{whole_fields}
 use Rattle.lexical_fields.specs.Places.{error_in_text, in_text}
 use Rattle.lexical_fields.specs.ReadFields.{field_answer}

@@ -1,8 +1,6 @@
 -- Targets, with one number more.
-use Rattle.std.proofs.Common.{◌≡◌, ◌∙◌, ℕ, zero, suc, ◌+◌, ◌<◌, ◌≤◌, List, [], ◌∷◌, ◌++◌, length, take, drop, set, get_or, map, ℤ, Result, Option, Some, None, Ok, Err, refl, ap, ap₂, sym, arith, length-set}
+use Rattle.std.proofs.Common.{◌≡◌, ℕ, zero, suc, ◌<◌, ◌≤◌, List, [], ◌∷◌, ◌++◌, length, take, drop, set, get_or, ℤ, Option, Some, None, Ok, refl, ap, ap₂, sym, arith, length-set}
 use Rattle.std.specs.Prelude.{option_map}
-use Rattle.lexical_util.specs.declared.error.Error.{Error}
-use Rattle.lexical_util.specs.Validity.{fault}
 use Rattle.lexical_fields.specs.Fields.{FieldView}
 use Rattle.lexical_tables.specs.ByColumn.{AreUsable, IsUsable, Kind, answer_as, answer_at, cell_answers, kind_of, kinds_of, put_at, put_number, put_row}
 use Rattle.lexical_tables.specs.Targets.{TargetView}

@@ -1,9 +1,9 @@
 -- The rows of a text that is cut.
-use Rattle.std.proofs.Common.{◌≡◌, ◌∙◌, ℕ, suc, ◌+◌, ◌==◌, ◌&&◌, ◌||◌, ◌-◌, ◌<◌, ◌≤◌, List, [], ◌∷◌, ◌++◌, length, take, drop, map, Bool, true, false, not, cond, Result, Option, Some, None, Ok, Err, refl, ap, ap₂, sym, subst, arith, inl, inr, append_assoc, length-append, length-drop, length-take-le}
-use Rattle.std.specs.Prelude.{is_none, option_map, nat_lt}
+use Rattle.std.proofs.Common.{◌≡◌, ◌∙◌, ℕ, suc, ◌+◌, ◌==◌, ◌&&◌, ◌-◌, ◌<◌, ◌≤◌, List, [], ◌∷◌, ◌++◌, length, take, drop, map, Bool, true, false, not, cond, refl, ap, ap₂, sym, subst, arith, inl, inr, length-append, length-drop, length-take-le}
+use Rattle.std.specs.Prelude.{nat_lt}
 use Rattle.std.specs.List.{list_any}
 use Rattle.std.proofs.lemmas.Bool.{cases_lt, le-ltb, lt-ltb}
-use Rattle.std.proofs.lemmas.List.{append-nil, map-append}
+use Rattle.std.proofs.lemmas.List.{map-append}
 use Rattle.lexical_fields.specs.Fields.{FieldView, fields, fields_from, onto_field}
 use Rattle.lexical_fields.specs.Parts.{whole_fields}
 use Rattle.lexical_fields.proofs.FieldsInParts.{either, here, on, split, whole_here, whole_none, whole_on}

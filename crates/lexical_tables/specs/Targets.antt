@@ -1,5 +1,5 @@
 -- Where the numbers of a table's columns go.
-use Rattle.std.specs.Prelude.{ℕ, ℤ, pos, true, false, List, map, set, option_map, Option, Some, None, Result, Ok, Err}
+use Rattle.std.specs.Prelude.{ℕ, ℤ, pos, true, false, List, map, set, Option, Some, None, Result, Ok, Err}
 use Rattle.lexical_util.specs.declared.error.Error.{Error}
 use Rattle.lexical_util.specs.Format.{Format}
 use Rattle.lexical_util.specs.Number.{IntegerType, integer_type}

@@ -1,4 +1,4 @@
-use Rattle.std.proofs.Common.{◌+◌, ◌<◌, ◌≤◌, length, arith, refl, sym, ◌∙◌}
+use Rattle.std.proofs.Common.{◌+◌, ◌<◌, ◌≤◌, length, arith, ◌∙◌}
 use Rattle.std.proofs.lemmas.Bool.Decides.{nat_tests}
 use Rattle.lexical_fields.specs.Fields.{FieldView}
 use Rattle.lexical_tables.proofs.CellSteps.{beyond_fault, beyond_same, fault_told, no_fault, target_usable, target_valid, targets_same, targets_told}

@@ -1,4 +1,4 @@
-use Rattle.std.proofs.Common.{◌<◌, ◌≤◌, inl, inr, length, arith, rules, refl, sym, ap, ◌∙◌}
+use Rattle.std.proofs.Common.{inl, inr, arith, rules, refl}
 use Rattle.std.proofs.lemmas.Bool.Decides.{nat_tests}
 use Rattle.lexical_tables.specs.ByColumn.{kinds_of, views_of}
 use Rattle.lexical_tables.specs.Rows.{view_of_row}

@@ -1,6 +1,6 @@
-use Rattle.std.proofs.Common.{◌<◌, ◌≤◌, inl, inr, length, arith, refl, sym, ap, ◌∙◌}
+use Rattle.std.proofs.Common.{◌<◌, inl, inr, length, arith, refl, sym}
 use Rattle.std.proofs.lemmas.Bool.Decides.{nat_tests}
-use Rattle.lexical_tables.specs.ByColumn.{kinds_of, views_of}
+use Rattle.lexical_tables.specs.ByColumn.{views_of}
 use Rattle.lexical_tables.specs.Rows.{view_of_row}
 use Rattle.lexical_tables.proofs.ColumnTables.{row_usable, table_ends, table_fault, table_goes, table_starts}
 use Rattle.lexical_tables.proofs.by_column.read_columns.Goals.{then-loop-count-test+else-not-is_empty, else-loop-count-test}
