@@ -531,6 +531,8 @@ jadvolni_result jadvolni_parse_literal(const char *text, size_t len, const jadvo
  *
  * Any byte may be the separator, also one that the format gives a meaning: the text is cut first, and
  * then each field is read whole. "2026-11-23" as u16 between '-' is 2026, 11 and 23.
+ * A table isn't one column: between ',' the text "1,2\n3,4" has the field "2\n3". Hand over a line
+ * at a time.
  *
  * A FILE IN BLOCKS. The end of a text ends its last field, so a file that is handed over block by
  * block GIVES WRONG NUMBERS, WITH JADVOLNI_OK: "12" and "34\n" are 12 and 34, where the file has 1234.

@@ -9,3 +9,4 @@ mod parted;
 mod presets;
 mod reference;
 mod small;
+mod texts;

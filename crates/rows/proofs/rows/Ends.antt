@@ -134,6 +134,7 @@ later_bytes_complete = refl
 later_bytes_partial : Answers partial (
     (standard, u8, codes "2567", Err (Overflow 2)) ∷
     (standard, u8, codes "256abc", Err (Overflow 2)) ∷
+    (standard, u8, codes "2566x", Err (Overflow 2)) ∷
     (standard, u64, codes "18446744073709551616", Err (Overflow 19)) ∷
     (standard, u64, codes "18446744073709551616 }, {\"Key\", \"Value\"}}", Err (Overflow 19)) ∷
     [])

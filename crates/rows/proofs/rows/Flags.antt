@@ -61,6 +61,7 @@ internal_partial : Answers partial (
     (record standard { digit_separator = Some 95; integer_internal_digit_separator = true }, i64, codes "+123__", Ok (pos 123, 4)) ∷
     (record standard { digit_separator = Some 95; integer_internal_digit_separator = true }, i64, codes "_1_", Err (Empty 0)) ∷
     (record standard { digit_separator = Some 95; integer_internal_digit_separator = true }, i64, codes "1_1_23", Ok (pos 1123, 6)) ∷
+    (record standard { digit_separator = Some 95; integer_internal_digit_separator = true }, i64, codes "1__2", Ok (pos 1, 1)) ∷
     (record standard { digit_separator = Some 95; integer_internal_digit_separator = true }, i64, codes "1_1__23", Ok (pos 11, 3)) ∷
     (record standard { digit_separator = Some 95; integer_internal_digit_separator = true }, i64, codes "1_1_23_", Ok (pos 1123, 6)) ∷
     (record standard { digit_separator = Some 95; integer_internal_digit_separator = true }, i64, codes "1_1_23.", Ok (pos 1123, 6)) ∷

@@ -4,6 +4,7 @@ use super::formats::{
     BYTE_ZERO, CONSECUTIVE, INTERNAL, LEADING, LITERALS, NO_PLUS, NO_ZEROS, PREFIX, PREFIX_CASE,
     SEPARATOR, SIGN, SUFFIX, SUFFIX_CASE, TRAILING, format_of,
 };
+use super::texts::{put, put_front};
 use lexical_parse_integer::NumberFormat;
 use std::process::Abort;
 
@@ -15,12 +16,9 @@ const KINDS: [Kind; 7] = [U8, I8, U32, I32, U64, I64, I128];
 
 // The text with another byte at this place.
 fn changed(text: &[u8], place: usize, byte: u8) -> [u8; LENGTH] {
-    let mut changed = [byte; LENGTH];
-    for (k, (new, old)) in changed.iter_mut().zip(text).enumerate() {
-        if k != place {
-            *new = *old;
-        }
-    }
+    let mut changed = [0; LENGTH];
+    put_front(&mut changed, text);
+    put(&mut changed, place, byte);
     changed
 }
 

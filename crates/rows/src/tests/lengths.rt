@@ -4,6 +4,7 @@ use super::compare::{I32, I64, KINDS, Kind, U64, agrees};
 use super::formats::{
     INTERNAL, LITERALS, NO_PLUS, NO_ZEROS, PREFIX, SEPARATOR, SIGN, SUFFIX, format_of,
 };
+use super::texts::put;
 use lexical_parse_integer::NumberFormat;
 use std::process::Abort;
 
@@ -20,9 +21,7 @@ const BYTES: [u8; 14] = *b"+-/:09.aAx_\x00\xb1\xff";
 fn text_of(fill: u8, first: u8, place: usize, byte: u8) -> [u8; LONGEST] {
     let mut text = [fill; LONGEST];
     text[0] = first;
-    if let Some(changed) = text.get_mut(place) {
-        *changed = byte;
-    }
+    put(&mut text, place, byte);
     text
 }
 

@@ -4,19 +4,20 @@ use super::compare::{I32, I64, I128, Kind, U8, U32, U64, agrees};
 use super::formats::{
     CONSECUTIVE, INTERNAL, LITERALS, NO_ZEROS, PREFIX, PREFIX_CASE, SEPARATOR, SUFFIX, format_of,
 };
+use super::texts::{put, put_front};
 use lexical_parse_integer::NumberFormat;
 use std::process::Abort;
 
 const LONGEST: usize = 24;
 
-// The number of digits between two separators that stands for no separators at all.
+// More digits between two separators than a text has: no separators.
 const NONE: usize = 100;
 
 // Ones, with a separator before each so many bytes, counted from a length.
 fn ones(every: usize, length: usize) -> [u8; LONGEST] {
     let mut text = [b'1'; LONGEST];
     for (place, byte) in text.iter_mut().enumerate() {
-        if every > 0 && every < NONE && place % every == length % every {
+        if every > 0 && place % every == length % every {
             *byte = b'_';
         }
     }
@@ -25,29 +26,24 @@ fn ones(every: usize, length: usize) -> [u8; LONGEST] {
 
 // The text with these bytes at its front.
 fn headed(mut text: [u8; LONGEST], head: &[u8]) -> [u8; LONGEST] {
-    for (byte, first) in text.iter_mut().zip(head) {
-        *byte = *first;
-    }
+    put_front(&mut text, head);
     text
 }
 
-// Ones behind some bytes, with a run of separators at a place, and one more separator behind three digits.
-fn with_run(head: &[u8], place: usize, run: usize, more: usize) -> [u8; LONGEST] {
-    let mut text = headed(ones(NONE, 0), head);
-    for byte in text.iter_mut().skip(place).take(run) {
-        *byte = b'_';
-    }
-    for byte in text.iter_mut().skip(place.saturating_add(4)).take(more) {
-        *byte = b'_';
-    }
+// Ones behind some bytes, with separators at two places.
+fn with_two(head: &[u8], place: usize, other: usize) -> [u8; LONGEST] {
+    let mut text = headed([b'1'; LONGEST], head);
+    put(&mut text, place, b'_');
+    put(&mut text, other, b'_');
     text
 }
 
 // Texts of one length: one separator, two side by side, and two with digits between them.
 fn of_length(rt: &impl Abort, kind: Kind, format: &NumberFormat, head: &[u8], length: usize) {
     for place in 0..length {
-        for (run, more) in [(1, 0), (2, 0), (1, 1)] {
-            if let Some(text) = with_run(head, place, run, more).get(..length) {
+        for behind in [0, 1, 4] {
+            let other = place.saturating_add(behind);
+            if let Some(text) = with_two(head, place, other).get(..length) {
                 agrees(rt, kind, format, text);
             }
         }
@@ -78,9 +74,7 @@ fn with_each_byte_changed(rt: &impl Abort, kind: Kind, format: &NumberFormat, te
     for place in 0..text.len() {
         for byte in [b'0', b'9', b'_', b'x'] {
             let mut changed = headed([b'1'; LONGEST], text);
-            if let Some(to) = changed.get_mut(place) {
-                *to = byte;
-            }
+            put(&mut changed, place, byte);
             if let Some(changed) = changed.get(..text.len()) {
                 agrees(rt, kind, format, changed);
             }
