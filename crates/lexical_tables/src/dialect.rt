@@ -5,7 +5,7 @@
 pub struct Dialect {
     /// The byte between two cells of a row. It may be any byte, but within a row no line feed is left.
     pub separator: u8,
-    /// How many cells each row has. With 0 no row is read.
+    /// How many cells each row has. An empty row has one, which is empty: so with 0 each row has one too many.
     pub columns: usize,
     /// Whether a carriage return stands before each line feed. Without it a return is a byte of its cell.
     pub has_returns: bool,
