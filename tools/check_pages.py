@@ -136,8 +136,8 @@ def code_words(top: str, names: list[str]) -> set[str]:
     for name in names:
         comment = CODE_COMMENTS.get(posixpath.splitext(name)[1])
         if comment and name.startswith(CODE_FOLDERS):
-            with open(os.path.join(top, name), encoding="utf-8") as file:
-                found.update(re.findall(r"\w+", re.sub(f"{comment}.*", "", file.read())))
+            code = re.sub(f"{comment}.*", "", source.read(os.path.join(top, name)))
+            found.update(re.findall(r"\w+", code))
     return found
 
 
@@ -207,12 +207,10 @@ def too_long(words: dict[str, int]) -> list[str]:
 
 def wrong_versions(top: str) -> list[str]:
     """The files whose version isn't that of the changelog."""
-    def text_of(name: str) -> str:
-        with open(os.path.join(top, name), encoding="utf-8") as file:
-            return file.read()
-
-    wanted = set(re.findall(r"(?m)^## (\S+)", text_of("CHANGELOG.md"))[:1])
-    found = {name: set(re.findall(r'"(\d+\.\d+\.\d+)"', text_of(name))) for name in VERSIONED}
+    changes = source.read(os.path.join(top, "CHANGELOG.md"))
+    wanted = set(re.findall(r"(?m)^## (\S+)", changes)[:1])
+    found = {name: set(re.findall(r'"(\d+\.\d+\.\d+)"', source.read(os.path.join(top, name))))
+             for name in VERSIONED}
     return [f"{name}: its version is {' and '.join(sorted(it)) or 'missing'}, "
             f"and that of CHANGELOG.md {' '.join(wanted) or 'missing'}"
             for name, it in found.items() if it != wanted or not it]

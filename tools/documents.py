@@ -51,9 +51,9 @@ class Unfit(Exception):
 
 def files_of(top: str) -> list[str]:
     """Every file of the repository, but what .gitignore leaves out."""
-    with open(os.path.join(top, ".gitignore"), encoding="utf-8") as file:
-        lines = [line.strip().strip("/") for line in file if not line.startswith("#")]
-    ignored = [".git", *filter(None, lines)]
+    lines = source.read(os.path.join(top, ".gitignore")).splitlines()
+    patterns = [line.strip().strip("/") for line in lines if not line.startswith("#")]
+    ignored = [".git", *filter(None, patterns)]
 
     def is_ours(name: str) -> bool:
         return not any(fnmatch.fnmatch(name, pattern) for pattern in ignored)
@@ -67,8 +67,8 @@ def files_of(top: str) -> list[str]:
 
 def crates_of(top: str) -> list[str]:
     """The crates of crates.txt, in its order."""
-    with open(os.path.join(top, "crates.txt"), encoding="utf-8") as file:
-        lines = [line.split("#")[0].strip() for line in file]
+    text = source.read(os.path.join(top, "crates.txt"))
+    lines = [line.split("#")[0].strip() for line in text.splitlines()]
     return [line.split(":")[0].split()[0] for line in lines if line]
 
 

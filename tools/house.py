@@ -12,7 +12,7 @@
 - The word readers are lanes of std::simd, and name none of the four functions on whole words. No
   contract can say this, since both ways give the same answers.
 
-It reads all but the folders that runs make. Needs Python 3.8 and nothing else.
+It reads all but what runs make.
 """
 from __future__ import annotations
 
@@ -22,10 +22,10 @@ import re
 import sys
 from typing import Iterable, Iterator, List, Tuple
 
-TOP = os.path.dirname(os.path.dirname(os.path.abspath(__file__)))
+import source
+from documents import TOP, files_of
+
 COLUMNS, LINES, FILES = 100, 800, 40
-# The folders that no clone has.
-MADE = (".git", ".mypy_cache", "__pycache__", "build", "out", "target")
 CLAUSE = re.compile(r"\s*(?:(?:requires|ensures|invariant|decreases)\b|ghost \w+\s*[:=])")
 COMMENT = re.compile(r"\s*(?:--|//)")
 INNER = re.compile(r"\blexical_parse_integer(?:\.|::)proofs(?:\.|::)(?!ForCallers\b)")
@@ -43,19 +43,9 @@ WHOLE_WORDS = re.compile(r"\b(?:is|parse)_[48]digits")
 Numbered = Tuple[int, str]
 
 
-def all_files() -> List[str]:
-    """The files of the repository, from its top."""
-    found = []
-    for at, folders, files in os.walk(TOP):
-        folders[:] = [name for name in folders if name not in MADE]
-        found += [os.path.relpath(os.path.join(at, name), TOP) for name in files]
-    return sorted(found)
-
-
 def lines_of(name: str) -> List[str]:
     """The lines of a file."""
-    with open(os.path.join(TOP, name), encoding="utf-8") as file:
-        return file.read().splitlines()
+    return source.read(os.path.join(TOP, name)).splitlines()
 
 
 def clause_lines(lines: List[str]) -> Iterator[Numbered]:
@@ -122,7 +112,7 @@ def other_readers() -> Iterator[str]:
 
 def main() -> int:
     """Prints what is found, and answers the exit status."""
-    names = all_files()
+    names = files_of(TOP)
     found = [*wide_lines(names), *long_files(names), *full_folders(names), *inner_proofs(names),
              *other_readers()]
     clauses = sum(bool(CLAUSE.match(line)) for name in names if name.endswith(".rt")

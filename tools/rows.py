@@ -41,14 +41,12 @@ def check_examples(path: str, rows: Iterable[Row]) -> None:
     """Ends the program where a document has no row for a line of a table that begins as a row does:
     `| complete | `FIELDS` | TYPE | `TEXT` | ANSWER |`."""
     answers = {row.question(): row.answer for row in rows}
-    with open(path, encoding="utf-8") as document:
-        lines = list(enumerate(document, 1))
-    for number, line in lines:
+    for number, line in enumerate(source.read(path).splitlines(), 1):
         if re.match(r"\| (complete|partial|format) \| ", line):
             try:
                 row = read_row(line.strip().strip("|").strip().replace("`", ""))
             except Bad as bad:
-                sys.exit(f"docs/{os.path.basename(path)}:{number}: {bad}: {line.rstrip()}")
+                sys.exit(f"docs/{os.path.basename(path)}:{number}: {bad}: {line}")
             if answers.get(row.question()) != row.answer:
                 sys.exit(f"docs/{os.path.basename(path)}:{number}: no row of tools/rows.txt")
 
@@ -56,9 +54,8 @@ def check_examples(path: str, rows: Iterable[Row]) -> None:
 def check_answers(path: str, rows: Iterable[Row]) -> None:
     """Ends the program where a document says `TEXT` is `ANSWER`, and no row says so."""
     told = {(row.text, row.answer.name, tuple(row.answer.numbers)) for row in rows}
-    with open(path, encoding="utf-8") as document:
-        found = re.findall(r"`([^`]*)` (?:is|\|) `(\w+)\(+([-\d, ]*)\)+`", document.read())
-    for text, name, numbers in found:
+    pattern = r"`([^`]*)` (?:is|\|) `(\w+)\(+([-\d, ]*)\)+`"
+    for text, name, numbers in re.findall(pattern, source.read(path)):
         if (text.encode(), name, tuple(map(int, numbers.split(", ")))) not in told:
             page = os.path.basename(path)
             sys.exit(f"docs/{page}: no row says that `{text}` is {name}({numbers})")
