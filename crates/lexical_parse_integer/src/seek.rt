@@ -52,7 +52,8 @@ fn run_stop(bytes: &[u8], format: &NumberFormat, place: usize) -> usize
     stop
 }
 
-// Whether leading runs may stand in the region: a region that starts at 2 or later starts behind a prefix.
+// Whether leading runs may stand in the region: one that starts at 2 or later starts behind a prefix, since a sign has one
+// byte at most.
 #[inline(always)]
 fn admits_leading(format: &NumberFormat, start: usize) -> bool
     ensures { result ≡ admits_leading format.now (starts_behind_prefix start) }
