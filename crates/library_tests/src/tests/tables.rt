@@ -64,7 +64,11 @@ fn a_header_is_stepped_over(rt: HostRuntime) {
     let start = after_lines(text, 1);
     answers(&rt, start, 14);
     answers(&rt, read(&text[start..], false), (table(1, 4), [1, 9, 9]));
-    answers(&rt, [after_lines(b"a\nb", 2), after_lines(b"a\n\n", 1)], [3, 2]);
+    answers(
+        &rt,
+        [after_lines(b"a\nb", 2), after_lines(b"a\n\n", 1)],
+        [3, 2],
+    );
 }
 
 /// The first and the third of three columns, for as many rows as both slices have room for.
