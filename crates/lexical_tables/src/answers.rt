@@ -7,8 +7,8 @@ use lexical_parse_integer::Error;
 pub struct Table {
     /// How many rows were read.
     pub rows: usize,
-    /// The place in the text where reading stopped: its end, or the start of the first row for which the
-    /// slice had no room.
+    /// The place in the text where reading stopped: its end, or the start of the first row that wasn't
+    /// asked for.
     pub stop: usize,
 }
 
