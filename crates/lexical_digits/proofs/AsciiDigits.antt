@@ -21,7 +21,7 @@ abbrev pub ascii_value : ℕ → List ℕ → ℕ
 ascii_value radix [] = 0
 ascii_value radix (byte ∷ bytes) = (byte - 48) * radix ^ length bytes + ascii_value radix bytes
 
-pub digit_from : (r c : ℕ) → IsAsciiDigit r c → r ≤ 10 → digit c r ≡ Some (c - 48)
+pub digit_from : (r c : ℕ) → IsAsciiDigit r c → r ≤ 10 → digit r c ≡ Some (c - 48)
 digit_from r c d ten =
     let low = d.0 in
     let high = d.1 in
@@ -29,7 +29,7 @@ digit_from r c d ten =
     let small : nat_lt (c - 48) r ≡ true = lt-ltb (c - 48) r (omega arith) in
     ap (value_if_below r) value ∙ rw small refl
 
-pub digit_to : (r c : ℕ) → is_some (digit c r) ≡ true → r ≤ 10 → IsAsciiDigit r c
+pub digit_to : (r c : ℕ) → is_some (digit r c) ≡ true → r ≤ 10 → IsAsciiDigit r c
 digit_to r c t ten = grind (arith, nat_tests)
 
 pub ascii_from_digits : (r : ℕ) (bs : List ℕ) → r ≤ 10 → AreDigits r bs → AreAsciiDigits r bs

@@ -38,10 +38,10 @@ with_sign-step true v r d = ap (λ z. z -ℤ pos d) (neg-mul v r) ∙ sym (neg_�
 
 -- each byte is a digit, with these values
 abbrev pub HaveDigits : ℕ → List ℕ → List ℕ → Type 0
-HaveDigits r bytes ds = map (λ byte. digit byte r) bytes ≡ map Some ds
+HaveDigits r bytes ds = map (λ byte. digit r byte) bytes ≡ map Some ds
 
 pub digits_size : (r : ℕ) (bytes ds : List ℕ) → HaveDigits r bytes ds → length bytes ≡ length ds
-digits_size r bytes ds all = sym (length-map bytes (λ byte. digit byte r)) ∙ ap length all ∙ length-map ds Some
+digits_size r bytes ds all = sym (length-map bytes (λ byte. digit r byte)) ∙ ap length all ∙ length-map ds Some
 
 -- a digit is below the radix
 pub digit_below : (r : ℕ) (o : Option ℕ) (d : ℕ) → value_if_below r o ≡ Some d → d < r

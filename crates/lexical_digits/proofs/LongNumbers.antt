@@ -86,14 +86,14 @@ pub have_are : (bytes ds : List ℕ) → HaveDigits 10 bytes ds → AreDigits 10
 have_are [] ds all = tt
 have_are (b ∷ bs) [] all = cc
 have_are (b ∷ bs) (d ∷ ds) all =
-    let here : digit b 10 ≡ Some d = cc in
+    let here : digit 10 b ≡ Some d = cc in
     let more : HaveDigits 10 bs ds = cc in
     (ap is_some here, have_are bs ds more)
 
-pub digit_worth : (byte d : ℕ) → digit byte 10 ≡ Some d → d ≡ byte - 48
+pub digit_worth : (byte d : ℕ) → digit 10 byte ≡ Some d → d ≡ byte - 48
 digit_worth byte d is =
     let ascii = digit_to 10 byte (ap is_some is) (omega arith) in
-    let told : digit byte 10 ≡ Some (byte - 48) = digit_from 10 byte ascii (omega arith) in
+    let told : digit 10 byte ≡ Some (byte - 48) = digit_from 10 byte ascii (omega arith) in
     cc
 
 pub have_values : (bytes ds : List ℕ) → HaveDigits 10 bytes ds → ds ≡ map (λ byte. byte - 48) bytes
@@ -101,7 +101,7 @@ have_values [] [] all = refl
 have_values [] (d ∷ ds) all = cc
 have_values (b ∷ bs) [] all = cc
 have_values (b ∷ bs) (d ∷ ds) all =
-    let here : digit b 10 ≡ Some d = cc in
+    let here : digit 10 b ≡ Some d = cc in
     let more : HaveDigits 10 bs ds = cc in
     ap (λ (e : ℕ). e ∷ ds) (digit_worth b d here) ∙ ap (λ (es : List ℕ). (b - 48) ∷ es) (have_values bs ds more)
 
@@ -147,7 +147,7 @@ more_digits t r b k count m text value next few s v step fits =
     let front : List ℕ = take k text in
     let behind : List ℕ = take count (drop k text) in
     let n : ℕ = positional_value r w.values in
-    let all : HaveDigits r front w.values = ap (map (λ byte. digit byte r)) (sym (take-length front)) ∙ w.digits in
+    let all : HaveDigits r front w.values = ap (map (λ byte. digit r byte)) (sym (take-length front)) ∙ w.digits in
     let more : HaveDigits r behind v.values = all_have r m behind v in
     let both : HaveDigits r (take (k + count) text) (w.values ++ v.values) = subst (λ (bs : List ℕ). HaveDigits r bs (w.values ++ v.values)) (sym (take-add k count text)) (joined_have r front behind w.values v.values all more) in
     let size : length v.values ≡ count = sym (digits_size r behind v.values more) ∙ length-take-le count (drop k text) few in

@@ -15,24 +15,24 @@ use Rattle.lexical_digits.proofs.DigitValues.{positional_value-append, HaveDigit
 use Rattle.lexical_digits.proofs.RadixFronts.{next_read}
 
 -- each of the 256 entries, by computing
-pub value_is : (c : ℕ) → c < 256 → get_or VALUES c 0 ≡ unwrap_or (digit c 16) 4294967296
-value_is c byte = eqb-true _ _ (agree_below_at (λ k. get_or VALUES k 0 == unwrap_or (digit k 16) 4294967296) (λ _. true) 256 c refl byte)
+pub value_is : (c : ℕ) → c < 256 → get_or VALUES c 0 ≡ unwrap_or (digit 16 c) 4294967296
+value_is c byte = eqb-true _ _ (agree_below_at (λ k. get_or VALUES k 0 == unwrap_or (digit 16 k) 4294967296) (λ _. true) 256 c refl byte)
 
 -- ---- sums
 
-pub value_small : (c : ℕ) → unwrap_or (digit c 16) 4294967296 ≤ 4294967296
-value_small c = by_value (digit c 16) refl
+pub value_small : (c : ℕ) → unwrap_or (digit 16 c) 4294967296 ≤ 4294967296
+value_small c = by_value (digit 16 c) refl
   where
-    by_value : (value : Option ℕ) → digit c 16 ≡ value → unwrap_or value 4294967296 ≤ 4294967296
+    by_value : (value : Option ℕ) → digit 16 c ≡ value → unwrap_or value 4294967296 ≤ 4294967296
     by_value None is = omega arith
     by_value (Some d) is = let low : d < 16 = digit_below 16 (digit_value c) d is in omega arith
 
 -- one byte more: where the sum stays below the limit, that is a digit
-pub next_joined : (k n v next : ℕ) (text : List ℕ) → (n < 4294967296 → WritesFront 16 text k (pos n)) → k < length text → v ≡ unwrap_or (digit (get_or text k 0) 16) 4294967296 → next ≡ n * 16 + v → next < 4294967296 →
+pub next_joined : (k n v next : ℕ) (text : List ℕ) → (n < 4294967296 → WritesFront 16 text k (pos n)) → k < length text → v ≡ unwrap_or (digit 16 (get_or text k 0)) 4294967296 → next ≡ n * 16 + v → next < 4294967296 →
     WritesFront 16 text (k + 1) (pos next)
-next_joined k n v next text before more is sum small = by_value (digit (get_or text k 0) 16) refl
+next_joined k n v next text before more is sum small = by_value (digit 16 (get_or text k 0)) refl
   where
-    by_value : (value : Option ℕ) → digit (get_or text k 0) 16 ≡ value → WritesFront 16 text (k + 1) (pos next)
+    by_value : (value : Option ℕ) → digit 16 (get_or text k 0) ≡ value → WritesFront 16 text (k + 1) (pos next)
     by_value None none = absurd (let large : v ≡ 4294967296 = is ∙ ap (λ o. unwrap_or o 4294967296) none in omega arith)
     by_value (Some d) some =
         let same : v ≡ d = is ∙ ap (λ o. unwrap_or o 4294967296) some in
@@ -59,7 +59,7 @@ value_below r [] [] all = let one = pow-zero r in omega arith
 value_below r [] (d ∷ ds) all = cc
 value_below r (c ∷ cs) [] all = cc
 value_below r (c ∷ cs) (d ∷ ds) all =
-    let is : digit c r ≡ Some d = cc in
+    let is : digit r c ≡ Some d = cc in
     let rest : HaveDigits r cs ds = cc in
     let low : d < r = digit_below r (digit_value c) d is in
     let power : r ^ suc (length ds) ≡ r ^ length ds * r = pow-suc r (length ds) in
@@ -71,7 +71,7 @@ first_have r (suc k) [] [] all = refl
 first_have r (suc k) [] (d ∷ ds) all = cc
 first_have r (suc k) (c ∷ cs) [] all = cc
 first_have r (suc k) (c ∷ cs) (d ∷ ds) all =
-    let is : digit c r ≡ Some d = cc in
+    let is : digit r c ≡ Some d = cc in
     let rest : HaveDigits r cs ds = cc in
     let more = first_have r k cs ds rest in
     cc
@@ -89,13 +89,13 @@ all_written r n text ds all worth =
     let size = digits_size r text ds all in
     record {
       values = ds;
-      digits = ap (map (λ byte. digit byte r)) (take-length text) ∙ all;
+      digits = ap (map (λ byte. digit r byte)) (take-length text) ∙ all;
       worth = ap pos worth;
       below = subst (λ (m : ℕ). positional_value r ds < r ^ m) (sym size) (value_below r text ds all);
     }
 
 pub all_have : (r n : ℕ) (text : List ℕ) (w : WritesFront r text (length text) (pos n)) → HaveDigits r text w.values
-all_have r n text w = ap (map (λ byte. digit byte r)) (sym (take-length text)) ∙ w.digits
+all_have r n text w = ap (map (λ byte. digit r byte)) (sym (take-length text)) ∙ w.digits
 
 -- of the digits of a text, the first so many
 first_worth : (r n k : ℕ) (text : List ℕ) (w : WritesFront r text (length text) (pos n)) → k ≤ length text → n / r ^ (length text - k) ≡ positional_value r (take k w.values)
@@ -113,7 +113,7 @@ first_worth r n k text w few =
 -- the digits of a front and of the rest
 pub joined_have : (r : ℕ) (front rest ds es : List ℕ) → HaveDigits r front ds → HaveDigits r rest es → HaveDigits r (front ++ rest) (ds ++ es)
 joined_have r front rest ds es all more =
-    map-append (λ byte. digit byte r) front rest ∙ ap (λ (os : List (Option ℕ)). os ++ map (λ byte. digit byte r) rest) all
+    map-append (λ byte. digit r byte) front rest ∙ ap (λ (os : List (Option ℕ)). os ++ map (λ byte. digit r byte) rest) all
     ∙ ap (λ (os : List (Option ℕ)). map Some ds ++ os) more ∙ sym (map-append Some ds es)
 
 take_less : (k m : ℕ) (bytes : List ℕ) → k ≤ m → take k (take m bytes) ≡ take k bytes

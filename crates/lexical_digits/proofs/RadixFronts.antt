@@ -26,7 +26,7 @@ pub nothing_read : (r : ℕ) (text : List ℕ) (value : ℤ) → value ≡ pos 0
 nothing_read r text value none = record { values = []; digits = refl; worth = none; below = let one = pow-zero r in omega arith }
 
 -- one digit more
-pub next_read : (r k d : ℕ) (text : List ℕ) (value next : ℤ) → WritesFront r text k value → k < length text → digit (get_or text k 0) r ≡ Some d → next ≡ mul_add false value (pos r) (pos d) → WritesFront r text (k + 1) next
+pub next_read : (r k d : ℕ) (text : List ℕ) (value next : ℤ) → WritesFront r text k value → k < length text → digit r (get_or text k 0) ≡ Some d → next ≡ mul_add false value (pos r) (pos d) → WritesFront r text (k + 1) next
 next_read r k d text value next w more is step =
     let one : take (k + 1) text ≡ take k text ++ get_or text k 0 ∷ [] = take_more text k 0 more in
     let low : d < r = digit_below r (digit_value (get_or text k 0)) d is in
@@ -38,8 +38,8 @@ next_read r k d text value next w more is step =
     let spread : suc v * r ≡ v * r + r = grind arith in
     record {
       values = w.values ++ d ∷ [];
-      digits = ap (map (λ byte. digit byte r)) one ∙ map-append (λ byte. digit byte r) (take k text) (get_or text k 0 ∷ [])
-          ∙ ap (λ (os : List (Option ℕ)). os ++ digit (get_or text k 0) r ∷ []) w.digits ∙ ap (λ (o : Option ℕ). map Some w.values ++ o ∷ []) is ∙ sym (map-append Some w.values (d ∷ []));
+      digits = ap (map (λ byte. digit r byte)) one ∙ map-append (λ byte. digit r byte) (take k text) (get_or text k 0 ∷ [])
+          ∙ ap (λ (os : List (Option ℕ)). os ++ digit r (get_or text k 0) ∷ []) w.digits ∙ ap (λ (o : Option ℕ). map Some w.values ++ o ∷ []) is ∙ sym (map-append Some w.values (d ∷ []));
       worth = step ∙ ap (λ (z : ℤ). mul_add false z (pos r) (pos d)) w.worth ∙ ap pos (sym push);
       below = omega (arith, push, p, up, spread, low);
     }
@@ -52,5 +52,5 @@ pub front_fits : (t : IntegerType) (r o k : ℕ) (text : List ℕ) (value : ℤ)
 front_fits t r o k text value room positive few w = ap (is_number t) w.worth ∙ few_fit t false r o (positional_value r w.values) k room (never t.is_signed) positive few w.below
 
 -- the next number is one of the type, where a digit more is among so many
-pub next_fits : (t : IntegerType) (r o k d : ℕ) (text : List ℕ) (value next : ℤ) → HasRoom t r o → 1 ≤ r → WritesFront r text k value → k < length text → length text ≤ o → digit (get_or text k 0) r ≡ Some d → next ≡ mul_add false value (pos r) (pos d) → IsNumber t next
+pub next_fits : (t : IntegerType) (r o k d : ℕ) (text : List ℕ) (value next : ℤ) → HasRoom t r o → 1 ≤ r → WritesFront r text k value → k < length text → length text ≤ o → digit r (get_or text k 0) ≡ Some d → next ≡ mul_add false value (pos r) (pos d) → IsNumber t next
 next_fits t r o k d text value next room positive w more few is step = front_fits t r o (k + 1) text next room positive (omega arith) (next_read r k d text value next w more is step)

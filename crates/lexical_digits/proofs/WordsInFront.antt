@@ -14,10 +14,10 @@ use Rattle.lexical_digits.proofs.ShiftedWords.{IsShifted, ascii_bytes, padded_as
 use Rattle.lexical_digits.proofs.WordsOfDigits.{AllBytes, all_after, all_bytes, all_taken, bytes_after, all_dropped, bytes_again, digits_joined, holds_digits, value_joined, padded, padded_value, raised_none}
 
 -- a byte that is no decimal digit
-pub stop_none : (byte : ℕ) → byte < 256 → 10 ≤ (byte + 208) % 256 → is_some (digit byte 10) ≡ false
-stop_none byte below stops = by_test (is_some (digit byte 10)) refl
+pub stop_none : (byte : ℕ) → byte < 256 → 10 ≤ (byte + 208) % 256 → is_some (digit 10 byte) ≡ false
+stop_none byte below stops = by_test (is_some (digit 10 byte)) refl
   where
-    by_test : (b : Bool) → is_some (digit byte 10) ≡ b → b ≡ false
+    by_test : (b : Bool) → is_some (digit 10 byte) ≡ b → b ≡ false
     by_test false e = refl
     by_test true e =
         let d = digit_to 10 byte e (omega arith) in

@@ -12,7 +12,7 @@ word_bytes (suc count) word = word % 256 ∷ word_bytes count (word / 256)
 
 -- each byte is a digit of the radix
 abbrev pub AreDigits : ℕ → List ℕ → Type 0
-AreDigits radix bytes = AllByRecursion (λ byte. IsSome (digit byte radix)) bytes
+AreDigits radix bytes = AllByRecursion (λ byte. IsSome (digit radix byte)) bytes
 
 -- the number that ASCII digits write, the first worth the most: `0` is byte 48
 abbrev pub word_value : ℕ → List ℕ → ℕ

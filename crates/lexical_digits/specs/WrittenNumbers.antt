@@ -25,12 +25,12 @@ pub record WritesFirst (text : List ℕ) (number count : ℕ) : Type 0 where
   pub few : count ≤ 8
   pub within : count ≤ length text
   pub writes : WritesDecimal 0 (take count text) number
-  pub stops : count < 8 → count < length text → IsNone (digit (get_or text count 0) 10)
+  pub stops : count < 8 → count < length text → IsNone (digit 10 (get_or text count 0))
 
 -- So many bytes at the front of a text are digits of the radix, and write a number.
 pub record WritesFront (radix : ℕ) (text : List ℕ) (count : ℕ) (number : ℤ) : Type 0 where
   pub values : List ℕ
-  pub digits : map (λ byte. digit byte radix) (take count text) ≡ map Some values
+  pub digits : map (λ byte. digit radix byte) (take count text) ≡ map Some values
   pub worth : number ≡ pos (positional_value radix values)
   pub below : positional_value radix values < radix ^ count
 

@@ -19,7 +19,7 @@ const LIMIT: u64 = 1 << 32;
 #[inline(always)]
 #[tactic(auto, using(crate::proofs::NibbleBlocks::value_is))]
 fn value_or_more(byte: u8) -> u64
-    ensures { result ≡ unwrap_or (digit byte 16) 4294967296 }
+    ensures { result ≡ unwrap_or (digit 16 byte) 4294967296 }
 {
     VALUES[byte as usize]
 }

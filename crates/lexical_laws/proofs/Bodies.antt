@@ -15,11 +15,11 @@ StandsAt text start body = (k : ℕ) → k < length body → slice_get text (sta
 
 -- no separator is a digit
 abbrev pub NoDigit : Format → ℕ → Type 0
-NoDigit f r = (b : ℕ) → is_separator f b ≡ true → digit b r ≡ None
+NoDigit f r = (b : ℕ) → is_separator f b ≡ true → digit r b ≡ None
 
 -- each byte of a body is a separator or a digit
 abbrev pub EachFits : Format → ℕ → List ℕ → Type 0
-EachFits f r body = (k b : ℕ) → slice_get body k ≡ Some b → is_separator f b ≡ false → is_some (digit b r) ≡ true
+EachFits f r body = (k b : ℕ) → slice_get body k ≡ Some b → is_separator f b ≡ false → is_some (digit r b) ≡ true
 
 abbrev pub with_digit : Option ℕ → List ℕ → List ℕ
 with_digit None ds = ds
@@ -28,11 +28,11 @@ with_digit (Some d) ds = d ∷ ds
 -- the values of the digits among bytes
 abbrev pub values : ℕ → List ℕ → List ℕ
 values r [] = []
-values r (b ∷ body) = with_digit (digit b r) (values r body)
+values r (b ∷ body) = with_digit (digit r b) (values r body)
 
 -- what IsBody says of the bytes
 abbrev pub BytesAre : Format → ℕ → List ℕ → List ℕ → Type 0
-BytesAre f r body ds = map (λ byte. digit byte r) (filter (λ byte. not (is_separator f byte)) body) ≡ map Some ds
+BytesAre f r body ds = map (λ byte. digit r byte) (filter (λ byte. not (is_separator f byte)) body) ≡ map Some ds
 
 pub stands_first : (text : List ℕ) (start b : ℕ) (body : List ℕ) → StandsAt text start (b ∷ body) → slice_get text start ≡ Some b
 stands_first text start b body at = let e : start + 0 ≡ start = omega arith in let first = at 0 (omega arith) in rw e at first
@@ -40,7 +40,7 @@ stands_first text start b body at = let e : start + 0 ≡ start = omega arith in
 pub stands_rest : (text : List ℕ) (start b : ℕ) (body : List ℕ) → StandsAt text start (b ∷ body) → StandsAt text (start + 1) body
 stands_rest text start b body at k l = let e : start + suc k ≡ start + 1 + k = omega arith in let next = at (suc k) (omega arith) in rw e at next
 
-pub digit_at-some : (r : ℕ) (text : List ℕ) (k b : ℕ) → slice_get text k ≡ Some b → digit_at r text k ≡ digit b r
+pub digit_at-some : (r : ℕ) (text : List ℕ) (k b : ℕ) → slice_get text k ≡ Some b → digit_at r text k ≡ digit r b
 unfolding digit_at
 digit_at-some r text k b e = rw e refl
 
@@ -59,14 +59,14 @@ pub values_at : (r : ℕ) (text : List ℕ) (start : ℕ) (body : List ℕ) → 
 values_at r text start [] at = refl
 values_at r text start (b ∷ body) at =
     let rest = values_at r text (start + 1) body (stands_rest text start b body at) in
-    first_value r text start _ (digit b r) (digit_at-some r text start b (stands_first text start b body at)) ∙ ap (with_digit (digit b r)) rest
+    first_value r text start _ (digit r b) (digit_at-some r text start b (stands_first text start b body at)) ∙ ap (with_digit (digit r b)) rest
 
 -- the bytes that are no separators
 abbrev others : Format → List ℕ → List ℕ
 others f body = filter (λ byte. not (is_separator f byte)) body
 
 abbrev digits_of : ℕ → List ℕ → List (Option ℕ)
-digits_of r body = map (λ byte. digit byte r) body
+digits_of r body = map (λ byte. digit r byte) body
 
 -- the digits that a body has are the values of its bytes
 pub bytes_values : (f : Format) (r : ℕ) (body ds : List ℕ) → NoDigit f r → BytesAre f r body ds → values r body ≡ ds
@@ -75,11 +75,11 @@ bytes_values f r [] (d ∷ ds) none e = cc
 bytes_values f r (b ∷ body) ds none e = by_separator (is_separator f b) refl ds e (λ ds e. bytes_values f r body ds none e)
   where
     by_separator : (t : Bool) → is_separator f b ≡ t → (ds : List ℕ) → digits_of r (cond (not t) (b ∷ others f body) (others f body)) ≡ map Some ds →
-        ((ds : List ℕ) → BytesAre f r body ds → values r body ≡ ds) → with_digit (digit b r) (values r body) ≡ ds
+        ((ds : List ℕ) → BytesAre f r body ds → values r body ≡ ds) → with_digit (digit r b) (values r body) ≡ ds
     by_separator true s ds e more = rw (none b s) (more ds e)
     by_separator false s [] e more = cc
     by_separator false s (d ∷ ds) e more =
-        let here : digit b r ≡ Some d = cc in
+        let here : digit r b ≡ Some d = cc in
         rw here (ap (λ xs. d ∷ xs) (more ds (cc)))
 
 pub bytes_fit : (f : Format) (r : ℕ) (body ds : List ℕ) → BytesAre f r body ds → EachFits f r body
@@ -87,12 +87,12 @@ bytes_fit f r [] ds e k b here other = cc
 bytes_fit f r (c ∷ body) ds e k b here other = by_separator (is_separator f c) refl ds e k here (λ ds e k here. bytes_fit f r body ds e k b here) other
   where
     by_separator : (t : Bool) → is_separator f c ≡ t → (ds : List ℕ) → digits_of r (cond (not t) (c ∷ others f body) (others f body)) ≡ map Some ds → (k : ℕ) → slice_get (c ∷ body) k ≡ Some b →
-        ((ds : List ℕ) → BytesAre f r body ds → (k : ℕ) → slice_get body k ≡ Some b → is_separator f b ≡ false → is_some (digit b r) ≡ true) →
-        is_separator f b ≡ false → is_some (digit b r) ≡ true
+        ((ds : List ℕ) → BytesAre f r body ds → (k : ℕ) → slice_get body k ≡ Some b → is_separator f b ≡ false → is_some (digit r b) ≡ true) →
+        is_separator f b ≡ false → is_some (digit r b) ≡ true
     by_separator true s ds e zero here more other = let same : c ≡ b = cc in absurd (false≢true (sym other ∙ ap (is_separator f) (sym same) ∙ s))
     by_separator true s ds e (suc k) here more other = more ds e k here other
     by_separator false s [] e k here more other = cc
-    by_separator false s (d ∷ ds) e zero here more other = let same : c ≡ b = cc in let first : digit c r ≡ Some d = cc in ap (λ x. is_some (digit x r)) (sym same) ∙ ap is_some first
+    by_separator false s (d ∷ ds) e zero here more other = let same : c ≡ b = cc in let first : digit r c ≡ Some d = cc in ap (λ x. is_some (digit r x)) (sym same) ∙ ap is_some first
     by_separator false s (d ∷ ds) e (suc k) here more other = more ds (cc) k here other
 
 pub fitting_bytes : (f : Format) (r : ℕ) (body : List ℕ) → NoDigit f r → EachFits f r body → BytesAre f r body (values r body)
@@ -103,6 +103,6 @@ fitting_bytes f r (c ∷ body) none each = by_separator (is_separator f c) refl 
     by_digit None t rest = absurd (false≢true t)
     by_digit (Some d) t rest = ap (λ os. Some d ∷ os) rest
 
-    by_separator : (t : Bool) → is_separator f c ≡ t → BytesAre f r body (values r body) → digits_of r (cond (not t) (c ∷ others f body) (others f body)) ≡ map Some (with_digit (digit c r) (values r body))
+    by_separator : (t : Bool) → is_separator f c ≡ t → BytesAre f r body (values r body) → digits_of r (cond (not t) (c ∷ others f body) (others f body)) ≡ map Some (with_digit (digit r c) (values r body))
     by_separator true s rest = rw (none c s) rest
-    by_separator false s rest = by_digit (digit c r) (each 0 c refl s) rest
+    by_separator false s rest = by_digit (digit r c) (each 0 c refl s) rest

@@ -26,9 +26,9 @@ use Rattle.lexical_laws.proofs.ReadIsMade.{read_is_integer}
 
 -- the bytes are digits of these values
 abbrev HaveDigits : List ℕ → List ℕ → Type 0
-HaveDigits bytes ds = map (λ byte. digit byte 10) bytes ≡ map Some ds
+HaveDigits bytes ds = map (λ byte. digit 10 byte) bytes ≡ map Some ds
 
-digit_byte : (c d : ℕ) → digit c 10 ≡ Some d → (c ≡ 48 + d) × (d < 10)
+digit_byte : (c d : ℕ) → digit 10 c ≡ Some d → (c ≡ 48 + d) × (d < 10)
 digit_byte c d e = by_tests (is_between 48 57 c) (is_between 97 122 c) (is_between 65 90 c) refl refl refl e
   where
     too_great : (v : ℕ) → 10 ≤ v → value_if_below 10 (Some v) ≡ Some d → ⊥
@@ -46,7 +46,7 @@ digit_byte c d e = by_tests (is_between 48 57 c) (is_between 97 122 c) (is_betwe
     by_tests false false false a b c' e = cc
 
 digits_length : (bytes ds : List ℕ) → HaveDigits bytes ds → length bytes ≡ length ds
-digits_length bytes ds all = sym (length-map bytes (λ byte. digit byte 10)) ∙ ap length all ∙ length-map ds Some
+digits_length bytes ds all = sym (length-map bytes (λ byte. digit 10 byte)) ∙ ap length all ∙ length-map ds Some
 
 below : (bytes ds : List ℕ) → HaveDigits bytes ds → positional_value 10 ds < 10 ^ length ds
 below [] [] all = one-le-pow 0 10 (omega arith)
@@ -153,7 +153,7 @@ is_json t text v i =
       front = i.sign;
       parts = i.parts ∙ ap (λ xs. i.sign ++ (xs ++ (i.body ++ i.suffix))) prefix.0 ∙ ap (λ xs. i.sign ++ (i.body ++ xs)) suffix ∙ ap (λ xs. i.sign ++ xs) (append-nil i.body);
       sign = json_sign t i.sign i.is_negative i.sign_may;
-      all = sym (ap (map (λ byte. digit byte 10)) (json_others i.body)) ∙ sym (ap (λ r. map (λ byte. digit byte r) (filter (λ byte. not (is_separator json byte)) i.body)) prefix.1) ∙ i.body_may.bytes;
+      all = sym (ap (map (λ byte. digit 10 byte)) (json_others i.body)) ∙ sym (ap (λ r. map (λ byte. digit r byte) (filter (λ byte. not (is_separator json byte)) i.body)) prefix.1) ∙ i.body_may.bytes;
       some = i.enough refl;
       keeps = i.zeros refl prefix.0 refl;
       worth = i.worth ∙ ap (λ r. with_sign i.is_negative (positional_value r i.digits)) prefix.1;

@@ -29,7 +29,7 @@ SameBytes a b n = (k : ℕ) → k < n → slice_get a k ≡ slice_get b k
 
 pub same_digit : (r : ℕ) (a b : List ℕ) (k : ℕ) → slice_get a k ≡ slice_get b k → digit_at r a k ≡ digit_at r b k
 unfolding digit_at
-same_digit r a b k e = ap (option_and_then (λ byte. digit byte r)) e
+same_digit r a b k e = ap (option_and_then (λ byte. digit r byte)) e
 
 pub same_separator : (f : Format) (a b : List ℕ) (k : ℕ) → slice_get a k ≡ slice_get b k → separator_at f a k ≡ separator_at f b k
 unfolding separator_at

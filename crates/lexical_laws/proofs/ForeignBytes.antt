@@ -115,7 +115,7 @@ module _ (f : Format) (t : IntegerType) (text rest : List ℕ) (byte : ℕ) (val
   no_zero : are_same (Some 48) (Some byte) ≡ false
   unfolding are_same
   no_zero = elim (true_or_false (byte == 48)) [
-    | inl on ↦ (let is : byte ≡ 48 = grind (arith, nat_tests) in let none : digit byte 36 ≡ None = other.digit in absurd (let none' = rw is at none in cc))
+    | inl on ↦ (let is : byte ≡ 48 = grind (arith, nat_tests) in let none : digit 36 byte ≡ None = other.digit in absurd (let none' = rw is at none in cc))
     | inr off ↦ off
   ]
 
@@ -174,7 +174,7 @@ module _ (f : Format) (t : IntegerType) (text rest : List ℕ) (byte : ℕ) (val
     fit : IsFit f h.radix
     fit = let w = head_split f t text h head in head_fit f w.prefix w.more h valid w.prefixed
 
-    no_digit : digit byte h.radix ≡ None
+    no_digit : digit h.radix byte ≡ None
     no_digit = digit_below 36 h.radix byte (fit.is_radix.high) other.digit
 
     separator_off : separator_at f longer (length text) ≡ false
@@ -288,23 +288,23 @@ not_empty false false (Some k) at place size v e = cc
 not_empty false m None at place size v e = cc
 
 -- the first digit is one in the effective radix
-digit_in_force : (f : Format) (c : ℕ) (cs : List ℕ) → is_some (digit c f.mantissa_radix) ≡ true → is_some (digit c (bare_radix f (c ∷ cs) 0)) ≡ true
+digit_in_force : (f : Format) (c : ℕ) (cs : List ℕ) → is_some (digit f.mantissa_radix c) ≡ true → is_some (digit (bare_radix f (c ∷ cs) 0) c) ≡ true
 unfolding octal_zero_at are_same
 digit_in_force f c cs first = by_zero (f.literal_octal_zero && (c == 48)) refl
   where
-    by_zero : (b : Bool) → (f.literal_octal_zero && (c == 48)) ≡ b → is_some (digit c (cond b 8 f.mantissa_radix)) ≡ true
+    by_zero : (b : Bool) → (f.literal_octal_zero && (c == 48)) ≡ b → is_some (digit (cond b 8 f.mantissa_radix) c) ≡ true
     by_zero false e = first
     by_zero true e =
         let both = and_parts f.literal_octal_zero (c == 48) e in
         let is : c ≡ 48 = (let test = both.1 in grind (arith, nat_tests)) in
-        ap (λ b. is_some (digit b 8)) is
+        ap (λ b. is_some (digit 8 b)) is
 
-first_belongs : (f : Format) (pre : Bool) (r c : ℕ) (cs : List ℕ) → is_some (digit c r) ≡ true → is_in_numeral f pre r (c ∷ cs) 0 0 ≡ true
+first_belongs : (f : Format) (pre : Bool) (r c : ℕ) (cs : List ℕ) → is_some (digit r c) ≡ true → is_in_numeral f pre r (c ∷ cs) 0 0 ≡ true
 unfolding is_in_numeral digit_at
 first_belongs f pre r c cs first = rw first refl
 
 -- so the numeral has one
-some_digit : (f : Format) (pre : Bool) (r c : ℕ) (cs : List ℕ) → is_some (digit c r) ≡ true → (digit_count (numeral_in f pre r (c ∷ cs) 0) == 0) ≡ false
+some_digit : (f : Format) (pre : Bool) (r c : ℕ) (cs : List ℕ) → is_some (digit r c) ≡ true → (digit_count (numeral_in f pre r (c ∷ cs) 0) == 0) ≡ false
 unfolding numeral_in digits_between digit_at
 some_digit f pre r c cs first = by_end (end_of f pre r (c ∷ cs) 0) refl
   where
@@ -330,7 +330,7 @@ faults_are : (f : Format) (t : IntegerType) (text : List ℕ) (h : Head) (x : Nu
 unfolding range_fault
 faults_are f t text h x start some = rw (start, some, and-false h.is_prefixed, and-false (digits_required f)) refl
 
-pub digit_read : (f : Format) (t : IntegerType) (c : ℕ) (cs : List ℕ) → IsNone (fault f) → is_some (digit c f.mantissa_radix) ≡ true → f.base_prefix ≡ None → f.literal_prefixes ≡ false → partial f t (c ∷ cs) ≢ Err (Empty (length (c ∷ cs)))
+pub digit_read : (f : Format) (t : IntegerType) (c : ℕ) (cs : List ℕ) → IsNone (fault f) → is_some (digit f.mantissa_radix c) ≡ true → f.base_prefix ≡ None → f.literal_prefixes ≡ false → partial f t (c ∷ cs) ≢ Err (Empty (length (c ∷ cs)))
 unfolding head_of sign
 digit_read f t c cs valid first none unasked = by_flag f.required_mantissa_sign refl
   where

@@ -59,14 +59,14 @@ take_alike (suc n) [] more low = absurd (omega arith)
 take_alike (suc n) (b ∷ bs) more low = ap (λ xs. b ∷ xs) (take_alike n bs more (omega arith))
 
 module _ (ends : FrontEnds) (f : Format) (byte : ℕ) (rest : List ℕ) (valid : IsNone (fault f)) (parts : PartsTokens f byte) where
-  read_alike : (b : ℕ) (bs : List ℕ) → is_some (digit b f.mantissa_radix) ≡ true → partial f (integer_type 128 false) (b ∷ (bs ++ byte ∷ rest)) ≡ partial f (integer_type 128 false) (b ∷ bs)
+  read_alike : (b : ℕ) (bs : List ℕ) → is_some (digit f.mantissa_radix b) ≡ true → partial f (integer_type 128 false) (b ∷ (bs ++ byte ∷ rest)) ≡ partial f (integer_type 128 false) (b ∷ bs)
   unfolding digit_at
   read_alike b bs first = elim parts.ends [
     | inl w ↦ digit_is_same f (integer_type 128 false) (b ∷ bs) rest byte valid parts.foreign w.0 w.1 first
     | inr w ↦ asked_is_same f (integer_type 128 false) (b ∷ bs) rest byte valid parts.foreign w.0 w.1
   ]
 
-  number_alike : (b : ℕ) (bs : List ℕ) → is_some (digit b f.mantissa_radix) ≡ true → number_of f (b ∷ (bs ++ byte ∷ rest)) ≡ number_of f (b ∷ bs)
+  number_alike : (b : ℕ) (bs : List ℕ) → is_some (digit f.mantissa_radix b) ≡ true → number_of f (b ∷ (bs ++ byte ∷ rest)) ≡ number_of f (b ∷ bs)
   unfolding number_of
   number_alike b bs first =
       ap (number_by (b ∷ (bs ++ byte ∷ rest))) (read_alike b bs first)
@@ -77,9 +77,9 @@ module _ (ends : FrontEnds) (f : Format) (byte : ℕ) (rest : List ℕ) (valid :
       by_answer (Err e) = ap (λ n. (Fault e, n)) (word_alike byte rest (b ∷ bs) (skipped_no_word byte parts.skipped))
 
   front_alike : (b : ℕ) (bs : List ℕ) → front_of f (b ∷ (bs ++ byte ∷ rest)) ≡ front_of f (b ∷ bs)
-  front_alike b bs = by_tests (is_some (digit b f.mantissa_radix)) refl (is_word_byte b)
+  front_alike b bs = by_tests (is_some (digit f.mantissa_radix b)) refl (is_word_byte b)
     where
-      by_tests : (d : Bool) → is_some (digit b f.mantissa_radix) ≡ d → (w : Bool)
+      by_tests : (d : Bool) → is_some (digit f.mantissa_radix b) ≡ d → (w : Bool)
           → cond d (number_of f (b ∷ (bs ++ byte ∷ rest))) (cond w (Word, word_length (b ∷ (bs ++ byte ∷ rest))) (Byte, 1))
           ≡ cond d (number_of f (b ∷ bs)) (cond w (Word, word_length (b ∷ bs)) (Byte, 1))
       by_tests true first w = number_alike b bs first

@@ -149,21 +149,21 @@ module _ (f : Format) (case : IgnoresCase f) where
   other_bytes body xs ds r alike bytes = same_digits body xs alike ∙ bytes
     where
       digits : List ℕ → List (Option ℕ)
-      digits zs = map (λ byte. digit byte r) (filter (λ byte. not (is_separator f byte)) zs)
+      digits zs = map (λ byte. digit r byte) (filter (λ byte. not (is_separator f byte)) zs)
 
-      same_digits : (body xs : List ℕ) → AreAlike xs body → map (λ byte. digit byte r) (filter (λ byte. not (is_separator f byte)) xs) ≡ map (λ byte. digit byte r) (filter (λ byte. not (is_separator f byte)) body)
-      same_digits [] xs alike = ap (λ zs. map (λ byte. digit byte r) (filter (λ byte. not (is_separator f byte)) zs)) (empty_alike xs alike)
+      same_digits : (body xs : List ℕ) → AreAlike xs body → map (λ byte. digit r byte) (filter (λ byte. not (is_separator f byte)) xs) ≡ map (λ byte. digit r byte) (filter (λ byte. not (is_separator f byte)) body)
+      same_digits [] xs alike = ap (λ zs. map (λ byte. digit r byte) (filter (λ byte. not (is_separator f byte)) zs)) (empty_alike xs alike)
       same_digits (b ∷ body) [] alike = cc
       same_digits (b ∷ body) (x ∷ xs) alike = by_separator (is_separator f b) refl (same_digits body xs (cc))
         where
           first : lower_case x ≡ lower_case b
           first = cc
 
-          by_separator : (w : Bool) → is_separator f b ≡ w → map (λ byte. digit byte r) (filter (λ byte. not (is_separator f byte)) xs) ≡ map (λ byte. digit byte r) (filter (λ byte. not (is_separator f byte)) body) →
-              map (λ byte. digit byte r) (cond (not (is_separator f x)) (x ∷ filter (λ byte. not (is_separator f byte)) xs) (filter (λ byte. not (is_separator f byte)) xs))
-              ≡ map (λ byte. digit byte r) (cond (not (is_separator f b)) (b ∷ filter (λ byte. not (is_separator f byte)) body) (filter (λ byte. not (is_separator f byte)) body))
+          by_separator : (w : Bool) → is_separator f b ≡ w → map (λ byte. digit r byte) (filter (λ byte. not (is_separator f byte)) xs) ≡ map (λ byte. digit r byte) (filter (λ byte. not (is_separator f byte)) body) →
+              map (λ byte. digit r byte) (cond (not (is_separator f x)) (x ∷ filter (λ byte. not (is_separator f byte)) xs) (filter (λ byte. not (is_separator f byte)) xs))
+              ≡ map (λ byte. digit r byte) (cond (not (is_separator f b)) (b ∷ filter (λ byte. not (is_separator f byte)) body) (filter (λ byte. not (is_separator f byte)) body))
           by_separator true e rest = rw (same_separator x b first ∙ e, e) rest
-          by_separator false e rest = rw (same_separator x b first ∙ e, e) (ap (λ d. d ∷ map (λ byte. digit byte r) (filter (λ byte. not (is_separator f byte)) xs)) (digit-alike r x b first) ∙ ap (λ ds. digit b r ∷ ds) rest)
+          by_separator false e rest = rw (same_separator x b first ∙ e, e) (ap (λ d. d ∷ map (λ byte. digit r byte) (filter (λ byte. not (is_separator f byte)) xs)) (digit-alike r x b first) ∙ ap (λ ds. digit r b ∷ ds) rest)
 
   like_run : (n s : ℕ) (zs : List ℕ) → f.digit_separator ≡ Some s → AreAlike zs (replicate n s) → zs ≡ replicate n s
   like_run zero s zs set alike = empty_alike zs alike

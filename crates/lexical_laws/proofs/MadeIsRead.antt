@@ -35,7 +35,7 @@ use Rattle.lexical_laws.proofs.WhatIsRead.{answer_by, leaves_by, digit_at-none, 
 -- ---- bytes of a body and of its suffix
 
 -- each is a separator or a digit
-body_byte : (f : Format) (r : ℕ) (body ds : List ℕ) (k c : ℕ) → BytesAre f r body ds → slice_get body k ≡ Some c → (is_separator f c ≡ true) ⊎ (is_some (digit c r) ≡ true)
+body_byte : (f : Format) (r : ℕ) (body ds : List ℕ) (k c : ℕ) → BytesAre f r body ds → slice_get body k ≡ Some c → (is_separator f c ≡ true) ⊎ (is_some (digit r c) ≡ true)
 body_byte f r body ds k c bytes here = elim (true_or_false (is_separator f c)) [
   | inl t ↦ inl t
   | inr t ↦ inr (bytes_fit f r body ds bytes k c here t)
@@ -58,16 +58,16 @@ unfolding octal_zero_at
 octal_asked f body e = (and_parts f.literal_octal_zero _ e).0
 
 -- a digit of the effective radix without a prefix is one of the format's
-own_digit : (f : Format) (body : List ℕ) (c : ℕ) → fault f ≡ None → is_some (digit c (bare_radix f body 0)) ≡ true → is_some (digit c f.mantissa_radix) ≡ true
+own_digit : (f : Format) (body : List ℕ) (c : ℕ) → fault f ≡ None → is_some (digit (bare_radix f body 0) c) ≡ true → is_some (digit f.mantissa_radix c) ≡ true
 own_digit f body c valid d = by_zero (octal_zero_at f body 0) refl d
   where
-    by_digit : (o : Option ℕ) → digit c 10 ≡ o → is_some (digit c 8) ≡ true → is_some o ≡ true
+    by_digit : (o : Option ℕ) → digit 10 c ≡ o → is_some (digit 8 c) ≡ true → is_some o ≡ true
     by_digit None e d = absurd (false≢true (sym (ap is_some (digit_below 10 8 c (omega arith) e)) ∙ d))
     by_digit (Some x) e d = refl
 
-    by_zero : (o : Bool) → octal_zero_at f body 0 ≡ o → is_some (digit c (cond o 8 f.mantissa_radix)) ≡ true → is_some (digit c f.mantissa_radix) ≡ true
+    by_zero : (o : Bool) → octal_zero_at f body 0 ≡ o → is_some (digit (cond o 8 f.mantissa_radix) c) ≡ true → is_some (digit f.mantissa_radix c) ≡ true
     by_zero false e d = d
-    by_zero true e d = ap (λ r. is_some (digit c r)) (octal_zero_radix f valid (octal_asked f body e)) ∙ by_digit (digit c 10) refl d
+    by_zero true e d = ap (λ r. is_some (digit r c)) (octal_zero_radix f valid (octal_asked f body e)) ∙ by_digit (digit 10 c) refl d
 
 -- ---- the head
 

@@ -16,7 +16,7 @@ use Rattle.lexical_laws.specs.Integer.{is_separator}
 -- a byte is of a body or of a suffix
 abbrev pub MayFollow : Format → ℕ → Type 0
 MayFollow f c =
-    (is_separator f c ≡ true) ⊎ (is_some (digit c f.mantissa_radix) ≡ true)
+    (is_separator f c ≡ true) ⊎ (is_some (digit f.mantissa_radix c) ≡ true)
     ⊎ (is_affix f.case_sensitive_base_suffix f.base_suffix (Some c) ≡ true)
 
 pub separator_is : (f : Format) (c : ℕ) → is_separator f c ≡ true → f.digit_separator ≡ Some c
@@ -58,15 +58,15 @@ no_own_prefix f c valid (inr (inr u)) m set alike =
 
 -- nor the letter of a literal prefix
 unfit_letter : (o : Option ℕ) (m : ℕ) → is_unfit_beside_literals o ≡ false → o ≡ Some m → is_literal_letter m ≡ false
-unfit_letter o m fit set = let fit' = rw set at fit in (or_parts (is_some (digit m 16)) _ fit').1
+unfit_letter o m fit set = let fit' = rw set at fit in (or_parts (is_some (digit 16 m)) _ fit').1
 
 letter_alike : (c m : ℕ) → lower_case c ≡ lower_case m → is_literal_letter c ≡ is_literal_letter m
 letter_alike c m alike = rw alike refl
 
-letter_no_digit : (c l : ℕ) → lower_case c ≡ l → lower_case l ≡ l → digit l 10 ≡ None → digit c 10 ≡ None
+letter_no_digit : (c l : ℕ) → lower_case c ≡ l → lower_case l ≡ l → digit 10 l ≡ None → digit 10 c ≡ None
 letter_no_digit c l alike same none = digit-alike 10 c l (alike ∙ sym same) ∙ none
 
-digit_no_letter : (c : ℕ) → is_some (digit c 10) ≡ true → is_literal_letter c ≡ false
+digit_no_letter : (c : ℕ) → is_some (digit 10 c) ≡ true → is_literal_letter c ≡ false
 digit_no_letter c d = by_tests (lower_case c == 120) (lower_case c == 111) (lower_case c == 98) refl refl refl
   where
     by_tests : (x o b : Bool) → (lower_case c == 120) ≡ x → (lower_case c == 111) ≡ o → (lower_case c == 98) ≡ b → (x || (o || b)) ≡ false
@@ -84,7 +84,7 @@ literal_ten f valid asked =
 
 no_letter : (f : Format) (c : ℕ) → fault f ≡ None → f.literal_prefixes ≡ true → MayFollow f c → is_literal_letter c ≡ false
 no_letter f c valid asked (inl s) = unfit_letter f.digit_separator c (literals_fit f valid asked).0 (separator_is f c s)
-no_letter f c valid asked (inr (inl d)) = digit_no_letter c (ap (λ r. is_some (digit c r)) (sym (literal_ten f valid asked)) ∙ d)
+no_letter f c valid asked (inr (inl d)) = digit_no_letter c (ap (λ r. is_some (digit r c)) (sym (literal_ten f valid asked)) ∙ d)
 no_letter f c valid asked (inr (inr u)) =
     let suffix = affix_is f.case_sensitive_base_suffix f.base_suffix c u in
     letter_alike c suffix.0 suffix.2 ∙ unfit_letter f.base_suffix suffix.0 (literals_fit f valid asked).1 suffix.1
@@ -150,7 +150,7 @@ no_minus : (f : Format) → fault f ≡ None → f.digit_separator ≢ Some 45
 no_minus f valid set = let valid' = rw set at valid in two_faults _ _ _ valid'
 
 -- neither a separator nor a digit is a sign
-pub no_sign_byte : (f : Format) (r c : ℕ) → fault f ≡ None → (is_separator f c ≡ true) ⊎ (is_some (digit c r) ≡ true) → (c ≢ 43) × (c ≢ 45)
+pub no_sign_byte : (f : Format) (r c : ℕ) → fault f ≡ None → (is_separator f c ≡ true) ⊎ (is_some (digit r c) ≡ true) → (c ≢ 43) × (c ≢ 45)
 no_sign_byte f r c valid (inl s) = (λ e. no_plus f valid (separator_is f c s ∙ ap Some e), λ e. no_minus f valid (separator_is f c s ∙ ap Some e))
 no_sign_byte f r c valid (inr d) = (λ e. (let d' = rw e at d in false≢true d'), λ e. (let d' = rw e at d in false≢true d'))
 

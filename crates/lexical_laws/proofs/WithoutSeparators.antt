@@ -25,7 +25,7 @@ use Rattle.lexical_laws.proofs.Parts.{get_behind, get_replicate, get_within}
 use Rattle.lexical_laws.proofs.ReadIsMade.{read_is_integer}
 use Rattle.lexical_laws.proofs.WhatIsRead.{none_of, prefix_fit}
 
-digit_zero : (r : ℕ) → 2 ≤ r → digit 48 r ≡ Some 0
+digit_zero : (r : ℕ) → 2 ≤ r → digit r 48 ≡ Some 0
 digit_zero r low = let t : nat_lt 0 r ≡ true = lt-ltb 0 r (omega arith) in rw t refl
 
 module _ (f : Format) (valid : IsNone (fault f)) where
@@ -97,7 +97,7 @@ module _ (f : Format) (valid : IsNone (fault f)) where
 
   no_digits : (body ds : List ℕ) (r : ℕ) → without_separators f body ≡ [] → BytesAre f r body ds → ds ≡ []
   no_digits body [] r empty bytes = refl
-  no_digits body (d ∷ ds) r empty bytes = let none' : [] ≡ map Some (d ∷ ds) = sym (ap (map (λ b. digit b r)) empty) ∙ bytes in cc
+  no_digits body (d ∷ ds) r empty bytes = let none' : [] ≡ map Some (d ∷ ds) = sym (ap (map (λ b. digit r b)) empty) ∙ bytes in cc
 
   less_prefix : (body prefix ds : List ℕ) (r : ℕ) → f.literal_octal_zero ≡ false → BytesAre f r body ds → ds ≢ [] → IsPrefix f body prefix r → IsPrefix f (without_separators f body) prefix r
   less_prefix body _ ds _ off bytes enough no_prefix = subst (IsPrefix f (without_separators f body) []) (same_bare (without_separators f body) body off) no_prefix
@@ -124,7 +124,7 @@ module _ (f : Format) (valid : IsNone (fault f)) where
         sign_may = i.sign_may;
         prefix_may = less_prefix i.body i.prefix i.digits i.radix off i.body_may.bytes (i.enough required) i.prefix_may;
         body_may = record {
-          bytes = ap (map (λ b. digit b i.radix)) (twice i.body) ∙ i.body_may.bytes;
+          bytes = ap (map (λ b. digit i.radix b)) (twice i.body) ∙ i.body_may.bytes;
           runs = λ before behind count run. absurd (no_run i.body before behind count run);
           single = λ before behind count run. absurd (no_run i.body before behind count run);
         };

@@ -59,7 +59,7 @@ may_part format prefix (byte ∷ before) (other ∷ behind) = format.integer_int
 pub record IsBody (format : Format) (prefix : List ℕ) (radix : ℕ) (body digits : List ℕ) : Type 0
   where
     -- what is no separator is a digit
-    pub bytes : map (λ byte. digit byte radix)
+    pub bytes : map (λ byte. digit radix byte)
         (filter (λ byte. not (is_separator format byte)) body) ≡ map Some digits
     -- each run may stand where it is, and is of one separator where no more may follow each other
     pub runs : (before behind : List ℕ) (count : ℕ) → HasRun format body before count behind

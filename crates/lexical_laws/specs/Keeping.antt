@@ -70,7 +70,7 @@ IsDead format type text place =
 
 -- A byte is no part of a number: no digit of any radix, no sign, and none of the format's punctuation.
 pub record IsForeign (format : Format) (byte : ℕ) : Type 0 where
-  pub digit : digit byte 36 ≡ None
+  pub digit : digit 36 byte ≡ None
   pub plus : byte ≢ plus
   pub minus : byte ≢ minus
   pub separator : is_separator format byte ≡ false

@@ -36,7 +36,7 @@ unfolding literal_radix is_affix matches
 no_letter true b other = grind (arith, nat_tests)
 no_letter false b other = grind (arith, nat_tests)
 
-no_digit_letter : (s : Bool) (b : ℕ) → is_some (digit b 10) ≡ true → literal_radix s (Some b) ≡ None
+no_digit_letter : (s : Bool) (b : ℕ) → is_some (digit 10 b) ≡ true → literal_radix s (Some b) ≡ None
 unfolding literal_radix is_affix matches
 no_digit_letter true b is = grind (arith, nat_tests)
 no_digit_letter false b is = grind (arith, nat_tests)
@@ -53,7 +53,7 @@ no_prefix_read f c cs decimal letter =
     by_tests false asked = refl
 
 head_is_bare : (f : Format) (t : IntegerType) (c d : ℕ) (cs : List ℕ) → IsDecimal f
-    → digit c 10 ≡ Some d → NoLetter f (slice_get cs 0) → head_of f t (c ∷ cs) ≡ Ok bare
+    → digit 10 c ≡ Some d → NoLetter f (slice_get cs 0) → head_of f t (c ∷ cs) ≡ Ok bare
 unfolding head_of
 head_is_bare f t c d cs decimal first letter =
     rw (
@@ -107,7 +107,7 @@ record IsStandard (text : List ℕ) (v : ℤ) (n : ℕ) : Type 0 where
   value : numeral_value false (numeral_in standard false 10 text 0) ≡ v
   stop : (numeral_in standard false 10 text 0).stop ≡ n
 
-standard_head : (t : IntegerType) (c d : ℕ) (cs : List ℕ) → digit c 10 ≡ Some d → head_of standard t (c ∷ cs) ≡ Ok bare
+standard_head : (t : IntegerType) (c d : ℕ) (cs : List ℕ) → digit 10 c ≡ Some d → head_of standard t (c ∷ cs) ≡ Ok bare
 standard_head t c d cs first =
     head_is standard t (c ∷ cs) (false, 0) refl refl refl
     (sign_of_digit_under standard t 10 c d cs refl first)
@@ -116,7 +116,7 @@ stop_is : (text : List ℕ) → (numeral_in standard false 10 text 0).stop ≡ e
 unfolding numeral_in numeral_stop suffix_at is_affix
 stop_is text = rw and-false refl
 
-standard_told : (c d : ℕ) (cs : List ℕ) (v : ℤ) (n : ℕ) → digit c 10 ≡ Some d
+standard_told : (c d : ℕ) (cs : List ℕ) (v : ℤ) (n : ℕ) → digit 10 c ≡ Some d
     → partial standard (integer_type 128 false) (c ∷ cs) ≡ Ok (v, n) → IsStandard (c ∷ cs) v n
 unfolding partial
 standard_told c d cs v n first read =
@@ -136,10 +136,10 @@ standard_told c d cs v n first read =
     }
 
 -- the first digit is one of the numeral
-some_digits : (c d : ℕ) (cs : List ℕ) (n : ℕ) → digit c 10 ≡ Some d → EndsRow 10 (c ∷ cs) 0 n → 0 < n
+some_digits : (c d : ℕ) (cs : List ℕ) (n : ℕ) → digit 10 c ≡ Some d → EndsRow 10 (c ∷ cs) 0 n → 0 < n
 unfolding digit_at
 some_digits c d cs zero first s =
-    let none : is_some (digit c 10) ≡ false = s.fails (omega arith) in
+    let none : is_some (digit 10 c) ≡ false = s.fails (omega arith) in
     absurd (let there = ap is_some first in false≢true (sym none ∙ there))
 some_digits c d cs (suc n) first s = omega arith
 
@@ -167,7 +167,7 @@ count_told text n s some =
 -- a text that the standard format reads, and whose digits end at a byte that is neither a separator nor one of
 -- a word
 decimal_digits : (f : Format) (c d : ℕ) (cs : List ℕ) (v : ℤ) (n : ℕ) → IsDecimal f
-    → digit c 10 ≡ Some d → partial standard (integer_type 128 false) (c ∷ cs) ≡ Ok (v, n)
+    → digit 10 c ≡ Some d → partial standard (integer_type 128 false) (c ∷ cs) ≡ Ok (v, n)
     → (n < length (c ∷ cs) → is_word_byte (slice_index (c ∷ cs) n) ≡ false)
     → (n < length (c ∷ cs) → separator_at f (c ∷ cs) n ≡ false)
     → partial f (integer_type 128 false) (c ∷ cs) ≡ Ok (v, n)
@@ -194,15 +194,15 @@ decimal_digits f c d cs v n decimal first read other apart =
 
 -- any text that begins with a digit has the front that it has under the standard format
 pub decimal_read : (f : Format) (text : List ℕ) (v : ℤ) (n : ℕ) → IsDecimal f
-    → is_some (digit (slice_index text 0) 10) ≡ true
+    → is_some (digit 10 (slice_index text 0)) ≡ true
     → partial standard (integer_type 128 false) text ≡ Ok (v, n)
     → (n < length text → is_word_byte (slice_index text n) ≡ false)
     → (n < length text → separator_at f text n ≡ false)
     → partial f (integer_type 128 false) text ≡ Ok (v, n)
 decimal_read f [] v n decimal first read other apart = absurd (false≢true first)
-decimal_read f (c ∷ cs) v n decimal first read other apart = by_digit (digit c 10) refl first
+decimal_read f (c ∷ cs) v n decimal first read other apart = by_digit (digit 10 c) refl first
   where
-    by_digit : (found : Option ℕ) → digit c 10 ≡ found → is_some found ≡ true
+    by_digit : (found : Option ℕ) → digit 10 c ≡ found → is_some found ≡ true
         → partial f (integer_type 128 false) (c ∷ cs) ≡ Ok (v, n)
     by_digit None none some = absurd (false≢true some)
     by_digit (Some d) is some = decimal_digits f c d cs v n decimal is read other apart

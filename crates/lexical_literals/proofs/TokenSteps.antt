@@ -29,7 +29,7 @@ pub record IsSize (text : List ℕ) (size : ℕ) : Type 0 where
   pub some : 0 < size
   pub within : size ≤ length text
 
-digit_is_word : (r b : ℕ) → is_some (digit b r) ≡ true → is_word_byte b ≡ true
+digit_is_word : (r b : ℕ) → is_some (digit r b) ≡ true → is_word_byte b ≡ true
 digit_is_word r b e = grind (arith, nat_tests)
 
 word_size : (b : ℕ) (bs : List ℕ) → is_word_byte b ≡ true → IsSize (b ∷ bs) (word_length (b ∷ bs))
@@ -39,11 +39,11 @@ word_size b bs e = record {
 }
 
 number_size : FrontEnds → (f : Format) (b : ℕ) (bs : List ℕ)
-    → is_some (digit b f.mantissa_radix) ≡ true → IsSize (b ∷ bs) (number_of f (b ∷ bs)).1
+    → is_some (digit f.mantissa_radix b) ≡ true → IsSize (b ∷ bs) (number_of f (b ∷ bs)).1
 unfolding number_of digit_at
-number_size ends f b bs e = by_answer (digit b f.mantissa_radix) refl (partial f (integer_type 128 false) (b ∷ bs)) refl
+number_size ends f b bs e = by_answer (digit f.mantissa_radix b) refl (partial f (integer_type 128 false) (b ∷ bs)) refl
   where
-    by_answer : (d : Option ℕ) → digit b f.mantissa_radix ≡ d → (r : Result (ℤ × ℕ) Error)
+    by_answer : (d : Option ℕ) → digit f.mantissa_radix b ≡ d → (r : Result (ℤ × ℕ) Error)
         → partial f (integer_type 128 false) (b ∷ bs) ≡ r
         → IsSize (b ∷ bs) (number_by (b ∷ bs) r).1
     by_answer None none r told = absurd (let no = rw none at e in cc)
@@ -55,7 +55,7 @@ number_size ends f b bs e = by_answer (digit b f.mantissa_radix) refl (partial f
 
 pub front_size : FrontEnds → (f : Format) (b : ℕ) (bs : List ℕ) → IsSize (b ∷ bs) (front_of f (b ∷ bs)).1
 front_size ends f b bs =
-    by_tests (is_some (digit b f.mantissa_radix)) (is_word_byte b) (number_size ends f b bs)
+    by_tests (is_some (digit f.mantissa_radix b)) (is_word_byte b) (number_size ends f b bs)
     (word_size b bs)
   where
     by_tests : (d w : Bool) → (d ≡ true → IsSize (b ∷ bs) (number_of f (b ∷ bs)).1)

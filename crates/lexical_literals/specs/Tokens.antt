@@ -55,7 +55,7 @@ number_of format text = number_by text (partial format (integer_type 128 false) 
 -- radix, and with nothing else
 abbrev pub front_of : Format → List ℕ → Kind × ℕ
 front_of format text =
-    if is_some (digit (slice_index text 0) format.mantissa_radix) then number_of format text
+    if is_some (digit format.mantissa_radix (slice_index text 0)) then number_of format text
     else (if is_word_byte (slice_index text 0) then (Word, word_length text)
     else (Byte, 1))
 

@@ -66,7 +66,7 @@ fn stand_alone(text: &[u8], count: usize, format: &NumberFormat) -> bool
 // out of line: docs/DECISIONS.md, code.
 #[inline(never)]
 pub(crate) fn front_of_decimal(text: &[u8], format: &NumberFormat) -> (u64, usize)
-    requires first { is_some (digit (slice_index text.now 0) 10) ≡ true }
+    requires first { is_some (digit 10 (slice_index text.now 0)) ≡ true }
     requires decimal { IsDecimal format.now }
     ensures { 0 < result.1
         → partial format.now (integer_type 128 false) text.now ≡ Ok (pos result.0, result.1) }

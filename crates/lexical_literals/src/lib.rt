@@ -83,7 +83,7 @@ pub fn literal_format() -> NumberFormat
 // The number that a text begins with, or its fault, and how many bytes that has.
 #[inline(always)]
 fn number(text: &[u8], format: &NumberFormat, decimal: bool) -> (Kind, usize)
-    requires first { is_some (digit (slice_index text.now 0) format.now.mantissa_radix) ≡ true }
+    requires first { is_some (digit format.now.mantissa_radix (slice_index text.now 0)) ≡ true }
     requires valid { IsNone (fault format.now) }
     requires decimal { IsTrue decimal → IsDecimal format.now }
     ensures { result ≡ number_of format.now text.now }

@@ -8,11 +8,11 @@ use Rattle.lexical_digits.specs.Value.{positional_value, with_sign}
 
 -- whether the byte at a place is a digit of the radix
 abbrev pub is_digit_in : ℕ → List ℕ → ℕ → Bool
-is_digit_in radix bytes place = is_some (digit (get_or bytes place 0) radix)
+is_digit_in radix bytes place = is_some (digit radix (get_or bytes place 0))
 
 -- the values of the digits among bytes
 abbrev pub digits_among : ℕ → List ℕ → List ℕ
-digits_among radix bytes = filter_map (λ byte. digit byte radix) bytes
+digits_among radix bytes = filter_map (λ byte. digit radix byte) bytes
 
 -- Each byte is a digit of the radix or a separator that the format admits between digits; the first byte and the last
 -- are digits; and where no two separators may stand side by side, a digit follows each.

@@ -135,7 +135,7 @@ with_radix radix = record standard { mantissa_radix = radix }
 pub record Writes (radix number : ℕ) (text : List ℕ) : Type 0 where
   -- the values of its bytes: each is a digit
   pub digits : List ℕ
-  pub bytes : map (λ byte. digit byte radix) text ≡ map Some digits
+  pub bytes : map (λ byte. digit radix byte) text ≡ map Some digits
   pub some : 0 < length text
   pub worth : positional_value radix digits ≡ number
 

@@ -20,7 +20,7 @@ begin_of passes from to = to - suffix_len passes (range_with_len from (to - from
 
 -- the value of the digit at a place
 unfoldable pub digit_at : ℕ → List ℕ → ℕ → Option ℕ
-digit_at radix text place = option_and_then (λ byte. digit byte radix) (slice_get text place)
+digit_at radix text place = option_and_then (λ byte. digit radix byte) (slice_get text place)
 
 -- a byte is wanted, and it is the one that stands there
 unfoldable pub are_same : Option ℕ → Option ℕ → Bool

@@ -10,7 +10,7 @@ use Rattle.lexical_parse_integer.specs.Plain.{IsPlain}
 pub record IsSeparated (format : Format) (separator : ℕ) : Type 0 where
   pub plain : IsPlain format
   pub decimal : format.mantissa_radix ≡ 10
-  pub no_digit : IsNone (digit separator 10)
+  pub no_digit : IsNone (digit 10 separator)
   pub no_minus : separator ≢ minus
 
 -- how many bytes stand before the first separator, or are in the text where it has none

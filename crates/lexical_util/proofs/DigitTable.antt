@@ -22,13 +22,13 @@ below-value_or_more radix None small = grind (arith, nat_tests)
 below-value_or_more radix (Some value) small = refl
 
 pub digit_by_table : (c radix : ℕ) → c < 256 → radix ≤ 36
-    → value_if_below radix (Some (get_or VALUES c 0)) ≡ digit c radix
+    → value_if_below radix (Some (get_or VALUES c 0)) ≡ digit radix c
 digit_by_table c radix byte small =
     ap (λ value. value_if_below radix (Some value)) (table_value c byte)
     ∙ below-value_or_more radix (digit_value c) small
 
 pub digit_by_difference : (c radix : ℕ) → c < 256 → radix ≤ 10
-    → value_if_below radix (Some ((c + 208) % 256)) ≡ digit c radix
+    → value_if_below radix (Some ((c + 208) % 256)) ≡ digit radix c
 digit_by_difference c radix byte small =
     elim (cases_lt c 48) [
       | inl under ↦ let e : (c + 208) % 256 ≡ c + 208 = grind arith in rw e (grind (arith, nat_tests))

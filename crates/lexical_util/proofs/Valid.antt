@@ -44,7 +44,7 @@ passes_rules format valid =
 digit_value-lower : (byte : ℕ) → digit_value (lower_case byte) ≡ digit_value byte
 digit_value-lower byte = grind (arith, nat_tests)
 
-pub digit-alike : (radix byte punctuation : ℕ) → lower_case byte ≡ lower_case punctuation → digit byte radix ≡ digit punctuation radix
+pub digit-alike : (radix byte punctuation : ℕ) → lower_case byte ≡ lower_case punctuation → digit radix byte ≡ digit radix punctuation
 digit-alike radix byte punctuation alike =
     ap (value_if_below radix) (sym (digit_value-lower byte) ∙ ap digit_value alike ∙ digit_value-lower punctuation)
 
@@ -52,14 +52,14 @@ none_from_is_some : (found : Option ℕ) → is_some found ≡ false → found �
 none_from_is_some None h = refl
 none_from_is_some (Some value) h = absurd (false≢true (sym h))
 
-fit_byte_no_digit : (radix punctuation : ℕ) → is_unfit_byte radix punctuation ≡ false → digit punctuation radix ≡ None
+fit_byte_no_digit : (radix punctuation : ℕ) → is_unfit_byte radix punctuation ≡ false → digit radix punctuation ≡ None
 fit_byte_no_digit radix punctuation fit =
     let not_high = (or_parts (leb 128 punctuation) _ fit).1 in
     let not_plus = (or_parts (punctuation == 43) _ not_high).1 in
     none_from_is_some _ (or_parts (punctuation == 45) _ not_plus).1
 
 pub fit_no_digit : (radix : ℕ) (set : Option ℕ) (punctuation byte : ℕ) → is_unfit radix set ≡ false
-    → set ≡ Some punctuation → lower_case byte ≡ lower_case punctuation → digit byte radix ≡ None
+    → set ≡ Some punctuation → lower_case byte ≡ lower_case punctuation → digit radix byte ≡ None
 fit_no_digit radix set punctuation byte fit is_set alike =
     let fit' = rw is_set at fit in
     digit-alike radix byte punctuation alike ∙ fit_byte_no_digit radix punctuation fit'
@@ -79,13 +79,13 @@ valid_radix format valid =
 -- what matches the separator is no digit
 pub separator_no_digit : (format : Format) (separator byte : ℕ) → fault format ≡ None
     → format.digit_separator ≡ Some separator
-    → lower_case byte ≡ lower_case separator → digit byte format.mantissa_radix ≡ None
+    → lower_case byte ≡ lower_case separator → digit format.mantissa_radix byte ≡ None
 separator_no_digit format separator byte valid is_set alike =
     fit_no_digit _ _ separator byte (passes_rules format valid).separator is_set alike
 
 -- what matches the suffix is no digit
 pub suffix_no_digit : (format : Format) (suffix byte : ℕ) → fault format ≡ None → format.base_suffix ≡ Some suffix
-    → lower_case byte ≡ lower_case suffix → digit byte format.mantissa_radix ≡ None
+    → lower_case byte ≡ lower_case suffix → digit format.mantissa_radix byte ≡ None
 suffix_no_digit format suffix byte valid is_set alike =
     fit_no_digit _ _ suffix byte (passes_rules format valid).suffix is_set alike
 
@@ -100,7 +100,7 @@ suffix_no_separator format suffix byte valid is_set alike =
 -- ---- literal prefixes
 
 -- a digit of a radix is one of each greater radix
-pub digit_below : (most radix byte : ℕ) → radix ≤ most → digit byte most ≡ None → digit byte radix ≡ None
+pub digit_below : (most radix byte : ℕ) → radix ≤ most → digit most byte ≡ None → digit radix byte ≡ None
 digit_below most radix byte small none = by_value (digit_value byte) none
   where
     by_value : (value : Option ℕ) → value_if_below most value ≡ None → value_if_below radix value ≡ None
@@ -118,10 +118,10 @@ digit_below most radix byte small none = by_value (digit_value byte) none
         by_tests false false w n e = refl
 
 fit_beside_literals : (set : Option ℕ) (punctuation byte : ℕ) → is_unfit_beside_literals set ≡ false
-    → set ≡ Some punctuation → lower_case byte ≡ lower_case punctuation → digit byte 16 ≡ None
+    → set ≡ Some punctuation → lower_case byte ≡ lower_case punctuation → digit 16 byte ≡ None
 fit_beside_literals set punctuation byte fit is_set alike =
     let fit' = rw is_set at fit in
-    digit-alike 16 byte punctuation alike ∙ none_from_is_some _ (or_parts (is_some (digit punctuation 16)) _ fit').0
+    digit-alike 16 byte punctuation alike ∙ none_from_is_some _ (or_parts (is_some (digit 16 punctuation)) _ fit').0
 
 -- the separator and the suffix beside literal prefixes
 pub literals_fit : (format : Format) → fault format ≡ None → format.literal_prefixes ≡ true
@@ -137,7 +137,7 @@ literals_fit format valid asked =
 -- what matches the separator is no digit of the effective radix behind a literal prefix
 pub separator_no_literal_digit : (format : Format) (separator byte radix : ℕ) → fault format ≡ None
     → format.literal_prefixes ≡ true → radix ≤ 16
-    → format.digit_separator ≡ Some separator → lower_case byte ≡ lower_case separator → digit byte radix ≡ None
+    → format.digit_separator ≡ Some separator → lower_case byte ≡ lower_case separator → digit radix byte ≡ None
 separator_no_literal_digit format separator byte radix valid asked small is_set alike =
     digit_below 16 radix byte small (fit_beside_literals _ separator byte
     (literals_fit format valid asked).0 is_set alike)
@@ -145,7 +145,7 @@ separator_no_literal_digit format separator byte radix valid asked small is_set 
 -- what matches the suffix is none either
 pub suffix_no_literal_digit : (format : Format) (suffix byte radix : ℕ) → fault format ≡ None
     → format.literal_prefixes ≡ true → radix ≤ 16
-    → format.base_suffix ≡ Some suffix → lower_case byte ≡ lower_case suffix → digit byte radix ≡ None
+    → format.base_suffix ≡ Some suffix → lower_case byte ≡ lower_case suffix → digit radix byte ≡ None
 suffix_no_literal_digit format suffix byte radix valid asked small is_set alike =
     digit_below 16 radix byte small (fit_beside_literals _ suffix byte (literals_fit format valid asked).1 is_set alike)
 

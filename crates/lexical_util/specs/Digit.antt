@@ -26,4 +26,4 @@ value_if_below radix (Some value) = if nat_lt value radix then Some value else N
 
 -- the value of a byte, where it is a digit of the radix
 abbrev pub digit : ℕ → ℕ → Option ℕ
-digit byte radix = value_if_below radix (digit_value byte)
+digit radix byte = value_if_below radix (digit_value byte)

@@ -9,7 +9,7 @@ use Rattle.lexical_util.specs.declared.error.Error.TheVariants.{InvalidMantissaR
 -- a byte that can't be punctuation: it is not ASCII, or it is `+`, `-` or a digit of the radix
 abbrev pub is_unfit_byte : ℕ → ℕ → Bool
 is_unfit_byte radix byte =
-    nat_le 128 byte || ((byte == plus) || ((byte == minus) || is_some (digit byte radix)))
+    nat_le 128 byte || ((byte == plus) || ((byte == minus) || is_some (digit radix byte)))
 
 -- a separator, prefix or suffix is set, and to an unfit byte
 abbrev pub is_unfit : ℕ → Option ℕ → Bool
@@ -42,7 +42,7 @@ is_literal_letter byte =
 -- a separator or suffix is set, and to a digit of radix 16 or the letter of a literal prefix
 abbrev pub is_unfit_beside_literals : Option ℕ → Bool
 is_unfit_beside_literals None = false
-is_unfit_beside_literals (Some byte) = is_some (digit byte 16) || is_literal_letter byte
+is_unfit_beside_literals (Some byte) = is_some (digit 16 byte) || is_literal_letter byte
 
 -- literal prefixes or octal zeros are asked for beside another radix than 10, or literal prefixes beside a prefix of
 -- the format's own, or an unfit separator or suffix

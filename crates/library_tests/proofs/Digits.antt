@@ -6,7 +6,7 @@ use Rattle.library_tests.proofs.Tables.{Reads}
 
 -- what a byte is worth in a radix
 abbrev worth : ℕ × ℕ → Option ℕ
-worth (byte, radix) = digit byte radix
+worth (byte, radix) = digit radix byte
 
 digits_of_a_radix : Reads worth (
     -- 0 to 2, 9

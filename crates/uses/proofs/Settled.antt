@@ -34,7 +34,7 @@ same_digit : (text other : List ℕ) (place : ℕ) → SameFront (suc place) tex
     → stops_after_digit 10 other place ≡ stops_after_digit 10 text place
 unfolding digit_at
 same_digit text other place same =
-    ap (λ byte. nat_lt 0 place && is_some (option_and_then (λ c. digit c 10) byte))
+    ap (λ byte. nat_lt 0 place && is_some (option_and_then (λ c. digit 10 c) byte))
     (same_byte (suc place) (place - 1) text other same (omega arith))
 
 -- a front that ends before the text does

@@ -11,7 +11,7 @@ use Rattle.lexical_parse_integer.proofs.grammar.Stretches.{HoldsBetween, IsStop,
 
 pub digit_at_past : (r : ℕ) (b : List ℕ) (k : ℕ) → length b ≤ k → digit_at r b k ≡ None
 unfolding digit_at
-digit_at_past r b k h = ap (option_and_then (λ c. digit c r)) (slice_get_past b k h)
+digit_at_past r b k h = ap (option_and_then (λ c. digit r c)) (slice_get_past b k h)
 
 pub separator_at_past : (f : Format) (b : List ℕ) (k : ℕ) → length b ≤ k → separator_at f b k ≡ false
 unfolding separator_at are_same

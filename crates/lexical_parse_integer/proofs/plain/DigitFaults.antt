@@ -35,11 +35,11 @@ more_digits text j n count all w =
     let both = joined j count (word_value 10 (take j text)) n text (writes_text (take j text) (word_value 10 (take j text)) all refl) w in
     subst (λ (bs : List ℕ). AreDigits 10 bs) (raised_none (take (j + count) text)) both.digits
 
-pub none_behind : (text : List ℕ) (j n count : ℕ) → j ≤ length text → WritesFirst (slice_range text j (length text)) n count → count < 8 → j + count < length text → IsNone (digit (get_or text (j + count) 0) 10)
+pub none_behind : (text : List ℕ) (j n count : ℕ) → j ≤ length text → WritesFirst (slice_range text j (length text)) n count → count < 8 → j + count < length text → IsNone (digit 10 (get_or text (j + count) 0))
 none_behind text j n count within w few more =
     let size : length (slice_range text j (length text)) ≡ length text - j = ap length (rest_is text j) ∙ length-drop j text in
     let byte : get_or (slice_range text j (length text)) count 0 ≡ get_or text (j + count) 0 = ap (λ (bs : List ℕ). get_or bs count 0) (rest_is text j) ∙ get_or-drop j text count 0 in
-    subst (λ k. IsNone (digit k 10)) byte (w.stops few (omega arith))
+    subst (λ k. IsNone (digit 10 k)) byte (w.stops few (omega arith))
 
 -- ---- the byte behind them
 
@@ -48,7 +48,7 @@ module _ (t : IntegerType) (text : List ℕ) (s : Bool × ℕ) (count : ℕ) (si
   digits = slice_range text s.1 (length text)
 
   -- behind digits that stand for a number of the type a byte that is none is the fault
-  pub byte_behind : (value : ℤ) → 1 ≤ count → count < length digits → IsNone (digit (get_or digits count 0) 10) → StandsFor t 10 s.0 (take count digits) value → complete standard t text ≡ Err (InvalidDigit (s.1 + count))
+  pub byte_behind : (value : ℤ) → 1 ≤ count → count < length digits → IsNone (digit 10 (get_or digits count 0)) → StandsFor t 10 s.0 (take count digits) value → complete standard t text ≡ Err (InvalidDigit (s.1 + count))
   byte_behind value some more none for_value =
       let within = sign_within standard t text s sign_is in
       let size : length digits ≡ length text - s.1 = ap length (rest_is text s.1) ∙ length-drop s.1 text in
@@ -57,7 +57,7 @@ module _ (t : IntegerType) (text : List ℕ) (s : Bool × ℕ) (count : ℕ) (si
       (signed_read standard t text s value count (record { no_separator = refl; no_prefix = refl; no_suffix = refl; no_literals = refl; no_octal_zeros = refl; no_sign = refl }) refl sign_is begins) (omega arith)
 
   -- so few digits stand for a number of the type
-  pub byte_behind_few : (most : ℕ) → HasRoom t 10 most → count ≤ most → 1 ≤ count → count < length digits → IsNone (digit (get_or digits count 0) 10) → AreDigits 10 (take count digits) → complete standard t text ≡ Err (InvalidDigit (s.1 + count))
+  pub byte_behind_few : (most : ℕ) → HasRoom t 10 most → count ≤ most → 1 ≤ count → count < length digits → IsNone (digit 10 (get_or digits count 0)) → AreDigits 10 (take count digits) → complete standard t text ≡ Err (InvalidDigit (s.1 + count))
   byte_behind_few most room few some more none all =
       let n : ℕ = word_value 10 (take count digits) in
       let taken : length (take count digits) ≡ count = length-take-le count digits (omega arith) in
@@ -94,7 +94,7 @@ module _ (t : IntegerType) (text : List ℕ) (s : Bool × ℕ) (count : ℕ) (si
   within_text there = elim (cases_lt s.1 (length text)) [ inl l ↦ l | inr past ↦ absurd (false≢true (sym (ap is_some (digit_at_past 10 text s.1 past)) ∙ there)) ]
 
   -- where a digit stands there, one is counted
-  pub some_digit : has_digit 10 text s.1 ≡ true → count ≤ length digits → (count < length digits → IsNone (digit (get_or digits count 0) 10)) → 1 ≤ count
+  pub some_digit : has_digit 10 text s.1 ≡ true → count ≤ length digits → (count < length digits → IsNone (digit 10 (get_or digits count 0))) → 1 ≤ count
   some_digit there within stops =
       elim (cases_lt 0 count) [
         | inl some ↦ some

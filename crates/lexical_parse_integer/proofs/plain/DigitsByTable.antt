@@ -17,7 +17,7 @@ use Rattle.lexical_parse_integer.proofs.plain.DigitsAlone.{digits_alone_read}
 
 -- ---- the whole text
 
-zero_byte : (c r : ℕ) → digit c r ≡ Some 0 → c ≡ 48
+zero_byte : (c r : ℕ) → digit r c ≡ Some 0 → c ≡ 48
 zero_byte c r is = grind (arith, nat_tests)
 
 pub rule_in : (f : Format) (r : ℕ) (bytes ds : List ℕ) → HaveDigits r bytes ds → keeps_zero_rule f bytes ≡ true → ((f.no_integer_leading_zeros && nat_le 2 (length ds)) && (slice_index ds 0 == 0)) ≡ false
@@ -34,7 +34,7 @@ rule_in f r (c ∷ cs) (d ∷ ds) all rule = by_zero (d == 0) refl
     by_zero false e = rw (and-false) refl
     by_zero true e =
         let none : d ≡ 0 = eqb-true d 0 e in
-        let first : digit c r ≡ Some d = cc in
+        let first : digit r c ≡ Some d = cc in
         let byte : c ≡ 48 = zero_byte c r (first ∙ ap Some none) in
         let test : (c == 48) ≡ true = ap (λ (b : ℕ). b == 48) byte in
         let told : ((f.no_integer_leading_zeros && nat_le 2 (length (c ∷ cs))) && true) ≡ false =
@@ -48,7 +48,7 @@ pub table_read : (f : Format) (t : IntegerType) (r : ℕ) (is_negative : Bool) (
     StandsFor t r is_negative digits value → complete f t text ≡ Ok value
 table_read f t r is_negative text digits value plain same radix behind some rule s =
     let w = s.writes in
-    let all : HaveDigits r digits w.values = ap (map (λ byte. digit byte r)) (sym (take-length digits)) ∙ w.digits in
+    let all : HaveDigits r digits w.values = ap (map (λ byte. digit r byte)) (sym (take-length digits)) ∙ w.digits in
     let here : HaveDigits f.mantissa_radix digits w.values = subst (λ (n : ℕ). HaveDigits n digits w.values) (sym same) all in
     let low = radix.low in
     let signed_is : with_sign is_negative (positional_value f.mantissa_radix w.values) ≡ value = ap (λ (n : ℕ). with_sign is_negative (positional_value n w.values)) same ∙ ap (λ (z : ℤ). if is_negative then neg_ℤ z else z) (sym w.worth) ∙ sym s.worth in

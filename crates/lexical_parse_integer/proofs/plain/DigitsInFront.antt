@@ -77,11 +77,11 @@ StandsFrom start text digits = (k : ℕ) → slice_get text (start + k) ≡ slic
 
 pub at_front : (r : ℕ) (text digits ds : List ℕ) (start n k : ℕ) → StandsFrom start text digits → HaveDigits r (take n digits) ds → k < length ds → k < n → digit_at r text (start + k) ≡ Some (get_or ds k 0)
 unfolding digit_at
-at_front r text digits ds start n k on all l low = ap (option_and_then (λ byte. digit byte r)) (on k ∙ sym (slice_get-take n k digits low)) ∙ digit_there r (take n digits) ds k all l
+at_front r text digits ds start n k on all l low = ap (option_and_then (λ byte. digit r byte)) (on k ∙ sym (slice_get-take n k digits low)) ∙ digit_there r (take n digits) ds k all l
 
-pub at_stop : (r : ℕ) (text digits : List ℕ) (start n : ℕ) → StandsFrom start text digits → n < length digits → is_some (digit (get_or digits n 0) r) ≡ false → has_digit r text (start + n) ≡ false
+pub at_stop : (r : ℕ) (text digits : List ℕ) (start n : ℕ) → StandsFrom start text digits → n < length digits → is_some (digit r (get_or digits n 0)) ≡ false → has_digit r text (start + n) ≡ false
 unfolding digit_at
-at_stop r text digits start n on low none = ap (λ (o : Option ℕ). is_some (option_and_then (λ byte. digit byte r) o)) (on n ∙ slice_get_there digits n low) ∙ none
+at_stop r text digits start n on low none = ap (λ (o : Option ℕ). is_some (option_and_then (λ byte. digit r byte) o)) (on n ∙ slice_get_there digits n low) ∙ none
 
 pub front_between : (r : ℕ) (text digits ds : List ℕ) (start n : ℕ) → StandsFrom start text digits → HaveDigits r (take n digits) ds → length ds ≡ n → HoldsBetween (has_digit r text) start (start + n)
 front_between r text digits ds start n on all size j low high =
@@ -90,7 +90,7 @@ front_between r text digits ds start n on all size j low high =
 
 -- digits behind a sign at the front, by their values
 pub values_in_front : (f : Format) (t : IntegerType) (text digits ds : List ℕ) (s : Bool × ℕ) (n : ℕ) → IsPlain f → 1 ≤ f.mantissa_radix → sign f t text ≡ Ok s → StandsFrom s.1 text digits → length text ≡ s.1 + length digits →
-    HaveDigits f.mantissa_radix (take n digits) ds → 0 < n → n ≤ length digits → (n < length digits → is_some (digit (get_or digits n 0) f.mantissa_radix) ≡ false) →
+    HaveDigits f.mantissa_radix (take n digits) ds → 0 < n → n ≤ length digits → (n < length digits → is_some (digit f.mantissa_radix (get_or digits n 0)) ≡ false) →
     ((f.no_integer_leading_zeros && nat_le 2 (length ds)) && (slice_index ds 0 == 0)) ≡ false →
     is_number t (with_sign s.0 (positional_value f.mantissa_radix ds)) ≡ true → partial f t text ≡ Ok (with_sign s.0 (positional_value f.mantissa_radix ds), s.1 + n)
 values_in_front f t text digits ds s n plain positive sign_is on size all some within stops rule fits =
@@ -111,7 +111,7 @@ values_in_front f t text digits ds s n plain positive sign_is on size all some w
 
 -- digits at the front, behind a minus where the number is negative
 pub front_digits_read : (f : Format) (t : IntegerType) (b : Bool) (text digits ds : List ℕ) (n : ℕ) → IsPlain f → 1 ≤ f.mantissa_radix → IsBehind b t text digits → HaveDigits f.mantissa_radix (take n digits) ds → 0 < n → n ≤ length digits →
-    (n < length digits → is_some (digit (get_or digits n 0) f.mantissa_radix) ≡ false) → ((f.no_integer_leading_zeros && nat_le 2 (length ds)) && (slice_index ds 0 == 0)) ≡ false →
+    (n < length digits → is_some (digit f.mantissa_radix (get_or digits n 0)) ≡ false) → ((f.no_integer_leading_zeros && nat_le 2 (length ds)) && (slice_index ds 0 == 0)) ≡ false →
     is_number t (with_sign b (positional_value f.mantissa_radix ds)) ≡ true → partial f t text ≡ Ok (with_sign b (positional_value f.mantissa_radix ds), bool_byte b + n)
 front_digits_read f t b text [] ds n plain positive behind all some within stops rule fits = absurd (omega arith)
 front_digits_read f t b text (c ∷ cs) ds zero plain positive behind all some within stops rule fits = absurd (omega arith)
@@ -131,10 +131,10 @@ pub begins_read : (f : Format) (t : IntegerType) (is_negative : Bool) (text digi
 begins_read f t is_negative text digits value count start plain ten behind at b =
     let w = b.stands.writes in
     let bytes : List ℕ = take count digits in
-    let all : HaveDigits 10 bytes w.values = ap (map (λ byte. digit byte 10)) (sym (take-length bytes)) ∙ w.digits in
+    let all : HaveDigits 10 bytes w.values = ap (map (λ byte. digit 10 byte)) (sym (take-length bytes)) ∙ w.digits in
     let here : HaveDigits f.mantissa_radix bytes w.values = subst (λ (n : ℕ). HaveDigits n bytes w.values) (sym ten) all in
     let value_is : with_sign is_negative (positional_value f.mantissa_radix w.values) ≡ value = ap (λ (n : ℕ). with_sign is_negative (positional_value n w.values)) ten ∙ ap (λ (z : ℤ). if is_negative then neg_ℤ z else z) (sym w.worth) ∙ sym b.stands.worth in
-    let stops : (count < length digits → is_some (digit (get_or digits count 0) f.mantissa_radix) ≡ false) = λ l. ap (λ (n : ℕ). is_some (digit (get_or digits count 0) n)) ten ∙ b.stops l in
+    let stops : (count < length digits → is_some (digit f.mantissa_radix (get_or digits count 0)) ≡ false) = λ l. ap (λ (n : ℕ). is_some (digit n (get_or digits count 0))) ten ∙ b.stops l in
     front_digits_read f t is_negative text digits w.values count plain (omega arith) behind here b.some b.within stops (rule_in f 10 bytes w.values all b.rule) (ap (is_number t) value_is ∙ b.stands.fits)
     ∙ ap (λ (z : ℤ). Ok (z, bool_byte is_negative + count)) value_is ∙ ap (λ (k : ℕ). Ok (value, k + count)) (sym at)
 
@@ -153,10 +153,10 @@ signed_read f t text s value count plain ten sign_is begins =
     let b : BeginsWith f t s.0 digits value count = subst (λ (ds : List ℕ). BeginsWith f t s.0 ds value count) (rest_is text s.1) begins in
     let w = b.stands.writes in
     let bytes : List ℕ = take count digits in
-    let all : HaveDigits 10 bytes w.values = ap (map (λ byte. digit byte 10)) (sym (take-length bytes)) ∙ w.digits in
+    let all : HaveDigits 10 bytes w.values = ap (map (λ byte. digit 10 byte)) (sym (take-length bytes)) ∙ w.digits in
     let here : HaveDigits f.mantissa_radix bytes w.values = subst (λ (n : ℕ). HaveDigits n bytes w.values) (sym ten) all in
     let value_is : with_sign s.0 (positional_value f.mantissa_radix w.values) ≡ value = ap (λ (n : ℕ). with_sign s.0 (positional_value n w.values)) ten ∙ ap (λ (z : ℤ). if s.0 then neg_ℤ z else z) (sym w.worth) ∙ sym b.stands.worth in
-    let stops : (count < length digits → is_some (digit (get_or digits count 0) f.mantissa_radix) ≡ false) = λ l. ap (λ (n : ℕ). is_some (digit (get_or digits count 0) n)) ten ∙ b.stops l in
+    let stops : (count < length digits → is_some (digit f.mantissa_radix (get_or digits count 0)) ≡ false) = λ l. ap (λ (n : ℕ). is_some (digit n (get_or digits count 0))) ten ∙ b.stops l in
     values_in_front f t text digits w.values s count plain (omega arith) sign_is (from_place s.1 text) (omega arith) here b.some b.within stops (rule_in f 10 bytes w.values all b.rule) (ap (is_number t) value_is ∙ b.stands.fits)
     ∙ ap (λ (z : ℤ). Ok (z, s.1 + count)) value_is
 
@@ -224,7 +224,7 @@ joined_begin f t is_negative digits value j count a b some within w v few rule w
       within = all;
       stops = λ less.
           let byte : get_or (slice_range digits j (length digits)) count 0 ≡ get_or digits (j + count) 0 = ap (λ (bs : List ℕ). get_or bs count 0) (rest_is digits j) ∙ get_or-drop j digits count 0 in
-          subst (λ n. IsNone (digit n 10)) byte (v.stops few (omega arith));
+          subst (λ n. IsNone (digit 10 n)) byte (v.stops few (omega arith));
       rule = longer_rule f 8 (j + count) digits (omega arith) (omega arith) all rule;
       stands = stands t is_negative (take (j + count) digits) (a * 10 ^ count + b) value (joined j count a b digits w v) worth fits;
     }

@@ -38,15 +38,15 @@ apart : (s b : ℕ) → b ≢ s → not (eqb b s) ≡ true
 apart s b other = ap not (ne_eqb b s other)
 
 -- a digit is no separator
-digit_apart : (s b : ℕ) → IsNone (digit s 10) → IsSome (digit b 10) → b ≢ s
-digit_apart s b none some same = by_digit (digit s 10) none (subst (λ c. IsSome (digit c 10)) same some)
+digit_apart : (s b : ℕ) → IsNone (digit 10 s) → IsSome (digit 10 b) → b ≢ s
+digit_apart s b none some same = by_digit (digit 10 s) none (subst (λ c. IsSome (digit 10 c)) same some)
   where
     by_digit : (o : Option ℕ) → IsNone o → IsSome o → ⊥
     by_digit None none some = cc
     by_digit (Some d) none some = cc
 
 -- the field of digits ends at the separator behind them
-digits_end : (s : ℕ) (digits : List ℕ) (count : ℕ) → IsNone (digit s 10) → AreDigits 10 (take count digits) → count < length digits → get_or digits count 0 ≡ s → field_length s digits ≡ count
+digits_end : (s : ℕ) (digits : List ℕ) (count : ℕ) → IsNone (digit 10 s) → AreDigits 10 (take count digits) → count < length digits → get_or digits count 0 ≡ s → field_length s digits ≡ count
 digits_end s [] count none all low stop = absurd (omega arith)
 digits_end s (b ∷ bs) zero none all low stop = rw stop (at_once s bs)
   where
@@ -63,7 +63,7 @@ pub field_ends : (f : Format) (t : IntegerType) (s : ℕ) (is_negative : Bool) (
 field_ends f t s is_negative text digits value count start apart_from behind at b low stop = by_sign is_negative text start behind at b low stop
   where
     all_digits : (is_negative : Bool) → BeginsWith f t is_negative digits value count → AreDigits 10 (take count digits)
-    all_digits is_negative b = have_are (take count digits) b.stands.writes.values (ap (map (λ byte. digit byte 10)) (sym (take-length (take count digits))) ∙ b.stands.writes.digits)
+    all_digits is_negative b = have_are (take count digits) b.stands.writes.values (ap (map (λ byte. digit 10 byte)) (sym (take-length (take count digits))) ∙ b.stands.writes.digits)
 
     by_sign : (is_negative : Bool) (text : List ℕ) (start : ℕ) → IsBehind is_negative t text digits → start ≡ bool_byte is_negative → BeginsWith f t is_negative digits value count → start + count < length text → get_or text (start + count) 0 ≡ s → start + count ≡ field_length s text
     by_sign false text start behind at b low stop =

@@ -32,12 +32,12 @@ use Rattle.lexical_digits.proofs.AsciiDigits.{ascii_from_digits}
 -- ---- one digit more
 
 -- the digits with that one
-digits_more : (k d : ℕ) (text : List ℕ) → k < length text → digit (get_or text k 0) 10 ≡ Some d → AreDigits 10 (take k text) → AreDigits 10 (take (k + 1) text)
+digits_more : (k d : ℕ) (text : List ℕ) → k < length text → digit 10 (get_or text k 0) ≡ Some d → AreDigits 10 (take k text) → AreDigits 10 (take (k + 1) text)
 digits_more k d text more is digits =
     let one : take (k + 1) text ≡ take k text ++ get_or text k 0 ∷ [] = take_more text k 0 more in
     rw one (digits_joined 10 (take k text) (get_or text k 0 ∷ []) digits (ap is_some is, tt))
 
-value_more : (k d : ℕ) (text : List ℕ) → k < length text → digit (get_or text k 0) 10 ≡ Some d → word_value 10 (take (k + 1) text) ≡ word_value 10 (take k text) * 10 + d
+value_more : (k d : ℕ) (text : List ℕ) → k < length text → digit 10 (get_or text k 0) ≡ Some d → word_value 10 (take (k + 1) text) ≡ word_value 10 (take k text) * 10 + d
 value_more k d text more is =
     let one : take (k + 1) text ≡ take k text ++ get_or text k 0 ∷ [] = take_more text k 0 more in
     let worth = digit_worth (get_or text k 0) d is in
@@ -45,7 +45,7 @@ value_more k d text more is =
 
 -- what is known of a value that is behind the sign of its digits
 have : (t : IntegerType) (b : Bool) (text : List ℕ) (value : ℤ) (s : StandsFor t 10 b text value) → HaveDigits 10 text s.writes.values
-have t b text value s = ap (map (λ byte. digit byte 10)) (sym (take-length text)) ∙ s.writes.digits
+have t b text value s = ap (map (λ byte. digit 10 byte)) (sym (take-length text)) ∙ s.writes.digits
 
 worth_of : (t : IntegerType) (b : Bool) (text : List ℕ) (value : ℤ) → StandsFor t 10 b text value → value ≡ with_sign b (word_value 10 text)
 worth_of t b text value s = s.worth ∙ ap (λ (z : ℤ). if b then neg_ℤ z else z) (s.writes.worth ∙ ap (λ (ds : List ℕ). pos (positional_value 10 ds)) (have_values text s.writes.values (have t b text value s)))
@@ -54,17 +54,17 @@ digits_of : (t : IntegerType) (b : Bool) (text : List ℕ) (value : ℤ) → Sta
 digits_of t b text value s = have_are text s.writes.values (have t b text value s)
 
 -- the value with one digit more
-step_worth : (t : IntegerType) (b : Bool) (k d : ℕ) (text : List ℕ) (value : ℤ) → StandsFor t 10 b (take k text) value → k < length text → digit (get_or text k 0) 10 ≡ Some d → mul_add b value (pos 10) (pos d) ≡ with_sign b (word_value 10 (take (k + 1) text))
+step_worth : (t : IntegerType) (b : Bool) (k d : ℕ) (text : List ℕ) (value : ℤ) → StandsFor t 10 b (take k text) value → k < length text → digit 10 (get_or text k 0) ≡ Some d → mul_add b value (pos 10) (pos d) ≡ with_sign b (word_value 10 (take (k + 1) text))
 step_worth t b k d text value w more is =
     ap (λ (z : ℤ). mul_add b z (pos 10) (pos d)) (worth_of t b (take k text) value w) ∙ with_sign-step b (word_value 10 (take k text)) 10 d ∙ ap (with_sign b) (sym (value_more k d text more is))
 
-pub next_value : (t : IntegerType) (b : Bool) (k d : ℕ) (text : List ℕ) (value next : ℤ) → StandsFor t 10 b (take k text) value → k < length text → digit (get_or text k 0) 10 ≡ Some d → next ≡ mul_add b value (pos 10) (pos d) → is_number t next ≡ true → StandsFor t 10 b (take (k + 1) text) next
+pub next_value : (t : IntegerType) (b : Bool) (k d : ℕ) (text : List ℕ) (value next : ℤ) → StandsFor t 10 b (take k text) value → k < length text → digit 10 (get_or text k 0) ≡ Some d → next ≡ mul_add b value (pos 10) (pos d) → is_number t next ≡ true → StandsFor t 10 b (take (k + 1) text) next
 next_value t b k d text value next w more is step fits =
     let worth : next ≡ with_sign b (word_value 10 (take (k + 1) text)) = step ∙ step_worth t b k d text value w more is in
     let digits = digits_more k d text more is (digits_of t b (take k text) value w) in
     stands t b (take (k + 1) text) (word_value 10 (take (k + 1) text)) next (writes_text (take (k + 1) text) (word_value 10 (take (k + 1) text)) digits refl) worth fits
 
-pub leaves_after : (t : IntegerType) (b : Bool) (k d : ℕ) (text : List ℕ) (value : ℤ) → StandsFor t 10 b (take k text) value → k < length text → digit (get_or text k 0) 10 ≡ Some d → is_number t (mul_add b value (pos 10) (pos d)) ≡ false → LeavesAfter t b text k
+pub leaves_after : (t : IntegerType) (b : Bool) (k d : ℕ) (text : List ℕ) (value : ℤ) → StandsFor t 10 b (take k text) value → k < length text → digit 10 (get_or text k 0) ≡ Some d → is_number t (mul_add b value (pos 10) (pos d)) ≡ false → LeavesAfter t b text k
 leaves_after t b k d text value w more is leaves =
     let worth = worth_of t b (take k text) value w in
     record {

@@ -20,9 +20,9 @@ use Rattle.lexical_digits.proofs.DigitValues.{HaveDigits}
 stands_rest : (text : List ℕ) (c : ℕ) (cs : List ℕ) (p : ℕ) → StandsAt text (c ∷ cs) p → StandsAt text cs (p + 1)
 stands_rest text c cs p s = let w = s.within in record { within = omega arith; byte = λ i k at l. s.byte (suc i) k (omega arith) (omega arith) }
 
-pub digit_there : (r : ℕ) (text bytes : List ℕ) (start i k : ℕ) → StandsAt text bytes start → start + i ≡ k → i < length bytes → digit_at r text k ≡ digit (get_or bytes i 0) r
+pub digit_there : (r : ℕ) (text bytes : List ℕ) (start i k : ℕ) → StandsAt text bytes start → start + i ≡ k → i < length bytes → digit_at r text k ≡ digit r (get_or bytes i 0)
 unfolding digit_at
-digit_there r text bytes start i k s at l = ap (option_and_then (λ byte. digit byte r)) (s.byte i k at l)
+digit_there r text bytes start i k s at l = ap (option_and_then (λ byte. digit r byte)) (s.byte i k at l)
 
 pub separator_there : (f : Format) (text bytes : List ℕ) (start i k : ℕ) → StandsAt text bytes start → start + i ≡ k → i < length bytes → separator_at f text k ≡ are_same f.digit_separator (Some (get_or bytes i 0))
 unfolding separator_at
@@ -33,10 +33,10 @@ pub values_between : (r : ℕ) (text bytes : List ℕ) (start : ℕ) → StandsA
     map (λ place. unwrap_or (digit_at r text place) 0) (filter (λ place. is_some (digit_at r text place)) (range_with_len start (length bytes))) ≡ digits_among r bytes
 values_between r text [] start s = refl
 values_between r text (c ∷ cs) start s =
-    let here : digit_at r text start ≡ digit c r = digit_there r text (c ∷ cs) start 0 start s (omega arith) (omega arith) in
-    by_digit (digit c r) refl here (values_between r text cs (start + 1) (stands_rest text c cs start s))
+    let here : digit_at r text start ≡ digit r c = digit_there r text (c ∷ cs) start 0 start s (omega arith) (omega arith) in
+    by_digit (digit r c) refl here (values_between r text cs (start + 1) (stands_rest text c cs start s))
   where
-    by_digit : (o : Option ℕ) → digit c r ≡ o → digit_at r text start ≡ digit c r →
+    by_digit : (o : Option ℕ) → digit r c ≡ o → digit_at r text start ≡ digit r c →
         map (λ place. unwrap_or (digit_at r text place) 0) (filter (λ place. is_some (digit_at r text place)) (range_with_len (start + 1) (length cs))) ≡ digits_among r cs →
         map (λ place. unwrap_or (digit_at r text place) 0) (filter (λ place. is_some (digit_at r text place)) (range_with_len start (length (c ∷ cs)))) ≡ digits_among r (c ∷ cs)
     by_digit (Some d) is here rest =
@@ -58,7 +58,7 @@ among_all r [] [] all = refl
 among_all r [] (d ∷ ds) all = cc
 among_all r (c ∷ cs) [] all = cc
 among_all r (c ∷ cs) (d ∷ ds) all =
-    let here : digit c r ≡ Some d = cc in
+    let here : digit r c ≡ Some d = cc in
     let more : HaveDigits r cs ds = cc in
     let rest = among_all r cs ds more in
     rw (here, rest) refl
@@ -66,12 +66,12 @@ among_all r (c ∷ cs) (d ∷ ds) all =
 all_digits : (r : ℕ) (bytes ds : List ℕ) → HaveDigits r bytes ds → AreDigitsOnly r bytes
 all_digits r [] ds all place l = absurd (omega arith)
 all_digits r (c ∷ cs) [] all place l = cc
-all_digits r (c ∷ cs) (d ∷ ds) all zero l = let here : digit c r ≡ Some d = cc in ap is_some here
+all_digits r (c ∷ cs) (d ∷ ds) all zero l = let here : digit r c ≡ Some d = cc in ap is_some here
 all_digits r (c ∷ cs) (d ∷ ds) all (suc place) l = let more : HaveDigits r cs ds = cc in all_digits r cs ds more place (omega arith)
 
 module _ (t : IntegerType) (r : ℕ) (is_negative : Bool) (bytes : List ℕ) (value : ℤ) (s : StandsFor t r is_negative bytes value) where
   have : HaveDigits r bytes s.writes.values
-  have = ap (map (λ byte. digit byte r)) (sym (take-length bytes)) ∙ s.writes.digits
+  have = ap (map (λ byte. digit r byte)) (sym (take-length bytes)) ∙ s.writes.digits
 
   pub digits_alone : AreDigitsOnly r bytes
   digits_alone = all_digits r bytes s.writes.values have

@@ -73,7 +73,7 @@ parted_grouped f r separator may bytes k separator_is internal some all other p 
 -- ---- what they are worth
 
 pub more_among : (r k : ℕ) (bytes : List ℕ) → k < length bytes → digits_among r (take (k + 1) bytes) ≡ digits_among r (take k bytes) ++ digits_among r (get_or bytes k 0 ∷ [])
-more_among r k bytes l = ap (digits_among r) (take_more bytes k 0 l) ∙ filter_map-append (λ byte. digit byte r) (take k bytes) (get_or bytes k 0 ∷ [])
+more_among r k bytes l = ap (digits_among r) (take_more bytes k 0 l) ∙ filter_map-append (λ byte. digit r byte) (take k bytes) (get_or bytes k 0 ∷ [])
 
 pub all_worth : (t : IntegerType) (r : ℕ) (is_negative : Bool) (bytes : List ℕ) (k : ℕ) (value : ℤ) → k ≡ length bytes → AreWorth t r is_negative (take k bytes) value → AreWorth t r is_negative bytes value
 all_worth t r is_negative bytes k value all w = subst (λ (bs : List ℕ). AreWorth t r is_negative bs value) (ap (λ (n : ℕ). take n bytes) all ∙ take-length bytes) w

@@ -90,17 +90,17 @@ head_bare f t text s octal r signed none octal_is radix_is =
 
 some_among : (r : ℕ) (bytes : List ℕ) → 0 < length bytes → is_digit_in r bytes 0 ≡ true → 0 < length (digits_among r bytes)
 some_among r [] some first = absurd (omega arith)
-some_among r (c ∷ cs) some first = by_digit (digit c r) refl first
+some_among r (c ∷ cs) some first = by_digit (digit r c) refl first
   where
-    by_digit : (o : Option ℕ) → digit c r ≡ o → is_some (digit c r) ≡ true → 0 < length (digits_among r (c ∷ cs))
+    by_digit : (o : Option ℕ) → digit r c ≡ o → is_some (digit r c) ≡ true → 0 < length (digits_among r (c ∷ cs))
     by_digit None e t = absurd (false≢true (sym (ap is_some e) ∙ t))
     by_digit (Some d) e t = rw e (omega arith)
 
 few_among : (r : ℕ) (bytes : List ℕ) → length (digits_among r bytes) ≤ length bytes
 few_among r [] = omega arith
-few_among r (c ∷ cs) = by_digit (digit c r) refl (few_among r cs)
+few_among r (c ∷ cs) = by_digit (digit r c) refl (few_among r cs)
   where
-    by_digit : (o : Option ℕ) → digit c r ≡ o → length (digits_among r cs) ≤ length cs → length (digits_among r (c ∷ cs)) ≤ length (c ∷ cs)
+    by_digit : (o : Option ℕ) → digit r c ≡ o → length (digits_among r cs) ≤ length cs → length (digits_among r (c ∷ cs)) ≤ length (c ∷ cs)
     by_digit None e low = rw e (omega arith)
     by_digit (Some d) e low = rw e (omega arith)
 
@@ -118,13 +118,13 @@ numeral_stops f pre r text start end is some =
 
 -- ---- no fault
 
-zero_byte : (c r : ℕ) → digit c r ≡ Some 0 → c ≡ 48
+zero_byte : (c r : ℕ) → digit r c ≡ Some 0 → c ≡ 48
 zero_byte c r is = grind (arith, nat_tests)
 
 no_leading_zero : (f : Format) (r : ℕ) (bytes : List ℕ) → 0 < length bytes → is_digit_in r bytes 0 ≡ true → keeps_zero_rule f bytes ≡ true →
     ((f.no_integer_leading_zeros && nat_le 2 (length (digits_among r bytes))) && (slice_index (digits_among r bytes) 0 == 0)) ≡ false
 no_leading_zero f r [] some first rule = absurd (omega arith)
-no_leading_zero f r (c ∷ cs) some first rule = by_digit (digit c r) refl first
+no_leading_zero f r (c ∷ cs) some first rule = by_digit (digit r c) refl first
   where
     unnot : (a : Bool) → not a ≡ true → a ≡ false
     unnot true e = sym e
@@ -136,7 +136,7 @@ no_leading_zero f r (c ∷ cs) some first rule = by_digit (digit c r) refl first
     by_size true true true up e = e
     by_size true false true up e = sym (up refl)
 
-    by_zero : (d : ℕ) (b : Bool) → digit c r ≡ Some d → (d == 0) ≡ b → ((f.no_integer_leading_zeros && nat_le 2 (length (d ∷ digits_among r cs))) && b) ≡ false
+    by_zero : (d : ℕ) (b : Bool) → digit r c ≡ Some d → (d == 0) ≡ b → ((f.no_integer_leading_zeros && nat_le 2 (length (d ∷ digits_among r cs))) && b) ≡ false
     by_zero d false is e = rw (and-false) refl
     by_zero d true is e =
         let none : d ≡ 0 = eqb-true d 0 e in
@@ -147,7 +147,7 @@ no_leading_zero f r (c ∷ cs) some first rule = by_digit (digit c r) refl first
         let few = few_among r cs in
         by_size f.no_integer_leading_zeros (nat_le 2 (length (c ∷ cs))) (nat_le 2 (length (d ∷ digits_among r cs))) (λ e. grind (arith, nat_tests)) told
 
-    by_digit : (o : Option ℕ) → digit c r ≡ o → is_some (digit c r) ≡ true →
+    by_digit : (o : Option ℕ) → digit r c ≡ o → is_some (digit r c) ≡ true →
         ((f.no_integer_leading_zeros && nat_le 2 (length (digits_among r (c ∷ cs)))) && (slice_index (digits_among r (c ∷ cs)) 0 == 0)) ≡ false
     by_digit None e t = absurd (false≢true (sym (ap is_some e) ∙ t))
     by_digit (Some d) e t = rw e (by_zero d (d == 0) e refl)

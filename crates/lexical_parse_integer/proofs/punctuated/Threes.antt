@@ -27,11 +27,11 @@ row_parted r separator many bytes k some within all = record {
 }
   where
     here : (i : ℕ) → i < k → is_digit_in r bytes i ≡ true
-    here i l = let size = length-take-le k bytes within in ap (λ c. is_some (digit c r)) (sym (get_or-take k bytes i 0 l)) ∙ all i (omega arith)
+    here i l = let size = length-take-le k bytes within in ap (λ c. is_some (digit r c)) (sym (get_or-take k bytes i 0 l)) ∙ all i (omega arith)
 
 -- a separator and three digits more
 pub three_parted : (r separator : ℕ) (many : Bool) (bytes : List ℕ) (k a b c : ℕ) → IsParted r separator many bytes k true → get_or bytes k 0 ≡ separator →
-    digit (get_or bytes (k + 1) 0) r ≡ Some a → digit (get_or bytes (k + 2) 0) r ≡ Some b → digit (get_or bytes (k + 3) 0) r ≡ Some c → IsParted r separator many bytes (k + 4) true
+    digit r (get_or bytes (k + 1) 0) ≡ Some a → digit r (get_or bytes (k + 2) 0) ≡ Some b → digit r (get_or bytes (k + 3) 0) ≡ Some c → IsParted r separator many bytes (k + 4) true
 three_parted r separator many bytes k a b c p parted first second third =
     let one = digit_parted r separator many many bytes (k + 1) (separator_parted r separator many bytes k p parted) (ap is_some first) in
     let two = digit_parted r separator many true bytes (k + 2) (moved (k + 1 + 1) (k + 2) (omega arith) one) (ap is_some second) in
@@ -47,9 +47,9 @@ in_four bytes place i few = get_or-take (place + 4 - place) (drop place bytes) i
 
 -- What a word of a digit 0 and three bytes is, where it is digits.
 pub record IsThree (a b c word : ℕ) : Type 0 where
-  pub first : digit a 10 ≡ Some (a - 48)
-  pub second : digit b 10 ≡ Some (b - 48)
-  pub third : digit c 10 ≡ Some (c - 48)
+  pub first : digit 10 a ≡ Some (a - 48)
+  pub second : digit 10 b ≡ Some (b - 48)
+  pub third : digit 10 c ≡ Some (c - 48)
   pub value : word_value 10 (word_bytes 4 word) ≡ (a - 48) * 100 + (b - 48) * 10 + (c - 48)
   pub small : word_value 10 (word_bytes 4 word) < 1000
 
@@ -68,12 +68,12 @@ three_of_word a b c word la lb lc is digits =
     }
 
 -- the digits among three bytes more
-digit_among : (r k d : ℕ) (bytes before : List ℕ) → k < length bytes → digit (get_or bytes k 0) r ≡ Some d → digits_among r (take k bytes) ≡ before → digits_among r (take (k + 1) bytes) ≡ before ++ d ∷ []
+digit_among : (r k d : ℕ) (bytes before : List ℕ) → k < length bytes → digit r (get_or bytes k 0) ≡ Some d → digits_among r (take k bytes) ≡ before → digits_among r (take (k + 1) bytes) ≡ before ++ d ∷ []
 digit_among r k d bytes before l is same =
     let one : digits_among r (get_or bytes k 0 ∷ []) ≡ d ∷ [] = rw is refl in
     more_among r k bytes l ∙ ap (λ (ds : List ℕ). digits_among r (take k bytes) ++ ds) one ∙ ap (λ (ds : List ℕ). ds ++ d ∷ []) same
 
-separator_among : (r k : ℕ) (bytes : List ℕ) → k < length bytes → digit (get_or bytes k 0) r ≡ None → digits_among r (take (k + 1) bytes) ≡ digits_among r (take k bytes)
+separator_among : (r k : ℕ) (bytes : List ℕ) → k < length bytes → digit r (get_or bytes k 0) ≡ None → digits_among r (take (k + 1) bytes) ≡ digits_among r (take k bytes)
 separator_among r k bytes l is =
     let one : digits_among r (get_or bytes k 0 ∷ []) ≡ [] = rw is refl in
     more_among r k bytes l ∙ ap (λ (ds : List ℕ). digits_among r (take k bytes) ++ ds) one ∙ append_nil (digits_among r (take k bytes))
@@ -90,7 +90,7 @@ three_value before a b c =
     omega (arith, one, two, three)
 
 pub three_worth : (t : IntegerType) (is_negative : Bool) (bytes : List ℕ) (k a b c : ℕ) (value next : ℤ) → AreWorth t 10 is_negative (take k bytes) value → k + 4 ≤ length bytes →
-    digit (get_or bytes k 0) 10 ≡ None → digit (get_or bytes (k + 1) 0) 10 ≡ Some a → digit (get_or bytes (k + 2) 0) 10 ≡ Some b → digit (get_or bytes (k + 3) 0) 10 ≡ Some c →
+    digit 10 (get_or bytes k 0) ≡ None → digit 10 (get_or bytes (k + 1) 0) ≡ Some a → digit 10 (get_or bytes (k + 2) 0) ≡ Some b → digit 10 (get_or bytes (k + 3) 0) ≡ Some c →
     next ≡ mul_add is_negative value (pos 1000) (pos (a * 100 + b * 10 + c)) → IsNumber t next → AreWorth t 10 is_negative (take (k + 4) bytes) next
 three_worth t is_negative bytes k a b c value next w within none first second third step fits =
     let before : List ℕ = digits_among 10 (take k bytes) in
@@ -111,15 +111,15 @@ three_worth t is_negative bytes k a b c value next w within none first second th
 -- ---- the end
 
 pub row_ends : (r : ℕ) (bytes : List ℕ) (k : ℕ) → 1 ≤ k → k ≤ length bytes → AreDigitsOnly r (take k bytes) → is_digit_in r bytes (k - 1) ≡ true
-row_ends r bytes k some within all = let size = length-take-le k bytes within in ap (λ c. is_some (digit c r)) (sym (get_or-take k bytes (k - 1) 0 (omega arith))) ∙ all (k - 1) (omega arith)
+row_ends r bytes k some within all = let size = length-take-le k bytes within in ap (λ c. is_some (digit r c)) (sym (get_or-take k bytes (k - 1) 0 (omega arith))) ∙ all (k - 1) (omega arith)
 
-pub three_ends : (r : ℕ) (bytes : List ℕ) (k c : ℕ) → digit (get_or bytes (k + 3) 0) r ≡ Some c → is_digit_in r bytes (k + 4 - 1) ≡ true
+pub three_ends : (r : ℕ) (bytes : List ℕ) (k c : ℕ) → digit r (get_or bytes (k + 3) 0) ≡ Some c → is_digit_in r bytes (k + 4 - 1) ≡ true
 three_ends r bytes k c third = let back : k + 4 - 1 ≡ k + 3 = omega arith in ap (is_digit_in r bytes) back ∙ ap is_some third
 
 -- all of them
-pub threes_grouped : (f : Format) (separator : ℕ) (bytes : List ℕ) (k : ℕ) → f.digit_separator ≡ Some separator → f.integer_internal_digit_separator ≡ true → digit separator 10 ≡ None → 1 ≤ length bytes → k ≡ length bytes →
+pub threes_grouped : (f : Format) (separator : ℕ) (bytes : List ℕ) (k : ℕ) → f.digit_separator ≡ Some separator → f.integer_internal_digit_separator ≡ true → digit 10 separator ≡ None → 1 ≤ length bytes → k ≡ length bytes →
     is_digit_in 10 bytes (k - 1) ≡ true → IsParted 10 separator f.integer_consecutive_digit_separator bytes k true → AreGrouped f 10 bytes
 threes_grouped f separator bytes k separator_is internal none some all ends p =
     let end : k - 1 ≡ length bytes - 1 = ap (λ n. n - 1) all in
     parted_grouped f 10 separator true bytes k separator_is internal (omega arith) (omega arith)
-    (λ e. absurd (false≢true (sym (ap (λ c. is_some (digit c 10)) e ∙ ap is_some none) ∙ ap (is_digit_in 10 bytes) (sym end) ∙ ends))) p
+    (λ e. absurd (false≢true (sym (ap (λ c. is_some (digit 10 c)) e ∙ ap is_some none) ∙ ap (is_digit_in 10 bytes) (sym end) ∙ ends))) p

@@ -54,13 +54,13 @@ look v s open_now none =
     ]
 
 -- whether the byte at the position is a digit tells whether one is left
-pub look_byte : (v : CursorView) (c : ℕ) → IsSound v → v.closed ≡ false → v.format.digit_separator ≡ None → slice_get v.bytes v.position ≡ Some c → is_some (digit c v.radix) ≡ nat_lt v.digits (digit_count (numeral_of v))
+pub look_byte : (v : CursorView) (c : ℕ) → IsSound v → v.closed ≡ false → v.format.digit_separator ≡ None → slice_get v.bytes v.position ≡ Some c → is_some (digit v.radix c) ≡ nat_lt v.digits (digit_count (numeral_of v))
 unfolding digit_at
-look_byte v c s open_now none e = sym (ap (λ o. is_some (option_and_then (λ c. digit c v.radix) o)) e) ∙ look v s open_now none
+look_byte v c s open_now none e = sym (ap (λ o. is_some (option_and_then (λ c. digit v.radix c) o)) e) ∙ look v s open_now none
 
 pub look_end : (v : CursorView) → IsSound v → v.closed ≡ false → v.format.digit_separator ≡ None → slice_get v.bytes v.position ≡ None → false ≡ nat_lt v.digits (digit_count (numeral_of v))
 unfolding digit_at
-look_end v s open_now none e = sym (ap (λ o. is_some (option_and_then (λ c. digit c v.radix) o)) e) ∙ look v s open_now none
+look_end v s open_now none e = sym (ap (λ o. is_some (option_and_then (λ c. digit v.radix c) o)) e) ∙ look v s open_now none
 
 -- whether a step takes a digit tells whether one is left
 pub look_step : (o : Option ℕ) (v w : CursorView) → IsSound v → v.closed ≡ false → MatchOption o (ReachesEnd v w) (λ d. TakesDigit v w d) → is_some o ≡ nat_lt v.digits (digit_count (numeral_of v))
@@ -86,7 +86,7 @@ other_no_fault f p x other = by_tests ((f.no_integer_leading_zeros && not p) && 
     by_tests false d e = refl
 
 -- the value 0 is that of the byte `0` alone
-zero_byte : (r c : ℕ) → digit c r ≡ Some 0 → c ≡ 48
+zero_byte : (r c : ℕ) → digit r c ≡ Some 0 → c ≡ 48
 zero_byte r c e = by_value (digit_value c) refl e
   where
     value_zero : digit_value c ≡ Some 0 → c ≡ 48
@@ -100,7 +100,7 @@ zero_byte r c e = by_value (digit_value c) refl e
         by_test true k = value_zero (h ∙ (cc))
         by_test false k = cc
 
-zero_at_byte : (r : ℕ) (o : Option ℕ) → option_and_then (λ c. digit c r) o ≡ Some 0 → o ≡ Some 48
+zero_at_byte : (r : ℕ) (o : Option ℕ) → option_and_then (λ c. digit r c) o ≡ Some 0 → o ≡ Some 48
 zero_at_byte r None e = cc
 zero_at_byte r (Some c) e = ap Some (zero_byte r c e)
 
@@ -176,12 +176,12 @@ leaves_first t b p v w d r place value e s open_now none k other is same at faul
 
 -- ---- turns, without a separator
 
-digit_48 : (r : ℕ) → 2 ≤ r → digit 48 r ≡ Some 0
+digit_48 : (r : ℕ) → 2 ≤ r → digit r 48 ≡ Some 0
 digit_48 r two = let t : nat_lt 0 r ≡ true = lt-ltb 0 r (omega arith) in rw t refl
 
 pub zero_ahead : (r : ℕ) (b : List ℕ) (k : ℕ) → 2 ≤ r → slice_get b k ≡ Some 48 → digit_at r b k ≡ Some 0
 unfolding digit_at
-zero_ahead r b k two e = ap (option_and_then (λ c. digit c r)) e ∙ digit_48 r two
+zero_ahead r b k two e = ap (option_and_then (λ c. digit r c)) e ∙ digit_48 r two
 
 -- a zero at the position is the next digit
 pub zero_taken : (v w : CursorView) (d : ℕ) → IsSound v → TakesDigit v w d → slice_get v.bytes v.position ≡ Some 48 → d ≡ 0

@@ -15,8 +15,8 @@ use Rattle.lexical_parse_integer.proofs.reading.OctalZeros.{octal_asked}
 -- what the format's validity gives a cursor under an effective radix
 pub record IsFit (format : Format) (radix : ℕ) : Type 0 where
   pub is_radix : IsRadix radix
-  pub separator : (byte : ℕ) → format.digit_separator ≡ Some byte → digit byte radix ≡ None
-  pub suffix_digit : (suffix byte : ℕ) → format.base_suffix ≡ Some suffix → matches format.case_sensitive_base_suffix suffix byte ≡ true → digit byte radix ≡ None
+  pub separator : (byte : ℕ) → format.digit_separator ≡ Some byte → digit radix byte ≡ None
+  pub suffix_digit : (suffix byte : ℕ) → format.base_suffix ≡ Some suffix → matches format.case_sensitive_base_suffix suffix byte ≡ true → digit radix byte ≡ None
   pub suffix_separator : (suffix byte : ℕ) → format.base_suffix ≡ Some suffix → matches format.case_sensitive_base_suffix suffix byte ≡ true → are_same format.digit_separator (Some byte) ≡ false
 
 -- what matches is the same but for ASCII case

@@ -27,7 +27,7 @@ below_limit r (Some d) v e = by_test (nat_lt d r) refl e
     by_test true t h = let l = ltb-true d r t in let same : d ≡ v = cc in omega arith
     by_test false t h = cc
 
-at_byte : (r : ℕ) (o : Option ℕ) (v : ℕ) → option_and_then (λ c. digit c r) o ≡ Some v → v < r
+at_byte : (r : ℕ) (o : Option ℕ) (v : ℕ) → option_and_then (λ c. digit r c) o ≡ Some v → v < r
 at_byte r None v e = cc
 at_byte r (Some c) v e = below_limit r (digit_value c) v e
 

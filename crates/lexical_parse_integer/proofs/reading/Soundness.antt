@@ -32,14 +32,14 @@ digit_no_separator f r b k v plain e =
       | inr t ↦ t
     ]
 
-by_option : (r : ℕ) (s c : Option ℕ) → ((x : ℕ) → s ≡ Some x → digit x r ≡ None) → are_same s c ≡ true → option_and_then (λ c. digit c r) c ≡ None
+by_option : (r : ℕ) (s c : Option ℕ) → ((x : ℕ) → s ≡ Some x → digit r x ≡ None) → are_same s c ≡ true → option_and_then (λ c. digit r c) c ≡ None
 unfolding are_same
 by_option r (Some s) (Some c) fit t = let e : c ≡ s = grind (arith, nat_tests) in rw e (fit s refl)
 by_option r (Some s) None fit t = refl
 by_option r None c fit t = absurd (false≢true t)
 
 -- a separator that is no digit stands nowhere as one
-pub separator_no_digit : (f : Format) (r : ℕ) (b : List ℕ) → ((s : ℕ) → f.digit_separator ≡ Some s → digit s r ≡ None) → IsSeparatorNoDigit f r b
+pub separator_no_digit : (f : Format) (r : ℕ) (b : List ℕ) → ((s : ℕ) → f.digit_separator ≡ Some s → digit r s ≡ None) → IsSeparatorNoDigit f r b
 unfolding separator_at are_same digit_at
 separator_no_digit f r b fit k t = by_option r f.digit_separator (slice_get b k) fit t
 
@@ -49,9 +49,9 @@ by_affix sensitive (Some m) (Some x) P fit t = fit m x refl t
 by_affix sensitive (Some m) None P fit t = absurd (false≢true t)
 by_affix sensitive None c P fit t = absurd (false≢true t)
 
-pub suffix_no_digit : (f : Format) (r : ℕ) (b : List ℕ) → ((m x : ℕ) → f.base_suffix ≡ Some m → matches f.case_sensitive_base_suffix m x ≡ true → digit x r ≡ None) → IsSuffixNoDigit f r b
+pub suffix_no_digit : (f : Format) (r : ℕ) (b : List ℕ) → ((m x : ℕ) → f.base_suffix ≡ Some m → matches f.case_sensitive_base_suffix m x ≡ true → digit r x ≡ None) → IsSuffixNoDigit f r b
 unfolding suffix_at digit_at
-suffix_no_digit f r b fit k t = by_affix f.case_sensitive_base_suffix f.base_suffix (slice_get b k) (λ o. option_and_then (λ c. digit c r) o ≡ None) fit t
+suffix_no_digit f r b fit k t = by_affix f.case_sensitive_base_suffix f.base_suffix (slice_get b k) (λ o. option_and_then (λ c. digit r c) o ≡ None) fit t
 
 pub suffix_no_separator : (f : Format) (b : List ℕ) → ((m x : ℕ) → f.base_suffix ≡ Some m → matches f.case_sensitive_base_suffix m x ≡ true → are_same f.digit_separator (Some x) ≡ false) → IsSuffixNoSeparator f b
 unfolding suffix_at separator_at

@@ -33,7 +33,7 @@ no_sign_no_digit f r text s = by_test f.required_mantissa_sign
     by_test false e = let same : (false, 0) ≡ s = cc in none_before r text s false same
 
 -- plus and minus are no digits
-sign_is_no_digit : (r : ℕ) (c : ℕ) (cs : List ℕ) (s : Bool × ℕ) (b : Bool) → digit c r ≡ None → (b, 1) ≡ s → stops_after_digit r (c ∷ cs) s.1 ≡ false
+sign_is_no_digit : (r : ℕ) (c : ℕ) (cs : List ℕ) (s : Bool × ℕ) (b : Bool) → digit r c ≡ None → (b, 1) ≡ s → stops_after_digit r (c ∷ cs) s.1 ≡ false
 unfolding digit_at
 sign_is_no_digit r c cs s b none e = rw (sym e, none) refl
 
@@ -45,7 +45,7 @@ sign_no_digit f t r (c ∷ cs) s signed = by_plus (c == 43) refl signed
     by_minus : (a d : Bool) → (c == 45) ≡ a → cond (a && d) (Ok (true, 1)) (no_sign f) ≡ Ok s → stops_after_digit r (c ∷ cs) s.1 ≡ false
     by_minus true true is e =
         let minus : c ≡ 45 = eqb-true c 45 is in
-        let none : digit c r ≡ None = rw minus refl in
+        let none : digit r c ≡ None = rw minus refl in
         let same : (true, 1) ≡ s = cc in
         sign_is_no_digit r c cs s true none same
     by_minus true false is e = no_sign_no_digit f r (c ∷ cs) s e
@@ -54,7 +54,7 @@ sign_no_digit f t r (c ∷ cs) s signed = by_plus (c == 43) refl signed
     by_forbidden : (b : Bool) → c ≡ 43 → cond b (Err (InvalidPositiveSign 0)) (Ok (false, 1)) ≡ Ok s → stops_after_digit r (c ∷ cs) s.1 ≡ false
     by_forbidden true plus e = cc
     by_forbidden false plus e =
-        let none : digit c r ≡ None = rw plus refl in
+        let none : digit r c ≡ None = rw plus refl in
         let same : (false, 1) ≡ s = cc in
         sign_is_no_digit r c cs s false none same
 

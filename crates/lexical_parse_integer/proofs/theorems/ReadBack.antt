@@ -33,18 +33,18 @@ pub record GoesOnWith (text : List ℕ) (start : ℕ) (bytes : List ℕ) : Type 
   pub at : (k : ℕ) → slice_get text (start + k) ≡ slice_get bytes k
   pub size : length text ≡ start + length bytes
 
-pub digit_there : (r : ℕ) (bytes ds : List ℕ) (k : ℕ) → HaveDigits r bytes ds → k < length ds → option_and_then (λ byte. digit byte r) (slice_get bytes k) ≡ Some (get_or ds k 0)
+pub digit_there : (r : ℕ) (bytes ds : List ℕ) (k : ℕ) → HaveDigits r bytes ds → k < length ds → option_and_then (λ byte. digit r byte) (slice_get bytes k) ≡ Some (get_or ds k 0)
 digit_there r [] [] k all l = absurd (omega arith)
 digit_there r [] (d ∷ ds) k all l = cc
 digit_there r (c ∷ cs) [] k all l = cc
 digit_there r (c ∷ cs) (d ∷ ds) zero all l = cc
 digit_there r (c ∷ cs) (d ∷ ds) (suc k) all l =
-    let more : map (λ byte. digit byte r) cs ≡ map Some ds = cc in
+    let more : map (λ byte. digit r byte) cs ≡ map Some ds = cc in
     digit_there r cs ds k more (omega arith)
 
 pub digit_at_there : (r : ℕ) (text bytes ds : List ℕ) (start k : ℕ) → GoesOnWith text start bytes → HaveDigits r bytes ds → k < length ds → digit_at r text (start + k) ≡ Some (get_or ds k 0)
 unfolding digit_at
-digit_at_there r text bytes ds start k on all l = ap (option_and_then (λ byte. digit byte r)) (on.at k) ∙ digit_there r bytes ds k all l
+digit_at_there r text bytes ds start k on all l = ap (option_and_then (λ byte. digit r byte)) (on.at k) ∙ digit_there r bytes ds k all l
 
 -- the row of digits that stand there
 pub row_is : (r : ℕ) (text ds : List ℕ) (start : ℕ) → ((k : ℕ) → k < length ds → digit_at r text (start + k) ≡ Some (get_or ds k 0)) → row r text start (length ds) ≡ ds
@@ -76,13 +76,13 @@ written_read r t n text bytes s positive sign_is on writes fits =
 
 -- ---- the sign of a text that begins with a digit, and of one with a minus
 
-pub no_sign_byte : (r c d : ℕ) → digit c r ≡ Some d → ((c == 43) ≡ false) × ((c == 45) ≡ false)
+pub no_sign_byte : (r c d : ℕ) → digit r c ≡ Some d → ((c == 43) ≡ false) × ((c == 45) ≡ false)
 no_sign_byte r c d is = (
-  ne_eqb c 43 (λ e. let none : digit c r ≡ None = ap (λ (b : ℕ). digit b r) e in cc),
-  ne_eqb c 45 (λ e. let none : digit c r ≡ None = ap (λ (b : ℕ). digit b r) e in cc),
+  ne_eqb c 43 (λ e. let none : digit r c ≡ None = ap (λ (b : ℕ). digit r b) e in cc),
+  ne_eqb c 45 (λ e. let none : digit r c ≡ None = ap (λ (b : ℕ). digit r b) e in cc),
 )
 
-pub sign_of_digit : (r : ℕ) (t : IntegerType) (c d : ℕ) (cs : List ℕ) → digit c r ≡ Some d → sign (with_radix r) t (c ∷ cs) ≡ Ok (false, 0)
+pub sign_of_digit : (r : ℕ) (t : IntegerType) (c d : ℕ) (cs : List ℕ) → digit r c ≡ Some d → sign (with_radix r) t (c ∷ cs) ≡ Ok (false, 0)
 unfolding sign
 sign_of_digit r t c d cs is =
     let none = no_sign_byte r c d is in
@@ -94,7 +94,7 @@ sign_of_minus r t cs is_signed = rw is_signed refl
 
 -- ---- the law
 
-pub first_digit : (r c : ℕ) (cs ds : List ℕ) → HaveDigits r (c ∷ cs) ds → (d : ℕ) × (digit c r ≡ Some d)
+pub first_digit : (r c : ℕ) (cs ds : List ℕ) → HaveDigits r (c ∷ cs) ds → (d : ℕ) × (digit r c ≡ Some d)
 first_digit r c cs [] all = cc
 first_digit r c cs (d ∷ ds) all = (d, cc)
 
@@ -138,7 +138,7 @@ number_is r ds = let e = number_after r 0 ds in omega arith
 digit_char_value : (d : ℕ) → d < 36 → digit_value (digit_char d) ≡ Some d
 digit_char_value d small = grind (arith, nat_tests)
 
-digit_char_digit : (r d : ℕ) → d < r → r ≤ 36 → digit (digit_char d) r ≡ Some d
+digit_char_digit : (r d : ℕ) → d < r → r ≤ 36 → digit r (digit_char d) ≡ Some d
 digit_char_digit r d low small =
     let yes : nat_lt d r ≡ true = lt-ltb d r low in
     ap (value_if_below r) (digit_char_value d (omega arith)) ∙ rw yes refl
@@ -166,8 +166,8 @@ all_below r [] [] all = tt
 all_below r [] (d ∷ ds) all = cc
 all_below r (c ∷ cs) [] all = cc
 all_below r (c ∷ cs) (d ∷ ds) all =
-    let here : digit c r ≡ Some d = cc in
-    let more : map (λ byte. digit byte r) cs ≡ map Some ds = cc in
+    let here : digit r c ≡ Some d = cc in
+    let more : map (λ byte. digit r byte) cs ≡ map Some ds = cc in
     (digit_below r (digit_value c) d here, all_below r cs ds more)
 
 -- the number is below a power of the radix
@@ -178,7 +178,7 @@ writes_below r n text writes =
     let power : r ^ length writes.digits ≡ r ^ length text = ap (λ k. r ^ k) (sym size) in
     omega (arith, number_is r writes.digits, writes.worth)
 
-pub digit_zero : (r : ℕ) → 2 ≤ r → digit 48 r ≡ Some 0
+pub digit_zero : (r : ℕ) → 2 ≤ r → digit r 48 ≡ Some 0
 digit_zero r low = let t : nat_lt 0 r ≡ true = lt-ltb 0 r (omega arith) in rw t refl
 
 pub digits_text_is : (r n : ℕ) → 2 ≤ r → r ≤ 36 → WritesShortest r n (digits_text r n)
@@ -228,7 +228,7 @@ zero_digit r c (Some v) is e = by_test (nat_lt v r) e
     by_test true h = zero_byte c (is ∙ (cc))
     by_test false h = cc
 
-first_some : (r c d : ℕ) → digit c r ≡ Some d → c ≢ 48 → 1 ≤ d
+first_some : (r c d : ℕ) → digit r c ≡ Some d → c ≢ 48 → 1 ≤ d
 first_some r c zero is other = absurd (other (zero_digit r c (digit_value c) refl is))
 first_some r c (suc d) is other = omega arith
 
@@ -236,7 +236,7 @@ first_some r c (suc d) is other = omega arith
 no_zero_high : (r n c : ℕ) (cs ds : List ℕ) → HaveDigits r (c ∷ cs) ds → positional_value r ds ≡ n → c ≢ 48 → r ^ length cs ≤ n
 no_zero_high r n c cs [] all worth other = cc
 no_zero_high r n c cs (d ∷ ds) all worth other =
-    let here : digit c r ≡ Some d = cc in
+    let here : digit r c ≡ Some d = cc in
     let more : HaveDigits r cs ds = cc in
     let size : r ^ length cs ≡ r ^ length ds = ap (λ k. r ^ k) (digits_size r cs ds more) in
     let high = positional_value-low r d ds (first_some r c d here other) in
@@ -260,7 +260,7 @@ shortest_if r n text low writes first = record { writes = writes; shortest = λ 
 
 -- ---- what std prints of a number in radix 10 is its numeral
 
-char_digit : (c : ℕ) → char_value c < 10 → digit c 10 ≡ Some (char_value c)
+char_digit : (c : ℕ) → char_value c < 10 → digit 10 c ≡ Some (char_value c)
 char_digit c low = grind (arith, nat_tests)
 
 printed_digits : (cs : List ℕ) → AllDigits 10 cs → HaveDigits 10 cs (map char_value cs)

@@ -40,7 +40,7 @@ agree_inside n k text other same l inside =
 
 pub agree_digit : (r n k : ℕ) (text other : List ℕ) → Agree n text other → k < n → digit_at r text k ≡ digit_at r other k
 unfolding digit_at
-agree_digit r n k text other same l = ap (option_and_then (λ byte. digit byte r)) (same k l)
+agree_digit r n k text other same l = ap (option_and_then (λ byte. digit r byte)) (same k l)
 
 pub agree_suffix : (f : Format) (n k : ℕ) (text other : List ℕ) → Agree n text other → k < n → suffix_at f text k ≡ suffix_at f other k
 unfolding suffix_at

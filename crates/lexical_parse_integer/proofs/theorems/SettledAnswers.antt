@@ -134,7 +134,7 @@ zero_fits t b r ds first = rw (value ds first) (zero_is_number t b)
 
 zero_at_place : (r : ℕ) (text : List ℕ) (k : ℕ) → 2 ≤ r → slice_get text k ≡ Some 48 → digit_at r text k ≡ Some 0
 unfolding digit_at
-zero_at_place r text k low byte = ap (option_and_then (λ byte. digit byte r)) byte ∙ digit_zero r low
+zero_at_place r text k low byte = ap (option_and_then (λ byte. digit r byte)) byte ∙ digit_zero r low
 
 -- a zero that stands at the start is the first digit
 pub zero_counts : (r : ℕ) (text : List ℕ) (start count : ℕ) → 2 ≤ r → slice_get text start ≡ Some 48 → EndsRow r text start (start + count) → (1 ≤ count) × (get_or (row r text start count) 0 0 ≡ 0)

@@ -33,17 +33,17 @@ goes_on_behind front bytes = record { at = at front; size = length-append front 
     at (c ∷ cs) k = ap (slice_get (c ∷ (cs ++ bytes))) (let e : suc (length cs) + k ≡ suc (length cs + k) = omega arith in e) ∙ at cs k
 
 byte_values : List ℕ → List ℕ
-byte_values bytes = map (λ byte. unwrap_or (digit byte 10) 0) bytes
+byte_values bytes = map (λ byte. unwrap_or (digit 10 byte) 0) bytes
 
 some_is : (o : Option ℕ) → is_some o ≡ true → o ≡ Some (unwrap_or o 0)
 some_is None h = cc
 some_is (Some d) h = refl
 
-are_digits : (bytes : List ℕ) → ((k : ℕ) → k < length bytes → is_some (option_and_then (λ byte. digit byte 10) (slice_get bytes k)) ≡ true) → HaveDigits 10 bytes (byte_values bytes)
+are_digits : (bytes : List ℕ) → ((k : ℕ) → k < length bytes → is_some (option_and_then (λ byte. digit 10 byte) (slice_get bytes k)) ≡ true) → HaveDigits 10 bytes (byte_values bytes)
 unfolding byte_values
 are_digits [] all = refl
 are_digits (c ∷ cs) all =
-    let here : digit c 10 ≡ Some (unwrap_or (digit c 10) 0) = some_is (digit c 10) (all 0 (omega arith)) in
+    let here : digit 10 c ≡ Some (unwrap_or (digit 10 c) 0) = some_is (digit 10 c) (all 0 (omega arith)) in
     let rest = are_digits cs (λ k l. all (suc k) (omega arith)) in
     cc
 
@@ -51,7 +51,7 @@ are_digits (c ∷ cs) all =
 rest_digits : (text bytes : List ℕ) (start : ℕ) → GoesOnWith text start bytes → HoldsBetween (has_digit 10 text) start (length text) → HaveDigits 10 bytes (byte_values bytes)
 unfolding digit_at
 rest_digits text bytes start on all =
-    are_digits bytes (λ k l. ap (λ o. is_some (option_and_then (λ byte. digit byte 10) o)) (sym (on.at k)) ∙ all (start + k) (omega arith) (omega (arith, on.size)))
+    are_digits bytes (λ k l. ap (λ o. is_some (option_and_then (λ byte. digit 10 byte) o)) (sym (on.at k)) ∙ all (start + k) (omega arith) (omega (arith, on.size)))
 
 -- ---- zeros
 
@@ -94,8 +94,8 @@ sign_told t [] s h = let at = at_place false 0 s h in record { short = omega ari
 sign_told t (c ∷ cs) s h = by_tests (c == 43) refl (c == 45) refl t.is_signed h
   where
     by_tests : (a : Bool) → (c == 43) ≡ a → (b : Bool) → (c == 45) ≡ b → (d : Bool) → ◌≡◌ {A = Result (Bool × ℕ) Error} (cond a (Ok (false, 1)) (cond (b && d) (Ok (true, 1)) (Ok (false, 0)))) (Ok s) → IsSignOf (c ∷ cs) s.1
-    by_tests true ea b eb d h = let at = at_place false 1 s h in let is = byte_is true c 43 ea refl in record { short = omega arith; no_digit = λ e. ap (λ (x : ℕ). digit x 10) is }
-    by_tests false ea true eb true h = let at = at_place true 1 s h in let is = byte_is true c 45 eb refl in record { short = omega arith; no_digit = λ e. ap (λ (x : ℕ). digit x 10) is }
+    by_tests true ea b eb d h = let at = at_place false 1 s h in let is = byte_is true c 43 ea refl in record { short = omega arith; no_digit = λ e. ap (λ (x : ℕ). digit 10 x) is }
+    by_tests false ea true eb true h = let at = at_place true 1 s h in let is = byte_is true c 45 eb refl in record { short = omega arith; no_digit = λ e. ap (λ (x : ℕ). digit 10 x) is }
     by_tests false ea true eb false h = let at = at_place false 0 s h in record { short = omega arith; no_digit = λ e. absurd (omega arith) }
     by_tests false ea false eb d h = let at = at_place false 0 s h in record { short = omega arith; no_digit = λ e. absurd (omega arith) }
 
@@ -120,7 +120,7 @@ front_is text place m of here none there =
 
 sign_of_first : (t : IntegerType) (d : ℕ) (ds : List ℕ) → is_some (digit_at 10 (d ∷ ds) 0) ≡ true → sign standard t (d ∷ ds) ≡ Ok (false, 0)
 unfolding digit_at
-sign_of_first t d ds h = sign_of_digit 10 t d (unwrap_or (digit d 10) 0) ds (some_is (digit d 10) h)
+sign_of_first t d ds h = sign_of_digit 10 t d (unwrap_or (digit 10 d) 0) ds (some_is (digit 10 d) h)
 
 -- the sign is the same
 same_sign : (t : IntegerType) (front rest : List ℕ) (s : Bool × ℕ) (n : ℕ) → length front ≡ s.1 → is_some (digit_at 10 (front ++ rest) (length front)) ≡ true → sign standard t (front ++ rest) ≡ Ok s → sign standard t (front ++ (replicate n 48 ++ rest)) ≡ Ok s

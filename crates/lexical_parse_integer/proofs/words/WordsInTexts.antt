@@ -48,11 +48,11 @@ stands_rest b c cs p s = let w = s.within in record { within = omega arith; byte
 
 digit_here : (r : ℕ) (b : List ℕ) (k c : ℕ) → slice_get b k ≡ Some c → IsAsciiDigit r c → r ≤ 10 → digit_at r b k ≡ Some (c - 48)
 unfolding digit_at
-digit_here r b k c e d ten = ap (option_and_then (λ x. digit x r)) e ∙ digit_from r c d ten
+digit_here r b k c e d ten = ap (option_and_then (λ x. digit r x)) e ∙ digit_from r c d ten
 
 byte_here : (r : ℕ) (b : List ℕ) (k c : ℕ) → slice_get b k ≡ Some c → is_some (digit_at r b k) ≡ true → r ≤ 10 → IsAsciiDigit r c
 unfolding digit_at
-byte_here r b k c e t ten = digit_to r c (ap (λ o. is_some (option_and_then (λ x. digit x r) o)) (sym e) ∙ t) ten
+byte_here r b k c e t ten = digit_to r c (ap (λ o. is_some (option_and_then (λ x. digit r x) o)) (sym e) ∙ t) ten
 
 -- each digit of a word by its place
 pub word_digit : (r : ℕ) (b bs : List ℕ) (p : ℕ) → r ≤ 10 → StandsAt b bs p → AreAsciiDigits r bs → (i k : ℕ) → p + i ≡ k → i < length bs → digit_at r b k ≡ Some (get_or bs i 0 - 48)

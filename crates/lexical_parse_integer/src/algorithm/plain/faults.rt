@@ -23,7 +23,7 @@ fn digits_in_front(text: &[u8]) -> usize
     requires some { 1 ≤ length text.now }
     ensures within { result ≤ length text.now }
     ensures digits { AreDigits 10 (take result text.now) }
-    ensures stops { result < length text.now → IsNone (digit (get_or text.now result 0) 10) }
+    ensures stops { result < length text.now → IsNone (digit 10 (get_or text.now result 0)) }
 {
     let (_, mut count) = number_in_front(text);
     if count < 8 {

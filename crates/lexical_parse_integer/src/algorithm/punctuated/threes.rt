@@ -33,9 +33,9 @@ fn guess_of_first(bytes: &[u8], separator: u8) -> usize
 // one word.
 #[inline(always)]
 fn group_value(separator: u8, first: u8, second: u8, third: u8) -> Option<u32>
-    ensures first { IfSome result (λ number. digit first 10 ≡ Some (first - digit_zero)) }
-    ensures second { IfSome result (λ number. digit second 10 ≡ Some (second - digit_zero)) }
-    ensures third { IfSome result (λ number. digit third 10 ≡ Some (third - digit_zero)) }
+    ensures first { IfSome result (λ number. digit 10 first ≡ Some (first - digit_zero)) }
+    ensures second { IfSome result (λ number. digit 10 second ≡ Some (second - digit_zero)) }
+    ensures third { IfSome result (λ number. digit 10 third ≡ Some (third - digit_zero)) }
     ensures value { IfSome result (λ number. number ≡ (first - digit_zero) * 100
         + (second - digit_zero) * 10 + (third - digit_zero)) }
     ensures small { IfSome result (λ number. number < 1000) }
@@ -53,11 +53,11 @@ fn group_value(separator: u8, first: u8, second: u8, third: u8) -> Option<u32>
 fn three_at(bytes: &[u8], place: usize, separator: u8) -> Option<u32>
     requires { place + 4 ≤ length bytes.now }
     ensures parted { IfSome result (λ number. get_or bytes.now place 0 ≡ separator) }
-    ensures first { IfSome result (λ number. digit (get_or bytes.now (place + 1) 0) 10
+    ensures first { IfSome result (λ number. digit 10 (get_or bytes.now (place + 1) 0)
         ≡ Some (get_or bytes.now (place + 1) 0 - digit_zero)) }
-    ensures second { IfSome result (λ number. digit (get_or bytes.now (place + 2) 0) 10
+    ensures second { IfSome result (λ number. digit 10 (get_or bytes.now (place + 2) 0)
         ≡ Some (get_or bytes.now (place + 2) 0 - digit_zero)) }
-    ensures third { IfSome result (λ number. digit (get_or bytes.now (place + 3) 0) 10
+    ensures third { IfSome result (λ number. digit 10 (get_or bytes.now (place + 3) 0)
         ≡ Some (get_or bytes.now (place + 3) 0 - digit_zero)) }
     ensures value { IfSome result (λ number. number
         ≡ (get_or bytes.now (place + 1) 0 - digit_zero) * 100
@@ -97,7 +97,7 @@ pub(super) fn value_of_threes<T: Integer>(
     requires some { 1 ≤ length bytes.now }
     requires separator { format.now.digit_separator ≡ Some separator }
     requires internal { format.now.integer_internal_digit_separator ≡ true }
-    requires no_digit { digit separator 10 ≡ None }
+    requires no_digit { digit 10 separator ≡ None }
     requires minus { IsTrue is_negative → IsTrue T.TYPE.is_signed }
     ensures grouped { IfSome result (λ value. AreGrouped format.now 10 bytes.now) }
     ensures worth { IfSome result

@@ -17,7 +17,7 @@ pub fn with_digit<T: Integer>(number: T, byte: u8, format: &NumberFormat) -> Opt
     ensures { option_map T.number result ≡ option_and_then
         (λ value. number_if_fits T.TYPE
         (mul_add false (T.number number) (pos format.now.mantissa_radix) (pos value)))
-        (digit byte format.now.mantissa_radix) }
+        (digit format.now.mantissa_radix byte) }
 {
     let value = char_to_digit(byte, format.radix())?;
     let scale = T::from_u32(format.radix());

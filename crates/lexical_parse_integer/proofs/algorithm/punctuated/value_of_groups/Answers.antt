@@ -10,7 +10,7 @@ pub value_of_threes-requires-clause-no_digit : goal.value_of_threes-requires-cla
 value_of_threes-requires-clause-no_digit g c =
     let told = c.if-not-is_valid_with_separator.ensures in
     let fit = fits c.args.format.now (valid_from _ (told.valid refl)) in
-    subst (λ (r : ℕ). digit c.args.separator r ≡ None) (told.decimal refl) (fit.separator c.args.separator c.requires)
+    subst (λ (r : ℕ). digit r c.args.separator ≡ None) (told.decimal refl) (fit.separator c.args.separator c.requires)
 
 pub value_of_threes-requires-clause-minus : goal.value_of_threes-requires-clause-minus
 value_of_threes-requires-clause-minus g c = signed_minus _ _ c.args.bytes.now (c.in-Ok.is_negative, c.in-Ok.start) (sym c.in-Ok.ensures)

@@ -12,13 +12,13 @@ returns-clause-parted c =
     if_found c.group_value.result (λ n below. same ∙ c.if-t-separator.false) c.group_value.ensures.small
 
 pub returns-clause-first : goal.returns-clause-first
-returns-clause-first c = subst (λ (b : ℕ). IfSome c.group_value.result (λ n. digit b 10 ≡ Some (b - 48))) (in_four c.args.bytes.now c.args.place 1 (omega arith)) c.group_value.ensures.first
+returns-clause-first c = subst (λ (b : ℕ). IfSome c.group_value.result (λ n. digit 10 b ≡ Some (b - 48))) (in_four c.args.bytes.now c.args.place 1 (omega arith)) c.group_value.ensures.first
 
 pub returns-clause-second : goal.returns-clause-second
-returns-clause-second c = subst (λ (b : ℕ). IfSome c.group_value.result (λ n. digit b 10 ≡ Some (b - 48))) (in_four c.args.bytes.now c.args.place 2 (omega arith)) c.group_value.ensures.second
+returns-clause-second c = subst (λ (b : ℕ). IfSome c.group_value.result (λ n. digit 10 b ≡ Some (b - 48))) (in_four c.args.bytes.now c.args.place 2 (omega arith)) c.group_value.ensures.second
 
 pub returns-clause-third : goal.returns-clause-third
-returns-clause-third c = subst (λ (b : ℕ). IfSome c.group_value.result (λ n. digit b 10 ≡ Some (b - 48))) (in_four c.args.bytes.now c.args.place 3 (omega arith)) c.group_value.ensures.third
+returns-clause-third c = subst (λ (b : ℕ). IfSome c.group_value.result (λ n. digit 10 b ≡ Some (b - 48))) (in_four c.args.bytes.now c.args.place 3 (omega arith)) c.group_value.ensures.third
 
 pub returns-clause-value : goal.returns-clause-value
 returns-clause-value c =

@@ -49,7 +49,7 @@ loop-place-preserved g c =
       within = c.loop-place-test.true;
       parted = three_parted _ _ _ c.args.bytes.now _ _ _ _ i.parted told.parted told.first told.second told.third;
       ends = three_ends _ c.args.bytes.now _ _ told.third;
-      worth = three_worth _ _ c.args.bytes.now _ _ _ _ _ _ i.worth c.loop-place-test.true (ap (λ b. digit b 10) told.parted ∙ c.requires.no_digit) told.first told.second told.third (c.in-Some-with_three.ensures.value ∙ ap (λ (n : ℕ). mul_add c.args.is_negative (g.T.Integer.number c.loop-place.value) (pos 1000) (pos n)) told.value) c.in-Some-with_three.ensures.fits;
+      worth = three_worth _ _ c.args.bytes.now _ _ _ _ _ _ i.worth c.loop-place-test.true (ap (λ b. digit 10 b) told.parted ∙ c.requires.no_digit) told.first told.second told.third (c.in-Some-with_three.ensures.value ∙ ap (λ (n : ℕ). mul_add c.args.is_negative (g.T.Integer.number c.loop-place.value) (pos 1000) (pos n)) told.value) c.in-Some-with_three.ensures.fits;
     }
 
 pub returns-clause-grouped : goal.returns-clause-grouped
