@@ -1,5 +1,5 @@
 // The form: its controls are made from the library's lists, show a state, and change it.
-import { FIELDS, formats } from "./jadvolni/index.js";
+import { FIELDS, formats } from "../../../bindings/js/index.js";
 import { baseOf, typedOf } from "./reading.js";
 import { CALLERS, CALLS, TYPES } from "./state.js";
 

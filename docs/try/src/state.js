@@ -15,6 +15,9 @@ export const TYPES = [
 /** The languages in which a call is written. */
 export const CALLERS = ["C", "C++", "Rust", "Python", "JavaScript", "Rattle"];
 
+/** So many characters of a text are read at most, and fit in an address. */
+export const LONGEST = 100000;
+
 /** What the page shows where its address says nothing. */
 export const FIRST = {
   text: "18446744073709551616", type: "u64", call: "whole", format: "", fields: {}, caller: "C",
