@@ -8,6 +8,7 @@ export function told(value) {
   if (typeof value === "string") {
     return `${JSON.stringify(value.slice(0, TOLD))}${value.length > TOLD ? " .." : ""}`;
   }
+  if (typeof value === "bigint") return `${value}n`;
   if (value === null || !["object", "function", "symbol"].includes(typeof value)) {
     return String(value);
   }

@@ -79,6 +79,7 @@ test("fields of formats", () => {
   const wrong = {
     radix: [16, 'a format has no field "radix"'],
     mantissa_radix: ["16", 'mantissa_radix has to be an integer, and not "16"'],
+    base_suffix: [104n, /^base_suffix has .*, and not 104n$/],
     literal_prefixes: [1, "literal_prefixes has to be true or false, and not 1"],
     base_prefix: ["0x", /^base_prefix has to be one ASCII character .*, and not "0x"$/],
   };

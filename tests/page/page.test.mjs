@@ -230,6 +230,23 @@ test("a text that is too long is told so, and the next one is read", async () =>
   isQuiet();
 });
 
+test("line ends are read, pasted or in a link, where a field of one line drops them", async () => {
+  const text = () => browser.value("document.getElementById('text').value");
+  await browser.open(`${server.page}#text=1%0A&type=u8`, READY);
+  assert.equal((await browser.value(`(${shown})()`)).answer, "Err(InvalidDigit(1))");
+  assert.equal(await text(), "1\\n");
+  await browser.value(`(() => {
+    const clipboardData = new DataTransfer();
+    clipboardData.setData("text/plain", "12\\r\\n");
+    const input = document.getElementById("text");
+    input.select();
+    input.dispatchEvent(new ClipboardEvent("paste", { clipboardData, cancelable: true }));
+  })()`);
+  assert.equal((await browser.value(`(${shown})()`)).answer, "Err(InvalidDigit(2))");
+  assert.equal(await text(), "12\\r\\n");
+  isQuiet();
+});
+
 test("the address keeps what is set, and a link to it shows the same", async () => {
   await browser.open(server.page, READY);
   await browser.value(`(() => {

@@ -1,4 +1,5 @@
 // What the page shows, and the fragment of its address that says the same.
+import { inOneLine } from "./bytes.js";
 
 /** The calls: the name in the fragment, and what the page calls it. */
 export const CALLS = [
@@ -48,7 +49,7 @@ export function stateOf(fragment, known) {
     if (value !== undefined) fields[name] = value;
   }
   return {
-    text: written.get("text") ?? FIRST.text,
+    text: inOneLine(written.get("text") ?? FIRST.text),
     type: oneOf(TYPES, written.get("type"), FIRST.type),
     call: oneOf(CALLS.map((it) => it.name), written.get("call"), FIRST.call),
     format: oneOf(known.formats, written.get("format"), FIRST.format),
