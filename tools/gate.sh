@@ -77,7 +77,8 @@ proofs() {
 }
 
 # `rt ci` leaves the programs that it builds, but no library that another command takes. So what
-# callers need is proved once more and tried in a copy, beside it.
+# callers need is proved once more and tried in a copy, beside it; libraries that stand built here
+# serve it, since `rt ci` sets them aside and proves all anew.
 in_copy() { # NAME COMMAND..
     name=$1
     shift
@@ -112,6 +113,7 @@ part documents python3 tools/documents.py --check
 part house python3 tools/house.py
 part vendor vendor
 test "$failed" = 0 || { total; exit 1; }
+cp -a --parents -t "$copy" crates/*/out/rlib 2> /dev/null
 {
     in_copy libraries make -s build/libjadvolni.a
     in_copy javascript make -s test-js
