@@ -72,7 +72,7 @@ fn end_fault(
 fn read_cells(
     row: &Row<'_>,
     index: usize,
-    dialect: &Dialect,
+    dialect: &Dialect<'_>,
     options: &Options,
     targets: &mut [Option<Target<'_>>],
 ) -> Option<TableError>
@@ -120,7 +120,7 @@ fn read_cells(
 /// puts 1 and -2 at place 0, and stops at 7.
 pub fn read_columns(
     text: &[u8],
-    dialect: &Dialect,
+    dialect: &Dialect<'_>,
     options: &Options,
     rows: usize,
     targets: &mut [Option<Target<'_>>],

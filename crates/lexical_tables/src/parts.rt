@@ -25,7 +25,7 @@ use lexical_parse_integer::Options;
 pub fn read_columns_part(
     text: &[u8],
     is_last: bool,
-    dialect: &Dialect,
+    dialect: &Dialect<'_>,
     options: &Options,
     rows: usize,
     targets: &mut [Option<Target<'_>>],

@@ -15,11 +15,15 @@ use std::test::Fail;
 type Answer = Result<Table, TableError>;
 
 // Two columns between commas, with returns or without.
-fn pairs(has_returns: bool) -> Dialect {
+fn pairs(has_returns: bool) -> Dialect<'static> {
     Dialect {
         separator: b',',
         columns: 2,
         has_returns,
+        has_quotes: false,
+        allows_blanks: false,
+        skips_empty_rows: false,
+        missing: b"",
     }
 }
 
@@ -93,6 +97,10 @@ fn read_ledger<'a>(
         separator: b';',
         columns: 3,
         has_returns: true,
+        has_quotes: false,
+        allows_blanks: false,
+        skips_empty_rows: false,
+        missing: b"",
     };
     Ok(read_columns(text, &dialect, &options::STANDARD, rows, &mut targets))
 }
