@@ -5,14 +5,27 @@ use Rattle.lexical_util.specs.declared.error.Error.TheVariants.{Empty, InvalidDi
 use Rattle.lexical_util.specs.Format.{standard}
 use Rattle.lexical_util.specs.Number.{integer_type}
 use Rattle.lexical_parse_integer.specs.Computed.{grammar}
-use Rattle.lexical_tables.specs.ByColumn.{Kind, columns_answer, columns_put, kinds_of, wrong_cell}
+use Rattle.lexical_tables.specs.ByColumn.{columns_answer, columns_put, kinds_of, wrong_cell}
+use Rattle.lexical_tables.specs.Cells.{Kind}
 use Rattle.lexical_tables.specs.Targets.{TargetView}
 use Rattle.lexical_tables.specs.declared.answers.CellFault.TheVariants.{MissingReturn, NotNumber, TooFewCells, TooManyCells}
 use Rattle.lexical_tables.specs.declared.dialect.Dialect.{Dialect}
 
--- four columns between commas
+-- so many columns between commas, with returns or without, and nothing else
+abbrev pub plain : ℕ → Bool → Dialect
+plain columns has_returns = record {
+  separator = 44;
+  columns = columns;
+  has_returns = has_returns;
+  has_quotes = false;
+  allows_blanks = false;
+  skips_empty_rows = false;
+  missing = record { ref_ptr = (0, 0); now = [] };
+}
+
+-- four columns
 abbrev four : Dialect
-four = record { separator = 44; columns = 4; has_returns = false }
+four = plain 4 false
 
 -- the first column is read as `u8`, the third as hexadecimal `i8`, the second and the fourth aren't read
 abbrev targets : List ℤ → List ℤ → List (Option TargetView)
@@ -68,7 +81,7 @@ both =
     ∷ Some (record { format = standard; type = integer_type 8 false }) ∷ []
 
 abbrev pairs : Bool → Dialect
-pairs has_returns = record { separator = 44; columns = 2; has_returns = has_returns }
+pairs has_returns = plain 2 has_returns
 
 -- lines with a line feed, and with a return in front of it
 abbrev line : List ℕ → List ℕ

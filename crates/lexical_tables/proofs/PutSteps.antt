@@ -1,9 +1,11 @@
 -- Targets, with one number more.
-use Rattle.std.proofs.Common.{◌≡◌, ℕ, zero, suc, ◌<◌, ◌≤◌, List, [], ◌∷◌, ◌++◌, length, take, drop, set, get_or, ℤ, Option, Some, None, Ok, refl, ap, ap₂, sym, arith, length-set}
+use Rattle.std.proofs.Common.{◌≡◌, ℕ, zero, suc, ◌<◌, ◌≤◌, List, [], ◌∷◌, ◌++◌, length, take, drop, set, get_or, ℤ, Option, Some, None, refl, ap, ap₂, sym, arith, length-set}
 use Rattle.std.specs.Prelude.{option_map}
 use Rattle.lexical_fields.specs.Fields.{FieldView}
-use Rattle.lexical_tables.specs.ByColumn.{AreUsable, IsUsable, Kind, answer_as, answer_at, cell_answers, kind_of, kinds_of, put_at, put_number, put_row}
+use Rattle.lexical_tables.specs.ByColumn.{AreUsable, IsUsable, answer_at, cell_answers, kind_of, kinds_of, put_at, put_number, put_row}
+use Rattle.lexical_tables.specs.Cells.{Kind, answer_as}
 use Rattle.lexical_tables.specs.Targets.{TargetView}
+use Rattle.lexical_tables.specs.declared.dialect.Dialect.{Dialect}
 
 -- a target that is set as the number says
 pub set_as_put : (row column : ℕ) (value : Option ℤ) (targets : List (Option TargetView)) (x d : Option TargetView)
@@ -22,26 +24,28 @@ put_nothing row zero (t ∷ ts) = refl
 put_nothing row (suc column) (t ∷ ts) = ap (λ l. t ∷ l) (put_nothing row column ts)
 
 -- what the cell of a column stands for
-pub answer_is : (kinds : List (Option Kind)) (column : ℕ) (cell : FieldView) (d : Option Kind) → column < length kinds
-    → answer_at kinds column cell ≡ answer_as (get_or kinds column d) cell
-answer_is [] zero cell d low = absurd (omega arith)
-answer_is [] (suc column) cell d low = absurd (omega arith)
-answer_is (k ∷ ks) zero cell d low = refl
-answer_is (k ∷ ks) (suc column) cell d low = answer_is ks column cell d (omega arith)
+module _ (dialect : Dialect) where
+  pub answer_is : (kinds : List (Option Kind)) (column : ℕ) (cell : FieldView) (d : Option Kind) → column < length kinds
+      → answer_at dialect kinds column cell ≡ answer_as dialect (get_or kinds column d) cell
+  answer_is [] zero cell d low = absurd (omega arith)
+  answer_is [] (suc column) cell d low = absurd (omega arith)
+  answer_is (k ∷ ks) zero cell d low = refl
+  answer_is (k ∷ ks) (suc column) cell d low = answer_is ks column cell d (omega arith)
 
-pub answer_beyond : (kinds : List (Option Kind)) (column : ℕ) (cell : FieldView) → length kinds ≤ column
-    → answer_at kinds column cell ≡ Ok None
-answer_beyond [] column cell high = refl
-answer_beyond (k ∷ ks) zero cell high = absurd (omega arith)
-answer_beyond (k ∷ ks) (suc column) cell high = answer_beyond ks column cell (omega arith)
+  pub answer_beyond : (kinds : List (Option Kind)) (column : ℕ) (cell : FieldView) → length kinds ≤ column
+      → answer_at dialect kinds column cell ≡ answer_as dialect None cell
+  answer_beyond [] column cell high = refl
+  answer_beyond (k ∷ ks) zero cell high = absurd (omega arith)
+  answer_beyond (k ∷ ks) (suc column) cell high = answer_beyond ks column cell (omega arith)
 
--- the cells from a column on
-pub answers_go : (kinds : List (Option Kind)) (column : ℕ) (cell : FieldView) (more : List FieldView)
-    → cell_answers (drop column kinds) (cell ∷ more) ≡ answer_at kinds column cell ∷ cell_answers (drop (suc column) kinds) more
-answers_go [] zero cell more = refl
-answers_go [] (suc column) cell more = refl
-answers_go (k ∷ ks) zero cell more = refl
-answers_go (k ∷ ks) (suc column) cell more = answers_go ks column cell more
+  -- the cells from a column on
+  pub answers_go : (kinds : List (Option Kind)) (column : ℕ) (cell : FieldView) (more : List FieldView)
+      → cell_answers dialect (drop column kinds) (cell ∷ more)
+      ≡ answer_at dialect kinds column cell ∷ cell_answers dialect (drop (suc column) kinds) more
+  answers_go [] zero cell more = refl
+  answers_go [] (suc column) cell more = refl
+  answers_go (k ∷ ks) zero cell more = refl
+  answers_go (k ∷ ks) (suc column) cell more = answers_go ks column cell more
 
 -- a number changes no kind
 same_kind : (row : ℕ) (value : Option ℤ) (target : Option TargetView)

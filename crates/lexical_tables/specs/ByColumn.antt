@@ -1,25 +1,17 @@
 -- What is read of a table whose columns go into slices of their own.
 use Rattle.std.specs.Prelude.{◌≡◌, ◌+◌, ◌≤◌, ℕ, zero, suc, ℤ, if◌then◌else◌, List, [], ◌∷◌, ◌++◌, length, take, drop, map, set, is_none, nat_lt, option_map, Option, Some, None, Result, Ok, Err}
-use Rattle.lexical_util.specs.declared.error.Error.{Error}
-use Rattle.lexical_util.specs.Format.{Format}
-use Rattle.lexical_util.specs.Number.{IntegerType}
 use Rattle.lexical_util.specs.Validity.{fault}
 use Rattle.lexical_fields.specs.Columns as columns
 use Rattle.lexical_fields.specs.Fields.{FieldView, fields, fields_from}
-use Rattle.lexical_fields.specs.ReadFields.{field_answer}
+use Rattle.lexical_tables.specs.Cells.{Kind, answer_as}
 use Rattle.lexical_tables.specs.Rows.{RowView, line_feed, rows}
 use Rattle.lexical_tables.specs.Targets.{TargetView, view_of_target}
 use Rattle.lexical_tables.specs.declared.answers.CellFault.{CellFault}
-use Rattle.lexical_tables.specs.declared.answers.CellFault.TheVariants.{MissingReturn, NotNumber, TooFewCells, TooManyCells}
+use Rattle.lexical_tables.specs.declared.answers.CellFault.TheVariants.{MissingReturn, TooFewCells, TooManyCells}
 use Rattle.lexical_tables.specs.declared.answers.Table.{Table}
 use Rattle.lexical_tables.specs.declared.answers.TableError.{TableError}
 use Rattle.lexical_tables.specs.declared.dialect.Dialect.{Dialect}
 use Rattle.lexical_tables.specs.declared.targets.Target.{Target}
-
--- What a column's cells are read as.
-pub record Kind : Type 0 where
-  pub format : Format
-  pub type : IntegerType
 
 -- targets as contracts see them
 abbrev pub views_of : List (Option Target) → List (Option TargetView)
@@ -35,29 +27,23 @@ kinds_of targets = map (option_map kind_of) targets
 
 -- ---- rows
 
--- a number that is read
-abbrev pub some_number : Result ℤ Error → Result (Option ℤ) Error
-some_number (Ok number) = Ok (Some number)
-some_number (Err error) = Err error
-
--- what a cell stands for in its column: nothing, where it isn't read
-abbrev pub answer_as : Option Kind → FieldView → Result (Option ℤ) Error
-answer_as None cell = Ok None
-answer_as (Some kind) cell = some_number (field_answer kind.format kind.type cell)
-
 -- what the cells of a row stand for; those behind the last kind aren't read
-abbrev pub cell_answers : List (Option Kind) → List FieldView → List (Result (Option ℤ) Error)
-cell_answers kinds [] = []
-cell_answers [] (cell ∷ cells) = Ok None ∷ cell_answers [] cells
-cell_answers (kind ∷ kinds) (cell ∷ cells) = answer_as kind cell ∷ cell_answers kinds cells
+abbrev pub cell_answers : Dialect → List (Option Kind) → List FieldView
+    → List (Result (Option ℤ) CellFault)
+cell_answers dialect kinds [] = []
+cell_answers dialect [] (cell ∷ cells) = answer_as dialect None cell ∷ cell_answers dialect [] cells
+cell_answers dialect (kind ∷ kinds) (cell ∷ cells) =
+    answer_as dialect kind cell ∷ cell_answers dialect kinds cells
 
 -- the cells of a row, at their places in the text: one more than it has separators
 abbrev pub cells_of : Dialect → RowView → List FieldView
 cells_of dialect row = fields_from dialect.separator row.start (row.text ++ dialect.separator ∷ [])
 
 -- what the cells of a row stand for that have a column
-abbrev pub row_answers : List (Option Kind) → Dialect → RowView → List (Result (Option ℤ) Error)
-row_answers kinds dialect row = cell_answers kinds (take dialect.columns (cells_of dialect row))
+abbrev pub row_answers : List (Option Kind) → Dialect → RowView
+    → List (Result (Option ℤ) CellFault)
+row_answers kinds dialect row =
+    cell_answers dialect kinds (take dialect.columns (cells_of dialect row))
 
 -- what is read of a row: a number or nothing for each cell, up to one that is no number
 abbrev pub row_values : List (Option Kind) → Dialect → RowView → List (Option ℤ)
@@ -87,12 +73,12 @@ end_fault columns index row count None =
     else None
 
 -- a fault of the cell behind those that were read, or else of the row's end
-abbrev pub fault_of : Dialect → ℕ → RowView → ℕ → Option Error → Option TableError
+abbrev pub fault_of : Dialect → ℕ → RowView → ℕ → Option CellFault → Option TableError
 fault_of dialect index row count None =
     let cells = cells_of dialect row in
     end_fault dialect.columns index row (length (take dialect.columns cells))
     (first_start (drop dialect.columns cells))
-fault_of dialect index row count (Some error) = Some (wrong_cell index count (NotNumber error))
+fault_of dialect index row count (Some fault) = Some (wrong_cell index count fault)
 
 -- the fault of a row
 abbrev pub row_fault : List (Option Kind) → Dialect → ℕ → RowView → Option TableError
@@ -134,20 +120,20 @@ AreUsable room (target ∷ targets) = IsUsable room target × AreUsable room tar
 -- ---- one cell of a row
 
 -- what the cell of a column stands for
-abbrev pub answer_at : List (Option Kind) → ℕ → FieldView → Result (Option ℤ) Error
-answer_at [] column cell = Ok None
-answer_at (kind ∷ kinds) zero cell = answer_as kind cell
-answer_at (kind ∷ kinds) (suc column) cell = answer_at kinds column cell
+abbrev pub answer_at : Dialect → List (Option Kind) → ℕ → FieldView → Result (Option ℤ) CellFault
+answer_at dialect [] column cell = answer_as dialect None cell
+answer_at dialect (kind ∷ kinds) zero cell = answer_as dialect kind cell
+answer_at dialect (kind ∷ kinds) (suc column) cell = answer_at dialect kinds column cell
 
 -- what is read by an answer, if anything
-abbrev pub value_in : Result (Option ℤ) Error → Option ℤ
+abbrev pub value_in : Result (Option ℤ) CellFault → Option ℤ
 value_in (Ok value) = value
-value_in (Err error) = None
+value_in (Err fault) = None
 
 -- the fault of an answer
-abbrev pub fault_in : Result (Option ℤ) Error → Option Error
+abbrev pub fault_in : Result (Option ℤ) CellFault → Option CellFault
 fault_in (Ok value) = None
-fault_in (Err error) = Some error
+fault_in (Err fault) = Some fault
 
 -- targets with a number at the row's place of a column
 abbrev pub put_at : ℕ → ℕ → Option ℤ → List (Option TargetView) → List (Option TargetView)

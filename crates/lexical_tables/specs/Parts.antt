@@ -3,7 +3,8 @@ use Rattle.std.specs.Prelude.{◌≡◌, ◌+◌, ℕ, ℤ, if◌then◌else◌,
 use Rattle.lexical_util.specs.Validity.{fault}
 use Rattle.lexical_fields.specs.Parts.{readable, whole_fields}
 use Rattle.lexical_fields.specs.Places.{error_in_text}
-use Rattle.lexical_tables.specs.ByColumn.{Kind, first_fault, first_of, values_to_fault, wrong_cell}
+use Rattle.lexical_tables.specs.ByColumn.{first_fault, first_of, values_to_fault, wrong_cell}
+use Rattle.lexical_tables.specs.Cells.{Kind}
 use Rattle.lexical_tables.specs.Rows.{line_feed, rows}
 use Rattle.lexical_tables.specs.declared.answers.CellFault.{CellFault}
 use Rattle.lexical_tables.specs.declared.answers.CellFault.TheVariants.{MissingReturn, NotNumber, TooFewCells, TooManyCells}

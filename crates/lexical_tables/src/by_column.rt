@@ -2,13 +2,15 @@
 
 ghost use Rattle.std.specs.Prelude.{◌≡◌, ◌+◌, ◌<◌, ◌^◌, length, IfOk};
 ghost use Rattle.lexical_tables.specs.ByColumn.{AreUsable, StopsAt, answer_at, columns_answer, columns_put, end_fault, fault_in, kinds_of, put_at, put_row, row_fault, row_values, value_in, views_of};
+ghost use Rattle.lexical_tables.specs.Cells.{view_of_cell};
 ghost use Rattle.lexical_tables.specs.Rows.{view_of_row};
 
 use crate::answers::{CellFault, Table, TableError};
+use crate::content::Cell;
 use crate::dialect::Dialect;
 use crate::rows::{Row, first_row, split};
 use crate::targets::Target;
-use lexical_parse_integer::{Error, Options};
+use lexical_parse_integer::Options;
 
 // Reads the cell of a column, if that has a target: its number goes to the row's place there.
 #[inline(always)]
@@ -16,21 +18,20 @@ fn read_cell(
     targets: &mut [Option<Target<'_>>],
     column: usize,
     row: usize,
-    start: usize,
-    cell: &[u8],
+    cell: Cell<'_>,
+    dialect: &Dialect<'_>,
     options: &Options,
-) -> Option<Error>
+) -> Option<CellFault>
     requires usable { AreUsable (row + 1) (views_of targets.old) }
-    requires fits { start + length cell.now < 2 ^ 64 }
-    ensures fault { result ≡ fault_in (answer_at (kinds_of (views_of targets.old)) column
-        (record { start = start; text = cell.now })) }
-    ensures targets { views_of targets.new ≡ put_at row column (value_in
-        (answer_at (kinds_of (views_of targets.old)) column
-        (record { start = start; text = cell.now }))) (views_of targets.old) }
+    requires fits { cell.start + length cell.text.now < 2 ^ 64 }
+    ensures fault { result ≡ fault_in (answer_at dialect.now (kinds_of (views_of targets.old))
+        column (view_of_cell cell.entry)) }
+    ensures targets { views_of targets.new ≡ put_at row column (value_in (answer_at dialect.now
+        (kinds_of (views_of targets.old)) column (view_of_cell cell.entry))) (views_of targets.old) }
 {
     if column < targets.len() {
         if let Some(target) = &mut targets[column] {
-            return target.read(row, start, cell, options);
+            return target.read(row, cell, dialect, options);
         }
     }
     None
@@ -89,15 +90,16 @@ fn read_cells(
     let mut column = 0;
     while column < dialect.columns && !ended {
         let start = row.start + (row.text.len() - rest.len());
-        let (cell, behind) = split(rest, dialect.separator);
-        if let Some(error) = read_cell(targets, column, index, start, cell, options) {
+        let (text, behind) = split(rest, dialect.separator);
+        let cell = Cell { start, text };
+        if let Some(fault) = read_cell(targets, column, index, cell, dialect, options) {
             return Some(TableError {
                 row: index,
                 column,
-                fault: CellFault::NotNumber(error),
+                fault,
             });
         }
-        ended = cell.len() == rest.len();
+        ended = text.len() == rest.len();
         rest = behind;
         column += 1;
     }

@@ -9,6 +9,7 @@
 
 mod answers;
 mod by_column;
+mod content;
 mod dialect;
 mod parts;
 mod rows;

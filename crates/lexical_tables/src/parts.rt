@@ -2,7 +2,8 @@
 
 ghost use Rattle.std.specs.Prelude.{◌≡◌, ℕ, List, Option, IfOk};
 ghost use Rattle.lexical_fields.specs.Parts.{readable};
-ghost use Rattle.lexical_tables.specs.ByColumn.{AreUsable, Kind, StopsAt, columns_answer, columns_put, kinds_of, views_of};
+ghost use Rattle.lexical_tables.specs.ByColumn.{AreUsable, StopsAt, columns_answer, columns_put, kinds_of, views_of};
+ghost use Rattle.lexical_tables.specs.Cells.{Kind};
 ghost use Rattle.lexical_tables.specs.Parts.{AreValid, ColumnsInParts};
 ghost use Rattle.lexical_tables.specs.Rows.{line_feed};
 
