@@ -12,7 +12,15 @@ use Rattle.lexical_tables.specs.declared.dialect.Dialect.{Dialect}
 
 -- four columns between commas
 abbrev four : Dialect
-four = record { separator = 44; columns = 4; has_returns = false }
+four = record {
+  separator = 44;
+  columns = 4;
+  has_returns = false;
+  has_quotes = false;
+  allows_blanks = false;
+  skips_empty_rows = false;
+  missing = record { ref_ptr = (0, 0); now = [] };
+}
 
 -- the first column is read as `u8`, the third as hexadecimal `i8`, the second and the fourth aren't read
 abbrev targets : List ℤ → List ℤ → List (Option TargetView)
@@ -68,7 +76,7 @@ both =
     ∷ Some (record { format = standard; type = integer_type 8 false }) ∷ []
 
 abbrev pairs : Bool → Dialect
-pairs has_returns = record { separator = 44; columns = 2; has_returns = has_returns }
+pairs has_returns = record four { columns = 2; has_returns = has_returns }
 
 -- lines with a line feed, and with a return in front of it
 abbrev line : List ℕ → List ℕ
@@ -184,3 +192,31 @@ digit_separator : columns_answer both (record (pairs false) { separator = 48 }) 
     ≡ Ok (record { rows = 1; stop = 4 })
 unfolding grammar columns_answer
 digit_separator = refl
+
+-- ---- empty rows that are skipped
+
+abbrev spaced : Bool → Dialect
+spaced has_returns = record (pairs has_returns) { skips_empty_rows = true }
+
+-- they aren't counted, and what stops behind them is the next row
+skipped : columns_answer both (spaced false) 1 (line [] ++ line (codes "1,2") ++ line [] ++ line [] ++ codes "x")
+    ≡ Ok (record { rows = 1; stop = 7 })
+unfolding grammar columns_answer
+skipped = refl
+
+-- or the end of the text
+skipped_last : columns_answer both (spaced false) 2 (line (codes "1,2") ++ line []) ≡ Ok (record { rows = 1; stop = 5 })
+unfolding grammar columns_answer
+skipped_last = refl
+
+-- a fault is in its row of those that count, and at its place in the text
+behind_skipped : columns_answer both (spaced false) 2 (line [] ++ line (codes "1,2") ++ line [] ++ codes "3,x")
+    ≡ Err (wrong_cell 1 1 (NotNumber (InvalidDigit 8)))
+unfolding grammar columns_answer
+behind_skipped = refl
+
+-- with returns a row of one is empty, and so is one that lacks it, but not a return that no line feed follows
+skipped_returns : columns_answer both (spaced true) 2 (returned [] ++ line [] ++ returned (codes "1,2") ++ 13 ∷ [])
+    ≡ Err (wrong_cell 1 0 (NotNumber (InvalidDigit 8)))
+unfolding grammar columns_answer
+skipped_returns = refl

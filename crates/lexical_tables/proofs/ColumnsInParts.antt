@@ -218,24 +218,23 @@ columns_in_parts kinds d part more valid =
     let size = whole_fields line_feed part in
     let front = take size part in
     let left = drop size part ++ more in
-    let r = d.has_returns in
-    let count = length (rows r front) in
+    let count = length (rows d front) in
     let within = whole_within line_feed part in
-    let cut = rows_split r part more size refl within in
+    let cut = rows_split d part more size refl within in
     let long = sym (length-take-le size part within) in
     let none : 0 + count ≡ count + 0 = omega arith in
     record {
       values =
           ap (values_to_fault kinds d 0) cut
-          ∙ values_append kinds d 0 (rows r front) (map (row_behind size) (rows r left))
+          ∙ values_append kinds d 0 (rows d front) (map (row_behind size) (rows d left))
           ∙ ap (λ l. values_in kinds d front ++ cond (is_none (fault_in kinds d front)) l [])
-          (ap (λ k. values_to_fault kinds d k (map (row_behind size) (rows r left))) none
-          ∙ values_moved kinds d valid count size 0 (rows r left));
+          (ap (λ k. values_to_fault kinds d k (map (row_behind size) (rows d left))) none
+          ∙ values_moved kinds d valid count size 0 (rows d left));
       fault =
           ap (first_fault kinds d 0) cut
-          ∙ first_append kinds d 0 (rows r front) (map (row_behind size) (rows r left))
+          ∙ first_append kinds d 0 (rows d front) (map (row_behind size) (rows d left))
           ∙ ap (first_of (fault_in kinds d front))
-          (ap (λ k. first_fault kinds d k (map (row_behind size) (rows r left))) none
-          ∙ rows_first_moved kinds d valid count size 0 (rows r left)
+          (ap (λ k. first_fault kinds d k (map (row_behind size) (rows d left))) none
+          ∙ rows_first_moved kinds d valid count size 0 (rows d left)
           ∙ ap (λ n. option_map (error_behind count n) (fault_in kinds d left)) long);
     }

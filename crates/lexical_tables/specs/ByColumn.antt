@@ -5,9 +5,9 @@ use Rattle.lexical_util.specs.Format.{Format}
 use Rattle.lexical_util.specs.Number.{IntegerType}
 use Rattle.lexical_util.specs.Validity.{fault}
 use Rattle.lexical_fields.specs.Columns as columns
-use Rattle.lexical_fields.specs.Fields.{FieldView, fields, fields_from}
+use Rattle.lexical_fields.specs.Fields.{FieldView, fields_from}
 use Rattle.lexical_fields.specs.ReadFields.{field_answer}
-use Rattle.lexical_tables.specs.Rows.{RowView, line_feed, rows}
+use Rattle.lexical_tables.specs.Rows.{RowView, next_start, rows, rows_from}
 use Rattle.lexical_tables.specs.Targets.{TargetView, view_of_target}
 use Rattle.lexical_tables.specs.declared.answers.CellFault.{CellFault}
 use Rattle.lexical_tables.specs.declared.answers.CellFault.TheVariants.{MissingReturn, NotNumber, TooFewCells, TooManyCells}
@@ -184,22 +184,22 @@ first_fault kinds dialect index (row ∷ more) = first_of (row_fault kinds diale
 -- what `read_columns` answers of a text, with room for so many rows
 unfoldable pub columns_answer : List (Option Kind) → Dialect → ℕ → List ℕ → Result Table TableError
 columns_answer kinds dialect room text =
-    let all = take room (rows dialect.has_returns text) in
-    unless (first_fault kinds dialect 0 all) (Ok (record {
-      rows = length all;
-      stop = columns.next_start (length text) (drop room (fields line_feed text));
+    let all = rows dialect text in
+    unless (first_fault kinds dialect 0 (take room all)) (Ok (record {
+      rows = length (take room all);
+      stop = next_start (length text) (drop room all);
     }))
 
 -- what `read_columns` leaves in targets
 unfoldable pub columns_put : Dialect → ℕ → List ℕ → List (Option TargetView)
     → List (Option TargetView)
 columns_put dialect room text targets = put_rows 0 (values_to_fault (kinds_of targets) dialect 0
-    (take room (rows dialect.has_returns text))) targets
+    (take room (rows dialect text))) targets
 
 -- How far a text was read: no more rows than there was room for, and up to a place from which on the text has the rows
 -- that are left.
-pub record StopsAt (room : ℕ) (text : List ℕ) (table : Table) : Type 0 where
+pub record StopsAt (dialect : Dialect) (room : ℕ) (text : List ℕ) (table : Table) : Type 0 where
   pub within_room : table.rows ≤ room
   pub within_text : table.stop ≤ length text
-  pub left : fields_from line_feed table.stop (drop table.stop text)
-      ≡ drop table.rows (fields line_feed text)
+  pub left : rows_from dialect table.stop (drop table.stop text)
+      ≡ drop table.rows (rows dialect text)

@@ -6,7 +6,7 @@ ghost use Rattle.lexical_tables.specs.Rows.{view_of_row};
 
 use crate::answers::{CellFault, Table, TableError};
 use crate::dialect::Dialect;
-use crate::rows::{Row, first_row, split};
+use crate::rows::{Row, first_row, split, without_empty_rows};
 use crate::targets::Target;
 use lexical_parse_integer::{Error, Options};
 
@@ -130,16 +130,16 @@ pub fn read_columns(
         text.now }
     ensures targets { views_of targets.new ≡ columns_put dialect.now rows text.now
         (views_of targets.old) }
-    ensures goes_on { IfOk result (StopsAt rows text.now) }
+    ensures goes_on { IfOk result (StopsAt dialect.now rows text.now) }
 {
-    let mut rest = text;
+    let mut rest = without_empty_rows(text, dialect);
     let mut count = 0;
     while count < rows && !rest.is_empty() {
         let (row, behind) = first_row(text.len() - rest.len(), rest, dialect.has_returns);
         if let Some(error) = read_cells(&row, count, dialect, options, targets) {
             return Err(error);
         }
-        rest = behind;
+        rest = without_empty_rows(behind, dialect);
         count += 1;
     }
     Ok(Table {

@@ -35,7 +35,7 @@ pub fn read_columns_part(
         (readable is_last line_feed text.now) }
     ensures targets { views_of targets.new ≡ columns_put dialect.now rows
         (readable is_last line_feed text.now) (views_of targets.old) }
-    ensures goes_on { IfOk result (StopsAt rows (readable is_last line_feed text.now)) }
+    ensures goes_on { IfOk result (StopsAt dialect.now rows (readable is_last line_feed text.now)) }
 {
     if is_last {
         return read_columns(text, dialect, options, rows, targets);
