@@ -29,11 +29,12 @@ four = plain 4 false
 
 -- the first column is read as `u8`, the third as hexadecimal `i8`, the second and the fourth aren't read
 abbrev targets : List ℤ → List ℤ → List (Option TargetView)
-targets first third = Some (record { format = standard; type = integer_type 8 false; numbers = first })
+targets first third = Some (record { format = standard; type = integer_type 8 false; numbers = first; present = None })
     ∷ None ∷ Some (record {
       format = record standard { mantissa_radix = 16 };
       type = integer_type 8 true;
       numbers = third;
+      present = None;
     }) ∷ []
 
 -- three places in each slice
@@ -77,8 +78,8 @@ empty_last = refl
 
 abbrev both : List (Option Kind)
 both =
-    Some (record { format = standard; type = integer_type 8 false })
-    ∷ Some (record { format = standard; type = integer_type 8 false }) ∷ []
+    Some (record { format = standard; type = integer_type 8 false; may_miss = false })
+    ∷ Some (record { format = standard; type = integer_type 8 false; may_miss = false }) ∷ []
 
 abbrev pairs : Bool → Dialect
 pairs has_returns = plain 2 has_returns
@@ -197,3 +198,31 @@ digit_separator : columns_answer both (record (pairs false) { separator = 48 }) 
     ≡ Ok (record { rows = 1; stop = 4 })
 unfolding grammar columns_answer
 digit_separator = refl
+
+-- ---- empty rows that are skipped
+
+abbrev spaced : Bool → Dialect
+spaced has_returns = record (pairs has_returns) { skips_empty_rows = true }
+
+-- they aren't counted, and what stops behind them is the next row
+skipped : columns_answer both (spaced false) 1 (line [] ++ line (codes "1,2") ++ line [] ++ line [] ++ codes "x")
+    ≡ Ok (record { rows = 1; stop = 7 })
+unfolding grammar columns_answer
+skipped = refl
+
+-- or the end of the text
+skipped_last : columns_answer both (spaced false) 2 (line (codes "1,2") ++ line []) ≡ Ok (record { rows = 1; stop = 5 })
+unfolding grammar columns_answer
+skipped_last = refl
+
+-- a fault is in its row of those that count, and at its place in the text
+behind_skipped : columns_answer both (spaced false) 2 (line [] ++ line (codes "1,2") ++ line [] ++ codes "3,x")
+    ≡ Err (wrong_cell 1 1 (NotNumber (InvalidDigit 8)))
+unfolding grammar columns_answer
+behind_skipped = refl
+
+-- with returns a row of one is empty, and so is one that lacks it, but not a return that no line feed follows
+skipped_returns : columns_answer both (spaced true) 2 (returned [] ++ line [] ++ returned (codes "1,2") ++ 13 ∷ [])
+    ≡ Err (wrong_cell 1 0 (NotNumber (InvalidDigit 8)))
+unfolding grammar columns_answer
+skipped_returns = refl

@@ -6,7 +6,7 @@ use Rattle.std.proofs.lemmas.List.{drop_all, drop-append-le, drop-drop, take-app
 use Rattle.lexical_fields.specs.Columns as columns
 use Rattle.lexical_fields.specs.Fields.{FieldView, field_length, fields_from}
 use Rattle.lexical_fields.proofs.FieldSteps.{next_field}
-use Rattle.lexical_tables.specs.ByColumn.{AreUsable, answer_at, cell_answers, cells_of, end_fault, fault_in, fault_of, first_start, kinds_of, put_at, put_row, row_answers, row_fault, row_values, value_in, wrong_cell}
+use Rattle.lexical_tables.specs.ByColumn.{AreUsable, answer_at, cell_answers, cells_of, end_fault, fault_in, fault_of, first_start, kinds_of, put_read_at, put_row, row_answers, row_fault, row_values, wrong_cell}
 use Rattle.lexical_tables.specs.Cells.{Kind}
 use Rattle.lexical_tables.specs.Rows.{RowView}
 use Rattle.lexical_tables.specs.Targets.{TargetView}
@@ -117,6 +117,10 @@ next_cell s p rest cell behind front back sized within =
     ]
 
 -- answers by their faults
+abbrev value_in : Result (Option ℤ) CellFault → Option ℤ
+value_in (Ok value) = value
+value_in (Err fault) = None
+
 ok_of : (answer : Result (Option ℤ) CellFault) → None ≡ fault_in answer → answer ≡ Ok (value_in answer)
 ok_of (Ok value) none = refl
 ok_of (Err error) none = absurd cc
@@ -233,7 +237,7 @@ module _ (kinds : List (Option Kind)) (d : Dialect) (index : ℕ) (row : RowView
     -- one cell more
     pub cell_goes : (new : List (Option TargetView)) (value : Option ℤ)
         → answer_at d kinds column (record { start = row.start + (length row.text - length rest); text = cell }) ≡ Ok value
-        → new ≡ put_at index column value now
+        → new ≡ put_read_at index column (Ok value) now
         → IsRowPut kinds d index row old new (column + 1) (eqb (length cell) (length rest)) behind
     cell_goes new value told are =
         let later = columns.values_before_fault (answers_left kinds d row (column + 1) (eqb (length cell) (length rest)) behind) in
@@ -245,8 +249,8 @@ module _ (kinds : List (Option Kind)) (d : Dialect) (index : ℕ) (row : RowView
           few = omega arith;
           place = sym (drop-drop 1 column (cells_of d row)) ∙ ap (drop 1) (reading.place ∙ next_place);
           counted = omega (arith, reading.counted, ap length next_place);
-          kinds_are = ap kinds_of are ∙ kinds_put index column value now ∙ reading.kinds_are;
-          usable = subst (AreUsable (index + 1)) (sym are) (use_put (index + 1) index column value now reading.usable);
+          kinds_are = ap kinds_of are ∙ kinds_put index column (Ok value) now ∙ reading.kinds_are;
+          usable = subst (AreUsable (index + 1)) (sym are) (use_put (index + 1) index column (Ok value) now reading.usable);
           values =
               ap₂ (λ n l. take n l ++ put_row index later (drop n l)) plus are
               ∙ sym (row_goes index column value later now)
@@ -287,14 +291,17 @@ module _ (kinds : List (Option Kind)) (d : Dialect) (index : ℕ) (row : RowView
         (sym reading.kinds_are)
 
     pub after_cell : (new : List (Option TargetView)) → None ≡ fault_in answer_here
-        → new ≡ put_at index column (value_in answer_here) now
+        → new ≡ put_read_at index column answer_here now
         → IsRowPut kinds d index row old new (column + 1) (eqb (length cell) (length rest)) behind
-    after_cell new none are = cell_goes new (value_in answer_here) (as_here ∙ ok_of answer_here none) are
+    after_cell new none are =
+        let right = ok_of answer_here none in
+        cell_goes new (value_in answer_here) (as_here ∙ right)
+        (are ∙ ap (λ a. put_read_at index column a now) right)
 
     pub after_fault : (new : List (Option TargetView)) (fault : CellFault) → Some fault ≡ fault_in answer_here
-        → new ≡ put_at index column (value_in answer_here) now
+        → new ≡ put_read_at index column answer_here now
         → IsRowDone kinds d index row old new (Some (wrong_cell index column fault))
     after_fault new fault told are =
         let wrong = err_of answer_here fault told in
         cell_fault new fault (as_here ∙ wrong)
-        (are ∙ ap (λ a. put_at index column (value_in a) now) wrong ∙ put_nothing index column now)
+        (are ∙ ap (λ a. put_read_at index column a now) wrong ∙ put_nothing index column fault now)

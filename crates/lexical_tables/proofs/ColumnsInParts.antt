@@ -1,9 +1,11 @@
 -- What is read of the columns of a text that is cut.
-use Rattle.std.proofs.Common.{◌≡◌, ◌∙◌, ℕ, zero, suc, ◌+◌, List, [], ◌∷◌, ◌++◌, length, take, drop, map, cond, true, false, Bool, ℤ, Result, Option, Some, None, Ok, Err, refl, ap, ap₂, sym, arith, length-take-le}
+use Rattle.std.proofs.Common.{◌≡◌, ◌∙◌, ℕ, zero, suc, ◌+◌, List, [], ◌∷◌, ◌++◌, length, take, drop, map, cond, ◌&&◌, true, false, Bool, ℤ, Result, Option, Some, None, Ok, Err, refl, ap, ap₂, sym, arith, length-take-le}
 use Rattle.std.specs.List.{prefix_len}
+use Rattle.std.specs.Str.{bytes_eq}
 use Rattle.std.specs.Prelude.{is_none, nat_lt, option_map}
 use Rattle.std.proofs.lemmas.List.{length-map}
 use Rattle.lexical_util.specs.declared.error.Error.{Error}
+use Rattle.lexical_util.specs.Validity.{fault}
 use Rattle.lexical_fields.specs.Columns as columns
 use Rattle.lexical_fields.specs.Fields.{FieldView}
 use Rattle.lexical_fields.specs.Parts.{whole_fields}
@@ -11,7 +13,7 @@ use Rattle.lexical_fields.specs.Places.{in_text}
 use Rattle.lexical_fields.specs.ReadFields.{field_answer}
 use Rattle.lexical_fields.proofs.MovedFields.{answer_moved, fields_moved, moved}
 use Rattle.lexical_tables.specs.ByColumn.{cell_answers, cells_of, end_fault, fault_of, first_fault, first_of, first_start, row_answers, row_fault, row_values, values_to_fault, wrong_cell}
-use Rattle.lexical_tables.specs.Cells.{Kind, answer_as, content, is_blank, some_number, without_blanks}
+use Rattle.lexical_tables.specs.Cells.{Kind, answer_as, content, is_blank, number_at, some_number, without_blanks}
 use Rattle.lexical_tables.specs.Parts.{AreValid, ColumnsInParts, fault_behind, fault_in, error_behind, values_in}
 use Rattle.lexical_tables.specs.Rows.{RowView, line_feed, rows}
 use Rattle.lexical_tables.specs.declared.answers.CellFault.{CellFault}
@@ -90,13 +92,27 @@ number_moved : (bytes : ℕ) (answer : Result ℤ Error)
 number_moved bytes (Ok number) = refl
 number_moved bytes (Err error) = refl
 
+-- what a text stands for is moved with it
+held_moved : (bytes : ℕ) (mark : List ℕ) (kind : Kind) (held : FieldView) → fault kind.format ≡ None
+    → number_at mark kind (moved bytes held) ≡ answer_behind bytes (number_at mark kind held)
+held_moved bytes mark kind held valid =
+    by_mark (kind.may_miss && bytes_eq held.text mark)
+    (ap some_number (sym (answer_moved kind.format kind.type bytes valid held))
+    ∙ number_moved bytes (field_answer kind.format kind.type held))
+  where
+    by_mark : (is_mark : Bool) → some_number (field_answer kind.format kind.type (moved bytes held))
+        ≡ answer_behind bytes (some_number (field_answer kind.format kind.type held))
+        → cond is_mark (Ok None) (some_number (field_answer kind.format kind.type (moved bytes held)))
+        ≡ answer_behind bytes (cond is_mark (Ok None) (some_number (field_answer kind.format kind.type held)))
+    by_mark true there = refl
+    by_mark false there = there
+
 cell_moved : (bytes : ℕ) (d : Dialect) (kind : Option Kind) (cell : FieldView) → AreValid (kind ∷ [])
     → answer_as d kind (moved bytes cell) ≡ answer_behind bytes (answer_as d kind cell)
 cell_moved bytes d None cell valid = refl
 cell_moved bytes d (Some kind) cell valid =
-    ap (λ held. some_number (field_answer kind.format kind.type held)) (content_moved bytes d.allows_blanks cell)
-    ∙ ap some_number (sym (answer_moved kind.format kind.type bytes valid.0 (content d.allows_blanks cell)))
-    ∙ number_moved bytes (field_answer kind.format kind.type (content d.allows_blanks cell))
+    ap (number_at d.missing.now kind) (content_moved bytes d.allows_blanks cell)
+    ∙ held_moved bytes d.missing.now kind (content d.allows_blanks cell) valid.0
 
 answers_moved : (bytes : ℕ) (d : Dialect) (kinds : List (Option Kind)) (cells : List FieldView) → AreValid kinds
     → cell_answers d kinds (map (moved bytes) cells) ≡ map (answer_behind bytes) (cell_answers d kinds cells)
@@ -245,24 +261,23 @@ columns_in_parts kinds d part more valid =
     let size = whole_fields line_feed part in
     let front = take size part in
     let left = drop size part ++ more in
-    let r = d.has_returns in
-    let count = length (rows r front) in
+    let count = length (rows d front) in
     let within = whole_within line_feed part in
-    let cut = rows_split r part more size refl within in
+    let cut = rows_split d part more size refl within in
     let long = sym (length-take-le size part within) in
     let none : 0 + count ≡ count + 0 = omega arith in
     record {
       values =
           ap (values_to_fault kinds d 0) cut
-          ∙ values_append kinds d 0 (rows r front) (map (row_behind size) (rows r left))
+          ∙ values_append kinds d 0 (rows d front) (map (row_behind size) (rows d left))
           ∙ ap (λ l. values_in kinds d front ++ cond (is_none (fault_in kinds d front)) l [])
-          (ap (λ k. values_to_fault kinds d k (map (row_behind size) (rows r left))) none
-          ∙ values_moved kinds d valid count size 0 (rows r left));
+          (ap (λ k. values_to_fault kinds d k (map (row_behind size) (rows d left))) none
+          ∙ values_moved kinds d valid count size 0 (rows d left));
       fault =
           ap (first_fault kinds d 0) cut
-          ∙ first_append kinds d 0 (rows r front) (map (row_behind size) (rows r left))
+          ∙ first_append kinds d 0 (rows d front) (map (row_behind size) (rows d left))
           ∙ ap (first_of (fault_in kinds d front))
-          (ap (λ k. first_fault kinds d k (map (row_behind size) (rows r left))) none
-          ∙ rows_first_moved kinds d valid count size 0 (rows r left)
+          (ap (λ k. first_fault kinds d k (map (row_behind size) (rows d left))) none
+          ∙ rows_first_moved kinds d valid count size 0 (rows d left)
           ∙ ap (λ n. option_map (error_behind count n) (fault_in kinds d left)) long);
     }

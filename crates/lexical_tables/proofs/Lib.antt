@@ -7,4 +7,5 @@ pub mod ColumnTables
 pub mod ColumnsInParts
 pub mod LineSteps
 pub mod PutSteps
+pub mod RowSteps
 pub mod RowsInParts

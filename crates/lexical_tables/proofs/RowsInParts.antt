@@ -1,14 +1,17 @@
 -- The rows of a text that is cut.
-use Rattle.std.proofs.Common.{◌≡◌, ◌∙◌, ℕ, suc, ◌+◌, ◌==◌, ◌&&◌, ◌-◌, ◌<◌, ◌≤◌, List, [], ◌∷◌, ◌++◌, length, take, drop, map, Bool, true, false, not, cond, refl, ap, ap₂, sym, subst, arith, inl, inr, length-append, length-drop, length-take-le}
+use Rattle.std.proofs.Common.{◌≡◌, ◌∙◌, ℕ, suc, ◌+◌, ◌==◌, ◌&&◌, ◌-◌, ◌<◌, ◌≤◌, List, [], ◌∷◌, ◌++◌, length, take, drop, map, filter, Bool, true, false, not, cond, refl, ap, ap₂, sym, subst, arith, inl, inr, length-append, length-drop, length-take-le}
 use Rattle.std.specs.Prelude.{nat_lt}
 use Rattle.std.specs.List.{list_any}
-use Rattle.std.proofs.lemmas.Bool.{cases_lt, le-ltb, lt-ltb}
+use Rattle.std.proofs.lemmas.Bool.{lt-ltb}
 use Rattle.std.proofs.lemmas.List.{map-append}
+use Rattle.std.proofs.lemmas.List.Elements.{filter-append}
 use Rattle.lexical_fields.specs.Fields.{FieldView, fields, fields_from, onto_field}
 use Rattle.lexical_fields.specs.Parts.{whole_fields}
 use Rattle.lexical_fields.proofs.FieldsInParts.{either, here, on, split, whole_here, whole_none, whole_on}
 use Rattle.lexical_fields.proofs.MovedFields.{fields_moved, moved}
-use Rattle.lexical_tables.specs.Rows.{RowView, carriage_return, ends_in, line_feed, row_of, rows}
+use Rattle.lexical_tables.specs.Rows.{RowView, carriage_return, counts, ends_in, line_feed, row_of, rows}
+use Rattle.lexical_tables.specs.declared.dialect.Dialect.{Dialect}
+use Rattle.lexical_tables.proofs.RowSteps.{moved_test}
 
 -- ---- lines in front of a cut are ended
 
@@ -93,14 +96,6 @@ rows_before r end other (line ∷ more) all low =
     (ap (row_by r line) (lt-ltb place other (omega (arith, all.0)) ∙ sym (lt-ltb place end all.0)))
     (rows_before r end other more all.1 low)
 
--- the tests of two places that are moved alike
-moved_test : (bytes a b : ℕ) → nat_lt (bytes + a) (bytes + b) ≡ nat_lt a b
-moved_test bytes a b =
-    elim (cases_lt a b) [
-      | inl lt ↦ lt-ltb (bytes + a) (bytes + b) (omega arith) ∙ sym (lt-ltb a b lt)
-      | inr ge ↦ le-ltb (bytes + a) (bytes + b) (omega arith) ∙ sym (le-ltb a b ge)
-    ]
-
 rows_moved : (r : Bool) (bytes end : ℕ) (lines : List FieldView)
     → map (row_of r (bytes + end)) (map (moved bytes) lines) ≡ map (row_behind bytes) (map (row_of r end) lines)
 rows_moved r bytes end [] = refl
@@ -111,10 +106,14 @@ rows_moved r bytes end (line ∷ more) =
     (ap (row_by r (moved bytes line)) (ap (λ k. nat_lt k (bytes + end)) at ∙ moved_test bytes place end))
     (rows_moved r bytes end more)
 
--- the rows of a text that is cut
-pub rows_split : (r : Bool) (part more : List ℕ) (size : ℕ) → size ≡ whole_fields line_feed part → size ≤ length part
-    → rows r (part ++ more) ≡ rows r (take size part) ++ map (row_behind size) (rows r (drop size part ++ more))
-rows_split r part more size is within =
+-- the lines of a text as rows, also those that don't count
+abbrev lines : Bool → List ℕ → List RowView
+lines r text = map (row_of r (length text)) (fields line_feed text)
+
+-- the lines of a text that is cut
+lines_split : (r : Bool) (part more : List ℕ) (size : ℕ) → size ≡ whole_fields line_feed part → size ≤ length part
+    → lines r (part ++ more) ≡ lines r (take size part) ++ map (row_behind size) (lines r (drop size part ++ more))
+lines_split r part more size is within =
     let front = fields_from line_feed 0 (take size part) in
     let left = drop size part ++ more in
     let front_size : length (take size part) ≡ size = length-take-le size part within in
@@ -140,6 +139,37 @@ rows_split r part more size is within =
 
     add_zero : (n : ℕ) → n ≡ n + 0
     add_zero n = omega arith
+
+-- the rows of a text that is cut
+filter_behind : (d : Dialect) (size : ℕ) (lines : List RowView)
+    → filter (counts d) (map (row_behind size) lines) ≡ map (row_behind size) (filter (counts d) lines)
+filter_behind d size [] = refl
+filter_behind d size (line ∷ more) = by_test (counts d line) (filter_behind d size more)
+  where
+    by_test : (t : Bool) → filter (counts d) (map (row_behind size) more) ≡ map (row_behind size) (filter (counts d) more)
+        → cond t (row_behind size line ∷ filter (counts d) (map (row_behind size) more))
+        (filter (counts d) (map (row_behind size) more))
+        ≡ map (row_behind size) (cond t (line ∷ filter (counts d) more) (filter (counts d) more))
+    by_test true same = ap (λ l. row_behind size line ∷ l) same
+    by_test false same = same
+
+rows_are : (d : Dialect) (text : List ℕ) → rows d text ≡ filter (counts d) (lines d.has_returns text)
+rows_are d text =
+    ap (λ end. filter (counts d) (map (row_of d.has_returns end) (fields line_feed text))) (zero_add (length text))
+  where
+    zero_add : (n : ℕ) → 0 + n ≡ n
+    zero_add n = omega arith
+
+pub rows_split : (d : Dialect) (part more : List ℕ) (size : ℕ) → size ≡ whole_fields line_feed part → size ≤ length part
+    → rows d (part ++ more) ≡ rows d (take size part) ++ map (row_behind size) (rows d (drop size part ++ more))
+rows_split d part more size is within =
+    let front = lines d.has_returns (take size part) in
+    let left = drop size part ++ more in
+    rows_are d (part ++ more)
+    ∙ ap (filter (counts d)) (lines_split d.has_returns part more size is within)
+    ∙ filter-append (counts d) front (map (row_behind size) (lines d.has_returns left))
+    ∙ ap₂ (λ a b. a ++ b) (sym (rows_are d (take size part)))
+    (filter_behind d size (lines d.has_returns left) ∙ ap (map (row_behind size)) (sym (rows_are d left)))
 
 -- the whole lines of a text are some of its bytes
 pub whole_within : (s : ℕ) (text : List ℕ) → whole_fields s text ≤ length text

@@ -31,12 +31,12 @@ AreValid (Some kind ∷ kinds) = (fault kind.format ≡ None) × AreValid kinds
 
 -- what is read of the rows of a text, up to the first fault
 abbrev pub values_in : List (Option Kind) → Dialect → List ℕ → List (List (Option ℤ))
-values_in kinds dialect text = values_to_fault kinds dialect 0 (rows dialect.has_returns text)
+values_in kinds dialect text = values_to_fault kinds dialect 0 (rows dialect text)
 
 -- the first fault in a text
 abbrev pub fault_in : List (Option Kind) → Dialect → List ℕ → Option TableError
 fault_in kinds dialect text =
-    first_fault kinds dialect 0 (rows dialect.has_returns text)
+    first_fault kinds dialect 0 (rows dialect text)
 
 -- Wherever a text is cut, what is read of the whole rows in front of the cut, and then of all that is left, is what is
 -- read of the text: the rows and bytes in front are counted on.
@@ -50,5 +50,5 @@ pub record ColumnsInParts (kinds : List (Option Kind)) (dialect : Dialect)
   pub fault : let front = readable false line_feed part in
       let left = drop (whole_fields line_feed part) part ++ more in
       fault_in kinds dialect (part ++ more) ≡ first_of (fault_in kinds dialect front)
-      (option_map (error_behind (length (rows dialect.has_returns front)) (length front))
+      (option_map (error_behind (length (rows dialect front)) (length front))
       (fault_in kinds dialect left))

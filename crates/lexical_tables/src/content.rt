@@ -46,7 +46,8 @@ fn end_of_content(text: &[u8]) -> usize
 fn without_blanks(cell: Cell<'_>) -> Cell<'_>
     requires fits { cell.start + length cell.text.now < 2 ^ 64 }
     ensures content { view_of_cell result ≡ without_blanks (view_of_cell cell.entry) }
-    ensures within { result.start + length result.text.now ≤ cell.entry.start + length cell.entry.text.now }
+    ensures within { result.start + length result.text.now
+        ≤ cell.entry.start + length cell.entry.text.now }
 {
     let front = blanks_in_front(cell.text);
     let rest = &cell.text[front..];
@@ -61,7 +62,8 @@ fn without_blanks(cell: Cell<'_>) -> Cell<'_>
 pub(crate) fn content(cell: Cell<'_>, allows_blanks: bool) -> Cell<'_>
     requires fits { cell.start + length cell.text.now < 2 ^ 64 }
     ensures content { view_of_cell result ≡ content allows_blanks (view_of_cell cell.entry) }
-    ensures within { result.start + length result.text.now ≤ cell.entry.start + length cell.entry.text.now }
+    ensures within { result.start + length result.text.now
+        ≤ cell.entry.start + length cell.entry.text.now }
 {
     if allows_blanks {
         without_blanks(cell)

@@ -1,10 +1,11 @@
 //! The rows of a text.
 
-ghost use Rattle.std.specs.Prelude.{◌≡◌, ◌+◌, ◌≤◌, ◌<◌, ◌^◌, length, take, drop};
+ghost use Rattle.std.specs.Prelude.{◌≡◌, ◌+◌, ◌-◌, ◌≤◌, ◌<◌, ◌^◌, ℕ, length, take, drop};
 ghost use Rattle.lexical_fields.specs.Columns.{next_start};
 ghost use Rattle.lexical_fields.specs.Fields.{fields, field_length};
-ghost use Rattle.lexical_tables.specs.Rows.{ends_in, line_feed, row_of, view_of_row};
+ghost use Rattle.lexical_tables.specs.Rows.{FirstCounts, ends_in, line_feed, row_of, rows_from, view_of_row};
 
+use crate::dialect::Dialect;
 use lexical_fields::field_length;
 
 // A row: the place at which it starts, its bytes without what ends it, and whether that lacks its return.
@@ -77,6 +78,26 @@ pub(crate) fn first_row(start: usize, text: &[u8], has_returns: bool) -> (Row<'_
         };
         (row, behind)
     }
+}
+
+// What is left of a text behind the empty rows in front of it, where these are skipped.
+#[inline(always)]
+pub(crate) fn without_empty_rows<'a>(text: &'a [u8], dialect: &Dialect<'_>) -> &'a [u8]
+    ensures within { length result.now ≤ length text.now }
+    ensures tail { result.now ≡ drop (length text.now - length result.now) text.now }
+    ensures rows { (place : ℕ) → rows_from dialect.now place text.now
+        ≡ rows_from dialect.now (place + (length text.now - length result.now)) result.now }
+    ensures first { FirstCounts dialect.now result.now }
+{
+    let mut rest = text;
+    while dialect.skips_empty_rows && !rest.is_empty() {
+        let (row, behind) = first_row(0, rest, dialect.has_returns);
+        if !row.text.is_empty() {
+            return rest;
+        }
+        rest = behind;
+    }
+    rest
 }
 
 /// The place behind the first lines of a text, so many, or its end where it has no more.
