@@ -11,6 +11,7 @@ mod answers;
 mod by_column;
 mod dialect;
 mod parts;
+mod quotes;
 mod rows;
 mod targets;
 
