@@ -7,6 +7,7 @@ use Rattle.lexical_util.specs.Number.{integer_type}
 use Rattle.lexical_parse_integer.specs.Computed.{grammar}
 use Rattle.lexical_tables.specs.ByColumn.{columns_answer, columns_put, kinds_of, wrong_cell}
 use Rattle.lexical_tables.specs.Cells.{Kind}
+use Rattle.lexical_tables.specs.Parts.{readable}
 use Rattle.lexical_tables.specs.Targets.{TargetView}
 use Rattle.lexical_tables.specs.declared.answers.CellFault.TheVariants.{MissingReturn, NotNumber, TooFewCells, TooManyCells}
 use Rattle.lexical_tables.specs.declared.dialect.Dialect.{Dialect}
@@ -157,7 +158,7 @@ number_first : columns_answer both (pairs false) 4 (line (codes "1,x,3"))
 unfolding grammar columns_answer
 number_first = refl
 
--- quotes have no meaning
+-- quotes have no meaning without being asked for
 quotes : columns_answer both (pairs false) 4 (codes "1,\"2\"")
     ≡ Err (wrong_cell 0 1 (NotNumber (InvalidDigit 2)))
 unfolding grammar columns_answer
@@ -226,3 +227,35 @@ skipped_returns : columns_answer both (spaced true) 2 (returned [] ++ line [] ++
     ≡ Err (wrong_cell 1 0 (NotNumber (InvalidDigit 8)))
 unfolding grammar columns_answer
 skipped_returns = refl
+
+-- ---- quotes
+
+abbrev quoted : Dialect
+quoted = record (pairs false) { has_quotes = true }
+
+-- the first column is read
+abbrev first : List (Option Kind)
+first = Some (record { format = standard; type = integer_type 8 false; may_miss = false }) ∷ []
+
+-- within quotes a separator parts no cells, and a line feed ends no row
+within_quotes : columns_answer first quoted 4 (line (codes "1,\"a,b" ++ 10 ∷ codes "c\"") ++ codes "2,")
+    ≡ Ok (record { rows = 2; stop = 12 })
+unfolding grammar columns_answer
+within_quotes = refl
+
+-- nor within two that stand beside each other, but between them
+doubled_quotes : columns_answer first quoted 4 (line (codes "1,\"a\"\",b\"") ++ line (codes "2,\"\""))
+    ≡ Ok (record { rows = 2; stop = 15 })
+unfolding grammar columns_answer
+doubled_quotes = refl
+
+-- a place behind quotes counts all bytes
+behind_quotes : columns_answer first quoted 4 (line (codes "1,\"" ++ 10 ∷ codes "\"") ++ codes "2x,")
+    ≡ Err (wrong_cell 1 0 (NotNumber (InvalidDigit 7)))
+unfolding grammar columns_answer
+behind_quotes = refl
+
+-- a row whose quotes are closed is whole, whatever stands within them
+whole_quoted : readable false true (line (codes "1,\"" ++ 10 ∷ codes "\"") ++ codes "2,\"" ++ 10 ∷ [])
+    ≡ line (codes "1,\"" ++ 10 ∷ codes "\"")
+whole_quoted = refl

@@ -1,24 +1,24 @@
 -- A row whose cells go into targets, one cell after another.
-use Rattle.std.proofs.Common.{◌≡◌, ◌∙◌, ℕ, suc, ◌+◌, ◌-◌, ◌<◌, ◌≤◌, List, [], ◌∷◌, ◌++◌, length, take, drop, Bool, true, false, not, cond, eqb, eq-eqb, ℤ, Result, Option, Some, None, Ok, Err, refl, ap, ap₂, sym, subst, arith, inl, inr, ◌⊎◌, length-append, length-take-le, take-append-drop}
+use Rattle.std.proofs.Common.{◌≡◌, ◌∙◌, ℕ, suc, ◌+◌, ◌-◌, ◌<◌, ◌≤◌, List, [], ◌∷◌, ◌++◌, length, take, drop, Bool, true, false, not, cond, eqb, ℤ, Result, Option, Some, None, Ok, Err, refl, ap, ap₂, sym, subst, arith, inl, inr, ◌⊎◌, length-take-le, take-append-drop}
 use Rattle.std.specs.Bool.{then_some}
-use Rattle.std.proofs.lemmas.Bool.Decides.{eqb_tells}
-use Rattle.std.proofs.lemmas.List.{drop_all, drop-append-le, drop-drop, take-append-le, take_all}
+use Rattle.std.proofs.lemmas.List.{drop_all, drop-drop, take_all}
 use Rattle.lexical_fields.specs.Columns as columns
-use Rattle.lexical_fields.specs.Fields.{FieldView, field_length, fields_from}
-use Rattle.lexical_fields.proofs.FieldSteps.{next_field}
+use Rattle.lexical_fields.specs.Fields.{FieldView}
 use Rattle.lexical_tables.specs.ByColumn.{AreUsable, answer_at, cell_answers, cells_of, end_fault, fault_in, fault_of, first_start, kinds_of, put_read_at, put_row, row_answers, row_fault, row_values, wrong_cell}
 use Rattle.lexical_tables.specs.Cells.{Kind}
+use Rattle.lexical_tables.specs.Quotes.{length_outside, pieces_outside}
 use Rattle.lexical_tables.specs.Rows.{RowView}
 use Rattle.lexical_tables.specs.Targets.{TargetView}
 use Rattle.lexical_tables.specs.declared.answers.CellFault.{CellFault}
 use Rattle.lexical_tables.specs.declared.answers.TableError.{TableError}
 use Rattle.lexical_tables.specs.declared.dialect.Dialect.{Dialect}
+use Rattle.lexical_tables.proofs.OutsideSteps.{next_piece, outside_within}
 use Rattle.lexical_tables.proofs.PutSteps.{answers_go, kinds_put, put_nothing, row_goes, use_put}
 
 -- what is left of a row, as cells at their places in the text: none, if its last cell was read
 abbrev pub left_in : Dialect → RowView → Bool → List ℕ → List FieldView
 left_in d row ended rest =
-    cond ended [] (fields_from d.separator (row.start + (length row.text - length rest)) (rest ++ d.separator ∷ []))
+    cond ended [] (pieces_outside d.has_quotes d.separator (row.start + (length row.text - length rest)) rest)
 
 -- what those of them stand for that have a column
 abbrev pub answers_left : List (Option Kind) → Dialect → RowView → ℕ → Bool → List ℕ → List (Result (Option ℤ) CellFault)
@@ -55,7 +55,7 @@ row_starts kinds d index row old same usable =
     let place : row.start + (length row.text - length row.text) ≡ row.start = omega arith in
     let all : d.columns - 0 ≡ d.columns = omega arith in
     let cells : left_in d row false row.text ≡ cells_of d row =
-    ap (λ p. fields_from d.separator p (row.text ++ d.separator ∷ [])) place in
+    ap (λ p. pieces_outside d.has_quotes d.separator p row.text) place in
     let answers : answers_left kinds d row 0 false row.text ≡ row_answers kinds d row =
     ap₂ (λ n l. cell_answers d kinds (take n l)) all cells in
     record {
@@ -69,52 +69,6 @@ row_starts kinds d index row old same usable =
       size = omega (arith, ap (λ l. length (columns.values_before_fault l)) answers);
       first = ap columns.first_fault answers;
     }
-
--- ---- the first cell of what is left
-
--- a separator that is added changes no first field
-length_behind : (s : ℕ) (bs : List ℕ) → field_length s (bs ++ s ∷ []) ≡ field_length s bs
-length_behind s [] = by_test (eqb s s) (eq-eqb s s refl)
-  where
-    by_test : (t : Bool) → t ≡ true → ◌≡◌ {A = ℕ} (cond (not t) 1 0) 0
-    by_test true is = refl
-    by_test false is = absurd cc
-length_behind s (b ∷ bs) = ap (λ n. cond (not (eqb b s)) (1 + n) 0) (length_behind s bs)
-
--- the cells behind the first, by whether that is the last
-abbrev behind_first : ℕ → ℕ → Bool → List ℕ → List FieldView
-behind_first s place ended behind = cond ended [] (fields_from s place (behind ++ s ∷ []))
-
-next_cell : (s p : ℕ) (rest cell behind : List ℕ) → cell ≡ take (field_length s rest) rest
-    → behind ≡ drop (field_length s rest + 1) rest → length cell ≡ field_length s rest → length cell ≤ length rest
-    → fields_from s p (rest ++ s ∷ []) ≡ record { start = p; text = cell }
-    ∷ behind_first s (p + (length rest - length behind)) (eqb (length cell) (length rest)) behind
-next_cell s p rest cell behind front back sized within =
-    let bs = rest ++ s ∷ [] in
-    let n = field_length s rest in
-    let same = length_behind s rest in
-    let long : length bs ≡ length rest + 1 = length-append rest (s ∷ []) in
-    let low : n ≤ length rest = omega (arith, sized) in
-    let cell_is : cell ≡ take (field_length s bs) bs =
-    front ∙ sym (take-append-le n rest (s ∷ []) low) ∙ ap (λ k. take k bs) (sym same) in
-    let rest_of : drop (field_length s bs + 1) bs ≡ drop (n + 1) bs = ap (λ k. drop (k + 1) bs) same in
-    elim (eqb_tells (length cell) (length rest)) [
-      | inl is ↦
-          let none : [] ≡ drop (field_length s bs + 1) bs =
-          sym (rest_of ∙ drop_all (n + 1) bs (omega (arith, is.1, sized, long))) in
-          next_field s p bs cell [] (omega (arith, long)) cell_is none
-          ∙ ap (λ t. record { start = p; text = cell } ∷ behind_first s (p + (length rest - length behind)) t behind) (sym is.0)
-      | inr is ↦
-          let less : n < length rest = omega (arith, is.1, sized, within) in
-          let left : behind ++ s ∷ [] ≡ drop (field_length s bs + 1) bs =
-          ap (λ l. l ++ s ∷ []) back ∙ sym (drop-append-le (n + 1) rest (s ∷ []) (omega arith)) ∙ sym rest_of in
-          let behind_long : length (behind ++ s ∷ []) ≡ length behind + 1 = length-append behind (s ∷ []) in
-          let at : p + (length bs - length (behind ++ s ∷ [])) ≡ p + (length rest - length behind) =
-          omega (arith, long, behind_long) in
-          next_field s p bs cell (behind ++ s ∷ []) (omega (arith, long)) cell_is left
-          ∙ ap (λ k. record { start = p; text = cell } ∷ fields_from s k (behind ++ s ∷ [])) at
-          ∙ ap (λ t. record { start = p; text = cell } ∷ behind_first s (p + (length rest - length behind)) t behind) (sym is.0)
-    ]
 
 -- answers by their faults
 abbrev value_in : Result (Option ℤ) CellFault → Option ℤ
@@ -178,13 +132,15 @@ module _ (kinds : List (Option Kind)) (d : Dialect) (index : ℕ) (row : RowView
           let at : d.columns ≡ column = omega (arith, reading.few) in
           ap (λ n. first_start (drop n (cells_of d row))) at
           ∙ ap first_start (reading.place ∙ ap (λ t. left_in d row t rest) is)
-          ∙ starts (rest ++ d.separator ∷ []) (omega (arith, length-append rest (d.separator ∷ [])))
+          ∙ starts rest
         where
-          starts : (bs : List ℕ) → 0 < length bs
-              → first_start (fields_from d.separator (row.start + (length row.text - length rest)) bs)
+          starts : (bs : List ℕ)
+              → first_start (pieces_outside d.has_quotes d.separator (row.start + (length row.text - length rest)) bs)
               ≡ Some (row.start + (length row.text - length rest))
-          starts bs some =
-              ap first_start (next_field d.separator (row.start + (length row.text - length rest)) bs _ _ some refl refl)
+          starts bs =
+              let n = length_outside d.has_quotes d.separator bs in
+              ap first_start (next_piece d.has_quotes d.separator (row.start + (length row.text - length rest)) bs
+              (take n bs) (drop (n + 1) bs) refl refl (length-take-le n bs (outside_within d.has_quotes d.separator bs)))
 
   -- no cell more
   pub row_ends : (answer : Option TableError) (extra : Option ℕ) → (ended ≡ true) ⊎ (d.columns ≤ column)
@@ -205,9 +161,9 @@ module _ (kinds : List (Option Kind)) (d : Dialect) (index : ℕ) (row : RowView
       }
 
   module _ (cell behind : List ℕ) (some : ended ≡ false) (more : column < d.columns)
-      (front : cell ≡ take (field_length d.separator rest) rest)
-      (back : behind ≡ drop (field_length d.separator rest + 1) rest)
-      (sized : length cell ≡ field_length d.separator rest) (short : length cell ≤ length rest)
+      (front : cell ≡ take (length_outside d.has_quotes d.separator rest) rest)
+      (back : behind ≡ drop (length_outside d.has_quotes d.separator rest + 1) rest)
+      (sized : length cell ≡ length_outside d.has_quotes d.separator rest) (short : length cell ≤ length rest)
       (shorter : length behind ≤ length rest) where
     next_place : left_in d row ended rest
         ≡ record { start = row.start + (length row.text - length rest); text = cell }
@@ -217,9 +173,9 @@ module _ (kinds : List (Option Kind)) (d : Dialect) (index : ℕ) (row : RowView
         let at : place + (length rest - length behind) ≡ row.start + (length row.text - length behind) =
         omega (arith, reading.within) in
         ap (λ t. left_in d row t rest) some
-        ∙ next_cell d.separator place rest cell behind front back sized short
+        ∙ next_piece d.has_quotes d.separator place rest cell behind front back sized
         ∙ ap (λ p. record { start = place; text = cell }
-        ∷ behind_first d.separator p (eqb (length cell) (length rest)) behind) at
+        ∷ cond (eqb (length cell) (length rest)) [] (pieces_outside d.has_quotes d.separator p behind)) at
 
     next : answers_left kinds d row column ended rest
         ≡ answer_at d kinds column (record { start = row.start + (length row.text - length rest); text = cell })

@@ -2,9 +2,9 @@
 use Rattle.std.proofs.Common.{◌≡◌, ◌∙◌, ℕ, suc, ◌+◌, ◌-◌, ◌<◌, ◌≤◌, List, [], ◌∷◌, length, take, drop, cond, Result, Option, Some, None, Ok, Err, refl, ap, ap₂, sym, subst, arith, inl, inr, ◌⊎◌}
 use Rattle.std.specs.Prelude.{IfOk, is_none}
 use Rattle.std.proofs.lemmas.List.{drop_all, drop-drop, take_all}
-use Rattle.lexical_fields.specs.Fields.{field_length}
 use Rattle.lexical_fields.proofs.ColumnSteps.{tail_goes}
 use Rattle.lexical_tables.specs.ByColumn.{AreUsable, StopsAt, columns_answer, columns_put, first_fault, first_of, kinds_of, put_row, put_rows, row_fault, row_values, unless, values_to_fault}
+use Rattle.lexical_tables.specs.Quotes.{length_outside}
 use Rattle.lexical_tables.specs.Rows.{FirstCounts, RowView, line_feed, next_start, row_of, rows, rows_from}
 use Rattle.lexical_tables.specs.Targets.{TargetView}
 use Rattle.lexical_tables.specs.declared.answers.Table.{Table}
@@ -12,7 +12,7 @@ use Rattle.lexical_tables.specs.declared.answers.TableError.{TableError}
 use Rattle.lexical_tables.specs.declared.dialect.Dialect.{Dialect}
 use Rattle.lexical_tables.proofs.LineSteps.{none_of}
 use Rattle.lexical_tables.proofs.PutSteps.{kinds_put_row, use_less, use_put_row}
-use Rattle.lexical_tables.proofs.RowSteps.{HasRowsOf, next_row, start_of_rows, tail_of_tail}
+use Rattle.lexical_tables.proofs.RowSteps.{HasRowsOf, next_row, no_rows, start_of_rows, tail_of_tail}
 
 -- the rows of what is left of a text
 abbrev rows_left : Dialect → List ℕ → List ℕ → List RowView
@@ -72,7 +72,9 @@ take_none {X} n = take_all n [] (omega arith)
 module _ (d : Dialect) (room : ℕ) (text : List ℕ) (old now : List (Option TargetView)) (count : ℕ) (rest : List ℕ)
     (reading : IsTablePut d room text old now count rest) where
   nothing_left : (length rest ≡ 0) ⊎ (room ≤ count) → left_to_read d room text count rest ≡ []
-  nothing_left (inl ended) = ap (left_to_read d room text count) (none_of rest ended) ∙ take_none (room - count)
+  nothing_left (inl ended) =
+      ap (take (room - count)) (ap (rows_left d text) (none_of rest ended) ∙ no_rows d (length text - 0))
+      ∙ take_none (room - count)
   nothing_left (inr full) =
       let none : room - count ≡ 0 = omega arith in
       ap (λ n. take n (rows_left d text rest)) none
@@ -84,7 +86,8 @@ module _ (d : Dialect) (room : ℕ) (text : List ℕ) (old now : List (Option Ta
       let none : drop room (rows d text) ≡ [] =
       ap (λ n. drop n (rows d text)) (sym at)
       ∙ sym (drop-drop (room - count) count (rows d text))
-      ∙ ap (drop (room - count)) (reading.place ∙ ap (rows_left d text) (none_of rest ended))
+      ∙ ap (drop (room - count))
+      (reading.place ∙ ap (rows_left d text) (none_of rest ended) ∙ no_rows d (length text - 0))
       ∙ drop_all (room - count) [] (omega arith) in
       ap (next_start (length text)) none ∙ omega (arith, ended)
   stop_is (inr full) =
@@ -123,8 +126,8 @@ module _ (d : Dialect) (room : ℕ) (text : List ℕ) (old now : List (Option Ta
   row_usable more = use_less (count + 1) room now (omega arith) reading.usable
 
   module _ (row : RowView) (line behind left : List ℕ) (more : count < room) (some : 0 < length rest)
-      (front : line ≡ take (field_length line_feed rest) rest)
-      (back : behind ≡ drop (field_length line_feed rest + 1) rest)
+      (front : line ≡ take (length_outside d.has_quotes line_feed rest) rest)
+      (back : behind ≡ drop (length_outside d.has_quotes line_feed rest + 1) rest)
       (shorter : length behind < length rest)
       (row_is : row ≡ row_of d.has_returns (length text - length rest + length rest)
       (record { start = length text - length rest; text = line })) (skipped : HasRowsOf d behind left)
@@ -160,7 +163,7 @@ module _ (d : Dialect) (room : ℕ) (text : List ℕ) (old now : List (Option Ta
           few = omega arith;
           tail =
               tail_of_tail text behind left skipped.within (omega (arith, reading.within))
-              (tail_goes text rest behind (field_length line_feed rest) reading.within reading.tail back) skipped.tail;
+              (tail_goes text rest behind (length_outside d.has_quotes line_feed rest) reading.within reading.tail back) skipped.tail;
           first_counts = first;
           place = sym (drop-drop 1 count (rows d text)) ∙ ap (drop 1) (reading.place ∙ rows_go);
           counted = omega (arith, ap length next_rows, reading.counted);

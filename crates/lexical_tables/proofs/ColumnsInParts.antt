@@ -7,20 +7,20 @@ use Rattle.std.proofs.lemmas.List.{length-map}
 use Rattle.lexical_util.specs.declared.error.Error.{Error}
 use Rattle.lexical_util.specs.Validity.{fault}
 use Rattle.lexical_fields.specs.Columns as columns
-use Rattle.lexical_fields.specs.Fields.{FieldView}
-use Rattle.lexical_fields.specs.Parts.{whole_fields}
+use Rattle.lexical_fields.specs.Fields.{FieldView, fields_from}
 use Rattle.lexical_fields.specs.Places.{in_text}
 use Rattle.lexical_fields.specs.ReadFields.{field_answer}
 use Rattle.lexical_fields.proofs.MovedFields.{answer_moved, fields_moved, moved}
 use Rattle.lexical_tables.specs.ByColumn.{cell_answers, cells_of, end_fault, fault_of, first_fault, first_of, first_start, row_answers, row_fault, row_values, values_to_fault, wrong_cell}
 use Rattle.lexical_tables.specs.Cells.{Kind, answer_as, content, is_blank, number_at, some_number, without_blanks}
-use Rattle.lexical_tables.specs.Parts.{AreValid, ColumnsInParts, fault_behind, fault_in, error_behind, values_in}
-use Rattle.lexical_tables.specs.Rows.{RowView, line_feed, rows}
+use Rattle.lexical_tables.specs.Parts.{AreValid, ColumnsInParts, fault_behind, fault_in, error_behind, values_in, whole_rows}
+use Rattle.lexical_tables.specs.Quotes.{as_long_as, seen}
+use Rattle.lexical_tables.specs.Rows.{RowView, rows}
 use Rattle.lexical_tables.specs.declared.answers.CellFault.{CellFault}
 use Rattle.lexical_tables.specs.declared.answers.CellFault.TheVariants.{MissingReturn, TooFewCells, TooManyCells}
 use Rattle.lexical_tables.specs.declared.answers.TableError.{TableError}
 use Rattle.lexical_tables.specs.declared.dialect.Dialect.{Dialect}
-use Rattle.lexical_tables.proofs.RowsInParts.{row_behind, rows_split, whole_within}
+use Rattle.lexical_tables.proofs.RowsInParts.{long_moved, row_behind, rows_split, whole_within}
 
 take_map : {X Y : Type 0} (f : X → Y) (n : ℕ) (xs : List X) → take n (map f xs) ≡ map f (take n xs)
 take_map f zero xs = refl
@@ -184,7 +184,10 @@ module _ (kinds : List (Option Kind)) (d : Dialect) where
 
   module _ (valid : AreValid kinds) where
     cells_moved : (bytes : ℕ) (row : RowView) → cells_of d (row_behind bytes row) ≡ map (moved bytes) (cells_of d row)
-    cells_moved bytes row = sym (fields_moved d.separator bytes row.start (row.text ++ d.separator ∷ []))
+    cells_moved bytes row =
+        let bytes_seen = seen d.has_quotes d.separator row.text ++ d.separator ∷ [] in
+        ap (λ l. as_long_as l row.text) (sym (fields_moved d.separator bytes row.start bytes_seen))
+        ∙ long_moved bytes (fields_from d.separator row.start bytes_seen) row.text
 
     row_moved : (bytes : ℕ) (row : RowView)
         → row_answers kinds d (row_behind bytes row) ≡ map (answer_behind bytes) (row_answers kinds d row)
@@ -258,11 +261,11 @@ module _ (kinds : List (Option Kind)) (d : Dialect) where
 pub columns_in_parts : (kinds : List (Option Kind)) (d : Dialect) (part more : List ℕ) → AreValid kinds
     → ColumnsInParts kinds d part more
 columns_in_parts kinds d part more valid =
-    let size = whole_fields line_feed part in
+    let size = whole_rows d.has_quotes part in
     let front = take size part in
     let left = drop size part ++ more in
     let count = length (rows d front) in
-    let within = whole_within line_feed part in
+    let within = whole_within d.has_quotes part in
     let cut = rows_split d part more size refl within in
     let long = sym (length-take-le size part within) in
     let none : 0 + count ≡ count + 0 = omega arith in

@@ -6,6 +6,11 @@ pub mod ColumnSteps
 pub mod ColumnTables
 pub mod ColumnsInParts
 pub mod LineSteps
+pub mod OutsideInParts
+pub mod OutsideSteps
 pub mod PutSteps
 pub mod RowSteps
 pub mod RowsInParts
+pub mod SeekSteps
+pub mod SeenBytes
+pub mod WholeRows

@@ -3,11 +3,12 @@ use Rattle.std.proofs.Common.{◌≡◌, ◌∙◌, ℕ, ◌+◌, ◌-◌, ◌<�
 use Rattle.std.specs.Prelude.{nat_lt}
 use Rattle.std.proofs.lemmas.Bool.{cases_lt, le-ltb, lt-ltb}
 use Rattle.std.proofs.lemmas.List.{drop-drop}
-use Rattle.lexical_fields.specs.Fields.{field_length, fields_from}
+use Rattle.lexical_fields.specs.Fields.{fields_from}
 use Rattle.lexical_fields.proofs.ColumnSteps.{tail_goes}
-use Rattle.lexical_fields.proofs.FieldSteps.{next_field}
+use Rattle.lexical_tables.specs.Quotes.{as_long_as, fields_outside, hidden, length_outside}
 use Rattle.lexical_tables.specs.Rows.{FirstCounts, RowView, carriage_return, counts, ends_in, line_feed, next_start, row_of, rows_from}
 use Rattle.lexical_tables.specs.declared.dialect.Dialect.{Dialect}
+use Rattle.lexical_tables.proofs.OutsideSteps.{next_outside}
 
 -- the tests of two places that are moved alike
 pub moved_test : (bytes a b : ℕ) → nat_lt (bytes + a) (bytes + b) ≡ nat_lt a b
@@ -30,8 +31,8 @@ counts_anywhere d place end line =
     (moved_test place (length line) end ∙ ap (λ k. nat_lt k end) (sym (zero_add (length line))))
 
 module _ (d : Dialect) (place : ℕ) (rest line behind : List ℕ) (some : 0 < length rest)
-    (front : line ≡ take (field_length line_feed rest) rest)
-    (back : behind ≡ drop (field_length line_feed rest + 1) rest) (shorter : length behind ≤ length rest) where
+    (front : line ≡ take (length_outside d.has_quotes line_feed rest) rest)
+    (back : behind ≡ drop (length_outside d.has_quotes line_feed rest + 1) rest) (shorter : length behind ≤ length rest) where
   -- the first line at its place, and the rows behind it
   abbrev pub first_row : RowView
   first_row = row_of d.has_returns (place + length rest) (record { start = place; text = line })
@@ -45,10 +46,10 @@ module _ (d : Dialect) (place : ℕ) (rest line behind : List ℕ) (some : 0 < l
       let at = place + (length rest - length behind) in
       let end : place + length rest ≡ at + length behind = omega arith in
       ap (λ l. filter (counts d) (map (row_of d.has_returns (place + length rest)) l))
-      (next_field line_feed place rest line behind some front back)
+      (next_outside d.has_quotes line_feed place rest line behind some front back)
       ∙ ap (λ e. cond (counts d first_row)
-      (first_row ∷ filter (counts d) (map (row_of d.has_returns e) (fields_from line_feed at behind)))
-      (filter (counts d) (map (row_of d.has_returns e) (fields_from line_feed at behind)))) end
+      (first_row ∷ filter (counts d) (map (row_of d.has_returns e) (fields_outside d.has_quotes line_feed at behind)))
+      (filter (counts d) (map (row_of d.has_returns e) (fields_outside d.has_quotes line_feed at behind)))) end
       ∙ ap (λ b. cond b (first_row ∷ rows_behind) rows_behind) (counts_anywhere d place (length rest) line ∙ is)
 
   -- a row that counts
@@ -65,12 +66,24 @@ module _ (d : Dialect) (place : ℕ) (rest line behind : List ℕ) (some : 0 < l
       rows_go false (ap₂ (λ s t. not s || t) skips
       (le-ltb 0 (length (row_of d.has_returns (length rest) (record { start = 0; text = line })).text) (omega (arith, empty))))
 
+-- no byte is no row
+pub no_rows : (d : Dialect) (place : ℕ) → rows_from d place [] ≡ []
+no_rows d place =
+    ap (λ bytes. filter (counts d) (map (row_of d.has_returns (place + 0))
+    (as_long_as (fields_from line_feed place bytes) []))) (none_seen (d.has_quotes && true))
+  where
+    none_seen : (t : Bool) → cond t (hidden line_feed []) [] ≡ []
+    none_seen true = refl
+    none_seen false = refl
+
 -- what is left begins where its first row does
 pub start_of_rows : (d : Dialect) (text rest : List ℕ) → FirstCounts d rest
     → next_start (length text) (rows_from d (length text - length rest) rest) ≡ length text - length rest
-start_of_rows d text [] first = omega arith
+start_of_rows d text [] first =
+    let none : length text ≡ length text - 0 = omega arith in
+    ap (next_start (length text)) (no_rows d (length text - 0)) ∙ none
 start_of_rows d text (b ∷ bs) first =
-    let n = field_length line_feed (b ∷ bs) in
+    let n = length_outside d.has_quotes line_feed (b ∷ bs) in
     ap (next_start (length text))
     (next_row d (length text - length (b ∷ bs)) (b ∷ bs) (take n (b ∷ bs)) (drop (n + 1) (b ∷ bs))
     (omega arith) refl refl (drop_less n (b ∷ bs)) first)
@@ -108,19 +121,19 @@ skip_starts d text =
     same place = omega arith
 
 module _ (d : Dialect) (text rest : List ℕ) (skipped : HasRowsOf d text rest) (row : RowView) (line behind : List ℕ)
-    (some : 0 < length rest) (front : line ≡ take (field_length line_feed rest) rest)
+    (some : 0 < length rest) (front : line ≡ take (length_outside d.has_quotes line_feed rest) rest)
     (row_is : row ≡ row_of d.has_returns (0 + length rest) (record { start = 0; text = line })) where
   text_is : length row.text ≡ length (row_of d.has_returns (length rest) (record { start = 0; text = line })).text
   text_is =
       ap (λ r. length r.text) row_is
       ∙ ap (λ e. length (row_of d.has_returns e (record { start = 0; text = line })).text) (zero_add (length rest))
 
-  pub skip_goes : behind ≡ drop (field_length line_feed rest + 1) rest → length behind < length rest
+  pub skip_goes : behind ≡ drop (length_outside d.has_quotes line_feed rest + 1) rest → length behind < length rest
       → d.skips_empty_rows ≡ true → length row.text ≡ 0 → HasRowsOf d text behind
   skip_goes back shorter skips empty =
       record {
         within = omega (arith, skipped.within);
-        tail = tail_goes text rest behind (field_length line_feed rest) skipped.within skipped.tail back;
+        tail = tail_goes text rest behind (length_outside d.has_quotes line_feed rest) skipped.within skipped.tail back;
         rows_are = λ place.
             skipped.rows_are place
             ∙ no_row d (place + (length text - length rest)) rest line behind some front back (omega arith) skips
@@ -148,5 +161,5 @@ module _ (d : Dialect) (text rest : List ℕ) (skipped : HasRowsOf d text rest) 
 pub skip_ends : (d : Dialect) (rest : List ℕ) → (d.skips_empty_rows ≡ false) ⊎ (length rest ≡ 0) → FirstCounts d rest
 skip_ends d rest (inl counted) more =
     ap (λ s. not s || nat_lt 0 (length (row_of d.has_returns (length rest)
-    (record { start = 0; text = take (field_length line_feed rest) rest })).text)) counted
+    (record { start = 0; text = take (length_outside d.has_quotes line_feed rest) rest })).text)) counted
 skip_ends d rest (inr none) more = absurd (omega arith)

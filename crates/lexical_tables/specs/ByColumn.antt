@@ -1,9 +1,10 @@
 -- What is read of a table whose columns go into slices of their own.
-use Rattle.std.specs.Prelude.{◌≡◌, ◌+◌, ◌*◌, ◌≤◌, ℕ, zero, suc, ℤ, if◌then◌else◌, List, [], ◌∷◌, ◌++◌, length, take, drop, map, is_none, is_some, nat_lt, option_map, Option, Some, None, Result, Ok, Err, IfSome}
+use Rattle.std.specs.Prelude.{◌≡◌, ◌+◌, ◌*◌, ◌≤◌, ℕ, zero, suc, ℤ, if◌then◌else◌, List, [], ◌∷◌, length, take, drop, map, is_none, is_some, nat_lt, option_map, Option, Some, None, Result, Ok, Err, IfSome}
 use Rattle.lexical_util.specs.Validity.{fault}
 use Rattle.lexical_fields.specs.Columns as columns
-use Rattle.lexical_fields.specs.Fields.{FieldView, fields_from}
+use Rattle.lexical_fields.specs.Fields.{FieldView}
 use Rattle.lexical_tables.specs.Cells.{Kind, answer_as}
+use Rattle.lexical_tables.specs.Quotes.{pieces_outside}
 use Rattle.lexical_tables.specs.Rows.{RowView, next_start, rows, rows_from}
 use Rattle.lexical_tables.specs.Targets.{TargetView, put_value}
 use Rattle.lexical_tables.specs.declared.answers.CellFault.{CellFault}
@@ -34,9 +35,9 @@ cell_answers dialect [] (cell ∷ cells) = answer_as dialect None cell ∷ cell_
 cell_answers dialect (kind ∷ kinds) (cell ∷ cells) =
     answer_as dialect kind cell ∷ cell_answers dialect kinds cells
 
--- the cells of a row, at their places in the text: one more than it has separators
+-- the cells of a row, at their places in the text: one more than it has separators outside quotes
 abbrev pub cells_of : Dialect → RowView → List FieldView
-cells_of dialect row = fields_from dialect.separator row.start (row.text ++ dialect.separator ∷ [])
+cells_of dialect row = pieces_outside dialect.has_quotes dialect.separator row.start row.text
 
 -- what the cells of a row stand for that have a column
 abbrev pub row_answers : List (Option Kind) → Dialect → RowView

@@ -2,5 +2,6 @@
 pub mod ByColumn
 pub mod Cells
 pub mod Parts
+pub mod Quotes
 pub mod Rows
 pub mod Targets

@@ -1,6 +1,7 @@
 -- The rows of a text.
 use Rattle.std.specs.Prelude.{◌≡◌, ◌==◌, ◌&&◌, ◌||◌, ◌+◌, ◌-◌, ◌<◌, ℕ, Bool, true, not, if◌then◌else◌, List, [], ◌∷◌, length, take, map, filter, nat_lt, slice_index}
-use Rattle.lexical_fields.specs.Fields.{FieldView, field_length, fields_from}
+use Rattle.lexical_fields.specs.Fields.{FieldView}
+use Rattle.lexical_tables.specs.Quotes.{fields_outside, length_outside}
 use Rattle.lexical_tables.specs.declared.dialect.Dialect.{Dialect}
 use Rattle.lexical_tables.specs.declared.rows.Row.{Row}
 
@@ -42,7 +43,8 @@ counts dialect row = not dialect.skips_empty_rows || nat_lt 0 (length row.text)
 -- the rows of a text that stands at a place: its lines that count
 abbrev pub rows_from : Dialect → ℕ → List ℕ → List RowView
 rows_from dialect place text = filter (counts dialect)
-    (map (row_of dialect.has_returns (place + length text)) (fields_from line_feed place text))
+    (map (row_of dialect.has_returns (place + length text))
+    (fields_outside dialect.has_quotes line_feed place text))
 
 -- the rows of a text
 abbrev pub rows : Dialect → List ℕ → List RowView
@@ -58,7 +60,7 @@ abbrev pub FirstCounts : Dialect → List ℕ → Type 0
 FirstCounts dialect text = 0 < length text
     → counts dialect (row_of dialect.has_returns (length text) (record {
       start = 0;
-      text = take (field_length line_feed text) text;
+      text = take (length_outside dialect.has_quotes line_feed text) text;
     })) ≡ true
 
 -- a row as the program has it

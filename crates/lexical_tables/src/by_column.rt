@@ -121,7 +121,7 @@ fn read_cells<C: TableColumn>(
     let mut column = 0;
     while column < dialect.columns && !ended {
         let start = row.start + (row.text.len() - rest.len());
-        let (text, behind) = split(rest, dialect.separator);
+        let (text, behind) = split(rest, dialect.separator, dialect.has_quotes);
         let cell = Cell { start, text };
         if let Some(fault) = read_cell(targets, column, index, cell, dialect, options) {
             return Some(TableError {
@@ -142,9 +142,9 @@ fn read_cells<C: TableColumn>(
 /// Reads a table's columns into slices of their own, for as many rows as are asked for at most.
 ///
 /// Each cell of a row has a target, or none: then it isn't read, and may hold any bytes but the separator
-/// and a line feed. So it is with cells behind the last target. The number of a cell is put at its row's
-/// place in the target's slice, and all else in the slices is as it was, also after a fault: then the
-/// numbers are those of all cells before the wrong one. Where the text has more rows than are asked for,
+/// and a line feed outside quotes. So it is with cells behind the last target. The number of a cell is put at
+/// its row's place in the target's slice, and all else in the slices is as it was, also after a fault: then
+/// the numbers are those of all cells before the wrong one. Where the text has more rows than are asked for,
 /// `stop` is where the next one starts.
 ///
 /// The formats of the targets have to be valid, and their slices and their bits have to have room for so
@@ -169,7 +169,7 @@ pub fn read_columns<C: TableColumn>(
     let mut rest = without_empty_rows(text, dialect);
     let mut count = 0;
     while count < rows && !rest.is_empty() {
-        let (row, behind) = first_row(text.len() - rest.len(), rest, dialect.has_returns);
+        let (row, behind) = first_row(text.len() - rest.len(), rest, dialect);
         if let Some(error) = read_cells(&row, count, dialect, options, targets) {
             return Err(error);
         }

@@ -9,7 +9,7 @@ pub struct Dialect<'a> {
     pub columns: usize,
     /// Whether a carriage return stands before each line feed. Without it a return is a byte of its cell.
     pub has_returns: bool,
-    /// Whether cells may stand within quotes, `"`, as RFC 4180 says.
+    /// Whether cells may stand within quotes, `"`, as RFC 4180 says. A quote that is the separator parts cells.
     pub has_quotes: bool,
     /// Whether blanks, spaces and tabs, may stand around a number.
     pub allows_blanks: bool,
