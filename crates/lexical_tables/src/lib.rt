@@ -10,6 +10,7 @@
 mod answers;
 mod by_column;
 mod dialect;
+mod header;
 mod parts;
 mod quotes;
 mod rows;
@@ -18,6 +19,6 @@ mod targets;
 pub use answers::{CellFault, Table, TableError};
 pub use by_column::read_columns;
 pub use dialect::Dialect;
+pub use header::after_lines;
 pub use parts::{columns_in_parts, read_columns_part};
-pub use rows::after_lines;
 pub use targets::{Numbers, TableColumn, Target, put_cell};

@@ -65,12 +65,15 @@ fn first_wrong_cells(rt: HostRuntime) {
 #[test]
 fn a_header_is_stepped_over(rt: HostRuntime) {
     let text = b"width,\"height\n1,2\n";
-    let start = after_lines(text, 1);
+    let start = after_lines(text, 1, &pairs(false));
     answers(&rt, start, 14);
     answers(&rt, read(&text[start..], false), (table(1, 4), [1, 9, 9]));
     answers(
         &rt,
-        [after_lines(b"a\nb", 2), after_lines(b"a\n\n", 1)],
+        [
+            after_lines(b"a\nb", 2, &pairs(false)),
+            after_lines(b"a\n\n", 1, &pairs(false)),
+        ],
         [3, 2],
     );
 }
