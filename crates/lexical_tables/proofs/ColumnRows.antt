@@ -5,32 +5,38 @@ use Rattle.lexical_util.specs.declared.error.Error.TheVariants.{Empty, InvalidDi
 use Rattle.lexical_util.specs.Format.{standard}
 use Rattle.lexical_util.specs.Number.{integer_type}
 use Rattle.lexical_parse_integer.specs.Computed.{grammar}
-use Rattle.lexical_tables.specs.ByColumn.{Kind, columns_answer, columns_put, kinds_of, wrong_cell}
+use Rattle.lexical_tables.specs.ByColumn.{columns_answer, columns_put, kinds_of, wrong_cell}
+use Rattle.lexical_tables.specs.Cells.{Kind}
 use Rattle.lexical_tables.specs.Header.{behind_lines}
 use Rattle.lexical_tables.specs.Parts.{readable}
 use Rattle.lexical_tables.specs.Targets.{TargetView}
 use Rattle.lexical_tables.specs.declared.answers.CellFault.TheVariants.{MissingReturn, NotNumber, TooFewCells, TooManyCells}
 use Rattle.lexical_tables.specs.declared.dialect.Dialect.{Dialect}
 
--- four columns between commas
-abbrev four : Dialect
-four = record {
+-- so many columns between commas, with returns or without, and nothing else
+abbrev pub plain : ℕ → Bool → Dialect
+plain columns has_returns = record {
   separator = 44;
-  columns = 4;
-  has_returns = false;
+  columns = columns;
+  has_returns = has_returns;
   has_quotes = false;
   allows_blanks = false;
   skips_empty_rows = false;
   missing = record { ref_ptr = (0, 0); now = [] };
 }
 
+-- four columns
+abbrev four : Dialect
+four = plain 4 false
+
 -- the first column is read as `u8`, the third as hexadecimal `i8`, the second and the fourth aren't read
 abbrev targets : List ℤ → List ℤ → List (Option TargetView)
-targets first third = Some (record { format = standard; type = integer_type 8 false; numbers = first })
+targets first third = Some (record { format = standard; type = integer_type 8 false; numbers = first; present = None })
     ∷ None ∷ Some (record {
       format = record standard { mantissa_radix = 16 };
       type = integer_type 8 true;
       numbers = third;
+      present = None;
     }) ∷ []
 
 -- three places in each slice
@@ -74,11 +80,11 @@ empty_last = refl
 
 abbrev both : List (Option Kind)
 both =
-    Some (record { format = standard; type = integer_type 8 false })
-    ∷ Some (record { format = standard; type = integer_type 8 false }) ∷ []
+    Some (record { format = standard; type = integer_type 8 false; may_miss = false })
+    ∷ Some (record { format = standard; type = integer_type 8 false; may_miss = false }) ∷ []
 
 abbrev pairs : Bool → Dialect
-pairs has_returns = record four { columns = 2; has_returns = has_returns }
+pairs has_returns = plain 2 has_returns
 
 -- lines with a line feed, and with a return in front of it
 abbrev line : List ℕ → List ℕ
@@ -230,7 +236,7 @@ quoted = record (pairs false) { has_quotes = true }
 
 -- the first column is read
 abbrev first : List (Option Kind)
-first = Some (record { format = standard; type = integer_type 8 false }) ∷ []
+first = Some (record { format = standard; type = integer_type 8 false; may_miss = false }) ∷ []
 
 -- within quotes a separator parts no cells, and a line feed ends no row
 within_quotes : columns_answer first quoted 4 (line (codes "1,\"a,b" ++ 10 ∷ codes "c\"") ++ codes "2,")

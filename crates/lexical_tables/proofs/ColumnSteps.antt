@@ -2,14 +2,14 @@
 use Rattle.std.proofs.Common.{◌≡◌, ◌∙◌, ℕ, suc, ◌+◌, ◌-◌, ◌<◌, ◌≤◌, List, [], ◌∷◌, ◌++◌, length, take, drop, Bool, true, false, not, cond, eqb, ℤ, Result, Option, Some, None, Ok, Err, refl, ap, ap₂, sym, subst, arith, inl, inr, ◌⊎◌, length-take-le, take-append-drop}
 use Rattle.std.specs.Bool.{then_some}
 use Rattle.std.proofs.lemmas.List.{drop_all, drop-drop, take_all}
-use Rattle.lexical_util.specs.declared.error.Error.{Error}
 use Rattle.lexical_fields.specs.Columns as columns
 use Rattle.lexical_fields.specs.Fields.{FieldView}
-use Rattle.lexical_tables.specs.ByColumn.{AreUsable, Kind, answer_at, cell_answers, cells_of, end_fault, fault_in, fault_of, first_start, kinds_of, put_at, put_row, row_answers, row_fault, row_values, value_in, wrong_cell}
+use Rattle.lexical_tables.specs.ByColumn.{AreUsable, answer_at, cell_answers, cells_of, end_fault, fault_in, fault_of, first_start, kinds_of, put_read_at, put_row, row_answers, row_fault, row_values, wrong_cell}
+use Rattle.lexical_tables.specs.Cells.{Kind}
 use Rattle.lexical_tables.specs.Quotes.{length_outside, pieces_outside}
 use Rattle.lexical_tables.specs.Rows.{RowView}
 use Rattle.lexical_tables.specs.Targets.{TargetView}
-use Rattle.lexical_tables.specs.declared.answers.CellFault.TheVariants.{NotNumber}
+use Rattle.lexical_tables.specs.declared.answers.CellFault.{CellFault}
 use Rattle.lexical_tables.specs.declared.answers.TableError.{TableError}
 use Rattle.lexical_tables.specs.declared.dialect.Dialect.{Dialect}
 use Rattle.lexical_tables.proofs.OutsideSteps.{next_piece, outside_within}
@@ -21,9 +21,9 @@ left_in d row ended rest =
     cond ended [] (pieces_outside d.has_quotes d.separator (row.start + (length row.text - length rest)) rest)
 
 -- what those of them stand for that have a column
-abbrev pub answers_left : List (Option Kind) → Dialect → RowView → ℕ → Bool → List ℕ → List (Result (Option ℤ) Error)
+abbrev pub answers_left : List (Option Kind) → Dialect → RowView → ℕ → Bool → List ℕ → List (Result (Option ℤ) CellFault)
 answers_left kinds d row column ended rest =
-    cell_answers (drop column kinds) (take (d.columns - column) (left_in d row ended rest))
+    cell_answers d (drop column kinds) (take (d.columns - column) (left_in d row ended rest))
 
 -- So many cells of a row were read, and what is read of those that are left, with them, is what is read of the row.
 pub record IsRowPut (kinds : List (Option Kind)) (d : Dialect) (index : ℕ) (row : RowView)
@@ -57,7 +57,7 @@ row_starts kinds d index row old same usable =
     let cells : left_in d row false row.text ≡ cells_of d row =
     ap (λ p. pieces_outside d.has_quotes d.separator p row.text) place in
     let answers : answers_left kinds d row 0 false row.text ≡ row_answers kinds d row =
-    ap₂ (λ n l. cell_answers kinds (take n l)) all cells in
+    ap₂ (λ n l. cell_answers d kinds (take n l)) all cells in
     record {
       within = omega arith;
       few = omega arith;
@@ -71,17 +71,21 @@ row_starts kinds d index row old same usable =
     }
 
 -- answers by their faults
-ok_of : (answer : Result (Option ℤ) Error) → None ≡ fault_in answer → answer ≡ Ok (value_in answer)
+abbrev value_in : Result (Option ℤ) CellFault → Option ℤ
+value_in (Ok value) = value
+value_in (Err fault) = None
+
+ok_of : (answer : Result (Option ℤ) CellFault) → None ≡ fault_in answer → answer ≡ Ok (value_in answer)
 ok_of (Ok value) none = refl
 ok_of (Err error) none = absurd cc
 
-err_of : (answer : Result (Option ℤ) Error) (error : Error) → Some error ≡ fault_in answer → answer ≡ Err error
-err_of (Ok value) error some = absurd cc
-err_of (Err other) error some = cc
+err_of : (answer : Result (Option ℤ) CellFault) (fault : CellFault) → Some fault ≡ fault_in answer → answer ≡ Err fault
+err_of (Ok value) fault some = absurd cc
+err_of (Err other) fault some = cc
 
-no_answers : (kinds : List (Option Kind)) → cell_answers kinds [] ≡ []
-no_answers [] = refl
-no_answers (kind ∷ kinds) = refl
+no_answers : (d : Dialect) (kinds : List (Option Kind)) → cell_answers d kinds [] ≡ []
+no_answers d [] = refl
+no_answers d (kind ∷ kinds) = refl
 
 take_none : {X : Type 0} (n : ℕ) → take {A = X} n [] ≡ []
 take_none {X} n = take_all n [] (omega arith)
@@ -95,12 +99,12 @@ module _ (kinds : List (Option Kind)) (d : Dialect) (index : ℕ) (row : RowView
     (column : ℕ) (ended : Bool) (rest : List ℕ) (reading : IsRowPut kinds d index row old now column ended rest) where
   none_left : (ended ≡ true) ⊎ (d.columns ≤ column) → answers_left kinds d row column ended rest ≡ []
   none_left (inl e) =
-      ap (λ t. cell_answers (drop column kinds) (take (d.columns - column) (left_in d row t rest))) e
-      ∙ ap (cell_answers (drop column kinds)) (take_none (d.columns - column)) ∙ no_answers (drop column kinds)
+      ap (λ t. cell_answers d (drop column kinds) (take (d.columns - column) (left_in d row t rest))) e
+      ∙ ap (cell_answers d (drop column kinds)) (take_none (d.columns - column)) ∙ no_answers d (drop column kinds)
   none_left (inr full) =
       let none : d.columns - column ≡ 0 = omega arith in
-      ap (λ n. cell_answers (drop column kinds) (take n (left_in d row ended rest))) none
-      ∙ no_answers (drop column kinds)
+      ap (λ n. cell_answers d (drop column kinds) (take n (left_in d row ended rest))) none
+      ∙ no_answers d (drop column kinds)
 
   count_is : (ended ≡ true) ⊎ (d.columns ≤ column) → length (take d.columns (cells_of d row)) ≡ column
   count_is (inl e) =
@@ -174,22 +178,22 @@ module _ (kinds : List (Option Kind)) (d : Dialect) (index : ℕ) (row : RowView
         ∷ cond (eqb (length cell) (length rest)) [] (pieces_outside d.has_quotes d.separator p behind)) at
 
     next : answers_left kinds d row column ended rest
-        ≡ answer_at kinds column (record { start = row.start + (length row.text - length rest); text = cell })
+        ≡ answer_at d kinds column (record { start = row.start + (length row.text - length rest); text = cell })
         ∷ answers_left kinds d row (column + 1) (eqb (length cell) (length rest)) behind
     next =
         let place = row.start + (length row.text - length rest) in
         let left = left_in d row (eqb (length cell) (length rest)) behind in
         let one : d.columns - column ≡ suc (d.columns - (column + 1)) = omega arith in
         let plus : suc column ≡ column + 1 = omega arith in
-        ap₂ (λ n l. cell_answers (drop column kinds) (take n l)) one next_place
-        ∙ answers_go kinds column (record { start = place; text = cell }) (take (d.columns - (column + 1)) left)
-        ∙ ap (λ k. answer_at kinds column (record { start = place; text = cell })
-        ∷ cell_answers (drop k kinds) (take (d.columns - (column + 1)) left)) plus
+        ap₂ (λ n l. cell_answers d (drop column kinds) (take n l)) one next_place
+        ∙ answers_go d kinds column (record { start = place; text = cell }) (take (d.columns - (column + 1)) left)
+        ∙ ap (λ k. answer_at d kinds column (record { start = place; text = cell })
+        ∷ cell_answers d (drop k kinds) (take (d.columns - (column + 1)) left)) plus
 
     -- one cell more
     pub cell_goes : (new : List (Option TargetView)) (value : Option ℤ)
-        → answer_at kinds column (record { start = row.start + (length row.text - length rest); text = cell }) ≡ Ok value
-        → new ≡ put_at index column value now
+        → answer_at d kinds column (record { start = row.start + (length row.text - length rest); text = cell }) ≡ Ok value
+        → new ≡ put_read_at index column (Ok value) now
         → IsRowPut kinds d index row old new (column + 1) (eqb (length cell) (length rest)) behind
     cell_goes new value told are =
         let later = columns.values_before_fault (answers_left kinds d row (column + 1) (eqb (length cell) (length rest)) behind) in
@@ -201,8 +205,8 @@ module _ (kinds : List (Option Kind)) (d : Dialect) (index : ℕ) (row : RowView
           few = omega arith;
           place = sym (drop-drop 1 column (cells_of d row)) ∙ ap (drop 1) (reading.place ∙ next_place);
           counted = omega (arith, reading.counted, ap length next_place);
-          kinds_are = ap kinds_of are ∙ kinds_put index column value now ∙ reading.kinds_are;
-          usable = subst (AreUsable (index + 1)) (sym are) (use_put (index + 1) index column value now reading.usable);
+          kinds_are = ap kinds_of are ∙ kinds_put index column (Ok value) now ∙ reading.kinds_are;
+          usable = subst (AreUsable (index + 1)) (sym are) (use_put (index + 1) index column (Ok value) now reading.usable);
           values =
               ap₂ (λ n l. take n l ++ put_row index later (drop n l)) plus are
               ∙ sym (row_goes index column value later now)
@@ -212,20 +216,20 @@ module _ (kinds : List (Option Kind)) (d : Dialect) (index : ℕ) (row : RowView
           first = ap columns.first_fault (sym at) ∙ reading.first;
         }
 
-    -- a cell that is no number
-    pub cell_fault : (new : List (Option TargetView)) (error : Error)
-        → answer_at kinds column (record { start = row.start + (length row.text - length rest); text = cell }) ≡ Err error
-        → new ≡ now → IsRowDone kinds d index row old new (Some (wrong_cell index column (NotNumber error)))
-    cell_fault new error told same =
-        let at : answers_left kinds d row column ended rest ≡ Err error ∷ answers_left kinds d row (column + 1) (eqb (length cell) (length rest)) behind =
+    -- a wrong cell
+    pub cell_fault : (new : List (Option TargetView)) (fault : CellFault)
+        → answer_at d kinds column (record { start = row.start + (length row.text - length rest); text = cell }) ≡ Err fault
+        → new ≡ now → IsRowDone kinds d index row old new (Some (wrong_cell index column fault))
+    cell_fault new fault told same =
+        let at : answers_left kinds d row column ended rest ≡ Err fault ∷ answers_left kinds d row (column + 1) (eqb (length cell) (length rest)) behind =
         next ∙ ap (λ a. a ∷ answers_left kinds d row (column + 1) (eqb (length cell) (length rest)) behind) told in
-        let first : columns.first_fault (row_answers kinds d row) ≡ Some error =
+        let first : columns.first_fault (row_answers kinds d row) ≡ Some fault =
         sym reading.first ∙ ap columns.first_fault at in
         let count : column ≡ length (row_values kinds d row) =
         omega (arith, reading.size, ap (λ l. length (columns.values_before_fault l)) at) in
         record {
           fault_is =
-              ap (λ n. Some (wrong_cell index n (NotNumber error))) count
+              ap (λ n. Some (wrong_cell index n fault)) count
               ∙ ap (fault_of d index row (length (row_values kinds d row))) (sym first);
           targets_are =
               same ∙ sym (take-append-drop column now)
@@ -234,23 +238,26 @@ module _ (kinds : List (Option Kind)) (d : Dialect) (index : ℕ) (row : RowView
         }
 
     -- the cell that was read, by what is answered of it
-    abbrev answer_here : Result (Option ℤ) Error
-    answer_here = answer_at (kinds_of now) column (record { start = row.start + (length row.text - length rest); text = cell })
+    abbrev answer_here : Result (Option ℤ) CellFault
+    answer_here = answer_at d (kinds_of now) column (record { start = row.start + (length row.text - length rest); text = cell })
 
-    as_here : answer_at kinds column (record { start = row.start + (length row.text - length rest); text = cell }) ≡ answer_here
+    as_here : answer_at d kinds column (record { start = row.start + (length row.text - length rest); text = cell }) ≡ answer_here
     as_here =
-        ap (λ k. answer_at k column (record { start = row.start + (length row.text - length rest); text = cell }))
+        ap (λ k. answer_at d k column (record { start = row.start + (length row.text - length rest); text = cell }))
         (sym reading.kinds_are)
 
     pub after_cell : (new : List (Option TargetView)) → None ≡ fault_in answer_here
-        → new ≡ put_at index column (value_in answer_here) now
+        → new ≡ put_read_at index column answer_here now
         → IsRowPut kinds d index row old new (column + 1) (eqb (length cell) (length rest)) behind
-    after_cell new none are = cell_goes new (value_in answer_here) (as_here ∙ ok_of answer_here none) are
+    after_cell new none are =
+        let right = ok_of answer_here none in
+        cell_goes new (value_in answer_here) (as_here ∙ right)
+        (are ∙ ap (λ a. put_read_at index column a now) right)
 
-    pub after_fault : (new : List (Option TargetView)) (error : Error) → Some error ≡ fault_in answer_here
-        → new ≡ put_at index column (value_in answer_here) now
-        → IsRowDone kinds d index row old new (Some (wrong_cell index column (NotNumber error)))
-    after_fault new error told are =
-        let wrong = err_of answer_here error told in
-        cell_fault new error (as_here ∙ wrong)
-        (are ∙ ap (λ a. put_at index column (value_in a) now) wrong ∙ put_nothing index column now)
+    pub after_fault : (new : List (Option TargetView)) (fault : CellFault) → Some fault ≡ fault_in answer_here
+        → new ≡ put_read_at index column answer_here now
+        → IsRowDone kinds d index row old new (Some (wrong_cell index column fault))
+    after_fault new fault told are =
+        let wrong = err_of answer_here fault told in
+        cell_fault new fault (as_here ∙ wrong)
+        (are ∙ ap (λ a. put_read_at index column a now) wrong ∙ put_nothing index column fault now)

@@ -1,4 +1,5 @@
 -- The proofs beside the functions, a file for each idea.
+pub mod CellRows
 pub mod CellSteps
 pub mod ColumnRows
 pub mod ColumnSteps

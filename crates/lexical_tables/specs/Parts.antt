@@ -2,7 +2,8 @@
 use Rattle.std.specs.Prelude.{◌≡◌, ◌+◌, ℕ, ℤ, Bool, if◌then◌else◌, List, [], ◌∷◌, ◌++◌, length, take, drop, false, is_none, option_map, Option, Some, None}
 use Rattle.lexical_util.specs.Validity.{fault}
 use Rattle.lexical_fields.specs.Places.{error_in_text}
-use Rattle.lexical_tables.specs.ByColumn.{Kind, first_fault, first_of, values_to_fault, wrong_cell}
+use Rattle.lexical_tables.specs.ByColumn.{first_fault, first_of, values_to_fault, wrong_cell}
+use Rattle.lexical_tables.specs.Cells.{Kind}
 use Rattle.lexical_tables.specs.Quotes.{whole_outside}
 use Rattle.lexical_tables.specs.Rows.{line_feed, rows}
 use Rattle.lexical_tables.specs.declared.answers.CellFault.{CellFault}

@@ -9,6 +9,7 @@
 
 mod answers;
 mod by_column;
+mod content;
 mod dialect;
 mod header;
 mod parts;
@@ -21,4 +22,4 @@ pub use by_column::read_columns;
 pub use dialect::Dialect;
 pub use header::after_lines;
 pub use parts::{columns_in_parts, read_columns_part};
-pub use targets::{Numbers, TableColumn, Target, put_cell};
+pub use targets::{Numbers, TableColumn, Target, put_bit, put_cell};

@@ -1,7 +1,8 @@
 //! Tables of a text that comes in parts, as a file that is read in blocks.
 
 ghost use Rattle.std.specs.Prelude.{◌≡◌, ◌≤◌, ℕ, List, Option, length, map, IfOk};
-ghost use Rattle.lexical_tables.specs.ByColumn.{AreUsable, Kind, StopsAt, columns_answer, columns_put, kinds_of};
+ghost use Rattle.lexical_tables.specs.ByColumn.{AreUsable, StopsAt, columns_answer, columns_put, kinds_of};
+ghost use Rattle.lexical_tables.specs.Cells.{Kind};
 ghost use Rattle.lexical_tables.specs.Parts.{AreValid, ColumnsInParts, readable, whole_rows};
 
 use crate::answers::{Table, TableError};
