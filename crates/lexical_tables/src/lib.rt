@@ -11,6 +11,7 @@ mod answers;
 mod by_column;
 mod content;
 mod dialect;
+mod misplaced;
 mod parts;
 mod quotes;
 mod rows;
