@@ -12,6 +12,7 @@ mod by_column;
 mod content;
 mod dialect;
 mod header;
+mod misplaced;
 mod parts;
 mod quotes;
 mod rows;
