@@ -14,6 +14,7 @@ use crate::threes::numbers_to_12;
 use lexical_digits::values::{join_parts, value_of_parts};
 use lexical_parse_integer::NumberFormat;
 use lexical_parse_integer::parse::ParseInteger;
+use lexical_parse_integer::quick::is_separated;
 
 // What stands behind a minus that is a sign, and whether there is one.
 #[inline(always)]
@@ -101,9 +102,25 @@ fn value_with_room<T: ParseInteger>(
     value_to_12::<T>(digits, count, is_negative)
 }
 
-// The marks that are left, or new ones where none is.
+/// The number of a text's first bytes, so many, where they are up to twenty decimal digits alone or behind a minus, the
+/// format has no punctuation, and seventeen bytes follow. `None` says nothing of them.
 #[inline(always)]
-fn next_marks(text: &[u8], marks: u64, separator: u8) -> u64
+pub fn value_in_front<T: ParseInteger>(text: &[u8], size: usize, format: &NumberFormat) -> Option<T>
+    ensures { IfSome result
+        (λ value. complete format.now T.TYPE (take size text.now) ≡ Ok (T.number value)) }
+{
+    if text.len() < 17 || size > text.len() - 17 {
+        return None;
+    }
+    if !is_separated(format, b' ') {
+        return None;
+    }
+    value_with_room::<T>(text, size, b' ', format)
+}
+
+/// The marks that are left, or new ones where none is.
+#[inline(always)]
+pub fn next_marks(text: &[u8], marks: u64, separator: u8) -> u64
     requires { AreMarks separator text.now marks }
     ensures { AreMarks separator text.now result }
 {
@@ -114,9 +131,9 @@ fn next_marks(text: &[u8], marks: u64, separator: u8) -> u64
     }
 }
 
-// How many bytes the first field has where its end is marked, what is behind its separator, and the marks of that.
+/// How many bytes the first field has where its end is marked, what is behind its separator, and the marks of that.
 #[inline(always)]
-fn split_marked(text: &[u8], marks: u64, separator: u8) -> (usize, &[u8], u64)
+pub fn split_marked(text: &[u8], marks: u64, separator: u8) -> (usize, &[u8], u64)
     requires some { marks ≢ 0 }
     requires marks { AreMarks separator text.now marks }
     ensures size { result.0 ≡ field_length separator text.now }

@@ -7,6 +7,7 @@ pub mod ColumnSteps
 pub mod ColumnTables
 pub mod ColumnsInParts
 pub mod LineSteps
+pub mod MarkedCells
 pub mod OutsideInParts
 pub mod OutsideSteps
 pub mod PutSteps

@@ -1,8 +1,10 @@
 //! Tables whose columns go into slices of their own.
 
-ghost use Rattle.std.specs.Prelude.{◌≡◌, ◌+◌, ◌<◌, ◌^◌, length, map, is_some, option_map, true, IfOk};
+ghost use Rattle.std.specs.Prelude.{◌≡◌, ◌+◌, ◌-◌, ◌<◌, ◌≤◌, ◌^◌, length, take, drop, map, is_some, option_map, true, IfOk};
+ghost use Rattle.lexical_fields.specs.Search.{AreMarks};
 ghost use Rattle.lexical_tables.specs.ByColumn.{AreUsable, IsUsable, StopsAt, answer_at, columns_answer, columns_put, end_fault, fault_in, kind_of, kinds_of, put_read, put_read_at, put_row, row_fault, row_values};
 ghost use Rattle.lexical_tables.specs.Cells.{answer_as, view_of_cell};
+ghost use Rattle.lexical_tables.specs.Quotes.{length_outside};
 ghost use Rattle.lexical_tables.specs.Rows.{view_of_row};
 
 use crate::answers::{CellFault, Table, TableError};
@@ -11,6 +13,7 @@ use crate::dialect::Dialect;
 use crate::misplaced::quote_fault;
 use crate::rows::{Row, first_row, split, without_empty_rows};
 use crate::targets::TableColumn;
+use lexical_fields::{next_marks, split_marked};
 use lexical_parse_integer::Options;
 
 // Reads a cell in its column, if its quotes are in place: it holds the mark or a number, which goes to the row's place.
@@ -24,6 +27,7 @@ fn read_number<C: TableColumn>(
 ) -> Option<CellFault>
     requires usable { IsUsable (row + 1) (C.target target.old) }
     requires read { is_some (C.target target.old) ≡ true }
+    requires front { cell.text.now ≡ take (length cell.text.now) cell.ahead.now }
     requires fits { cell.start + length cell.text.now < 2 ^ 64 }
     ensures fault { result ≡ fault_in (answer_as dialect.now
         (option_map kind_of (C.target target.old)) (view_of_cell cell.entry)) }
@@ -39,7 +43,7 @@ fn read_number<C: TableColumn>(
         target.put_missing(row);
         return None;
     }
-    match target.read(row, held.start, held.text, options) {
+    match target.read(row, held.start, held.text, held.ahead, options) {
         Some(error) => Some(CellFault::NotNumber(error)),
         None => None,
     }
@@ -56,6 +60,7 @@ fn read_cell<C: TableColumn>(
     options: &Options,
 ) -> Option<CellFault>
     requires usable { AreUsable (row + 1) (map C.target targets.old) }
+    requires front { cell.text.now ≡ take (length cell.text.now) cell.ahead.now }
     requires fits { cell.start + length cell.text.now < 2 ^ 64 }
     ensures fault { result ≡ fault_in (answer_at dialect.now (kinds_of (map C.target targets.old))
         column (view_of_cell cell.entry)) }
@@ -103,16 +108,55 @@ fn end_fault(
     })
 }
 
-// The numbers of a row go to its place in the targets, up to the row's fault.
+// The first cell of what is left of a row, and what is behind it. What is ahead begins with that and has the marks; the
+// last are those of what is behind the cell.
+#[inline(always)]
+fn split_cell<'a>(
+    rest: &'a [u8],
+    ahead: &[u8],
+    marks: u64,
+    separator: u8,
+    has_quotes: bool,
+) -> (&'a [u8], &'a [u8], u64)
+    requires rest { rest.now ≡ take (length rest.now) ahead.now }
+    requires marks { AreMarks separator ahead.now marks }
+    ensures front { result.0.now ≡ take (length_outside has_quotes separator rest.now) rest.now }
+    ensures behind { result.1.now
+        ≡ drop (length_outside has_quotes separator rest.now + 1) rest.now }
+    ensures within { length result.0.now ≤ length rest.now }
+    ensures size { length result.0.now ≡ length_outside has_quotes separator rest.now }
+    ensures left { length result.1.now ≤ length rest.now }
+    ensures marks { AreMarks separator
+        (drop (length rest.now - length result.1.now) ahead.now) result.2 }
+{
+    if has_quotes {
+        let (cell, behind) = split(rest, separator, true);
+        return (cell, behind, 0);
+    }
+    let known = next_marks(ahead, marks, separator);
+    if known == 0 {
+        let (cell, behind) = split(rest, separator, false);
+        return (cell, behind, 0);
+    }
+    let (size, _, more) = split_marked(ahead, known, separator);
+    if size >= rest.len() {
+        return (rest, &rest[rest.len()..], 0);
+    }
+    (&rest[..size], &rest[size + 1..], more)
+}
+
+// The numbers of a row go to its place in the targets, up to the row's fault. What is ahead begins with the row.
 #[inline(always)]
 fn read_cells<C: TableColumn>(
     row: &Row<'_>,
+    ahead: &[u8],
     index: usize,
     dialect: &Dialect<'_>,
     options: &Options,
     targets: &mut [C],
 ) -> Option<TableError>
     requires usable { AreUsable (index + 1) (map C.target targets.old) }
+    requires front { row.now.text.now ≡ take (length row.now.text.now) ahead.now }
     requires fits { row.now.start + length row.now.text.now < 2 ^ 64 }
     ensures fault { result ≡ row_fault (kinds_of (map C.target targets.old)) dialect.now index
         (view_of_row row.now) }
@@ -123,10 +167,22 @@ fn read_cells<C: TableColumn>(
     let mut rest = row.text;
     let mut ended = false;
     let mut column = 0;
+    let mut marks = 0;
     while column < dialect.columns && !ended {
-        let start = row.start + (row.text.len() - rest.len());
-        let (text, behind) = split(rest, dialect.separator, dialect.has_quotes);
-        let cell = Cell { start, text };
+        let place = row.text.len() - rest.len();
+        let left = &ahead[place..];
+        let (text, behind, more) = split_cell(
+            rest,
+            left,
+            marks,
+            dialect.separator,
+            dialect.has_quotes,
+        );
+        let cell = Cell {
+            start: row.start + place,
+            text,
+            ahead: left,
+        };
         if let Some(fault) = read_cell(targets, column, index, cell, dialect, options) {
             return Some(TableError {
                 row: index,
@@ -136,6 +192,7 @@ fn read_cells<C: TableColumn>(
         }
         ended = text.len() == rest.len();
         rest = behind;
+        marks = more;
         column += 1;
     }
     let next = row.start + (row.text.len() - rest.len());
@@ -156,6 +213,7 @@ fn read_cells<C: TableColumn>(
 ///
 /// With a comma, three columns and targets of `u64` for the first and of `i8` for the third, `1,a,-2\n`
 /// puts 1 and -2 at place 0, and stops at 7.
+#[inline(never)]
 pub fn read_columns<C: TableColumn>(
     text: &[u8],
     dialect: &Dialect<'_>,
@@ -174,7 +232,7 @@ pub fn read_columns<C: TableColumn>(
     let mut count = 0;
     while count < rows && !rest.is_empty() {
         let (row, behind) = first_row(text.len() - rest.len(), rest, dialect);
-        if let Some(error) = read_cells(&row, count, dialect, options, targets) {
+        if let Some(error) = read_cells(&row, rest, count, dialect, options, targets) {
             return Err(error);
         }
         rest = without_empty_rows(behind, dialect);

@@ -1,16 +1,17 @@
 //! What a cell holds.
 
-ghost use Rattle.std.specs.Prelude.{◌≡◌, ◌+◌, ◌<◌, ◌≤◌, ◌^◌, length};
+ghost use Rattle.std.specs.Prelude.{◌≡◌, ◌+◌, ◌<◌, ◌≤◌, ◌^◌, length, take};
 ghost use Rattle.std.specs.List.{prefix_len, suffix_len};
 ghost use Rattle.lexical_tables.specs.Cells.{content, is_blank, view_of_cell, without_blanks, without_quotes};
 
 use crate::misplaced::begins_with_quote;
 
-// A cell, or what it holds: the place in the text at which that starts, and its bytes.
+// A cell, or what it holds: the place in the text at which that starts, its bytes, and what begins with them.
 #[derive(Copy, Clone)]
 pub(crate) struct Cell<'a> {
     pub start: usize,
     pub text: &'a [u8],
+    pub ahead: &'a [u8],
 }
 
 // Whether a byte is a space or a tab.
@@ -48,14 +49,17 @@ fn end_of_content(text: &[u8]) -> usize
 fn without_blanks(cell: Cell<'_>) -> Cell<'_>
     requires fits { cell.start + length cell.text.now < 2 ^ 64 }
     ensures content { view_of_cell result ≡ without_blanks (view_of_cell cell.entry) }
+    ensures front { result.text.now ≡ take (length result.text.now) result.ahead.now }
     ensures within { result.start + length result.text.now
         ≤ cell.entry.start + length cell.entry.text.now }
 {
     let front = blanks_in_front(cell.text);
     let rest = &cell.text[front..];
+    let text = &rest[..end_of_content(rest)];
     Cell {
         start: cell.start + front,
-        text: &rest[..end_of_content(rest)],
+        text,
+        ahead: text,
     }
 }
 
@@ -63,15 +67,19 @@ fn without_blanks(cell: Cell<'_>) -> Cell<'_>
 #[inline(always)]
 fn without_quotes(cell: Cell<'_>, has_quotes: bool) -> Cell<'_>
     requires fits { cell.start + length cell.text.now < 2 ^ 64 }
+    requires front { cell.text.now ≡ take (length cell.text.now) cell.ahead.now }
     ensures content { view_of_cell result ≡ without_quotes has_quotes (view_of_cell cell.entry) }
+    ensures front { result.text.now ≡ take (length result.text.now) result.ahead.now }
     ensures within { result.start + length result.text.now
         ≤ cell.entry.start + length cell.entry.text.now }
 {
     if has_quotes && begins_with_quote(cell.text) {
         let rest = &cell.text[1..];
+        let text = &rest[..rest.len().saturating_sub(1)];
         return Cell {
             start: cell.start + 1,
-            text: &rest[..rest.len().saturating_sub(1)],
+            text,
+            ahead: text,
         };
     }
     cell
@@ -81,8 +89,10 @@ fn without_quotes(cell: Cell<'_>, has_quotes: bool) -> Cell<'_>
 #[inline(always)]
 pub(crate) fn content(cell: Cell<'_>, has_quotes: bool, allows_blanks: bool) -> Cell<'_>
     requires fits { cell.start + length cell.text.now < 2 ^ 64 }
+    requires front { cell.text.now ≡ take (length cell.text.now) cell.ahead.now }
     ensures content { view_of_cell result
         ≡ content has_quotes allows_blanks (view_of_cell cell.entry) }
+    ensures front { result.text.now ≡ take (length result.text.now) result.ahead.now }
     ensures within { result.start + length result.text.now
         ≤ cell.entry.start + length cell.entry.text.now }
 {

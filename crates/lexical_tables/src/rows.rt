@@ -58,6 +58,7 @@ pub(crate) fn first_row<'a>(
     ensures behind { result.1.now
         ≡ drop (length_outside dialect.now.has_quotes line_feed text.now + 1) text.now }
     ensures within { length result.0.text.now ≤ length text.now }
+    ensures front { result.0.text.now ≡ take (length result.0.text.now) text.now }
     ensures shorter { length result.1.now < length text.now }
 {
     let (line, behind) = split(text, b'\n', dialect.has_quotes);

@@ -1,12 +1,12 @@
 //! Where the numbers of a table's columns go.
 
-ghost use Rattle.std.specs.Prelude.{◌≡◌, ◌+◌, ◌*◌, ◌<◌, ◌≤◌, ◌^◌, Option, None, Some, length, map, set, is_some, option_map, pos, IfSome, IsNone};
+ghost use Rattle.std.specs.Prelude.{◌≡◌, ◌+◌, ◌*◌, ◌<◌, ◌≤◌, ◌^◌, Option, None, Some, length, take, map, set, is_some, option_map, pos, IfSome, IsNone};
 ghost use Rattle.lexical_util.specs.Validity.{fault};
 ghost use Rattle.lexical_fields.specs.ReadFields.{field_answer};
 ghost use Rattle.lexical_tables.specs.ByColumn.{IsUsable};
 ghost use Rattle.lexical_tables.specs.Targets.{TargetView, error_in, has_bits, put_text, put_value, text_answer, text_fault, view_of_target, with_number, with_row_bit};
 
-use lexical_fields::error_in_text;
+use lexical_fields::{error_in_text, value_in_front};
 use lexical_parse_integer::laws::grammar::fault_places;
 use lexical_parse_integer::parse::ParseInteger;
 use lexical_parse_integer::{Error, NumberFormat, Options};
@@ -46,24 +46,31 @@ pub struct Target<'a> {
 
 /// Puts the number of a cell that starts at a place into a row's place of a slice, or tells the cell's fault.
 ///
-/// It is for a [`TableColumn`] of one's own. The format has to be valid, and the slice has to have that place.
+/// It is for a [`TableColumn`] of one's own. The format has to be valid, and the slice has to have that place. The
+/// text ahead begins with the cell: by what follows there, digits are read as words.
 #[inline(always)]
 pub fn put_cell<T: ParseInteger>(
     values: &mut [T],
     row: usize,
     start: usize,
     cell: &[u8],
+    ahead: &[u8],
     format: &NumberFormat,
     options: &Options,
 ) -> Option<Error>
     requires valid { IsNone (fault format.now) }
     requires room { row < length values.old }
+    requires front { cell.now ≡ take (length cell.now) ahead.now }
     requires fits { start + length cell.now < 2 ^ 64 }
     ensures fault { result ≡ error_in (field_answer format.now T.TYPE
         (record { start = start; text = cell.now })) }
     ensures numbers { map T.number values.new ≡ with_number row (field_answer format.now T.TYPE
         (record { start = start; text = cell.now })) (map T.number values.old) }
 {
+    if let Some(value) = value_in_front::<T>(ahead, cell.len(), format) {
+        values[row] = value;
+        return None;
+    }
     // The law by which a fault's place is at most the cell's length, so that the sum fits.
     fault_places();
     match T::parse_complete(cell, format, options) {
@@ -121,9 +128,17 @@ pub trait TableColumn {
         ensures { target self.new ≡ option_map (put_value row None) (target self.old) };
 
     /// Puts the number that all of a text stands for into a row's place, and sets the row's bit, or tells the
-    /// text's fault.
-    fn read(&mut self, row: usize, start: usize, text: &[u8], options: &Options) -> Option<Error>
+    /// text's fault. What is ahead begins with the text.
+    fn read(
+        &mut self,
+        row: usize,
+        start: usize,
+        text: &[u8],
+        ahead: &[u8],
+        options: &Options,
+    ) -> Option<Error>
         requires usable { IsUsable (row + 1) (target self.old) }
+        requires front { text.now ≡ take (length text.now) ahead.now }
         requires fits { start + length text.now < 2 ^ 64 }
         ensures fault { result ≡ text_fault (target self.old)
             (record { start = start; text = text.now }) }
@@ -155,9 +170,16 @@ impl TableColumn for Option<Target<'_>> {
     }
 
     #[inline(always)]
-    fn read(&mut self, row: usize, start: usize, text: &[u8], options: &Options) -> Option<Error> {
+    fn read(
+        &mut self,
+        row: usize,
+        start: usize,
+        text: &[u8],
+        ahead: &[u8],
+        options: &Options,
+    ) -> Option<Error> {
         match self {
-            Some(target) => target.read(row, start, text, options),
+            Some(target) => target.read(row, start, text, ahead, options),
             None => None,
         }
     }
@@ -208,15 +230,23 @@ impl Target<'_> {
 
     // Puts the number of a text into a row's place, and sets the row's bit, or tells the text's fault.
     #[inline(always)]
-    fn read(&mut self, row: usize, start: usize, text: &[u8], options: &Options) -> Option<Error>
+    fn read(
+        &mut self,
+        row: usize,
+        start: usize,
+        text: &[u8],
+        ahead: &[u8],
+        options: &Options,
+    ) -> Option<Error>
         requires usable { IsUsable (row + 1) (Some (view_of_target self.old)) }
+        requires front { text.now ≡ take (length text.now) ahead.now }
         requires fits { start + length text.now < 2 ^ 64 }
         ensures fault { result ≡ error_in (text_answer (view_of_target self.old)
             (record { start = start; text = text.now })) }
         ensures target { view_of_target self.new ≡ put_text row
             (record { start = start; text = text.now }) (view_of_target self.old) }
     {
-        if let Some(error) = self.put_number(row, start, text, options) {
+        if let Some(error) = self.put_number(row, start, text, ahead, options) {
             return Some(error);
         }
         self.put_presence(row, true);
@@ -230,9 +260,11 @@ impl Target<'_> {
         row: usize,
         start: usize,
         text: &[u8],
+        ahead: &[u8],
         options: &Options,
     ) -> Option<Error>
         requires valid { IsNone (fault self.old.format) }
+        requires front { text.now ≡ take (length text.now) ahead.now }
         requires room { row < length (view_of_target self.old).numbers }
         requires fits { start + length text.now < 2 ^ 64 }
         ensures fault { result ≡ error_in (text_answer (view_of_target self.old)
@@ -244,14 +276,26 @@ impl Target<'_> {
     {
         let format = &self.format;
         match &mut self.numbers {
-            Numbers::U8(values) => put_cell::<u8>(values, row, start, text, format, options),
-            Numbers::U16(values) => put_cell::<u16>(values, row, start, text, format, options),
-            Numbers::U32(values) => put_cell::<u32>(values, row, start, text, format, options),
-            Numbers::U64(values) => put_cell::<u64>(values, row, start, text, format, options),
-            Numbers::I8(values) => put_cell::<i8>(values, row, start, text, format, options),
-            Numbers::I16(values) => put_cell::<i16>(values, row, start, text, format, options),
-            Numbers::I32(values) => put_cell::<i32>(values, row, start, text, format, options),
-            Numbers::I64(values) => put_cell::<i64>(values, row, start, text, format, options),
+            Numbers::U8(values) => put_cell::<u8>(values, row, start, text, ahead, format, options),
+            Numbers::U16(values) => put_cell::<u16>(
+                values, row, start, text, ahead, format, options,
+            ),
+            Numbers::U32(values) => put_cell::<u32>(
+                values, row, start, text, ahead, format, options,
+            ),
+            Numbers::U64(values) => put_cell::<u64>(
+                values, row, start, text, ahead, format, options,
+            ),
+            Numbers::I8(values) => put_cell::<i8>(values, row, start, text, ahead, format, options),
+            Numbers::I16(values) => put_cell::<i16>(
+                values, row, start, text, ahead, format, options,
+            ),
+            Numbers::I32(values) => put_cell::<i32>(
+                values, row, start, text, ahead, format, options,
+            ),
+            Numbers::I64(values) => put_cell::<i64>(
+                values, row, start, text, ahead, format, options,
+            ),
         }
     }
 }
