@@ -7,7 +7,7 @@ FOR_SHELLS := crates/jad/out/jad
 SOURCES = $(shell find crates/$(1) crates/answer_lines crates/lexical_* -name out -prune -o -type f \( -name '*.rt' -o -name '*.antt' \) -print) crates.txt
 
 .PHONY: help toolchain run check test devices answers lexint jad install uninstall install-programs uninstall-programs rows
-.PHONY: docs dist test-dist tag vendor check-docs check-languages bench must-not-compile fuzz fuzz-edges
+.PHONY: docs dist test-dist tag vendor check-docs check-languages bench must-not-compile fuzz fuzz-edges fuzz-tables
 
 # A target is listed by the words after its two number signs.
 help:
@@ -101,6 +101,12 @@ fuzz: $(PROGRAM) ## runs the program beside a reference implementation of the gr
 
 fuzz-edges: $(PROGRAM) ## the same over each length, end of a type and place of a separator: 3 million lines
 	@python3 tools/fuzz.py --edges
+
+# What it is asked: make fuzz-tables TABLES="--tables 30000 --seed 1".
+TABLES ?=
+
+fuzz-tables: | toolchain ## runs random tables through lexical_tables, beside a slow reading
+	@RT=$(RT) tests/tables/random_tables.py $(TABLES)
 
 # What bench/run.py is asked: make bench BENCH="--rounds 50 --no-counts".
 BENCH ?=

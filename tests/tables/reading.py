@@ -1,0 +1,226 @@
+"""A slow reading of tables, to compare the built library with.
+
+Written from crates/lexical_tables/README.md, and not from the code or the definitions in specs/, so
+that a slip there isn't repeated here. It goes through a text byte by byte, and cuts all rows before
+it judges the first. A number is read by tools/reference.py.
+"""
+from __future__ import annotations
+
+import os
+import sys
+from dataclasses import dataclass
+from typing import Dict, Iterator, List, NamedTuple, Optional, Sequence, Tuple, Union
+
+sys.path.insert(0, os.path.join(os.path.dirname(os.path.abspath(__file__)), "..", "..", "tools"))
+
+from reference import TYPES, Fault as NumberFault, Format, Value, parse  # noqa: E402
+
+LINE_FEED, RETURN, QUOTE = 10, 13, 34
+BLANKS = b" \t"
+
+
+class Dialect(NamedTuple):
+    """How a table is written."""
+
+    separator: int = ord(",")
+    columns: int = 2
+    has_returns: bool = False
+    has_quotes: bool = False
+    allows_blanks: bool = False
+    skips_empty_rows: bool = False
+    missing: bytes = b""
+
+
+@dataclass(frozen=True)
+class Target:
+    """What is read of a column: numbers of a type, under a format; and whether they may miss."""
+
+    type: bytes = b"u8"
+    form: Format = Format()
+    may_miss: bool = False
+
+
+class Read(NamedTuple):
+    """How far a table was read."""
+
+    rows: int
+    stop: int
+
+
+class Wrong(NamedTuple):
+    """The first wrong cell."""
+
+    row: int
+    column: int
+    fault: str
+    place: int
+
+
+# The number at each row and column that was read; None where one misses.
+Numbers = Dict[Tuple[int, int], Optional[int]]
+Answer = Tuple[Union[Read, Wrong], Numbers]
+
+
+class Piece(NamedTuple):
+    """A row or a cell, without what ends it."""
+
+    start: int
+    stop: int
+
+
+# ---- cutting
+
+def ends_of(text: bytes, start: int, stop: int, end: int, has_quotes: bool) -> List[int]:
+    """The places of an ending byte that stand outside quotes."""
+    found, is_within = [], False
+    for place in range(start, stop):
+        if text[place] == end and not is_within:
+            found.append(place)
+        if has_quotes and text[place] == QUOTE:
+            is_within = not is_within
+    return found
+
+
+def rows_of(text: bytes, dialect: Dialect) -> List[Piece]:
+    """The rows, each up to its line feed. Behind the last line feed there is none."""
+    rows, start = [], 0
+    for end in ends_of(text, 0, len(text), LINE_FEED, dialect.has_quotes):
+        rows.append(Piece(start, end))
+        start = end + 1
+    return rows + [Piece(start, len(text))] if start < len(text) else rows
+
+
+def without_return(text: bytes, row: Piece, dialect: Dialect) -> Piece:
+    """The row's cells: without the return before its line feed, where one is asked for."""
+    is_ended = row.stop < len(text)
+    if dialect.has_returns and is_ended and text[row.start:row.stop].endswith(b"\r"):
+        return Piece(row.start, row.stop - 1)
+    return row
+
+
+def cells_of(text: bytes, row: Piece, dialect: Dialect) -> List[Piece]:
+    """The cells of a row, one more than separators."""
+    ends = ends_of(text, row.start, row.stop, dialect.separator, dialect.has_quotes)
+    starts = [row.start] + [end + 1 for end in ends]
+    return [Piece(*both) for both in zip(starts, ends + [row.stop])]
+
+
+# ---- a cell
+
+def misplaced_quote(cell: bytes, is_read: bool) -> Optional[int]:
+    """The place of the quote that breaks the rules of quotes."""
+    if cell[:1] != b'"':
+        return cell.index(b'"') if b'"' in cell else None
+    if is_read:
+        second = cell.find(b'"', 1)
+        return 0 if second < 0 else None if second + 1 == len(cell) else second
+    place = 1
+    while place < len(cell):
+        if cell[place] != QUOTE:
+            place += 1
+        elif cell[place + 1:place + 2] == b'"':
+            place += 2
+        else:
+            return None if place + 1 == len(cell) else place
+    return 0
+
+
+def content_of(text: bytes, cell: Piece, dialect: Dialect) -> Piece:
+    """What stands in the cell, without its quotes and the blanks around."""
+    start, stop = cell
+    if dialect.has_quotes and text[start:stop].startswith(b'"'):
+        start, stop = start + 1, stop - 1
+    while dialect.allows_blanks and start < stop and text[start] in BLANKS:
+        start += 1
+    while dialect.allows_blanks and start < stop and text[stop - 1] in BLANKS:
+        stop -= 1
+    return Piece(start, stop)
+
+
+Fault = Tuple[str, int]
+
+
+def number_of(text: bytes, cell: Piece, dialect: Dialect,
+              target: Target) -> Union[Fault, Optional[int]]:
+    """The number in a cell, whose quotes are well: or its fault, or None where it misses."""
+    content = content_of(text, cell, dialect)
+    inner = text[content.start:content.stop]
+    if target.may_miss and inner == dialect.missing:
+        return None
+    answer: Union[Value, NumberFault] = parse(target.form, TYPES[target.type], inner, False)
+    if isinstance(answer, Value):
+        return answer.value
+    return answer.name, content.start + (answer.place or 0)
+
+
+def quote_fault(text: bytes, cell: Piece, dialect: Dialect, is_read: bool) -> Optional[Fault]:
+    """The fault of a cell's quotes. In a cell that is read no quote is doubled."""
+    if not dialect.has_quotes:
+        return None
+    place = misplaced_quote(text[cell.start:cell.stop], is_read)
+    return None if place is None else ("MisplacedQuote", cell.start + place)
+
+
+# ---- a row
+
+def row_fault(text: bytes, row: Piece, cells: Sequence[Piece], kept: Piece,
+              dialect: Dialect) -> Optional[Tuple[int, str, int]]:
+    """The fault of the number of cells, or of the row's end."""
+    if len(cells) < dialect.columns:
+        return len(cells), "TooFewCells", kept.stop
+    if len(cells) > dialect.columns:
+        return dialect.columns, "TooManyCells", cells[dialect.columns].start
+    if dialect.has_returns and row.stop < len(text) and kept == row:
+        return dialect.columns, "MissingReturn", row.stop
+    return None
+
+
+def read_row(text: bytes, row: Piece, dialect: Dialect, targets: Sequence[Optional[Target]],
+             put: Dict[int, Optional[int]]) -> Optional[Tuple[int, str, int]]:
+    """Reads a row: its numbers by their columns, and its first fault."""
+    kept = without_return(text, row, dialect)
+    cells = cells_of(text, kept, dialect)
+    for column, cell in enumerate(cells[:dialect.columns]):
+        target = targets[column] if column < len(targets) else None
+        fault: Union[Fault, Optional[int]] = quote_fault(text, cell, dialect, target is not None)
+        if fault is None and target is not None:
+            fault = number_of(text, cell, dialect, target)
+            if not isinstance(fault, tuple):
+                put[column] = fault
+        if isinstance(fault, tuple):
+            return (column, *fault)
+    return row_fault(text, row, cells, kept, dialect)
+
+
+def counted_rows(text: bytes, dialect: Dialect) -> Iterator[Piece]:
+    """The rows that count: where empty ones are skipped, those with a byte."""
+    for row in rows_of(text, dialect):
+        kept = without_return(text, row, dialect)
+        if not dialect.skips_empty_rows or kept.start < kept.stop:
+            yield row
+
+
+def read(text: bytes, dialect: Dialect, targets: Sequence[Optional[Target]], room: int) -> Answer:
+    """What a table is, read for so many rows at most, and the numbers that were read."""
+    numbers: Numbers = {}
+    rows = list(counted_rows(text, dialect))
+    for number, row in enumerate(rows[:room]):
+        put: Dict[int, Optional[int]] = {}
+        fault = read_row(text, row, dialect, targets, put)
+        numbers.update({(number, column): value for column, value in put.items()})
+        if fault is not None:
+            return Wrong(number, *fault), numbers
+    stop = rows[room].start if room < len(rows) else len(text)
+    return Read(min(room, len(rows)), stop), numbers
+
+
+def whole_rows(text: bytes, dialect: Dialect) -> int:
+    """Where the last whole row of a part ends, behind its line feed."""
+    ends = ends_of(text, 0, len(text), LINE_FEED, dialect.has_quotes)
+    return ends[-1] + 1 if ends else 0
+
+
+def read_part(text: bytes, is_last: bool, dialect: Dialect, targets: Sequence[Optional[Target]],
+              room: int) -> Answer:
+    """The same of a part of a text, whose cut row is left."""
+    return read(text if is_last else text[:whole_rows(text, dialect)], dialect, targets, room)
