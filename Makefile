@@ -76,8 +76,9 @@ rows: | toolchain ## writes the theorems of the test vectors from tools/rows.txt
 	@python3 tools/rows.py
 	@cd crates/rows && $(RT) fmt
 
-docs: ## writes what documents have from the source: docs/CONTRACTS.md, docs/FORMATS.md, code blocks
+docs: ## writes what documents have from the source: docs/CONTRACTS.md, docs/FORMATS.md, code blocks, the page
 	@python3 tools/documents.py
+	@$(if $(NODE),node docs/try/src/join.mjs,echo "skipped: there is no node from 20 on to write docs/try/index.html")
 
 check-docs: ## checks these, and every link, file name and word count; a part of the gate
 	@python3 tools/test_documents.py

@@ -34,6 +34,12 @@ if has clang; then
             $(python3-config --embed --includes --ldflags)
     fi
 fi
+if has node && has chromium; then
+    rm -rf build/jadvolni-page-*
+    tar xzf dist/jadvolni-page-*.tar.gz -C build
+    PAGE=$(echo "$PWD"/build/jadvolni-page-*) node --test tests/page/page.test.mjs > build/page.log || { cat build/page.log; exit 1; }
+    echo "passed: page: $(sed -n 's/^# pass //p' build/page.log) tests in $(chromium --version 2> /dev/null)"
+fi
 given=$(mktemp -d)
 trap 'rm -rf "$given"' EXIT
 cp dist/* packaging/as_user.sh "$given"
@@ -44,7 +50,7 @@ if [ "$(id -u)" != 0 ] || ! has debootstrap || ! has unshare; then
 fi
 if [ ! -e "$root/made" ]; then
     rm -rf "$root"
-    debootstrap --variant=minbase --include=g++,cargo,cmake,make,man-db,pkg-config,python3-dev,python3-venv "$suite" "$root" > build/debootstrap.log
+    debootstrap --variant=minbase --include=g++,cargo,cmake,make,man-db,nodejs,pkg-config,python3-dev,python3-venv "$suite" "$root" > build/debootstrap.log
     # Debian's images of this kind leave manual pages out, and so would dpkg.
     rm -f "$root"/etc/dpkg/dpkg.cfg.d/*
     touch "$root/made"

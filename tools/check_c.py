@@ -66,15 +66,15 @@ def out_of_line() -> List[str]:
 
 
 def static_library(place: Place) -> str:
-    """It needs nothing, has no data, exports the header's calls, makes those listed or std's."""
+    """It needs nothing, has no data, exports the header's calls, makes those listed and std's."""
     needs("nm")
     said = run(["nm", place.library("libjadvolni.a")])
     symbols = re.findall(r"(?m)^\w* +(\w) (core::)?(?:\w+::)*(\w+)", said)
     undefined = [name for kind, _, name in symbols if kind == "U"]
     data = [name for kind, _, name in symbols if kind in "dDbBcC"]
-    unlisted = {name for kind, std, name in symbols if kind == "t" and not std} - set(out_of_line())
-    if undefined or data or unlisted:
-        raise Failed(f"undefined: {undefined}, data: {data}, out of line: {sorted(unlisted)}")
+    apart = {name for kind, std, name in symbols if kind == "t" and not std} ^ set(out_of_line())
+    if undefined or data or apart:
+        raise Failed(f"undefined: {undefined}, data: {data}, made or listed alone: {sorted(apart)}")
     return exported(name for kind, _, name in symbols if kind == "T")
 
 

@@ -51,6 +51,11 @@ class Field(NamedTuple):
         return str(self.standard).lower()
 
     @property
+    def constant(self) -> str:
+        """The word of test vectors, as the name of a constant."""
+        return self.word.upper().replace("-", "_")
+
+    @property
     def argument(self) -> str:
         """What the setter of a flag takes where its word stands in a test vector."""
         return "(false)" if self.standard else ""
@@ -187,7 +192,7 @@ def in_setters(kind: str, fields: list[Field]) -> str:
     for field in fields:
         if field.kind == kind:
             lines.append(wrapped(field.about, "        /// ", "        /// "))
-            bit = f" JADVOLNI_NUL_IS_{field.word.upper()}" if field.bit else ""
+            bit = f" JADVOLNI_NUL_IS_{field.constant}" if field.bit else ""
             lines.append(f"        {field.name}{bit}")
     return "\n".join(lines) + "\n"
 
@@ -205,6 +210,12 @@ def in_types(fields: list[Field]) -> str:
                    + f"\n  {it.name}: {kinds[it.kind]};\n" for it in fields)
 
 
+def in_bits(fields: list[Field]) -> str:
+    """The bits of the second slow reading, each with the number of its field."""
+    return "\n".join(f"pub(super) const {it.constant}: u32 = {1 << place:_};\n"
+                     for place, it in enumerate(fields) if it.kind != "radix")
+
+
 BYTES = alike("    pub {it.name}: u8,\n")
 SAME_NAMES = alike("      {it.name} = a.{it.name};\n")
 HEADER, OF_SYS = "include/jadvolni.h", "bindings/rust/jadvolni-sys/src/lib.rs"
@@ -214,6 +225,8 @@ ANSWERS = "crates/answer_lines/"
 OF_C, OF_RATTLE = "crates/jadvolni/src/format.rt", "crates/lexical_util/src/format.rt"
 OF_PYTHON = "bindings/python/src/jadvolni/_format.py"
 OF_RUST = "bindings/rust/jadvolni/src/format.rs"
+SLOW = "crates/rows/src/tests/formats.rt"
+FLAGS = "crates/library_tests/src/tests/util/formats.rt"
 REGIONS = [
     Region(OF_RATTLE, "    mantissa_radix: u8,\n", "    // These stand last",
            each(flag="    {it.name}: bool,\n")),
@@ -258,6 +271,13 @@ REGIONS = [
     Region(OF_PYTHON, "one that breaks a rule isn't made.\n\n", "\n    FormatError tells", in_help),
     Region(OF_PYTHON, "    # The fields, in the order of their bytes.\n", "\n    def __post_init__",
            in_dataclass("Punctuation")),
+    Region(SLOW, "BYTE_ZERO: u32 = 1;\n\n", "\n// The byte,", in_bits),
+    Region(SLOW, "base_suffix(punctuation(bits, SUFFIX, b'h'))\n", "        .build_unchecked()",
+           each(flag="        .{it.name}(flag(bits, {it.constant}, {it.truth}))\n")),
+    Region(FLAGS, "const FLAGS: usize = ", ";",
+           lambda fields: str(sum(it.kind == "flag" for it in fields))),
+    Region(FLAGS, "[bool; FLAGS] {\n    [\n", "    ]", each(flag="        format.{it.name}(),\n")),
+    Region(FLAGS, "    let each = [\n", "    ]", each(flag="        bare.{it.name}(true),\n")),
     Region("bindings/js/index.d.ts", "export interface Fields {\n", "}\n", in_types),
     Region("tools/reference.py", "those of the standard one.\"\"\"\n\n", "\n\nSTANDARD = ",
            in_dataclass("Optional[int]")),

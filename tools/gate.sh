@@ -2,8 +2,8 @@
 # The gate, `make test`: the toolchain's own gate from nothing, and then what no prover does.
 #
 # Each part is a command. What it says goes to build/PART.log, and its last line is shown: where that
-# begins with `skipped:`, this machine lacks what the part needs. All parts run, also behind one that
-# fails; the last line counts them.
+# begins with `skipped:`, this machine lacks what the part needs. Parts of seconds come first: if one
+# fails, no long one begins. The last line counts the parts.
 set -u
 cd "$(dirname "$0")/.." || exit 1
 export RT="${RT:-rt}" PYTHONUNBUFFERED=1
@@ -29,6 +29,12 @@ part() { # NAME COMMAND..
     say "$name $ended after $(($(date +%s) - start)) s: $(tail -n 1 "$log")"
 }
 
+# The last line. Where a part failed, so does the gate.
+total() {
+    echo "$passed parts passed, $failed failed, $skipped skipped"
+    test "$failed" = 0
+}
+
 # setup.cfg says what flake8 asks of all Python, and mypy of that under tools/ and bench/.
 lint() {
     for checker in "flake8 tools bench bindings examples" mypy; do
@@ -38,6 +44,21 @@ lint() {
             echo "skipped: there is no ${checker%% *}"
         fi
     done
+}
+
+# In the copy `rt fmt` finds nothing to lay out anew, and every edit can be applied.
+layout() {
+    looked=0 wrong=0
+    for crate in crates/*; do
+        said=$(cd "$copy/$crate" && "$RT" fmt) || return 1
+        looked=$((looked + 1))
+        if echo "$said" | grep -E '^rt: formatted|BAD EDIT'; then
+            wrong=$((wrong + 1))
+            echo "$crate isn't as rt fmt lays it out, or has an edit that can't be applied"
+        fi
+    done
+    echo "$looked crates looked at, $wrong to mend"
+    test "$wrong" = 0
 }
 
 # `rt ci` has to count every crate and every edit. An edit that is refused because a proof names what
@@ -56,22 +77,14 @@ proofs() {
 }
 
 # `rt ci` leaves the programs that it builds, but no library that another command takes. So what
-# callers need is proved once more and tried in a copy, beside it.
+# callers need is proved once more and tried in a copy, beside it; libraries that stand built here
+# serve it, since `rt ci` sets them aside and proves all anew.
 in_copy() { # NAME COMMAND..
     name=$1
     shift
     (cd "$copy" && nice "$@") > "$copy/$name.log" 2>&1
     echo $? > "$copy/$name.status"
 }
-git ls-files -z | xargs -0 cp --parents -t "$copy"
-{
-    in_copy libraries make -s build/libjadvolni.a
-    in_copy javascript make -s test-js
-    in_copy page make -s test-page
-    in_copy programs python3 tools/must_not_compile.py
-    in_copy callers make -s test-c
-} &
-beside=$!
 told() { # NAME
     wait "$beside"
     cat "$copy/$1.log"
@@ -91,12 +104,24 @@ vendor() {
     test "$(grep '^lexical_' crates.txt | sort)" = "$(sort "$user/crates.txt")"
 }
 
+git ls-files -z | xargs -0 cp --parents -t "$copy"
 part lint lint
+part layout layout
 part rows python3 tools/rows.py --check
 part tests-of-documents python3 tools/test_documents.py
 part documents python3 tools/documents.py --check
 part house python3 tools/house.py
 part vendor vendor
+test "$failed" = 0 || { total; exit 1; }
+cp -a --parents -t "$copy" crates/*/out/rlib 2> /dev/null
+{
+    in_copy libraries make -s build/libjadvolni.a
+    in_copy javascript make -s test-js
+    in_copy page make -s test-page
+    in_copy programs python3 tools/must_not_compile.py
+    in_copy callers make -s test-c
+} &
+beside=$!
 part proofs proofs 3>&1
 part devices python3 tools/devices.py
 part answers python3 tools/run_rows.py
@@ -107,5 +132,4 @@ part javascript told javascript
 part page told page
 part programs told programs
 part callers told callers
-echo "$passed parts passed, $failed failed, $skipped skipped"
-test "$failed" = 0
+total

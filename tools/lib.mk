@@ -107,22 +107,20 @@ test-js: $(if $(NODE),wasm) ## runs the calls of JavaScript; a part of the gate
 
 # The page to try a format on, with what it takes, as it is served and released.
 PORT ?= 8000
-build/page: build/jadvolni.wasm $(wildcard docs/try/* bindings/js/*.js) docs/GRAMMAR.md packaging/grammar.awk
+build/page: build/jadvolni.wasm docs/try/index.html docs/GRAMMAR.md packaging/grammar.awk $(LICENCES)
 	@rm -rf $@
-	@mkdir -p $@/try/jadvolni
-	@cp docs/try/*.html docs/try/*.css docs/try/*.js $@/try
-	@cp bindings/js/*.js build/jadvolni.wasm $@/try/jadvolni
+	@mkdir $@
+	@cp docs/try/index.html build/jadvolni.wasm $(LICENCES) $@
 	@awk -f packaging/grammar.awk docs/GRAMMAR.md > $@/GRAMMAR.html
-	@cp $(LICENCES) $@
 
 serve: build/page ## serves the page to try a format on, to this machine alone: PORT=8000
-	@echo "http://127.0.0.1:$(PORT)/try/"
+	@echo "http://127.0.0.1:$(PORT)/"
 	@python3 -m http.server --bind 127.0.0.1 --directory build/page $(PORT)
 
 # What the page needs to be seen: a browser, and what drives it.
 BROWSER := $(if $(NODE),$(shell command -v chromium 2>/dev/null))
 test-page: $(if $(BROWSER),build/page) ## has Chromium show the page every test vector; a part of the gate
-	@$(if $(BROWSER),node --test tests/page/*.test.mjs,echo "skipped: there is no chromium, or no node from 20 on to drive it")
+	@$(if $(BROWSER),node docs/try/src/join.mjs --check && node --test tests/page/*.test.mjs,echo "skipped: there is no chromium, or no node from 20 on to drive it")
 
 # What the random run asks for: the seed that a run before has printed, and how many parses and formats.
 PARSES ?= 1000000

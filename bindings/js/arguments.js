@@ -1,8 +1,14 @@
 // What is asked of arguments, and said of wrong ones.
 
+// So many characters of a string are told.
+const TOLD = 40;
+
 /** What a wrong argument is, in a message. */
 export function told(value) {
-  if (typeof value === "string") return JSON.stringify(value);
+  if (typeof value === "string") {
+    return `${JSON.stringify(value.slice(0, TOLD))}${value.length > TOLD ? " .." : ""}`;
+  }
+  if (typeof value === "bigint") return `${value}n`;
   if (value === null || !["object", "function", "symbol"].includes(typeof value)) {
     return String(value);
   }

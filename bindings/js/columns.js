@@ -6,6 +6,7 @@ import { STANDARD, useFormat } from "./format.js";
 import * as memory from "./memory.js";
 
 const { ANSWER, COUNT, FORMAT, TEXT } = memory;
+const fieldStart = memory.named("jadvolni_field_start");
 
 // A fifth of the memory is for text, of which two bytes give a number of at most eight.
 const PIECE = Math.floor(memory.LONGEST / 5);
@@ -29,7 +30,7 @@ const TYPES = new Map(
     const room = memory.buffer.byteLength - numbersPlace;
     const capacity = Math.floor(room / NumberArray.BYTES_PER_ELEMENT);
     const numbers = new NumberArray(memory.buffer, numbersPlace, capacity);
-    return [name, { call: memory.calls[`jadvolni_parse_${name}_column`], numbers }];
+    return [name, { call: memory.named(`jadvolni_parse_${name}_column`), numbers }];
   }),
 );
 
@@ -37,7 +38,7 @@ const TYPES = new Map(
 function putFields(bytes, start, separator) {
   const size = memory.putBytes(bytes.subarray(start, start + PIECE));
   if (start + size === bytes.length) return BigInt(size);
-  const whole = memory.calls.jadvolni_field_start(TEXT, BigInt(size), separator);
+  const whole = fieldStart(TEXT, BigInt(size), separator);
   if (whole === 0n) {
     throw new RangeError(`the field at byte ${start} has more than ${LONGEST_FIELD} bytes`);
   }

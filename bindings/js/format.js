@@ -3,7 +3,7 @@
 import { byteOf, told } from "./arguments.js";
 import { FormatError } from "./errors.js";
 import { FIELDS, LANGUAGES } from "./lists.js";
-import { calls, FORMAT, putFormat } from "./memory.js";
+import { FORMAT, named, putFormat } from "./memory.js";
 
 FIELDS.forEach(Object.freeze);
 Object.freeze(FIELDS);
@@ -13,6 +13,7 @@ const DEFAULTS = new Map(FIELDS.map(({ name, kind }) => [name, UNSET[kind]]));
 DEFAULTS.set("required_mantissa_digits", true);
 
 const NUL_PLACE = FIELDS.length;
+const faultOf = named("jadvolni_format_error");
 
 /** The byte of a field. A radix that is no byte is refused as 0 is. */
 function byteOfField({ name, kind }, value) {
@@ -43,6 +44,9 @@ export class Format {
   #bytes;
 
   constructor(given = {}) {
+    if (Object.prototype.toString.call(given) !== "[object Object]") {
+      throw new TypeError(`fields have to be an object, and not ${told(given)}`);
+    }
     for (const name of Object.keys(given)) {
       if (!DEFAULTS.has(name)) throw new TypeError(`a format has no field ${told(name)}`);
     }
@@ -51,7 +55,7 @@ export class Format {
     }
     this.#bytes = bytesOfFields(this);
     putFormat(this.#bytes);
-    const status = calls.jadvolni_format_error(FORMAT);
+    const status = faultOf(FORMAT);
     if (status !== 0) throw new FormatError(status);
     Object.freeze(this);
   }

@@ -251,8 +251,9 @@ export type FormatFault =
   | "InvalidLiteralPrefixes";
 
 /**
- * What the errors below are. One that is none of these says, when the package is loaded, that the
- * engine has no 64-bit WebAssembly memory, and which have.
+ * What the errors below are. One that is none of these is thrown as the package is loaded: it says
+ * which engines have 64-bit WebAssembly memory, where this one has none, or why `jadvolni.wasm`
+ * can't be loaded.
  */
 export class JadvolniError extends Error {}
 

@@ -7,14 +7,17 @@ import { JadvolniError } from "./errors.js";
 // A module that has a memory with addresses of 64 bits, and nothing else.
 const MODULE_OF_64_BITS = Uint8Array.of(0, 0x61, 0x73, 0x6d, 1, 0, 0, 0, 5, 3, 1, 4, 1);
 
+const MODULE = new URL("./jadvolni.wasm", import.meta.url);
+
 async function moduleBytes() {
-  const url = new URL("./jadvolni.wasm", import.meta.url);
-  if (url.protocol === "file:") {
-    const { readFile } = await import("node:fs/promises");
-    return readFile(url);
+  if (MODULE.protocol === "file:") {
+    const { readFile } = await import("node:fs/promises").catch(() => {
+      throw new Error("a browser has to get it from a server");
+    });
+    return readFile(MODULE);
   }
-  const response = await fetch(url);
-  if (!response.ok) throw new JadvolniError(`${url} can't be had: status ${response.status}`);
+  const response = await fetch(MODULE);
+  if (!response.ok) throw new Error(`the server answers ${response.status}`);
   return response.arrayBuffer();
 }
 
@@ -28,16 +31,29 @@ async function load() {
         " 134, Node from 24, and Node from 20 with --experimental-wasm-memory64",
     );
   }
-  const { instance } = await WebAssembly.instantiate(await moduleBytes(), {});
-  return instance.exports;
+  try {
+    const { instance } = await WebAssembly.instantiate(await moduleBytes(), {});
+    return instance.exports;
+  } catch (cause) {
+    throw new JadvolniError(`${MODULE} can't be loaded: ${cause.message}`, { cause });
+  }
 }
 
-export const calls = await load();
-export const { buffer } = calls.memory;
+const exported = await load();
+
+/** What the module exports under a name. */
+export function named(name) {
+  if (exported[name] === undefined) {
+    throw new JadvolniError(`${MODULE} is of another version: it has no ${name}`);
+  }
+  return exported[name];
+}
+
+export const buffer = named("memory").buffer;
 
 // What a call is given and gives: its answer, a number, a count, a format, and from there on a
 // text. It takes their addresses, and writes an answer of two words to the first of them.
-const answerPlace = Math.ceil(Number(calls.__heap_base.value) / 16) * 16;
+const answerPlace = Math.ceil(Number(named("__heap_base").value) / 16) * 16;
 const numberPlace = answerPlace + 16;
 const countPlace = numberPlace + 16;
 const formatPlace = countPlace + 16;
@@ -92,11 +108,26 @@ function putAscii(text) {
   return true;
 }
 
+/** Whether the buffer of an array was transferred, or cut before the array's end. */
+function hasLostBytes(bytes) {
+  try {
+    bytes.slice(0, 0);
+    return false;
+  } catch {
+    return true;
+  }
+}
+
 /** The bytes of a text. An array of bytes may be another frame's or context's. */
 export function bytesOf(text) {
   if (typeof text === "string") return encoder.encode(text);
-  if (ArrayBuffer.isView(text) && text.BYTES_PER_ELEMENT === 1) return text;
-  throw new TypeError(`text has to be a string or a Uint8Array, and not ${told(text)}`);
+  if (!ArrayBuffer.isView(text) || text.BYTES_PER_ELEMENT !== 1) {
+    throw new TypeError(`text has to be a string or a Uint8Array, and not ${told(text)}`);
+  }
+  if (text.length === 0 && hasLostBytes(text)) {
+    throw new TypeError("text has lost its bytes: its buffer was transferred or cut");
+  }
+  return text;
 }
 
 function tooLong() {

@@ -6,6 +6,7 @@ import { STANDARD, useFormat } from "./format.js";
 import * as memory from "./memory.js";
 
 const { ANSWER, COUNT, FORMAT, NUMBER, TEXT } = memory;
+const literalCall = memory.named("jadvolni_parse_literal");
 
 /** The place at which a call has stopped, or the fault that it has found. */
 function stopOfCall() {
@@ -16,8 +17,8 @@ function stopOfCall() {
 
 /** A call of the library over a text, for a type: where it stops. It leaves the number. */
 function callOf(name) {
-  const call = memory.calls[`jadvolni_parse_${name}`];
-  const callUnderFormat = memory.calls[`jadvolni_parse_${name}_with_format`];
+  const call = memory.named(`jadvolni_parse_${name}`);
+  const callUnderFormat = memory.named(`jadvolni_parse_${name}_with_format`);
   return (text, format) => {
     const length = BigInt(memory.putText(text));
     if (format === undefined) {
@@ -91,7 +92,7 @@ export function parsePartial(text, type, format) {
 export function parseLiteral(text, format = STANDARD) {
   const length = BigInt(memory.putText(text));
   useFormat(format);
-  memory.calls.jadvolni_parse_literal(ANSWER, TEXT, length, FORMAT, NUMBER, COUNT);
+  literalCall(ANSWER, TEXT, length, FORMAT, NUMBER, COUNT);
   const stop = stopOfCall();
   return { value: NUMBERS.u128(), suffix: memory.textBetween(memory.count(), stop), stop };
 }

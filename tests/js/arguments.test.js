@@ -29,6 +29,21 @@ test("texts", () => {
   refuses(() => parseLiteral(undefined), `${wanted}undefined`);
   refuses(() => parse([49], "u8"), `${wanted}Array`);
   refuses(() => parse(new Uint16Array(1), "u8"), `${wanted}Uint16Array`);
+  refuses(() => parse(Uint8Array.of(49).buffer, "u8"), `${wanted}ArrayBuffer`);
+});
+
+test("bytes whose buffer was taken away are no empty text", () => {
+  const transferred = Uint8Array.of(49, 50);
+  structuredClone(transferred.buffer, { transfer: [transferred.buffer] });
+  const buffer = new ArrayBuffer(8, { maxByteLength: 8 });
+  const cut = new Uint8Array(buffer, 4, 4);
+  buffer.resize(4);
+  for (const bytes of [transferred, cut]) {
+    for (const call of [...OF_ONE_NUMBER, parseColumn, (text) => parseLiteral(text)]) {
+      refuses(() => call(bytes, "u8"), "text has lost its bytes: its buffer was transferred or cut");
+    }
+  }
+  assert.deepEqual(parseColumn(new Uint8Array(buffer, 4, 0), "u8"), new Uint8Array());
 });
 
 test("types", () => {
@@ -39,6 +54,7 @@ test("types", () => {
   }
   const columns = "u8, u16, u32, u64, i8, i16, i32, i64";
   refuses(() => parseColumn("1", "u128"), `type has to be one of ${columns}, and not "u128"`);
+  refuses(() => parse("1", "u".repeat(1e6)), new RegExp(`, and not "${"u".repeat(40)}" ..$`));
 });
 
 test("formats", () => {
@@ -63,12 +79,16 @@ test("fields of formats", () => {
   const wrong = {
     radix: [16, 'a format has no field "radix"'],
     mantissa_radix: ["16", 'mantissa_radix has to be an integer, and not "16"'],
+    base_suffix: [104n, /^base_suffix has .*, and not 104n$/],
     literal_prefixes: [1, "literal_prefixes has to be true or false, and not 1"],
     base_prefix: ["0x", /^base_prefix has to be one ASCII character .*, and not "0x"$/],
   };
   for (const [name, [value, message]] of Object.entries(wrong)) {
     refuses(() => new Format({ [name]: value }), message);
   }
+  refuses(() => new Format(16), "fields have to be an object, and not 16");
+  refuses(() => new Format(null), "fields have to be an object, and not null");
+  refuses(() => new Format(new Map([["mantissa_radix", 16]])), /^fields .*, and not Map$/);
 });
 
 test("a format that breaks a rule isn't made", () => {

@@ -4,8 +4,8 @@ import { spawnSync } from "node:child_process";
 import { test } from "node:test";
 import { fileURLToPath } from "node:url";
 
-import { callIn } from "../../docs/try/calls.js";
-import { TYPES } from "../../docs/try/state.js";
+import { callIn } from "../../docs/try/src/calls.js";
+import { TYPES } from "../../docs/try/src/state.js";
 
 const INCLUDE = fileURLToPath(new URL("../../include", import.meta.url));
 

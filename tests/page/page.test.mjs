@@ -1,18 +1,19 @@
-// The page docs/try in Chromium, as `make serve` gives it: node --test tests/page
+// The page docs/try/index.html in Chromium, as `make serve` gives it: node --test tests/page
 //
-// It reads the folder build/page. With PICTURES=FOLDER it writes light.png and dark.png there.
+// It reads the folder build/page, or PAGE. With PICTURES=FOLDER it writes light.png and dark.png there.
 import assert from "node:assert/strict";
-import { readFileSync, writeFileSync } from "node:fs";
-import { join } from "node:path";
+import { cpSync, mkdtempSync, readFileSync, rmSync, writeFileSync } from "node:fs";
+import { tmpdir } from "node:os";
+import { basename, dirname, join } from "node:path";
 import { after, before, test } from "node:test";
-import { fileURLToPath } from "node:url";
+import { fileURLToPath, pathToFileURL } from "node:url";
 
 import { rows } from "../js/rows.js";
 import { Browser, serve } from "./browser.mjs";
 import { CASES, HOSTILE } from "./cases.mjs";
 
 const TOP = fileURLToPath(new URL("../../", import.meta.url));
-const { PICTURES } = process.env;
+const { PAGE = join(TOP, "build", "page"), PICTURES } = process.env;
 const READY = "document.getElementById('callers')?.querySelector('input')";
 // A longer text is no text that one tries in a page; tests/js asks the library of it.
 const LONGEST = 2000;
@@ -22,7 +23,8 @@ let browser;
 let server;
 
 before(async () => {
-  server = await serve(join(TOP, "build", "page"));
+  server = await serve(dirname(PAGE));
+  server.page = `${server.address}${basename(PAGE)}/`;
   browser = await Browser.start();
 });
 
@@ -148,19 +150,19 @@ const ANCHORS = new Map(
     .filter((line) => line.startsWith("## "))
     .map((line) => [line.slice(3).toLowerCase().replace(/[^\w ]/g, "").replaceAll(" ", "-"), line]),
 );
-const GRAMMAR = readFileSync(join(TOP, "build", "page", "GRAMMAR.html"), "utf8");
+const GRAMMAR = readFileSync(join(PAGE, "GRAMMAR.html"), "utf8");
 
 /** A link has to lead to a heading of the grammar. */
 function checkLink(link) {
   const [page, anchor] = link.split("#");
-  assert.equal(page, "../GRAMMAR.html");
+  assert.equal(page, "GRAMMAR.html");
   assert.ok(ANCHORS.has(anchor), link);
   assert.ok(GRAMMAR.includes(`<b id="${anchor}">${ANCHORS.get(anchor)}</b>`), link);
   return anchor;
 }
 
 test("the page loads, with nothing of any other host", async () => {
-  await browser.open(`${server.address}try/`, READY);
+  await browser.open(server.page, READY);
   assert.equal((await browser.value(`(${shown})()`)).answer, "Err(Overflow(19))");
   isQuiet();
 });
@@ -209,8 +211,44 @@ test("a fragment that means harm shows an answer, and runs nothing", async (cont
   context.diagnostic(`${HOSTILE.length + long.length} fragments`);
 });
 
+test("a text that is too long is told so, and the next one is read", async () => {
+  await browser.open(`${server.page}#text=7&type=u8`, READY);
+  const typed = (text) => browser.value(`(() => {
+    const input = document.getElementById("text");
+    input.value = ${text};
+    input.dispatchEvent(new Event("input", { bubbles: true }));
+    return (${shown})();
+  })()`);
+  const { answer, roles, code } = await typed('"1".repeat(1e7)');
+  assert.equal(answer, "The page reads 100000 characters at most, and this has 10000000.");
+  assert.equal(roles + code, "");
+  await browser.value("document.getElementById('copy-link').click()");
+  assert.match(await browser.value("document.body.innerText"), /too long for a link/);
+  await browser.value("new Promise((resolve) => setTimeout(resolve, 400))");
+  assert.equal(await browser.value("location.hash"), "#text=7&type=u8");
+  assert.equal((await typed('"12\\0\ud800"')).answer, "Err(InvalidDigit(2))");
+  isQuiet();
+});
+
+test("line ends are read, pasted or in a link, where a field of one line drops them", async () => {
+  const text = () => browser.value("document.getElementById('text').value");
+  await browser.open(`${server.page}#text=1%0A&type=u8`, READY);
+  assert.equal((await browser.value(`(${shown})()`)).answer, "Err(InvalidDigit(1))");
+  assert.equal(await text(), "1\\n");
+  await browser.value(`(() => {
+    const clipboardData = new DataTransfer();
+    clipboardData.setData("text/plain", "12\\r\\n");
+    const input = document.getElementById("text");
+    input.select();
+    input.dispatchEvent(new ClipboardEvent("paste", { clipboardData, cancelable: true }));
+  })()`);
+  assert.equal((await browser.value(`(${shown})()`)).answer, "Err(InvalidDigit(2))");
+  assert.equal(await text(), "12\\r\\n");
+  isQuiet();
+});
+
 test("the address keeps what is set, and a link to it shows the same", async () => {
-  await browser.open(`${server.address}try/`, READY);
+  await browser.open(server.page, READY);
   await browser.value(`(() => {
     const set = (id, property, value, event) => {
       const input = document.getElementById(id);
@@ -239,19 +277,19 @@ test("the call and a link are copied", async () => {
     permissions: ["clipboardReadWrite", "clipboardSanitizedWrite"],
   });
   await browser.send("Emulation.setFocusEmulationEnabled", { enabled: true });
-  await browser.open(`${server.address}try/#text=7&type=u8&caller=Python`, READY);
+  await browser.open(`${server.page}#text=7&type=u8&caller=Python`, READY);
   const copied = async (button) => {
     await browser.value(`document.getElementById("${button}").click()`);
     return browser.value("navigator.clipboard.readText()");
   };
   assert.equal(await copied("copy-call"), 'import jadvolni\n\nvalue = jadvolni.parse(b"7", "u8")');
   const link = await copied("copy-link");
-  assert.equal(link, `${server.address}try/#text=7&type=u8&call=whole&caller=Python`);
+  assert.equal(link, `${server.page}#text=7&type=u8&call=whole&caller=Python`);
   isQuiet();
 });
 
 test("the keyboard is enough, and each control has a name", async () => {
-  await browser.open(`${server.address}try/#text=1&type=u8`, READY);
+  await browser.open(`${server.page}#text=1&type=u8`, READY);
   const focused = () => browser.value("(({ id, tagName }) => id || tagName)(document.activeElement)");
   assert.equal(await focused(), "text");
   await browser.send("Input.insertText", { text: "23" });
@@ -303,26 +341,43 @@ test("light and dark, every text stands out from its ground", async () => {
     const features = [{ name: "prefers-color-scheme", value }];
     await browser.send("Emulation.setEmulatedMedia", { features });
     for (const fragment of texts) {
-          await browser.open(`${server.address}try/#${fragment}`, READY);
+      await browser.open(`${server.page}#${fragment}`, READY);
       assert.deepEqual(await browser.value(`(${faint})()`), []);
     }
-      await browser.open(`${server.address}try/#${WITH_FAULT}`, READY);
+    await browser.open(`${server.page}#${WITH_FAULT}`, READY);
     const { data } = await browser.send("Page.captureScreenshot", { captureBeyondViewport: true });
     if (PICTURES) writeFileSync(join(PICTURES, `${value}.png`), data, "base64");
   }
 });
 
+const BEGUN = "!/Loading/.test(document.body.textContent)";
+
+/** What the page answers at an address, where the browser complains too. */
+async function answerAt(address) {
+  await browser.open(address, BEGUN);
+  browser.errors = [];
+  return (await browser.value(`(${shown})()`)).answer;
+}
+
 test("an engine without 64-bit memory is told so", async () => {
   const source = "WebAssembly.validate = () => false";
   const { identifier } = await browser.send("Page.addScriptToEvaluateOnNewDocument", { source });
-  await browser.open(`${server.address}try/`, "!/Loading/.test(document.body.textContent)");
-  const { answer } = await browser.value(`(${shown})()`);
-  assert.match(answer, /no 64-bit WebAssembly memory/);
+  assert.match(await answerAt(server.page), /no 64-bit WebAssembly memory/);
   await browser.send("Page.removeScriptToEvaluateOnNewDocument", { identifier });
 });
 
+test("a module that is missing or damaged is told", async () => {
+  const folder = mkdtempSync(join(tmpdir(), "page-"));
+  const page = await serve(folder);
+  cpSync(join(PAGE, "index.html"), join(folder, "index.html"));
+  assert.match(await answerAt(page.address), /wasm can't be loaded: the server answers 404$/);
+  writeFileSync(join(folder, "jadvolni.wasm"), "<!doctype html>");
+  assert.match(await answerAt(page.address), /wasm can't be loaded: .*magic/);
+  page.close();
+  rmSync(folder, { recursive: true });
+});
+
 test("a page without a server says that it needs one", async () => {
-  browser.errors = []; // (the browser complains of a module that it may not load)
-  await browser.open(new URL("../../build/page/try/index.html", import.meta.url).href, "true");
-  assert.match((await browser.value(`(${shown})()`)).answer, /needs JavaScript and a server/);
+  const { href } = pathToFileURL(join(PAGE, "index.html"));
+  assert.match(await answerAt(href), /wasm can't be loaded: a browser has to get it from a server$/);
 });

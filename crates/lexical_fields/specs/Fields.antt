@@ -10,17 +10,17 @@ pub record FieldView : Type 0 where
 
 -- a byte at a place, in front of the first field's bytes, or the only byte of a field of its own
 abbrev pub onto_field : ℕ → ℕ → List FieldView → List FieldView
-onto_field place byte [] = record { start = place; text = byte ∷ [] } ∷ []
-onto_field place byte (field ∷ more) = record { start = place; text = byte ∷ field.text } ∷ more
+onto_field start byte [] = record { start = start; text = byte ∷ [] } ∷ []
+onto_field start byte (field ∷ more) = record { start = start; text = byte ∷ field.text } ∷ more
 
 -- The fields of a text that stands at a place. A field is the bytes up to a separator. A last field without one counts;
 -- a last separator starts no further field.
 abbrev pub fields_from : ℕ → ℕ → List ℕ → List FieldView
-fields_from separator place [] = []
-fields_from separator place (byte ∷ rest) =
-    if byte == separator then record { start = place; text = [] }
-    ∷ fields_from separator (place + 1) rest
-    else onto_field place byte (fields_from separator (place + 1) rest)
+fields_from separator start [] = []
+fields_from separator start (byte ∷ rest) =
+    if byte == separator then record { start = start; text = [] }
+    ∷ fields_from separator (start + 1) rest
+    else onto_field start byte (fields_from separator (start + 1) rest)
 
 -- the fields of a text
 abbrev pub fields : ℕ → List ℕ → List FieldView

@@ -28,8 +28,8 @@ read_field format type field =
 
 -- the fields of a text that stands at a place, read
 abbrev pub read_from : Format → IntegerType → ℕ → ℕ → List ℕ → List ReadField
-read_from format type separator place text =
-    map (read_field format type) (fields_from separator place text)
+read_from format type separator start text =
+    map (read_field format type) (fields_from separator start text)
 
 -- the fields of a text, read
 abbrev pub read_fields : Format → IntegerType → ℕ → List ℕ → List ReadField

@@ -68,23 +68,23 @@ pub record TokenView : Type 0 where
 
 -- the token that so many bytes of a text are, where the text stands at a place
 abbrev pub token_of : ℕ → List ℕ → Kind × ℕ → TokenView
-token_of place text (kind, size) =
-    record { kind = kind; start = place; stop = place + size; text = take size text }
+token_of start text (kind, size) =
+    record { kind = kind; start = start; stop = start + size; text = take size text }
 
 -- the token that a text begins with under a format, where the text stands at a place
 abbrev pub token_at : Format → ℕ → List ℕ → TokenView
-token_at format place text = token_of place text (front_of format text)
+token_at format start text = token_of start text (front_of format text)
 
 -- ---- all tokens
 
 -- the tokens of a text that stands at a place, of which the first bytes, so many, belong to the token before it
 abbrev pub tokens_from : Format → ℕ → ℕ → List ℕ → List TokenView
-tokens_from format place taken [] = []
-tokens_from format place (suc taken) (byte ∷ rest) = tokens_from format (place + 1) taken rest
-tokens_from format place zero (byte ∷ rest) =
-    if is_skipped byte then tokens_from format (place + 1) 0 rest
-    else token_at format place (byte ∷ rest)
-    ∷ tokens_from format (place + 1) ((front_of format (byte ∷ rest)).1 - 1) rest
+tokens_from format start taken [] = []
+tokens_from format start (suc taken) (byte ∷ rest) = tokens_from format (start + 1) taken rest
+tokens_from format start zero (byte ∷ rest) =
+    if is_skipped byte then tokens_from format (start + 1) 0 rest
+    else token_at format start (byte ∷ rest)
+    ∷ tokens_from format (start + 1) ((front_of format (byte ∷ rest)).1 - 1) rest
 
 -- the tokens of a source under a format
 abbrev pub tokens_under : Format → List ℕ → List TokenView

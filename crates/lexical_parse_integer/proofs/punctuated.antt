@@ -3,4 +3,5 @@ pub mod DigitsAmong
 pub mod GroupedNumerals
 pub mod PunctuatedAnswers
 pub mod PartedFronts
+pub mod RowAnswers
 pub mod Threes

@@ -57,15 +57,15 @@ fraction_by digits start (Ok (value, count)) = fraction_of digits start value co
 fraction_by digits start (Err e) = Err (Fraction start e)
 
 -- the fraction of a text that starts at a place
-abbrev pub fraction_at : ℕ → ℕ → List ℕ → Answer
-fraction_at digits start text =
+abbrev pub fraction_at : ℕ → List ℕ → ℕ → Answer
+fraction_at digits text start =
     fraction_by digits start (partial without_sign (integer_type 64 false) (drop start text))
 
 -- the fraction behind a whole part: none where no point stands at its end
-abbrev pub fraction_behind : ℕ → ℕ → List ℕ → Answer
-fraction_behind digits end text =
+abbrev pub fraction_behind : ℕ → List ℕ → ℕ → Answer
+fraction_behind digits text end =
     if are_same (Some full_stop) (slice_get text end)
-    then fraction_at digits (end + 1) text else Ok (pos 0, end)
+    then fraction_at digits text (end + 1) else Ok (pos 0, end)
 
 -- ---- the number
 
@@ -80,4 +80,4 @@ units_of digits text whole fraction end =
 abbrev pub fixed_point_in : ℕ → List ℕ → Answer
 fixed_point_in digits text =
     and_then (whole_in text)
-    (λ whole end. and_then (fraction_behind digits end text) (units_of digits text whole))
+    (λ whole end. and_then (fraction_behind digits text end) (units_of digits text whole))

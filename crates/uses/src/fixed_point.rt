@@ -98,7 +98,7 @@ fn read_digits(text: &[u8]) -> Result<(u64, usize), Error>
 fn fraction_at(text: &[u8], start: usize, digits: usize) -> Result<(i128, usize), FixedPointError>
     requires room { start ≤ length text.now }
     requires digits { digits ≤ 18 }
-    ensures answer { result ≡ fraction_at digits start text.now }
+    ensures answer { result ≡ fraction_at digits text.now start }
     ensures bounded { IfOk result (λ found. unsigned_abs found.0 ≤ 2 ^ 64 * 10 ^ 18) }
 {
     match read_digits(&text[start..]) {
@@ -119,7 +119,7 @@ fn fraction_at(text: &[u8], start: usize, digits: usize) -> Result<(i128, usize)
 #[tactic(auto, unfolding(lexical_parse_integer::specs::Runs::are_same))]
 fn fraction_behind(text: &[u8], end: usize, digits: usize) -> Result<(i128, usize), FixedPointError>
     requires { digits ≤ 18 }
-    ensures answer { result ≡ fraction_behind digits end text.now }
+    ensures answer { result ≡ fraction_behind digits text.now end }
     ensures bounded { IfOk result (λ found. unsigned_abs found.0 ≤ 2 ^ 64 * 10 ^ 18) }
 {
     if text.get(end) == Some(&b'.') {

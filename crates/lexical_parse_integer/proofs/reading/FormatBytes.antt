@@ -20,7 +20,7 @@ pub record IsFit (format : Format) (radix : ℕ) : Type 0 where
   pub suffix_separator : (suffix byte : ℕ) → format.base_suffix ≡ Some suffix → matches format.case_sensitive_base_suffix suffix byte ≡ true → are_same format.digit_separator (Some byte) ≡ false
 
 -- what matches is the same but for ASCII case
-same_lower : (sensitive : Bool) (m c : ℕ) → matches sensitive m c ≡ true → lower_case c ≡ lower_case m
+pub same_lower : (sensitive : Bool) (m c : ℕ) → matches sensitive m c ≡ true → lower_case c ≡ lower_case m
 unfolding matches
 same_lower true m c t = let e : c ≡ m = grind (arith, nat_tests) in ap lower_case e
 same_lower false m c t = grind (arith, nat_tests)
@@ -30,7 +30,7 @@ unfolding are_same
 other_byte None c apart = refl
 other_byte (Some s) c apart = elim (cases_eq c s) [ inl e ↦ absurd (apart (ap Some (sym e))) | inr ne ↦ grind (arith, nat_tests) ]
 
-none_from_is_none : (o : Option Error) → IsNone o → o ≡ None
+pub none_from_is_none : (o : Option Error) → IsNone o → o ≡ None
 none_from_is_none None h = refl
 none_from_is_none (Some x) h = absurd (false≢true (sym h))
 

@@ -1,8 +1,8 @@
 // Each beginning of worked and of hostile texts, as each of the twelve types.
 use super::compare::{KINDS, agrees};
 use super::formats::{
-    INTEGER_DIGITS, LEADING, NO_ZEROS, OPTIONAL, PREFIX, PREFIX_CASE, SEPARATOR, SUFFIX,
-    SUFFIX_CASE, format_of,
+    DIGITS_OPTIONAL, INTEGER_DIGITS, LEADING, NO_LEADING_ZEROS, PREFIX, PREFIX_CASE, SEPARATOR,
+    SUFFIX, SUFFIX_CASE, format_of, setting,
 };
 use super::presets::TEXTS;
 use super::reference::LONGEST;
@@ -151,9 +151,10 @@ fn beginnings_in_radixes(rt: HostRuntime) {
 // Every set of flags, with a separator and without one, where a digit is asked for and where none is.
 #[test]
 fn beginnings_with_separators(rt: HostRuntime) {
-    for flags in 0..16 {
+    for number in 0..16 {
+        let flags = setting(number);
         with_fields(&rt, SEPARATOR | flags, SEPARATED);
-        with_fields(&rt, SEPARATOR | OPTIONAL | flags, SEPARATED);
+        with_fields(&rt, SEPARATOR | DIGITS_OPTIONAL | flags, SEPARATED);
         with_fields(&rt, flags, SEPARATED);
     }
 }
@@ -162,14 +163,14 @@ fn beginnings_with_separators(rt: HostRuntime) {
 fn beginnings_with_affixes(rt: HostRuntime) {
     with_fields(&rt, PREFIX, AFFIXED);
     with_fields(&rt, PREFIX | PREFIX_CASE, AFFIXED);
-    with_fields(&rt, PREFIX | NO_ZEROS, AFFIXED);
-    with_fields(&rt, PREFIX | OPTIONAL, AFFIXED);
+    with_fields(&rt, PREFIX | NO_LEADING_ZEROS, AFFIXED);
+    with_fields(&rt, PREFIX | DIGITS_OPTIONAL, AFFIXED);
     with_fields(&rt, SUFFIX, AFFIXED);
     with_fields(&rt, SUFFIX | SUFFIX_CASE, AFFIXED);
-    with_fields(&rt, SUFFIX | NO_ZEROS, AFFIXED);
+    with_fields(&rt, SUFFIX | NO_LEADING_ZEROS, AFFIXED);
     with_fields(&rt, PREFIX | SUFFIX, AFFIXED);
     with_fields(&rt, SEPARATOR | LEADING | SUFFIX, AFFIXED);
     with_fields(&rt, SEPARATOR | LEADING | PREFIX, AFFIXED);
-    with_fields(&rt, NO_ZEROS, AFFIXED);
-    with_fields(&rt, NO_ZEROS | INTEGER_DIGITS, AFFIXED);
+    with_fields(&rt, NO_LEADING_ZEROS, AFFIXED);
+    with_fields(&rt, NO_LEADING_ZEROS | INTEGER_DIGITS, AFFIXED);
 }

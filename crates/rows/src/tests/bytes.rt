@@ -1,8 +1,8 @@
 // Each of the 256 bytes at each place of a text, among them byte 0 and byte 255.
 use super::compare::{I8, I32, I64, I128, Kind, U8, U32, U64, agrees};
 use super::formats::{
-    BYTE_ZERO, CONSECUTIVE, INTERNAL, LEADING, LITERALS, NO_PLUS, NO_ZEROS, PREFIX, PREFIX_CASE,
-    SEPARATOR, SIGN, SUFFIX, SUFFIX_CASE, TRAILING, format_of,
+    BYTE_ZERO, CONSECUTIVE, INTERNAL, LEADING, LITERAL_PREFIXES, NO_LEADING_ZEROS, NO_PLUS, PREFIX,
+    PREFIX_CASE, SEPARATOR, SIGN_REQUIRED, SUFFIX, SUFFIX_CASE, TRAILING, format_of,
 };
 use super::texts::{put, put_front};
 use lexical_parse_integer::NumberFormat;
@@ -49,8 +49,13 @@ fn each_byte_among_digits(rt: HostRuntime) {
     each_byte(&rt, 9, 0, b"888888881234");
     each_byte(&rt, 11, 0, b"A987654321");
     each_byte(&rt, 36, 0, b"zZaA09");
-    each_byte(&rt, 10, NO_ZEROS | NO_PLUS | SIGN, b"-12345678");
-    each_byte(&rt, 10, NO_ZEROS | NO_PLUS | SIGN, b"+1");
+    each_byte(
+        &rt,
+        10,
+        NO_LEADING_ZEROS | NO_PLUS | SIGN_REQUIRED,
+        b"-12345678",
+    );
+    each_byte(&rt, 10, NO_LEADING_ZEROS | NO_PLUS | SIGN_REQUIRED, b"+1");
 }
 
 // Words of four and of eight bytes whose other bytes are this digit.
@@ -79,9 +84,9 @@ fn each_byte_beside_prefix_and_suffix(rt: HostRuntime) {
     each_byte_beside_affixes(&rt, 16, 0);
     each_byte_beside_affixes(&rt, 10, PREFIX_CASE);
     each_byte_beside_affixes(&rt, 10, SUFFIX_CASE);
-    each_byte(&rt, 10, LITERALS, b"0x1F");
-    each_byte(&rt, 10, LITERALS, b"-0b1010");
-    each_byte(&rt, 10, LITERALS, b"+0o17");
+    each_byte(&rt, 10, LITERAL_PREFIXES, b"0x1F");
+    each_byte(&rt, 10, LITERAL_PREFIXES, b"-0b1010");
+    each_byte(&rt, 10, LITERAL_PREFIXES, b"+0o17");
 }
 
 #[test]

@@ -2,7 +2,8 @@
 // at each place. The reference tells what they stand for.
 use super::compare::{I32, I64, KINDS, Kind, U64, agrees};
 use super::formats::{
-    INTERNAL, LITERALS, NO_PLUS, NO_ZEROS, PREFIX, SEPARATOR, SIGN, SUFFIX, format_of,
+    INTERNAL, LITERAL_PREFIXES, NO_LEADING_ZEROS, NO_PLUS, PREFIX, SEPARATOR, SIGN_REQUIRED,
+    SUFFIX, format_of,
 };
 use super::texts::put;
 use lexical_parse_integer::NumberFormat;
@@ -70,12 +71,12 @@ fn under(rt: &impl Abort, fields: u32) {
 // nothing: neither a separator, nor a prefix, nor a suffix.
 #[test]
 fn each_length_under_other_formats(rt: HostRuntime) {
-    under(&rt, NO_ZEROS | NO_PLUS);
+    under(&rt, NO_LEADING_ZEROS | NO_PLUS);
     under(&rt, SEPARATOR | INTERNAL);
     under(&rt, PREFIX);
     under(&rt, SUFFIX);
-    under(&rt, LITERALS);
-    under(&rt, SIGN);
+    under(&rt, LITERAL_PREFIXES);
+    under(&rt, SIGN_REQUIRED);
 }
 
 fn in_radix(rt: &impl Abort, radix: u8) {

@@ -2,7 +2,8 @@
 // at the front of a text and behind a prefix. The reference tells what they stand for.
 use super::compare::{I32, I64, I128, Kind, U8, U32, U64, agrees};
 use super::formats::{
-    CONSECUTIVE, INTERNAL, LITERALS, NO_ZEROS, PREFIX, PREFIX_CASE, SEPARATOR, SUFFIX, format_of,
+    CONSECUTIVE, INTERNAL, LITERAL_PREFIXES, NO_LEADING_ZEROS, PREFIX, PREFIX_CASE, SEPARATOR,
+    SUFFIX, format_of, setting,
 };
 use super::texts::{put, put_front};
 use lexical_parse_integer::NumberFormat;
@@ -52,8 +53,8 @@ fn of_length(rt: &impl Abort, kind: Kind, format: &NumberFormat, head: &[u8], le
 
 // Each setting of three flags, beside the fields.
 fn flagged(rt: &impl Abort, kind: Kind, radix: u8, fields: u32, head: &[u8]) {
-    for flags in 0..8 {
-        let format = format_of(radix, fields | SEPARATOR | flags);
+    for number in 0..8 {
+        let format = format_of(radix, fields | SEPARATOR | setting(number));
         for length in [2, 3, 5, 9, 16, 20, 24] {
             of_length(rt, kind, &format, head, length);
         }
@@ -97,7 +98,7 @@ fn threes_with_each_byte_changed(rt: HostRuntime) {
     for kind in [U64, I128, U8] {
         of_each_length(&rt, kind, &format, b"", 4);
     }
-    let strict = format_of(10, SEPARATOR | INTERNAL | CONSECUTIVE | NO_ZEROS);
+    let strict = format_of(10, SEPARATOR | INTERNAL | CONSECUTIVE | NO_LEADING_ZEROS);
     of_each_length(&rt, I32, &strict, b"-", 4);
 }
 
@@ -107,7 +108,7 @@ fn digits_behind_a_prefix_alone(rt: HostRuntime) {
     of_each_length(&rt, U64, &prefixed, b"0x", NONE);
     of_each_length(&rt, I64, &prefixed, b"-0X", NONE);
     of_each_length(&rt, U32, &prefixed, b"", NONE);
-    let literal = format_of(10, LITERALS | PREFIX_CASE);
+    let literal = format_of(10, LITERAL_PREFIXES | PREFIX_CASE);
     of_each_length(&rt, U64, &literal, b"0x", NONE);
     of_each_length(&rt, I64, &literal, b"-0b", NONE);
     of_each_length(&rt, U64, &literal, b"", NONE);

@@ -1,8 +1,8 @@
 // Every text of up to four or five bytes out of a few, by the reference.
 use super::compare::{I8, I64, Kind, U8, U32, agrees};
 use super::formats::{
-    BEHIND_PREFIX, LITERALS, NO_PLUS, NO_ZEROS, OCTAL, OPTIONAL, PREFIX, SEPARATOR, SIGN, SUFFIX,
-    format_of,
+    BEHIND_PREFIX, DIGITS_OPTIONAL, LITERAL_PREFIXES, NO_LEADING_ZEROS, NO_PLUS, OCTAL_ZERO,
+    PREFIX, SEPARATOR, SIGN_REQUIRED, SUFFIX, format_of, setting,
 };
 use lexical_parse_integer::NumberFormat;
 use std::process::Abort;
@@ -50,8 +50,8 @@ fn up_to(rt: &impl Abort, kind: Kind, format: &NumberFormat, bytes: &Bytes, long
 
 // With a separator, under each set of its flags.
 fn with_separators(rt: &impl Abort, radix: u8, fields: u32, bytes: &Bytes) {
-    for flags in 0..16 {
-        let format = format_of(radix, fields | SEPARATOR | flags);
+    for number in 0..16 {
+        let format = format_of(radix, fields | SEPARATOR | setting(number));
         up_to(rt, I8, &format, bytes, 4);
         up_to(rt, U8, &format, bytes, 4);
         up_to(rt, I64, &format, bytes, 3);
@@ -69,24 +69,34 @@ fn without_separators(rt: &impl Abort, radix: u8, fields: u32, bytes: &Bytes) {
 fn small_texts_with_separators(rt: HostRuntime) {
     let affixes = PREFIX | SUFFIX;
     with_separators(&rt, 10, 0, &PLAIN);
-    with_separators(&rt, 10, OPTIONAL, &PLAIN);
+    with_separators(&rt, 10, DIGITS_OPTIONAL, &PLAIN);
     with_separators(&rt, 10, affixes, &PLAIN);
-    with_separators(&rt, 10, affixes | OPTIONAL | NO_ZEROS, &PLAIN);
-    with_separators(&rt, 10, NO_ZEROS | NO_PLUS, &PLAIN);
-    with_separators(&rt, 10, affixes | SIGN, &PLAIN);
-    with_separators(&rt, 10, LITERALS | SUFFIX, &PLAIN);
-    with_separators(&rt, 10, OCTAL | NO_ZEROS, &PLAIN);
+    with_separators(
+        &rt,
+        10,
+        affixes | DIGITS_OPTIONAL | NO_LEADING_ZEROS,
+        &PLAIN,
+    );
+    with_separators(&rt, 10, NO_LEADING_ZEROS | NO_PLUS, &PLAIN);
+    with_separators(&rt, 10, affixes | SIGN_REQUIRED, &PLAIN);
+    with_separators(&rt, 10, LITERAL_PREFIXES | SUFFIX, &PLAIN);
+    with_separators(&rt, 10, OCTAL_ZERO | NO_LEADING_ZEROS, &PLAIN);
 }
 
 #[test]
 fn small_texts_with_separators_and_prefixes(rt: HostRuntime) {
     let affixes = PREFIX | SUFFIX;
     with_separators(&rt, 10, BEHIND_PREFIX | affixes, &PLAIN);
-    with_separators(&rt, 10, BEHIND_PREFIX | OPTIONAL | affixes, &PLAIN);
-    with_separators(&rt, 10, LITERALS, &LITERAL);
-    with_separators(&rt, 10, LITERALS | BEHIND_PREFIX, &LITERAL);
-    with_separators(&rt, 10, OCTAL, &LITERAL);
-    with_separators(&rt, 10, OCTAL | LITERALS | BEHIND_PREFIX, &LITERAL);
+    with_separators(&rt, 10, BEHIND_PREFIX | DIGITS_OPTIONAL | affixes, &PLAIN);
+    with_separators(&rt, 10, LITERAL_PREFIXES, &LITERAL);
+    with_separators(&rt, 10, LITERAL_PREFIXES | BEHIND_PREFIX, &LITERAL);
+    with_separators(&rt, 10, OCTAL_ZERO, &LITERAL);
+    with_separators(
+        &rt,
+        10,
+        OCTAL_ZERO | LITERAL_PREFIXES | BEHIND_PREFIX,
+        &LITERAL,
+    );
     with_separators(&rt, 16, affixes, &HEXADECIMAL);
 }
 
@@ -94,13 +104,13 @@ fn small_texts_with_separators_and_prefixes(rt: HostRuntime) {
 fn small_texts_without_separators(rt: HostRuntime) {
     let affixes = PREFIX | SUFFIX;
     without_separators(&rt, 10, 0, &PLAIN);
-    without_separators(&rt, 10, OPTIONAL, &PLAIN);
-    without_separators(&rt, 10, NO_ZEROS, &PLAIN);
+    without_separators(&rt, 10, DIGITS_OPTIONAL, &PLAIN);
+    without_separators(&rt, 10, NO_LEADING_ZEROS, &PLAIN);
     without_separators(&rt, 10, PREFIX, &PLAIN);
     without_separators(&rt, 10, SUFFIX, &PLAIN);
-    without_separators(&rt, 10, affixes | NO_ZEROS, &PLAIN);
-    without_separators(&rt, 10, OCTAL | NO_ZEROS, &PLAIN);
-    without_separators(&rt, 10, LITERALS, &LITERAL);
-    without_separators(&rt, 10, OCTAL, &LITERAL);
+    without_separators(&rt, 10, affixes | NO_LEADING_ZEROS, &PLAIN);
+    without_separators(&rt, 10, OCTAL_ZERO | NO_LEADING_ZEROS, &PLAIN);
+    without_separators(&rt, 10, LITERAL_PREFIXES, &LITERAL);
+    without_separators(&rt, 10, OCTAL_ZERO, &LITERAL);
     without_separators(&rt, 16, affixes, &HEXADECIMAL);
 }

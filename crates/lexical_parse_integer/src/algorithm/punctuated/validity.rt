@@ -33,7 +33,8 @@ pub(super) fn is_valid_with_separator(format: &NumberFormat, separator: u8) -> b
 #[inline(always)]
 pub(super) fn is_valid_without_separator(format: &NumberFormat) -> bool
     requires { format.now.digit_separator ≡ None }
-    ensures { IsTrue result → fault format.now ≡ None }
+    ensures valid { IsTrue result → fault format.now ≡ None }
+    ensures no_octal_zeros { IsTrue result → format.now.literal_octal_zero ≡ false }
 {
     if format.base_suffix().is_some() | format.literal_octal_zero() {
         return false;

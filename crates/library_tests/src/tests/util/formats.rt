@@ -1,12 +1,16 @@
 // The fields of formats, and which formats are valid.
+// Its lists of fields are written from tools/fields.txt, by `make docs`.
 
 use crate::tests::answers;
 use lexical_util::error::Error;
 use lexical_util::format::{JSON, NumberFormat, NumberFormatBuilder, STANDARD};
 use std::process::Abort;
 
+// How many flags a format has.
+const FLAGS: usize = 14;
+
 // The flags of a format, in the order of the setters below.
-fn flags_of(format: &NumberFormat) -> [bool; 14] {
+fn flags_of(format: &NumberFormat) -> [bool; FLAGS] {
     [
         format.case_sensitive_base_prefix(),
         format.case_sensitive_base_suffix(),
@@ -27,7 +31,7 @@ fn flags_of(format: &NumberFormat) -> [bool; 14] {
 
 // Of the flags the one of this number alone is set.
 fn has_one_flag(rt: &impl Abort, builder: NumberFormatBuilder, number: usize) {
-    let mut want = [false; 14];
+    let mut want = [false; FLAGS];
     if let Some(flag) = want.get_mut(number) {
         *flag = true;
     }
@@ -42,22 +46,27 @@ fn has_one_flag(rt: &impl Abort, builder: NumberFormatBuilder, number: usize) {
 #[test]
 fn each_flag_alone(rt: HostRuntime) {
     let bare = NumberFormatBuilder::new().required_digits(false);
-    answers(&rt, flags_of(&bare.build_strict()), [false; 14]);
+    answers(&rt, flags_of(&bare.build_strict()), [false; FLAGS]);
     answers(&rt, bare.build_strict().required_digits(), false);
-    has_one_flag(&rt, bare.case_sensitive_base_prefix(true), 0);
-    has_one_flag(&rt, bare.case_sensitive_base_suffix(true), 1);
-    has_one_flag(&rt, bare.required_integer_digits(true), 2);
-    has_one_flag(&rt, bare.required_mantissa_digits(true), 3);
-    has_one_flag(&rt, bare.no_positive_mantissa_sign(true), 4);
-    has_one_flag(&rt, bare.required_mantissa_sign(true), 5);
-    has_one_flag(&rt, bare.no_integer_leading_zeros(true), 6);
-    has_one_flag(&rt, bare.integer_leading_digit_separator(true), 7);
-    has_one_flag(&rt, bare.integer_internal_digit_separator(true), 8);
-    has_one_flag(&rt, bare.integer_trailing_digit_separator(true), 9);
-    has_one_flag(&rt, bare.integer_consecutive_digit_separator(true), 10);
-    has_one_flag(&rt, bare.integer_prefix_digit_separator(true), 11);
-    has_one_flag(&rt, bare.literal_prefixes(true), 12);
-    has_one_flag(&rt, bare.literal_octal_zero(true), 13);
+    let each = [
+        bare.case_sensitive_base_prefix(true),
+        bare.case_sensitive_base_suffix(true),
+        bare.required_integer_digits(true),
+        bare.required_mantissa_digits(true),
+        bare.no_positive_mantissa_sign(true),
+        bare.required_mantissa_sign(true),
+        bare.no_integer_leading_zeros(true),
+        bare.integer_leading_digit_separator(true),
+        bare.integer_internal_digit_separator(true),
+        bare.integer_trailing_digit_separator(true),
+        bare.integer_consecutive_digit_separator(true),
+        bare.integer_prefix_digit_separator(true),
+        bare.literal_prefixes(true),
+        bare.literal_octal_zero(true),
+    ];
+    for (number, builder) in each.into_iter().enumerate() {
+        has_one_flag(&rt, builder, number);
+    }
 }
 
 #[test]
@@ -105,7 +114,7 @@ fn other_setters(rt: HostRuntime) {
 
 // The format has this radix, asks for a digit, and has nothing else set.
 fn is_plain(rt: &impl Abort, format: NumberFormat, radix: u32) {
-    let mut want = [false; 14];
+    let mut want = [false; FLAGS];
     want[3] = true;
     answers(rt, (format.radix(), flags_of(&format)), (radix, want));
     let punctuation = (

@@ -10,7 +10,8 @@ import {
   parse,
   parseFront,
   parsePartial,
-} from "./jadvolni/index.js";
+} from "../../../bindings/js/index.js";
+import { LONGEST } from "./state.js";
 
 const CALLS = { whole: parse, front: parseFront, partial: parsePartial };
 const STANDARD = plainOf(new Format());
@@ -27,7 +28,7 @@ const RUN_FLAGS = FIELDS.map((it) => it.name).filter((it) => it.endsWith("_digit
 const ZERO = 48;
 const TEN = [49, 48];
 
-/** A field's control has something that the field can't have. */
+/** A control has something that it can't have: the text, where no field is named. */
 export class Unfit extends Error {
   constructor(field, message) {
     super(message);
@@ -162,11 +163,15 @@ function writtenOf(call, answer) {
  * What the library answers of a state: the `bytes` of the text, the `fields` of the format, those
  * that differ from the preset as `changes` and from the standard format as `settings`, the `answer`,
  * how Rust writes it as `written`, and what `partsOf` answers. An invalid format has no parts, and
- * its answer is a `kind` with a `message`. Throws `Unfit` where the state says no format, and
- * RangeError where the text is too long.
+ * its answer is a `kind` with a `message`. Throws `Unfit` where the state says no format, or its
+ * text is too long.
  */
 export function reading(state) {
   const { call, type } = state;
+  const { length } = state.text;
+  if (length > LONGEST) {
+    throw new Unfit("", `The page reads ${LONGEST} characters at most, and this has ${length}.`);
+  }
   const bytes = bytesOf(state.text);
   const fields = fieldsOf(state);
   const changes = differing(fields, baseOf(state));

@@ -1,4 +1,5 @@
 // What the page shows, and the fragment of its address that says the same.
+import { inOneLine } from "./bytes.js";
 
 /** The calls: the name in the fragment, and what the page calls it. */
 export const CALLS = [
@@ -14,6 +15,9 @@ export const TYPES = [
 
 /** The languages in which a call is written. */
 export const CALLERS = ["C", "C++", "Rust", "Python", "JavaScript", "Rattle"];
+
+/** So many characters of a text are read at most, and fit in an address. */
+export const LONGEST = 100000;
 
 /** What the page shows where its address says nothing. */
 export const FIRST = {
@@ -45,7 +49,7 @@ export function stateOf(fragment, known) {
     if (value !== undefined) fields[name] = value;
   }
   return {
-    text: written.get("text") ?? FIRST.text,
+    text: inOneLine(written.get("text") ?? FIRST.text),
     type: oneOf(TYPES, written.get("type"), FIRST.type),
     call: oneOf(CALLS.map((it) => it.name), written.get("call"), FIRST.call),
     format: oneOf(known.formats, written.get("format"), FIRST.format),

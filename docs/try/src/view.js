@@ -116,7 +116,7 @@ export function show(state) {
   try {
     found = reading(state);
   } catch (fault) {
-    if (!(fault instanceof Unfit || fault instanceof RangeError)) throw fault;
+    if (!(fault instanceof Unfit)) throw fault;
     showWrong(fault.field, fault.message);
     showNothing(fault.message);
     return;

@@ -21,7 +21,7 @@ export const HEADINGS = {
 /** The address of a heading. */
 export function addressOf(rule) {
   const anchor = HEADINGS[rule].toLowerCase().replace(/[^\w\- ]/g, "").replaceAll(" ", "-");
-  return `../GRAMMAR.html#${anchor}`;
+  return `GRAMMAR.html#${anchor}`;
 }
 
 function hasPart(found, role) {

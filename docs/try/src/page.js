@@ -12,8 +12,8 @@ async function copy(text, status) {
 
 async function begin() {
   const { at, FORMATS, makeControls, showControls, withField } = await import("./controls.js");
-  const { FIELDS } = await import("./jadvolni/index.js");
-  const { fragmentOf, stateOf } = await import("./state.js");
+  const { FIELDS } = await import("../../../bindings/js/index.js");
+  const { fragmentOf, LONGEST, stateOf } = await import("./state.js");
   const { show } = await import("./view.js");
   const known = { formats: FORMATS, fields: FIELDS };
   let state = stateOf(location.hash, known);
@@ -24,7 +24,8 @@ async function begin() {
   };
   // Browsers count how often an address changes, so it waits until typing pauses.
   let later;
-  const keep = () => history.replaceState(null, "", `#${fragmentOf(state)}`);
+  const fits = () => state.text.length <= LONGEST;
+  const keep = () => fits() && history.replaceState(null, "", `#${fragmentOf(state)}`);
   makeControls(({ field, value, ...others }) => {
     state = field === undefined ? { ...state, ...others } : withField(state, field, value);
     clearTimeout(later);
@@ -34,8 +35,8 @@ async function begin() {
   });
   at("copy-call").addEventListener("click", () => copy(at("code").textContent, at("copied")));
   at("copy-link").addEventListener("click", () => {
-    const link = new URL(`#${fragmentOf(state)}`, location.href);
-    return copy(link.href, at("copied"));
+    if (fits()) copy(new URL(`#${fragmentOf(state)}`, location.href).href, at("copied"));
+    else at("copied").textContent = "The text is too long for a link.";
   });
   addEventListener("hashchange", () => {
     clearTimeout(later);

@@ -20,6 +20,11 @@ export function bytesOf(typed) {
   return Uint8Array.from(pieces.flatMap((piece) => [...piece]));
 }
 
+/** A text as a field of one line can have it, which drops line ends: these become escapes. */
+export function inOneLine(text) {
+  return text.replaceAll("\r", "\\r").replaceAll("\n", "\\n");
+}
+
 /** Whether a byte is a character of ASCII that can be seen, or a space. */
 export function isPrintable(byte) {
   return byte >= 32 && byte < 127;

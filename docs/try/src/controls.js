@@ -1,5 +1,6 @@
 // The form: its controls are made from the library's lists, show a state, and change it.
-import { FIELDS, formats } from "./jadvolni/index.js";
+import { FIELDS, formats } from "../../../bindings/js/index.js";
+import { inOneLine } from "./bytes.js";
 import { baseOf, typedOf } from "./reading.js";
 import { CALLERS, CALLS, TYPES } from "./state.js";
 
@@ -49,6 +50,15 @@ export function makeControls(changed) {
     element("input", { type: "radio", name: "caller", value }), ` ${value}`)));
   at("form").addEventListener("submit", (event) => event.preventDefault());
   at("text").addEventListener("input", (event) => changed({ text: event.target.value }));
+  at("text").addEventListener("paste", (event) => {
+    const { target, clipboardData } = event;
+    const pasted = clipboardData.getData("text/plain");
+    const text = inOneLine(pasted);
+    if (text === pasted) return; // (the browser's own paste can be undone)
+    target.setRangeText(text, target.selectionStart, target.selectionEnd, "end");
+    event.preventDefault();
+    changed({ text: target.value });
+  });
   for (const id of ["type", "call"]) {
     at(id).addEventListener("change", (event) => changed({ [id]: event.target.value }));
   }

@@ -1,0 +1,77 @@
+// The package as it is loaded: without its module, with a wrong one, twice, and in workers.
+import assert from "node:assert/strict";
+import { once } from "node:events";
+import { cpSync, mkdtempSync, readFileSync, rmSync, writeFileSync } from "node:fs";
+import { tmpdir } from "node:os";
+import { join } from "node:path";
+import { after, test } from "node:test";
+import { fileURLToPath, pathToFileURL } from "node:url";
+import { Worker } from "node:worker_threads";
+import { formats, parse } from "../../bindings/js/index.js";
+
+const PACKAGE = fileURLToPath(new URL("../../bindings/js", import.meta.url));
+const MODULE = readFileSync(join(PACKAGE, "jadvolni.wasm"));
+const folder = mkdtempSync(join(tmpdir(), "jadvolni-"));
+after(() => rmSync(folder, { recursive: true }));
+
+/** Loads a copy of the package with other bytes as its module, or without one. */
+function loadWith(name, bytes) {
+  const copy = join(folder, name);
+  cpSync(PACKAGE, copy, { recursive: true });
+  const module = join(copy, "jadvolni.wasm");
+  if (bytes) writeFileSync(module, bytes);
+  else rmSync(module);
+  return import(pathToFileURL(join(copy, "index.js")));
+}
+
+test("a module that is missing, damaged or another is told", async () => {
+  const other = Buffer.from("0061736d01000000", "hex"); // it exports nothing
+  const renamed = Buffer.from(MODULE);
+  renamed.write("jadvolni_parse_none", renamed.indexOf("jadvolni_parse_u128_front"));
+  const wrong = {
+    missing: [undefined, /jadvolni\.wasm can't be loaded: ENOENT/],
+    empty: [Buffer.alloc(0), /jadvolni\.wasm can't be loaded: .+/],
+    cut: [MODULE.subarray(0, -100), /jadvolni\.wasm can't be loaded: .+/],
+    text: [Buffer.from("<!doctype html>"), /jadvolni\.wasm can't be loaded: .+/],
+    other: [other, /jadvolni\.wasm is of another version: it has no memory$/],
+    older: [renamed, /jadvolni\.wasm is of another version: it has no jadvolni_parse_u128_front$/],
+  };
+  for (const [name, [bytes, message]] of Object.entries(wrong)) {
+    await assert.rejects(loadWith(name, bytes), { name: "JadvolniError", message }, name);
+  }
+});
+
+test("two copies have a memory each, and formats of their own", async () => {
+  const second = await loadWith("second", MODULE);
+  assert.equal(parse("0x1F", "u8", formats.RUST), 31);
+  assert.equal(second.parse("0x1F", "u8", second.formats.C), 31);
+  assert.throws(() => second.parse("0x1F", "u8", formats.RUST), TypeError);
+  assert.throws(() => second.parse("x", "u8"), second.ParseError);
+  assert.equal(second.parse("1_0", "u8", new second.Format({ ...formats.RUST })), 10);
+});
+
+/** A worker that runs code which has the package's names, and its first message. */
+async function answerOf(code) {
+  const url = new URL("../../bindings/js/index.js", import.meta.url);
+  const source = `import { parentPort } from "node:worker_threads";
+    import { parse, parseColumn } from "${url}";
+    ${code}`;
+  const worker = new Worker(new URL(`data:text/javascript,${encodeURIComponent(source)}`));
+  return { worker, answer: (await once(worker, "message"))[0] };
+}
+
+test("a worker reads numbers", async () => {
+  const { answer } = await answerOf('parentPort.postMessage(parse("18446744073709551615", "u64"));');
+  assert.equal(answer, 18446744073709551615n);
+});
+
+test("a worker that is ended within a call leaves others as they are", async () => {
+  const code = `const text = "12345678\\n".repeat(1000000);
+    parentPort.postMessage("begun");
+    for (;;) parseColumn(text, "i64");`;
+  const { worker, answer } = await answerOf(code);
+  assert.equal(answer, "begun");
+  assert.equal(parse("12", "u8"), 12);
+  await worker.terminate();
+  assert.equal(parse("34", "u8"), 34);
+});
