@@ -9,8 +9,10 @@
 
 mod answers;
 mod by_column;
+mod content;
 mod dialect;
 mod parts;
+mod quotes;
 mod rows;
 mod targets;
 
@@ -19,4 +21,4 @@ pub use by_column::read_columns;
 pub use dialect::Dialect;
 pub use parts::{columns_in_parts, read_columns_part};
 pub use rows::after_lines;
-pub use targets::{Numbers, TableColumn, Target, put_cell};
+pub use targets::{Numbers, TableColumn, Target, put_bit, put_cell};

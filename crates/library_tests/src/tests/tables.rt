@@ -15,11 +15,15 @@ use std::test::Fail;
 type Answer = Result<Table, TableError>;
 
 // Two columns between commas, with returns or without.
-fn pairs(has_returns: bool) -> Dialect {
+fn pairs(has_returns: bool) -> Dialect<'static> {
     Dialect {
         separator: b',',
         columns: 2,
         has_returns,
+        has_quotes: false,
+        allows_blanks: false,
+        skips_empty_rows: false,
+        missing: b"",
     }
 }
 
@@ -39,6 +43,7 @@ fn read(text: &[u8], has_returns: bool) -> (Answer, [i16; 3]) {
     let mut target = Some(Target {
         format: STANDARD,
         numbers: Numbers::I16(&mut numbers),
+        present: None,
     });
     let targets = slice::from_mut(&mut target);
     let answer = read_columns(text, &pairs(has_returns), &options::STANDARD, 3, targets);
@@ -56,6 +61,26 @@ fn first_wrong_cells(rt: HostRuntime) {
     answers(&rt, read(b"1,2,", false), (many, [1, 9, 9]));
     let lacks = fault_in(0, 2, CellFault::MissingReturn(3));
     answers(&rt, read(b"1,2\n", true), (lacks, [1, 9, 9]));
+}
+
+#[test]
+fn cells_with_blanks_and_marks(rt: HostRuntime) {
+    let mut numbers = [9_i16; 3];
+    let mut bits = [0xfc];
+    let mut target = Some(Target {
+        format: STANDARD,
+        numbers: Numbers::I16(&mut numbers),
+        present: Some(&mut bits),
+    });
+    let dialect = Dialect {
+        allows_blanks: true,
+        missing: b"NA",
+        ..pairs(false)
+    };
+    let targets = slice::from_mut(&mut target);
+    let answer = read_columns(b" 1 ,\n\tNA,x\n", &dialect, &options::STANDARD, 3, targets);
+    answers(&rt, answer, table(2, 11));
+    answers(&rt, (numbers, bits), ([1, 0, 9], [0xfd]));
 }
 
 #[test]
@@ -83,16 +108,22 @@ fn read_ledger<'a>(
     targets.push(Some(Target {
         format: STANDARD,
         numbers: Numbers::U16(days),
+        present: None,
     }))?;
     targets.push(None)?;
     targets.push(Some(Target {
         format: STANDARD,
         numbers: Numbers::I64(cents),
+        present: None,
     }))?;
     let dialect = Dialect {
         separator: b';',
         columns: 3,
         has_returns: true,
+        has_quotes: false,
+        allows_blanks: false,
+        skips_empty_rows: false,
+        missing: b"",
     };
     Ok(read_columns(text, &dialect, &options::STANDARD, rows, &mut targets))
 }
@@ -122,6 +153,7 @@ fn a_part_has_whole_rows(rt: HostRuntime) {
     let mut target = Some(Target {
         format: STANDARD,
         numbers: Numbers::U8(&mut column),
+        present: None,
     });
     let targets = slice::from_mut(&mut target);
     let options = &options::STANDARD;

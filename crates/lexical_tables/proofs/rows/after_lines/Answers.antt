@@ -7,9 +7,9 @@ use Rattle.lexical_tables.proofs.rows.after_lines.Goals as goal
 pub loop-left-preserved : goal.loop-left-preserved
 loop-left-preserved c =
     let some : 0 < length c.loop-left.rest.now = grind (arith, nat_tests) in
-    way_goes c.args.text.now c.args.count c.loop-left.left c.loop-left.rest.now c.first_row.result.1.now
-    c.loop-left.invariant (grind (arith, nat_tests)) some c.first_row.ensures.behind
-    (omega (arith, c.first_row.ensures.shorter))
+    way_goes c.args.text.now c.args.count c.loop-left.left c.loop-left.rest.now c.split.result.1.now
+    c.loop-left.invariant (grind (arith, nat_tests)) some c.split.ensures.behind
+    (omega (arith, c.split.ensures.shorter))
 
 pub returns-clause-value : goal.returns-clause-value
 returns-clause-value c =
