@@ -12,19 +12,23 @@ use lexical_tables::{CellFault, Dialect, Table, TableError, read_columns_part};
 /// How a table is written: `jadvolni_table` in C, where each field is described.
 #[repr(C)]
 #[derive(Copy, Clone)]
-pub struct TableFields {
+pub struct TableFields<'a> {
     pub separator: u8,
     pub has_returns: u8,
-    pub reserved: [u8; 30],
+    pub has_quotes: u8,
+    pub allows_blanks: u8,
+    pub skips_empty_rows: u8,
+    pub reserved: [u8; 11],
+    pub missing: &'a [u8],
 }
 
-impl TableFields {
+impl TableFields<'_> {
     // Whether the bytes that are kept for later versions are 0.
-    #[tactic(auto, using(crate::proofs::ZeroBytes::thirty_zeros))]
+    #[tactic(auto, using(crate::proofs::ZeroBytes::eleven_zeros))]
     fn are_known(&self) -> bool
         ensures { result ≡ are_zeros self.now.reserved }
     {
-        self.reserved == [0; 30]
+        self.reserved == [0; 11]
     }
 }
 
@@ -108,7 +112,7 @@ fn wrong_column(columns: &[ColumnFields<'_>], rows: usize) -> Option<TableOutcom
 pub extern "C" fn jadvolni_parse_table(
     text: &[u8],
     is_last: bool,
-    table: &TableFields,
+    table: &TableFields<'_>,
     rows: usize,
     columns: &mut [ColumnFields<'_>],
 ) -> TableOutcome
@@ -125,6 +129,10 @@ pub extern "C" fn jadvolni_parse_table(
         separator: table.separator,
         columns: columns.len(),
         has_returns: table.has_returns != 0,
+        has_quotes: table.has_quotes != 0,
+        allows_blanks: table.allows_blanks != 0,
+        skips_empty_rows: table.skips_empty_rows != 0,
+        missing: table.missing,
     };
     outcome_of(read_columns_part(text, is_last, &dialect, &options::STANDARD, rows, columns))
 }

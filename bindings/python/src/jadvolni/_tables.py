@@ -106,8 +106,8 @@ def read_table(
     if not isinstance(file, (str, os.PathLike)):
         return parse_table(_block(file, -1), columns, separator, has_returns, out)
     with open(file, "rb") as opened:
-        if not os.fstat(opened.fileno()).st_size:
-            return parse_table(b"", columns, separator, has_returns, out)
+        if not os.fstat(opened.fileno()).st_size:  # (it is empty, or can't be mapped, as a pipe)
+            return parse_table(_block(opened, -1), columns, separator, has_returns, out)
         with mmap.mmap(opened.fileno(), 0, access=mmap.ACCESS_READ) as text:
             return parse_table(text, columns, separator, has_returns, out)
 
