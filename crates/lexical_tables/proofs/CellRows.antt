@@ -11,25 +11,25 @@ use Rattle.lexical_util.specs.Number.{integer_type}
 use Rattle.lexical_parse_integer.specs.Computed.{grammar}
 use Rattle.lexical_tables.specs.Cells.{Kind, answer_as, content}
 use Rattle.lexical_tables.specs.Targets.{TargetView, put_value, with_bit, with_row_bit}
-use Rattle.lexical_tables.specs.declared.answers.CellFault.TheVariants.{NotNumber}
+use Rattle.lexical_tables.specs.declared.answers.CellFault.TheVariants.{MisplacedQuote, NotNumber}
 use Rattle.lexical_tables.specs.declared.dialect.Dialect.{Dialect}
 use Rattle.lexical_tables.proofs.ColumnRows.{plain}
 
 -- blanks are left out on both sides, and count for places
-spaced : content true (record { start = 5; text = codes " " ++ 9 ∷ codes "-7  " })
+spaced : content false true (record { start = 5; text = codes " " ++ 9 ∷ codes "-7  " })
     ≡ record { start = 7; text = codes "-7" }
 spaced = refl
 
 -- within a number they stay
-parted : content true (record { start = 5; text = codes " 1 2" }) ≡ record { start = 6; text = codes "1 2" }
+parted : content false true (record { start = 5; text = codes " 1 2" }) ≡ record { start = 6; text = codes "1 2" }
 parted = refl
 
 -- of blanks alone nothing is left, at their end
-blanks_alone : content true (record { start = 5; text = 9 ∷ codes "  " }) ≡ record { start = 8; text = [] }
+blanks_alone : content false true (record { start = 5; text = 9 ∷ codes "  " }) ≡ record { start = 8; text = [] }
 blanks_alone = refl
 
 -- where they aren't allowed they stay
-unspaced : content false (record { start = 5; text = codes " 7" }) ≡ record { start = 5; text = codes " 7" }
+unspaced : content false false (record { start = 5; text = codes " 7" }) ≡ record { start = 5; text = codes " 7" }
 unspaced = refl
 
 -- ---- cells that are read
@@ -89,6 +89,62 @@ like_the_mark : answer_as (marked (codes "NA")) (Some (numbers_of_8 true)) (reco
     ≡ Err (NotNumber (InvalidDigit 5))
 unfolding grammar
 like_the_mark = refl
+
+-- ---- quotes
+
+abbrev quoting : Dialect
+quoting = record (plain 2 false) { has_quotes = true; allows_blanks = true }
+
+-- a number in quotes stands between them
+quoted : answer_as quoting bytes (record { start = 5; text = codes "\"80\"" }) ≡ Ok (Some (pos 80))
+unfolding grammar
+quoted = refl
+
+-- a fault within them has its place in the text
+quoted_fault : answer_as quoting bytes (record { start = 5; text = codes "\" 8x\"" }) ≡ Err (NotNumber (InvalidDigit 8))
+unfolding grammar
+quoted_fault = refl
+
+-- behind the closing quote nothing stands, not even a blank
+behind_quotes : answer_as quoting bytes (record { start = 5; text = codes "\"80\" " }) ≡ Err (MisplacedQuote 8)
+behind_quotes = refl
+
+-- nor in front of the opening one
+before_quotes : answer_as quoting bytes (record { start = 5; text = codes " \"80\"" }) ≡ Err (MisplacedQuote 6)
+before_quotes = refl
+
+-- a number has no quote, not even a doubled one
+doubled : answer_as quoting bytes (record { start = 5; text = codes "\"8\"\"0\"" }) ≡ Err (MisplacedQuote 7)
+doubled = refl
+
+-- an opening quote needs a closing one
+unclosed : answer_as quoting bytes (record { start = 5; text = codes "\"80" }) ≡ Err (MisplacedQuote 5)
+unclosed = refl
+
+opening_alone : answer_as quoting bytes (record { start = 5; text = codes "\"" }) ≡ Err (MisplacedQuote 5)
+opening_alone = refl
+
+-- an empty mark is also what empty quotes hold
+empty_quotes : answer_as quoting (Some (numbers_of_8 true)) (record { start = 5; text = codes "\"\"" }) ≡ Ok None
+empty_quotes = refl
+
+-- a cell that isn't read may have doubled quotes within its own
+unread_doubled : answer_as quoting None (record { start = 5; text = codes "\"a\"\"b\"" }) ≡ Ok None
+unread_doubled = refl
+
+-- but no others
+unread_within : answer_as quoting None (record { start = 5; text = codes "\"a\"b\"" }) ≡ Err (MisplacedQuote 7)
+unread_within = refl
+
+unread_unclosed : answer_as quoting None (record { start = 5; text = codes "\"a\"\"" }) ≡ Err (MisplacedQuote 5)
+unread_unclosed = refl
+
+unread_behind : answer_as quoting None (record { start = 5; text = codes "a\"b\"" }) ≡ Err (MisplacedQuote 6)
+unread_behind = refl
+
+-- without a meaning they are bytes of their cell
+meaningless : answer_as (plain 2 false) None (record { start = 5; text = codes "a\"b" }) ≡ Ok None
+meaningless = refl
 
 -- ---- bits
 

@@ -1,11 +1,12 @@
 -- The cell of a column that is read.
-use Rattle.std.proofs.Common.{◌≡◌, ◌∙◌, ℕ, zero, suc, ◌<◌, ◌≤◌, List, [], ◌∷◌, length, set, get_or, map, false, Option, Some, None, refl, ap, sym, subst, arith}
+use Rattle.std.proofs.Common.{◌≡◌, ◌∙◌, ℕ, zero, suc, ◌<◌, ◌≤◌, List, [], ◌∷◌, length, set, get_or, map, false, Option, Some, None, Ok, refl, ap, sym, subst, arith}
 use Rattle.std.specs.Prelude.{is_some, option_map}
 use Rattle.std.proofs.lemmas.List.{length-map, map-set}
 use Rattle.lexical_fields.specs.Fields.{FieldView}
 use Rattle.lexical_tables.specs.ByColumn.{AreUsable, IsUsable, answer_at, fault_in, kind_of, kinds_of, put_read, put_read_at}
-use Rattle.lexical_tables.specs.Cells.{Kind, answer_as}
+use Rattle.lexical_tables.specs.Cells.{Kind, answer_as, quote_fault, unless}
 use Rattle.lexical_tables.specs.Targets.{TargetView}
+use Rattle.lexical_tables.specs.declared.answers.CellFault.{CellFault}
 use Rattle.lexical_tables.specs.declared.dialect.Dialect.{Dialect}
 use Rattle.lexical_tables.proofs.PutSteps.{answer_beyond, answer_is, put_beyond, put_unread, set_as_put, use_at}
 
@@ -16,6 +17,11 @@ at_map f (x ∷ xs) (suc i) d = at_map f xs i d
 
 abbrev kind_in : Option TargetView → Option Kind
 kind_in target = option_map kind_of target
+
+-- what is told of a cell that isn't read
+quotes_told : (found : Option CellFault) → found ≡ fault_in (unless found (Ok None))
+quotes_told None = refl
+quotes_told (Some fault) = refl
 
 none_of : (target : Option TargetView) → is_some target ≡ false → target ≡ None
 none_of None none = refl
@@ -55,9 +61,10 @@ module _ {C : Type 0} (target_of : C → Option TargetView) (d : Dialect) (targe
 
   -- that isn't read
   pub unread_fault : is_some (target_of (get_or targets column e)) ≡ false
-      → None ≡ fault_in (answer_at d (kinds_of targets_seen) column cell)
+      → quote_fault d.has_quotes false cell ≡ fault_in (answer_at d (kinds_of targets_seen) column cell)
   unread_fault none =
-      ap (λ t. fault_in (answer_as d (kind_in t) cell)) (sym (none_of (target_of (get_or targets column e)) none))
+      quotes_told (quote_fault d.has_quotes false cell)
+      ∙ ap (λ t. fault_in (answer_as d (kind_in t) cell)) (sym (none_of (target_of (get_or targets column e)) none))
       ∙ ap fault_in answer_told
 
   pub unread_same : (row : ℕ) → is_some (target_of (get_or targets column e)) ≡ false
@@ -68,9 +75,10 @@ module _ {C : Type 0} (target_of : C → Option TargetView) (d : Dialect) (targe
 
 -- a column behind all targets
 module _ (d : Dialect) (targets : List (Option TargetView)) (column : ℕ) (cell : FieldView) (high : length targets ≤ column) where
-  pub beyond_fault : None ≡ fault_in (answer_at d (kinds_of targets) column cell)
+  pub beyond_fault : quote_fault d.has_quotes false cell ≡ fault_in (answer_at d (kinds_of targets) column cell)
   beyond_fault =
-      ap fault_in (sym (answer_beyond d (kinds_of targets) column cell (omega (arith, high, length-map targets kind_in))))
+      quotes_told (quote_fault d.has_quotes false cell)
+      ∙ ap fault_in (sym (answer_beyond d (kinds_of targets) column cell (omega (arith, high, length-map targets kind_in))))
 
   pub beyond_same : (row : ℕ) → targets ≡ put_read_at row column (answer_at d (kinds_of targets) column cell) targets
   beyond_same row = sym (put_beyond row column (answer_at d (kinds_of targets) column cell) targets high)

@@ -7,6 +7,7 @@ use Rattle.lexical_util.specs.Number.{integer_type}
 use Rattle.lexical_parse_integer.specs.Computed.{grammar}
 use Rattle.lexical_tables.specs.ByColumn.{columns_answer, columns_put, kinds_of, wrong_cell}
 use Rattle.lexical_tables.specs.Cells.{Kind}
+use Rattle.lexical_tables.specs.Header.{behind_lines}
 use Rattle.lexical_tables.specs.Parts.{readable}
 use Rattle.lexical_tables.specs.Targets.{TargetView}
 use Rattle.lexical_tables.specs.declared.answers.CellFault.TheVariants.{MissingReturn, NotNumber, TooFewCells, TooManyCells}
@@ -259,3 +260,21 @@ behind_quotes = refl
 whole_quoted : readable false true (line (codes "1,\"" ++ 10 ∷ codes "\"") ++ codes "2,\"" ++ 10 ∷ [])
     ≡ line (codes "1,\"" ++ 10 ∷ codes "\"")
 whole_quoted = refl
+
+-- ---- headers
+
+-- a line ends at a line feed outside quotes
+header : behind_lines true 1 (line (codes "\"width" ++ 10 ∷ codes "in mm\",2") ++ codes "1,2") ≡ codes "1,2"
+header = refl
+
+-- where a quote never closes, at any line feed
+stray_quote : behind_lines true 1 (line (codes "width 5\"") ++ line (codes "1,\"a\"")) ≡ line (codes "1,\"a\"")
+stray_quote = refl
+
+-- without quotes at each
+plain_header : behind_lines false 2 (line (codes "\"width") ++ line (codes "in mm\"") ++ codes "1") ≡ codes "1"
+plain_header = refl
+
+-- a text may have fewer
+short_header : behind_lines true 3 (line (codes "a") ++ codes "b") ≡ []
+short_header = refl

@@ -12,12 +12,12 @@ use Rattle.lexical_fields.specs.Places.{in_text}
 use Rattle.lexical_fields.specs.ReadFields.{field_answer}
 use Rattle.lexical_fields.proofs.MovedFields.{answer_moved, fields_moved, moved}
 use Rattle.lexical_tables.specs.ByColumn.{cell_answers, cells_of, end_fault, fault_of, first_fault, first_of, first_start, row_answers, row_fault, row_values, values_to_fault, wrong_cell}
-use Rattle.lexical_tables.specs.Cells.{Kind, answer_as, content, is_blank, number_at, some_number, without_blanks}
+use Rattle.lexical_tables.specs.Cells.{Kind, answer_as, begins_with_quote, content, is_blank, misplaced_quote, number_at, quote_fault, some_number, unless, within_quotes, without_blanks, without_quotes}
 use Rattle.lexical_tables.specs.Parts.{AreValid, ColumnsInParts, fault_behind, fault_in, error_behind, values_in, whole_rows}
 use Rattle.lexical_tables.specs.Quotes.{as_long_as, seen}
 use Rattle.lexical_tables.specs.Rows.{RowView, rows}
 use Rattle.lexical_tables.specs.declared.answers.CellFault.{CellFault}
-use Rattle.lexical_tables.specs.declared.answers.CellFault.TheVariants.{MissingReturn, TooFewCells, TooManyCells}
+use Rattle.lexical_tables.specs.declared.answers.CellFault.TheVariants.{MisplacedQuote, MissingReturn, TooFewCells, TooManyCells}
 use Rattle.lexical_tables.specs.declared.answers.TableError.{TableError}
 use Rattle.lexical_tables.specs.declared.dialect.Dialect.{Dialect}
 use Rattle.lexical_tables.proofs.RowsInParts.{long_moved, row_behind, rows_split, whole_within}
@@ -79,13 +79,51 @@ answer_behind bytes (Ok value) = Ok value
 answer_behind bytes (Err fault) = Err (fault_behind bytes fault)
 
 -- what a cell holds is moved with it
-content_moved : (bytes : ℕ) (allows_blanks : Bool) (cell : FieldView)
-    → content allows_blanks (moved bytes cell) ≡ moved bytes (content allows_blanks cell)
-content_moved bytes true cell =
+blanks_moved : (bytes : ℕ) (allows_blanks : Bool) (cell : FieldView)
+    → cond allows_blanks (without_blanks (moved bytes cell)) (moved bytes cell)
+    ≡ moved bytes (cond allows_blanks (without_blanks cell) cell)
+blanks_moved bytes true cell =
     let front = prefix_len is_blank cell.text in
     let at : bytes + cell.start + front ≡ bytes + (cell.start + front) = omega arith in
     ap (λ place. record (without_blanks cell) { start = place }) at
-content_moved bytes false cell = refl
+blanks_moved bytes false cell = refl
+
+unquoted_moved : (bytes : ℕ) (has_quotes : Bool) (cell : FieldView)
+    → without_quotes has_quotes (moved bytes cell) ≡ moved bytes (without_quotes has_quotes cell)
+unquoted_moved bytes has_quotes cell = by_test (has_quotes && begins_with_quote cell.text)
+  where
+    at : bytes + cell.start + 1 ≡ bytes + (cell.start + 1)
+    at = omega arith
+
+    by_test : (t : Bool) → cond t (within_quotes (moved bytes cell)) (moved bytes cell)
+        ≡ moved bytes (cond t (within_quotes cell) cell)
+    by_test true = ap (λ place. record (within_quotes cell) { start = place }) at
+    by_test false = refl
+
+content_moved : (bytes : ℕ) (has_quotes allows_blanks : Bool) (cell : FieldView)
+    → content has_quotes allows_blanks (moved bytes cell) ≡ moved bytes (content has_quotes allows_blanks cell)
+content_moved bytes has_quotes allows_blanks cell =
+    ap (λ held. cond allows_blanks (without_blanks held) held) (unquoted_moved bytes has_quotes cell)
+    ∙ blanks_moved bytes allows_blanks (without_quotes has_quotes cell)
+
+-- so are its quotes
+quotes_moved : (bytes : ℕ) (has_quotes is_read : Bool) (cell : FieldView)
+    → quote_fault has_quotes is_read (moved bytes cell) ≡ option_map (fault_behind bytes) (quote_fault has_quotes is_read cell)
+quotes_moved bytes false is_read cell = refl
+quotes_moved bytes true is_read cell = by_place (misplaced_quote is_read cell.text)
+  where
+    behind : (place : ℕ) → bytes + cell.start + place ≡ bytes + (cell.start + place)
+    behind place = omega arith
+
+    by_place : (found : Option ℕ) → option_map (λ place. MisplacedQuote (bytes + cell.start + place)) found
+        ≡ option_map (fault_behind bytes) (option_map (λ place. MisplacedQuote (cell.start + place)) found)
+    by_place None = refl
+    by_place (Some place) = ap (λ k. Some (MisplacedQuote k)) (behind place)
+
+unless_moved : (bytes : ℕ) (found : Option CellFault) (answer : Result (Option ℤ) CellFault)
+    → unless (option_map (fault_behind bytes) found) (answer_behind bytes answer) ≡ answer_behind bytes (unless found answer)
+unless_moved bytes None answer = refl
+unless_moved bytes (Some fault) answer = refl
 
 number_moved : (bytes : ℕ) (answer : Result ℤ Error)
     → some_number (in_text bytes answer) ≡ answer_behind bytes (some_number answer)
@@ -109,10 +147,15 @@ held_moved bytes mark kind held valid =
 
 cell_moved : (bytes : ℕ) (d : Dialect) (kind : Option Kind) (cell : FieldView) → AreValid (kind ∷ [])
     → answer_as d kind (moved bytes cell) ≡ answer_behind bytes (answer_as d kind cell)
-cell_moved bytes d None cell valid = refl
+cell_moved bytes d None cell valid =
+    ap (λ found. unless found (Ok None)) (quotes_moved bytes d.has_quotes false cell)
+    ∙ unless_moved bytes (quote_fault d.has_quotes false cell) (Ok None)
 cell_moved bytes d (Some kind) cell valid =
-    ap (number_at d.missing.now kind) (content_moved bytes d.allows_blanks cell)
-    ∙ held_moved bytes d.missing.now kind (content d.allows_blanks cell) valid.0
+    ap₂ unless (quotes_moved bytes d.has_quotes true cell)
+    (ap (number_at d.missing.now kind) (content_moved bytes d.has_quotes d.allows_blanks cell)
+    ∙ held_moved bytes d.missing.now kind (content d.has_quotes d.allows_blanks cell) valid.0)
+    ∙ unless_moved bytes (quote_fault d.has_quotes true cell)
+    (number_at d.missing.now kind (content d.has_quotes d.allows_blanks cell))
 
 answers_moved : (bytes : ℕ) (d : Dialect) (kinds : List (Option Kind)) (cells : List FieldView) → AreValid kinds
     → cell_answers d kinds (map (moved bytes) cells) ≡ map (answer_behind bytes) (cell_answers d kinds cells)

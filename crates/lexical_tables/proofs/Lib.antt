@@ -9,6 +9,7 @@ pub mod LineSteps
 pub mod OutsideInParts
 pub mod OutsideSteps
 pub mod PutSteps
+pub mod QuoteSteps
 pub mod RowSteps
 pub mod RowsInParts
 pub mod SeekSteps

@@ -42,7 +42,7 @@ odd_by count false = ap (λ n. n % 2 == 1) (same count)
     same : (n : ℕ) → n + (0 + 0) ≡ n
     same n = omega arith
 
-odd_behind : (before : List ℕ) (byte : ℕ)
+pub odd_behind : (before : List ℕ) (byte : ℕ)
     → has_odd_quotes (before ++ byte ∷ []) ≡ turned true (has_odd_quotes before) byte
 odd_behind before byte =
     ap (λ n. n % 2 == 1) (sum_by-append (λ b. cond (b == quote) 1 0) before (byte ∷ []))

@@ -3,7 +3,7 @@ use Rattle.std.specs.Prelude.{◌≡◌, ◌+◌, ◌*◌, ◌≤◌, ℕ, zero,
 use Rattle.lexical_util.specs.Validity.{fault}
 use Rattle.lexical_fields.specs.Columns as columns
 use Rattle.lexical_fields.specs.Fields.{FieldView}
-use Rattle.lexical_tables.specs.Cells.{Kind, answer_as}
+pub use Rattle.lexical_tables.specs.Cells.{Kind, answer_as, first_of, unless}
 use Rattle.lexical_tables.specs.Quotes.{pieces_outside}
 use Rattle.lexical_tables.specs.Rows.{RowView, next_start, rows, rows_from}
 use Rattle.lexical_tables.specs.Targets.{TargetView, put_value}
@@ -138,16 +138,6 @@ put_read_at row (suc column) answer (target ∷ targets) =
     target ∷ put_read_at row column answer targets
 
 -- ---- tables
-
--- the first of two that is there
-abbrev pub first_of : {A : Type 0} → Option A → Option A → Option A
-first_of None other = other
-first_of (Some it) other = Some it
-
--- an answer, where nothing is wrong
-abbrev pub unless : {A E : Type 0} → Option E → Result A E → Result A E
-unless None answer = answer
-unless (Some fault) answer = Err fault
 
 -- what is read of rows, up to the first wrong one
 abbrev pub values_to_fault : List (Option Kind) → Dialect → ℕ → List RowView

@@ -7,7 +7,7 @@ use Rattle.lexical_tables.specs.Cells.{Kind}
 use Rattle.lexical_tables.specs.Quotes.{whole_outside}
 use Rattle.lexical_tables.specs.Rows.{line_feed, rows}
 use Rattle.lexical_tables.specs.declared.answers.CellFault.{CellFault}
-use Rattle.lexical_tables.specs.declared.answers.CellFault.TheVariants.{MissingReturn, NotNumber, TooFewCells, TooManyCells}
+use Rattle.lexical_tables.specs.declared.answers.CellFault.TheVariants.{MisplacedQuote, MissingReturn, NotNumber, TooFewCells, TooManyCells}
 use Rattle.lexical_tables.specs.declared.answers.TableError.{TableError}
 use Rattle.lexical_tables.specs.declared.dialect.Dialect.{Dialect}
 
@@ -22,6 +22,7 @@ readable is_last has_quotes text = if is_last then text else take (whole_rows ha
 -- what is wrong with a cell that stands so many bytes further behind
 abbrev pub fault_behind : ℕ → CellFault → CellFault
 fault_behind bytes (NotNumber error) = NotNumber (error_in_text bytes error)
+fault_behind bytes (MisplacedQuote place) = MisplacedQuote (bytes + place)
 fault_behind bytes (TooFewCells place) = TooFewCells (bytes + place)
 fault_behind bytes (TooManyCells place) = TooManyCells (bytes + place)
 fault_behind bytes (MissingReturn place) = MissingReturn (bytes + place)

@@ -28,7 +28,8 @@ seen has_quotes sought text =
 -- the bytes of a text in fields that are as long as others, with a byte between two
 abbrev pub as_long_as : List FieldView → List ℕ → List FieldView
 as_long_as [] text = []
-as_long_as (field ∷ more) text = record { start = field.start; text = take (length field.text) text }
+as_long_as (field ∷ more) text =
+    record { start = field.start; text = take (length field.text) text }
     ∷ as_long_as more (drop (length field.text + 1) text)
 
 -- the fields between separators outside quotes, of a text that stands at a place

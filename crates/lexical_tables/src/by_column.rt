@@ -8,11 +8,12 @@ ghost use Rattle.lexical_tables.specs.Rows.{view_of_row};
 use crate::answers::{CellFault, Table, TableError};
 use crate::content::{Cell, content};
 use crate::dialect::Dialect;
+use crate::misplaced::quote_fault;
 use crate::rows::{Row, first_row, split, without_empty_rows};
 use crate::targets::TableColumn;
 use lexical_parse_integer::Options;
 
-// Reads a cell in its column: what it holds is the mark or a number, which goes to the row's place.
+// Reads a cell in its column, if its quotes are in place: it holds the mark or a number, which goes to the row's place.
 #[inline(always)]
 fn read_number<C: TableColumn>(
     target: &mut C,
@@ -30,7 +31,10 @@ fn read_number<C: TableColumn>(
         (option_map kind_of (C.target target.old)) (view_of_cell cell.entry)))
         (C.target target.old) }
 {
-    let held = content(cell, dialect.allows_blanks);
+    if let Some(fault) = quote_fault(dialect.has_quotes, true, cell) {
+        return Some(fault);
+    }
+    let held = content(cell, dialect.has_quotes, dialect.allows_blanks);
     if target.may_miss() && held.text == dialect.missing {
         target.put_missing(row);
         return None;
@@ -60,12 +64,12 @@ fn read_cell<C: TableColumn>(
         (map C.target targets.old) }
 {
     if column >= targets.len() {
-        return None;
+        return quote_fault(dialect.has_quotes, false, cell);
     }
     if targets[column].is_read() {
         return read_number(&mut targets[column], row, cell, dialect, options);
     }
-    None
+    quote_fault(dialect.has_quotes, false, cell)
 }
 
 // What is wrong with the number of a row's cells, or with its end, if so many have a column, and one more starts there.

@@ -2,7 +2,9 @@
 
 ghost use Rattle.std.specs.Prelude.{◌≡◌, ◌+◌, ◌<◌, ◌≤◌, ◌^◌, length};
 ghost use Rattle.std.specs.List.{prefix_len, suffix_len};
-ghost use Rattle.lexical_tables.specs.Cells.{content, is_blank, view_of_cell, without_blanks};
+ghost use Rattle.lexical_tables.specs.Cells.{content, is_blank, view_of_cell, without_blanks, without_quotes};
+
+use crate::misplaced::begins_with_quote;
 
 // A cell, or what it holds: the place in the text at which that starts, and its bytes.
 #[derive(Copy, Clone)]
@@ -57,17 +59,37 @@ fn without_blanks(cell: Cell<'_>) -> Cell<'_>
     }
 }
 
-// What a cell holds.
+// A cell without its quotes, where these have a meaning.
 #[inline(always)]
-pub(crate) fn content(cell: Cell<'_>, allows_blanks: bool) -> Cell<'_>
+fn without_quotes(cell: Cell<'_>, has_quotes: bool) -> Cell<'_>
     requires fits { cell.start + length cell.text.now < 2 ^ 64 }
-    ensures content { view_of_cell result ≡ content allows_blanks (view_of_cell cell.entry) }
+    ensures content { view_of_cell result ≡ without_quotes has_quotes (view_of_cell cell.entry) }
     ensures within { result.start + length result.text.now
         ≤ cell.entry.start + length cell.entry.text.now }
 {
+    if has_quotes && begins_with_quote(cell.text) {
+        let rest = &cell.text[1..];
+        return Cell {
+            start: cell.start + 1,
+            text: &rest[..rest.len().saturating_sub(1)],
+        };
+    }
+    cell
+}
+
+// What a cell holds.
+#[inline(always)]
+pub(crate) fn content(cell: Cell<'_>, has_quotes: bool, allows_blanks: bool) -> Cell<'_>
+    requires fits { cell.start + length cell.text.now < 2 ^ 64 }
+    ensures content { view_of_cell result
+        ≡ content has_quotes allows_blanks (view_of_cell cell.entry) }
+    ensures within { result.start + length result.text.now
+        ≤ cell.entry.start + length cell.entry.text.now }
+{
+    let held = without_quotes(cell, has_quotes);
     if allows_blanks {
-        without_blanks(cell)
+        without_blanks(held)
     } else {
-        cell
+        held
     }
 }

@@ -1,8 +1,6 @@
 //! The rows of a text.
 
 ghost use Rattle.std.specs.Prelude.{◌≡◌, ◌+◌, ◌-◌, ◌≤◌, ◌<◌, ◌^◌, ℕ, length, take, drop};
-ghost use Rattle.lexical_fields.specs.Columns.{next_start};
-ghost use Rattle.lexical_fields.specs.Fields.{fields};
 ghost use Rattle.lexical_tables.specs.Quotes.{length_outside};
 ghost use Rattle.lexical_tables.specs.Rows.{FirstCounts, ends_in, line_feed, row_of, rows_from, view_of_row};
 
@@ -106,21 +104,4 @@ pub(crate) fn without_empty_rows<'a>(text: &'a [u8], dialect: &Dialect<'_>) -> &
         rest = behind;
     }
     rest
-}
-
-/// The place behind the first lines of a text, so many, or its end where it has no more.
-///
-/// A table's rows begin there, if a header of so many lines stands in front of it. What stands in the header
-/// isn't judged.
-pub fn after_lines(text: &[u8], count: usize) -> usize
-    ensures value { result ≡ next_start (length text.now) (drop count (fields line_feed text.now)) }
-    ensures within { result ≤ length text.now }
-{
-    let mut rest = text;
-    let mut left = count;
-    while left > 0 && !rest.is_empty() {
-        (_, rest) = split(rest, b'\n', false);
-        left -= 1;
-    }
-    text.len() - rest.len()
 }

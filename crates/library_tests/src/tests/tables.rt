@@ -64,7 +64,7 @@ fn first_wrong_cells(rt: HostRuntime) {
 }
 
 #[test]
-fn cells_with_blanks_and_marks(rt: HostRuntime) {
+fn cells_with_quotes_blanks_and_marks(rt: HostRuntime) {
     let mut numbers = [9_i16; 3];
     let mut bits = [0xfc];
     let mut target = Some(Target {
@@ -73,25 +73,30 @@ fn cells_with_blanks_and_marks(rt: HostRuntime) {
         present: Some(&mut bits),
     });
     let dialect = Dialect {
+        has_quotes: true,
         allows_blanks: true,
         missing: b"NA",
         ..pairs(false)
     };
     let targets = slice::from_mut(&mut target);
-    let answer = read_columns(b" 1 ,\n\tNA,x\n", &dialect, &options::STANDARD, 3, targets);
-    answers(&rt, answer, table(2, 11));
+    let text = b"\" 1 \",\"a\"\"b,c\"\n\tNA,x\n";
+    let answer = read_columns(text, &dialect, &options::STANDARD, 3, targets);
+    answers(&rt, answer, table(2, 21));
     answers(&rt, (numbers, bits), ([1, 0, 9], [0xfd]));
 }
 
 #[test]
 fn a_header_is_stepped_over(rt: HostRuntime) {
     let text = b"width,\"height\n1,2\n";
-    let start = after_lines(text, 1);
+    let start = after_lines(text, 1, &pairs(false));
     answers(&rt, start, 14);
     answers(&rt, read(&text[start..], false), (table(1, 4), [1, 9, 9]));
     answers(
         &rt,
-        [after_lines(b"a\nb", 2), after_lines(b"a\n\n", 1)],
+        [
+            after_lines(b"a\nb", 2, &pairs(false)),
+            after_lines(b"a\n\n", 1, &pairs(false)),
+        ],
         [3, 2],
     );
 }
