@@ -154,6 +154,10 @@ typedef enum jadvolni_status {
      * rows are asked for, and then that column is told. The place is 0. */
     JADVOLNI_INVALID_TABLE = 17,
 
+    /* A quote in a cell is neither its first and last byte nor doubled, or there is an odd number of
+     * them, or one stands within a number. The place is that of the quote. */
+    JADVOLNI_MISPLACED_QUOTE = 18,
+
     /* A reserved byte or bit of the format isn't 0: it was written for a later version of the
      * library, or it was never set. It comes before the rules of formats. */
     JADVOLNI_UNKNOWN_FIELD = 64
@@ -775,6 +779,7 @@ static inline const char *jadvolni_status_name(uint32_t status)
     case JADVOLNI_TOO_MANY_CELLS: return "TooManyCells";
     case JADVOLNI_MISSING_RETURN: return "MissingReturn";
     case JADVOLNI_INVALID_TABLE: return "InvalidTable";
+    case JADVOLNI_MISPLACED_QUOTE: return "MisplacedQuote";
     case JADVOLNI_UNKNOWN_FIELD: return "UnknownField";
     default: return "Unknown";
     }
@@ -812,6 +817,7 @@ static inline const char *jadvolni_status_text(uint32_t status)
     case JADVOLNI_INVALID_TABLE:
         return "the array of each column has to have room for all rows, and the reserved "
                "bytes of a table have to be 0";
+    case JADVOLNI_MISPLACED_QUOTE: return "misplaced quote";
     case JADVOLNI_UNKNOWN_FIELD:
         return "the reserved bytes and bits of the format have to be 0";
     default: return "a status that only a later library has";

@@ -7,7 +7,7 @@ use Rattle.lexical_tables.specs.ByColumn.{columns_answer, columns_put, kinds_of}
 use Rattle.lexical_tables.specs.Parts.{readable}
 use Rattle.lexical_tables.specs.Targets.{TargetView, text_answer, with_number, with_row_bit}
 use Rattle.lexical_tables.specs.declared.answers.CellFault.{CellFault}
-use Rattle.lexical_tables.specs.declared.answers.CellFault.TheVariants.{MissingReturn, NotNumber, TooFewCells, TooManyCells}
+use Rattle.lexical_tables.specs.declared.answers.CellFault.TheVariants.{MisplacedQuote, MissingReturn, NotNumber, TooFewCells, TooManyCells}
 use Rattle.lexical_tables.specs.declared.answers.Table.{Table}
 use Rattle.lexical_tables.specs.declared.answers.TableError.{TableError}
 use Rattle.lexical_tables.specs.declared.dialect.Dialect.{Dialect}
@@ -116,6 +116,7 @@ cell_status (NotNumber error) = fault_status error
 cell_status (TooFewCells place) = 14
 cell_status (TooManyCells place) = 15
 cell_status (MissingReturn place) = 16
+cell_status (MisplacedQuote place) = 18
 
 -- its place
 abbrev pub cell_place : CellFault → ℕ
@@ -123,6 +124,7 @@ cell_place (NotNumber error) = fault_place (place_of error)
 cell_place (TooFewCells place) = place
 cell_place (TooManyCells place) = place
 cell_place (MissingReturn place) = place
+cell_place (MisplacedQuote place) = place
 
 -- what C has of an answer
 abbrev pub outcome_of : Result Table TableError → TableOutcome

@@ -1,6 +1,6 @@
 //! The columns of a table, as C writes them.
 
-ghost use Rattle.std.specs.Prelude.{◌≡◌, ◌+◌, ◌*◌, ◌<◌, ◌≤◌, ◌^◌, length, option_map, IfSome};
+ghost use Rattle.std.specs.Prelude.{◌≡◌, ◌+◌, ◌<◌, ◌^◌, length, option_map};
 ghost use Rattle.lexical_tables.specs.ByColumn.{IsUsable};
 ghost use Rattle.lexical_tables.specs.Targets.{text_fault};
 ghost use Rattle.jadvolni.specs.FormatFields.{format_of};
@@ -8,7 +8,7 @@ ghost use Rattle.jadvolni.specs.Tables.{bits_of, column_status, lacks_bits, numb
 
 use crate::format::FormatFields;
 use lexical_parse_integer::{Error, NumberFormat, Options, format};
-use lexical_tables::{TableColumn, put_bit, put_cell};
+use lexical_tables::{TableColumn, put_bit, put_cell, put_zero};
 
 /// The status of a table that no text can be read by.
 pub const INVALID_TABLE: u32 = 17;
@@ -96,14 +96,14 @@ impl ColumnFields<'_> {
         self.format.format()
     }
 
-    // Sets the bit of a row, or clears it, if the column has bits.
+    // Sets the bit of a row, or clears it, if the column is read and has bits.
     #[inline(always)]
+    #[tactic(auto, using(crate::proofs::TableBits::bits_put, crate::proofs::TableBits::bits_there, crate::proofs::TableBits::no_bit))]
     fn put_presence(&mut self, row: usize, is_there: bool)
-        requires room { IfSome (bits_of self.old.present.now)
-            (λ bytes. row + 1 ≤ 8 * length bytes) }
+        requires usable { IsUsable (row + 1) (target_of self.old) }
         ensures { target_of self.new ≡ option_map (put_presence row is_there) (target_of self.old) }
     {
-        if !self.present.is_empty() {
+        if self.may_miss() {
             put_bit(self.present, row, is_there);
         }
     }
@@ -111,19 +111,18 @@ impl ColumnFields<'_> {
     // Puts 0 into a row's place.
     fn put_zero(&mut self, row: usize)
         requires usable { IsUsable (row + 1) (target_of self.old) }
-        ensures target { target_of self.new ≡ option_map (put_zero row) (target_of self.old) }
-        ensures present { self.new.present.now ≡ self.old.present.now }
+        ensures { target_of self.new ≡ option_map (put_zero row) (target_of self.old) }
     {
         match self.number_type() {
             None => {}
-            Some(NumberType::I64) => self.i64s[row] = 0,
-            Some(NumberType::U64) => self.u64s[row] = 0,
-            Some(NumberType::I32) => self.i32s[row] = 0,
-            Some(NumberType::U32) => self.u32s[row] = 0,
-            Some(NumberType::I16) => self.i16s[row] = 0,
-            Some(NumberType::U16) => self.u16s[row] = 0,
-            Some(NumberType::I8) => self.i8s[row] = 0,
-            Some(NumberType::U8) => self.u8s[row] = 0,
+            Some(NumberType::I64) => put_zero(self.i64s, row),
+            Some(NumberType::U64) => put_zero(self.u64s, row),
+            Some(NumberType::I32) => put_zero(self.i32s, row),
+            Some(NumberType::U32) => put_zero(self.u32s, row),
+            Some(NumberType::I16) => put_zero(self.i16s, row),
+            Some(NumberType::U16) => put_zero(self.u16s, row),
+            Some(NumberType::I8) => put_zero(self.i8s, row),
+            Some(NumberType::U8) => put_zero(self.u8s, row),
         }
     }
 
@@ -142,7 +141,6 @@ impl ColumnFields<'_> {
             (record { start = start; text = text.now }) }
         ensures target { target_of self.new ≡ option_map (put_number row
             (record { start = start; text = text.now })) (target_of self.old) }
-        ensures present { self.new.present.now ≡ self.old.present.now }
     {
         let format = self.format();
         match self.number_type() {
@@ -173,7 +171,10 @@ impl ColumnFields<'_> {
             Some(NumberType::I8) => self.i8s.len(),
             Some(NumberType::U8) => self.u8s.len(),
         };
-        if room < rows || self.lacks_bits(rows) {
+        if room < rows {
+            return INVALID_TABLE;
+        }
+        if self.lacks_bits(rows) {
             return INVALID_TABLE;
         }
         self.format.status()

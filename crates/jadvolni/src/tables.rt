@@ -22,14 +22,11 @@ pub struct TableFields<'a> {
     pub missing: &'a [u8],
 }
 
-impl TableFields<'_> {
-    // Whether the bytes that are kept for later versions are 0.
-    #[tactic(auto, using(crate::proofs::ZeroBytes::eleven_zeros))]
-    fn are_known(&self) -> bool
-        ensures { result ≡ are_zeros self.now.reserved }
-    {
-        self.reserved == [0; 11]
-    }
+// Whether the bytes that are kept for later versions are 0.
+fn are_zeros(bytes: [u8; 11]) -> bool
+    ensures { result ≡ are_zeros bytes }
+{
+    bytes == [0; 11]
 }
 
 /// What is answered of a table: `jadvolni_table_result` in C.
@@ -64,6 +61,7 @@ fn cell_outcome(fault: CellFault) -> (u32, usize)
         CellFault::TooFewCells(place) => (14, place),
         CellFault::TooManyCells(place) => (15, place),
         CellFault::MissingReturn(place) => (16, place),
+        CellFault::MisplacedQuote(place) => (18, place),
     }
 }
 
@@ -119,7 +117,7 @@ pub extern "C" fn jadvolni_parse_table(
     ensures { table_effect result columns.new
         ≡ table_call table.now is_last rows text.now columns.old }
 {
-    if !table.are_known() {
+    if !are_zeros(table.reserved) {
         return refused(INVALID_TABLE, 0);
     }
     if let Some(wrong) = wrong_column(columns, rows) {
