@@ -1,6 +1,6 @@
 //! The columns of a table, as C writes them.
 
-ghost use Rattle.std.specs.Prelude.{◌≡◌, ◌+◌, ◌<◌, ◌^◌, length, option_map};
+ghost use Rattle.std.specs.Prelude.{◌≡◌, ◌+◌, ◌<◌, ◌^◌, length, take, option_map};
 ghost use Rattle.lexical_tables.specs.ByColumn.{IsUsable};
 ghost use Rattle.lexical_tables.specs.Targets.{text_fault};
 ghost use Rattle.jadvolni.specs.FormatFields.{format_of};
@@ -133,9 +133,11 @@ impl ColumnFields<'_> {
         row: usize,
         start: usize,
         text: &[u8],
+        ahead: &[u8],
         options: &Options,
     ) -> Option<Error>
         requires usable { IsUsable (row + 1) (target_of self.old) }
+        requires front { text.now ≡ take (length text.now) ahead.now }
         requires fits { start + length text.now < 2 ^ 64 }
         ensures fault { result ≡ text_fault (target_of self.old)
             (record { start = start; text = text.now }) }
@@ -145,14 +147,14 @@ impl ColumnFields<'_> {
         let format = self.format();
         match self.number_type() {
             None => None,
-            Some(NumberType::I64) => put_cell(self.i64s, row, start, text, &format, options),
-            Some(NumberType::U64) => put_cell(self.u64s, row, start, text, &format, options),
-            Some(NumberType::I32) => put_cell(self.i32s, row, start, text, &format, options),
-            Some(NumberType::U32) => put_cell(self.u32s, row, start, text, &format, options),
-            Some(NumberType::I16) => put_cell(self.i16s, row, start, text, &format, options),
-            Some(NumberType::U16) => put_cell(self.u16s, row, start, text, &format, options),
-            Some(NumberType::I8) => put_cell(self.i8s, row, start, text, &format, options),
-            Some(NumberType::U8) => put_cell(self.u8s, row, start, text, &format, options),
+            Some(NumberType::I64) => put_cell(self.i64s, row, start, text, ahead, &format, options),
+            Some(NumberType::U64) => put_cell(self.u64s, row, start, text, ahead, &format, options),
+            Some(NumberType::I32) => put_cell(self.i32s, row, start, text, ahead, &format, options),
+            Some(NumberType::U32) => put_cell(self.u32s, row, start, text, ahead, &format, options),
+            Some(NumberType::I16) => put_cell(self.i16s, row, start, text, ahead, &format, options),
+            Some(NumberType::U16) => put_cell(self.u16s, row, start, text, ahead, &format, options),
+            Some(NumberType::I8) => put_cell(self.i8s, row, start, text, ahead, &format, options),
+            Some(NumberType::U8) => put_cell(self.u8s, row, start, text, ahead, &format, options),
         }
     }
 
@@ -200,8 +202,15 @@ impl TableColumn for ColumnFields<'_> {
     }
 
     #[inline(always)]
-    fn read(&mut self, row: usize, start: usize, text: &[u8], options: &Options) -> Option<Error> {
-        if let Some(error) = self.put_number(row, start, text, options) {
+    fn read(
+        &mut self,
+        row: usize,
+        start: usize,
+        text: &[u8],
+        ahead: &[u8],
+        options: &Options,
+    ) -> Option<Error> {
+        if let Some(error) = self.put_number(row, start, text, ahead, options) {
             return Some(error);
         }
         self.put_presence(row, true);
