@@ -9,6 +9,7 @@ set -eu
 cd "$(dirname "$0")/.."
 target=$1 verdict=$2 archive=$PWD/build/libjadvolni.a
 kit=$(dirname "$(dirname "$(readlink -f "$(command -v "${RT:-rt}")")")")
+[ -e "$kit/bin/rtlib.py" ] || { echo "${RT:-rt} isn't a toolchain's own rt, which this copies" >&2; exit 1; }
 work=$(mktemp -d)
 trap 'rm -rf "$work"' EXIT
 

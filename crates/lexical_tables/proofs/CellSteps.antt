@@ -1,112 +1,84 @@
 -- The cell of a column that is read.
-use Rattle.std.proofs.Common.{◌≡◌, ◌∙◌, ℕ, zero, suc, ◌<◌, ◌≤◌, List, [], ◌∷◌, length, set, get_or, map, ℤ, Result, Option, Some, None, Ok, Err, refl, ap, sym, subst, arith}
-use Rattle.std.specs.Prelude.{IsNone, option_map}
-use Rattle.std.proofs.lemmas.List.{length-map, map-set, set-get_or}
-use Rattle.lexical_util.specs.declared.error.Error.{Error}
-use Rattle.lexical_util.specs.Validity.{fault}
+use Rattle.std.proofs.Common.{◌≡◌, ◌∙◌, ℕ, zero, suc, ◌<◌, ◌≤◌, List, [], ◌∷◌, length, set, get_or, map, false, Option, Some, None, Ok, refl, ap, sym, subst, arith}
+use Rattle.std.specs.Prelude.{is_some, option_map}
+use Rattle.std.proofs.lemmas.List.{length-map, map-set}
 use Rattle.lexical_fields.specs.Fields.{FieldView}
-use Rattle.lexical_fields.specs.ReadFields.{field_answer}
-use Rattle.lexical_tables.specs.ByColumn.{AreUsable, IsUsable, Kind, answer_as, answer_at, fault_in, kind_of, kinds_of, put_at, put_number, some_number, value_in, views_of}
-use Rattle.lexical_tables.specs.Targets.{TargetView, error_in, put_answer, type_of, view_of_target}
-use Rattle.lexical_tables.specs.declared.targets.Target.{Target}
-use Rattle.lexical_tables.proofs.PutSteps.{answer_beyond, answer_is, put_nothing, set_as_put, use_at}
+use Rattle.lexical_tables.specs.ByColumn.{AreUsable, IsUsable, answer_at, fault_in, kind_of, kinds_of, put_read, put_read_at}
+use Rattle.lexical_tables.specs.Cells.{Kind, answer_as, quote_fault, unless}
+use Rattle.lexical_tables.specs.Targets.{TargetView}
+use Rattle.lexical_tables.specs.declared.answers.CellFault.{CellFault}
+use Rattle.lexical_tables.specs.declared.dialect.Dialect.{Dialect}
+use Rattle.lexical_tables.proofs.PutSteps.{answer_beyond, answer_is, put_beyond, put_unread, set_as_put, use_at}
 
 at_map : {X Y : Type 0} (f : X → Y) (xs : List X) (i : ℕ) (d : X) → get_or (map f xs) i (f d) ≡ f (get_or xs i d)
 at_map f [] i d = refl
 at_map f (x ∷ xs) zero d = refl
 at_map f (x ∷ xs) (suc i) d = at_map f xs i d
 
-fault_same : (answer : Result ℤ Error) → error_in answer ≡ fault_in (some_number answer)
-fault_same (Ok number) = refl
-fault_same (Err error) = refl
-
-put_same : (row : ℕ) (answer : Result ℤ Error) (target : TargetView)
-    → put_number row (value_in (some_number answer)) (Some target) ≡ Some (put_answer row answer target)
-put_same row (Ok number) target = refl
-put_same row (Err error) target = refl
-
 abbrev kind_in : Option TargetView → Option Kind
 kind_in target = option_map kind_of target
 
-none_is : (found : Option Error) → found ≡ None → IsNone found
-none_is None is = refl
-none_is (Some error) is = absurd cc
+-- what is told of a cell that isn't read
+quotes_told : (found : Option CellFault) → found ≡ fault_in (unless found (Ok None))
+quotes_told None = refl
+quotes_told (Some fault) = refl
 
-module _ (targets : List (Option Target)) (column : ℕ) (cell : FieldView) (low : column < length targets) (d : Option Target) where
-  view_low : column < length (views_of targets)
-  view_low = omega (arith, low, length-map targets (option_map view_of_target))
+none_of : (target : Option TargetView) → is_some target ≡ false → target ≡ None
+none_of None none = refl
+none_of (Some target) none = absurd cc
 
-  kind_low : column < length (kinds_of (views_of targets))
-  kind_low = omega (arith, view_low, length-map (views_of targets) kind_in)
+-- a column that has a place among the targets
+module _ {C : Type 0} (target_of : C → Option TargetView) (d : Dialect) (targets : List C) (column : ℕ) (cell : FieldView)
+    (low : column < length targets) (e : C) where
+  abbrev targets_seen : List (Option TargetView)
+  targets_seen = map target_of targets
 
-  view_is : get_or (views_of targets) column (option_map view_of_target d)
-      ≡ option_map view_of_target (get_or targets column d)
-  view_is = at_map (option_map view_of_target) targets column d
+  low_seen : column < length targets_seen
+  low_seen = omega (arith, low, length-map targets target_of)
 
-  answer_of_kind : answer_at (kinds_of (views_of targets)) column cell
-      ≡ answer_as (kind_in (option_map view_of_target (get_or targets column d))) cell
-  answer_of_kind =
-      answer_is (kinds_of (views_of targets)) column cell (kind_in (option_map view_of_target d)) kind_low
-      ∙ ap (λ k. answer_as k cell)
-      (at_map kind_in (views_of targets) column (option_map view_of_target d) ∙ ap kind_in view_is)
+  target_is : get_or targets_seen column (target_of e) ≡ target_of (get_or targets column e)
+  target_is = at_map target_of targets column e
 
-  module _ (target : Target) (is : get_or targets column d ≡ Some target) where
-    pub target_usable : (room : ℕ) → AreUsable room (views_of targets) → IsUsable room (Some (view_of_target target))
-    target_usable room usable =
-        subst (IsUsable room) (view_is ∙ ap (option_map view_of_target) is)
-        (use_at room column (views_of targets) (option_map view_of_target d) view_low usable)
+  pub usable_at : (room : ℕ) → AreUsable room targets_seen → IsUsable room (target_of (get_or targets column e))
+  usable_at room usable = subst (IsUsable room) target_is (use_at room column targets_seen (target_of e) low_seen usable)
 
-    pub target_valid : (room : ℕ) → AreUsable room (views_of targets) → IsNone (fault target.format)
-    target_valid room usable = none_is (fault target.format) (target_usable room usable).0
+  pub answer_told : answer_as d (kind_in (target_of (get_or targets column e))) cell
+      ≡ answer_at d (kinds_of targets_seen) column cell
+  answer_told = sym (answer_is d (kinds_of targets_seen) column cell (kind_in (target_of e))
+      (omega (arith, low_seen, length-map targets_seen kind_in))
+      ∙ ap (λ k. answer_as d k cell) (at_map kind_in targets_seen column (target_of e) ∙ ap kind_in target_is))
 
-    answer_told : answer_at (kinds_of (views_of targets)) column cell
-        ≡ some_number (field_answer target.format (type_of target.numbers) cell)
-    answer_told = answer_of_kind ∙ ap (λ t. answer_as (kind_in (option_map view_of_target t)) cell) is
+  pub targets_told : (row : ℕ) (new : C) → target_of new
+      ≡ option_map (put_read row (answer_as d (kind_in (target_of (get_or targets column e))) cell)) (target_of (get_or targets column e))
+      → map target_of (set targets column new)
+      ≡ put_read_at row column (answer_at d (kinds_of targets_seen) column cell) targets_seen
+  targets_told row new told =
+      map-set target_of targets column new
+      ∙ set_as_put row column (answer_at d (kinds_of targets_seen) column cell) targets_seen (target_of new)
+      (target_of e) low_seen
+      (ap (option_map (put_read row (answer_at d (kinds_of targets_seen) column cell))) target_is
+      ∙ ap (λ a. option_map (put_read row a) (target_of (get_or targets column e))) (sym answer_told) ∙ sym told)
 
-    pub fault_told : error_in (field_answer target.format (type_of target.numbers) cell)
-        ≡ fault_in (answer_at (kinds_of (views_of targets)) column cell)
-    fault_told =
-        fault_same (field_answer target.format (type_of target.numbers) cell) ∙ ap fault_in (sym answer_told)
+  -- that isn't read
+  pub unread_fault : is_some (target_of (get_or targets column e)) ≡ false
+      → quote_fault d.has_quotes false cell ≡ fault_in (answer_at d (kinds_of targets_seen) column cell)
+  unread_fault none =
+      quotes_told (quote_fault d.has_quotes false cell)
+      ∙ ap (λ t. fault_in (answer_as d (kind_in t) cell)) (sym (none_of (target_of (get_or targets column e)) none))
+      ∙ ap fault_in answer_told
 
-    pub targets_told : (row : ℕ) (new : Target) → view_of_target new
-        ≡ put_answer row (field_answer target.format (type_of target.numbers) cell) (view_of_target target)
-        → views_of (set targets column (Some new)) ≡ put_at row column
-        (value_in (answer_at (kinds_of (views_of targets)) column cell)) (views_of targets)
-    targets_told row new told =
-        let answer = field_answer target.format (type_of target.numbers) cell in
-        map-set (option_map view_of_target) targets column (Some new)
-        ∙ set_as_put row column (value_in (some_number answer)) (views_of targets) (Some (view_of_target new))
-        (option_map view_of_target d) view_low
-        (ap (put_number row (value_in (some_number answer))) (view_is ∙ ap (option_map view_of_target) is)
-        ∙ put_same row answer (view_of_target target) ∙ ap Some (sym told))
-        ∙ ap (λ a. put_at row column (value_in a) (views_of targets)) (sym answer_told)
-
-  -- a cell that has no target
-  module _ (is : get_or targets column d ≡ None) where
-    none_told : answer_at (kinds_of (views_of targets)) column cell ≡ Ok None
-    none_told = answer_of_kind ∙ ap (λ t. answer_as (kind_in (option_map view_of_target t)) cell) is
-
-    pub no_fault : None ≡ fault_in (answer_at (kinds_of (views_of targets)) column cell)
-    no_fault = ap fault_in (sym none_told)
-
-    pub targets_same : (row : ℕ) → views_of (set targets column (get_or targets column d)) ≡ put_at row column
-        (value_in (answer_at (kinds_of (views_of targets)) column cell)) (views_of targets)
-    targets_same row =
-        ap views_of (set-get_or targets column d) ∙ sym (put_nothing row column (views_of targets))
-        ∙ ap (λ a. put_at row column (value_in a) (views_of targets)) (sym none_told)
+  pub unread_same : (row : ℕ) → is_some (target_of (get_or targets column e)) ≡ false
+      → targets_seen ≡ put_read_at row column (answer_at d (kinds_of targets_seen) column cell) targets_seen
+  unread_same row none =
+      sym (put_unread row column (answer_at d (kinds_of targets_seen) column cell) targets_seen (target_of e) low_seen
+      (target_is ∙ none_of (target_of (get_or targets column e)) none))
 
 -- a column behind all targets
-module _ (targets : List (Option Target)) (column : ℕ) (cell : FieldView) (high : length targets ≤ column) where
-  beyond_told : answer_at (kinds_of (views_of targets)) column cell ≡ Ok None
-  beyond_told =
-      answer_beyond (kinds_of (views_of targets)) column cell
-      (omega (arith, high, length-map targets (option_map view_of_target), length-map (views_of targets) kind_in))
+module _ (d : Dialect) (targets : List (Option TargetView)) (column : ℕ) (cell : FieldView) (high : length targets ≤ column) where
+  pub beyond_fault : quote_fault d.has_quotes false cell ≡ fault_in (answer_at d (kinds_of targets) column cell)
+  beyond_fault =
+      quotes_told (quote_fault d.has_quotes false cell)
+      ∙ ap fault_in (sym (answer_beyond d (kinds_of targets) column cell (omega (arith, high, length-map targets kind_in))))
 
-  pub beyond_fault : None ≡ fault_in (answer_at (kinds_of (views_of targets)) column cell)
-  beyond_fault = ap fault_in (sym beyond_told)
-
-  pub beyond_same : (row : ℕ) → views_of targets ≡ put_at row column
-      (value_in (answer_at (kinds_of (views_of targets)) column cell)) (views_of targets)
-  beyond_same row =
-      sym (put_nothing row column (views_of targets))
-      ∙ ap (λ a. put_at row column (value_in a) (views_of targets)) (sym beyond_told)
+  pub beyond_same : (row : ℕ) → targets ≡ put_read_at row column (answer_at d (kinds_of targets) column cell) targets
+  beyond_same row = sym (put_beyond row column (answer_at d (kinds_of targets) column cell) targets high)
