@@ -2,4 +2,5 @@
 pub mod ColumnArrays
 pub mod ColumnRows
 pub mod SureAnswers
+pub mod TableColumns
 pub mod ZeroBytes

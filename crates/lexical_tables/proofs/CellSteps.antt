@@ -1,14 +1,10 @@
 -- The cell of a column that is read.
-use Rattle.std.proofs.Common.{◌≡◌, ◌∙◌, ℕ, zero, suc, ◌<◌, ◌≤◌, List, [], ◌∷◌, length, set, get_or, map, ℤ, Result, Option, Some, None, Ok, Err, refl, ap, sym, subst, arith}
-use Rattle.std.specs.Prelude.{IsNone, option_map}
-use Rattle.std.proofs.lemmas.List.{length-map, map-set, set-get_or}
-use Rattle.lexical_util.specs.declared.error.Error.{Error}
-use Rattle.lexical_util.specs.Validity.{fault}
+use Rattle.std.proofs.Common.{◌≡◌, ◌∙◌, ℕ, zero, suc, ◌<◌, ◌≤◌, List, [], ◌∷◌, length, set, get_or, map, Option, None, Ok, refl, ap, sym, subst, arith}
+use Rattle.std.specs.Prelude.{option_map}
+use Rattle.std.proofs.lemmas.List.{length-map, map-set}
 use Rattle.lexical_fields.specs.Fields.{FieldView}
-use Rattle.lexical_fields.specs.ReadFields.{field_answer}
-use Rattle.lexical_tables.specs.ByColumn.{AreUsable, IsUsable, Kind, answer_as, answer_at, fault_in, kind_of, kinds_of, put_at, put_number, some_number, value_in, views_of}
-use Rattle.lexical_tables.specs.Targets.{TargetView, error_in, put_answer, type_of, view_of_target}
-use Rattle.lexical_tables.specs.declared.targets.Target.{Target}
+use Rattle.lexical_tables.specs.ByColumn.{AreUsable, IsUsable, Kind, answer_as, answer_at, fault_in, kind_of, kinds_of, put_at, put_number, value_in}
+use Rattle.lexical_tables.specs.Targets.{TargetView}
 use Rattle.lexical_tables.proofs.PutSteps.{answer_beyond, answer_is, put_nothing, set_as_put, use_at}
 
 at_map : {X Y : Type 0} (f : X → Y) (xs : List X) (i : ℕ) (d : X) → get_or (map f xs) i (f d) ≡ f (get_or xs i d)
@@ -16,97 +12,50 @@ at_map f [] i d = refl
 at_map f (x ∷ xs) zero d = refl
 at_map f (x ∷ xs) (suc i) d = at_map f xs i d
 
-fault_same : (answer : Result ℤ Error) → error_in answer ≡ fault_in (some_number answer)
-fault_same (Ok number) = refl
-fault_same (Err error) = refl
-
-put_same : (row : ℕ) (answer : Result ℤ Error) (target : TargetView)
-    → put_number row (value_in (some_number answer)) (Some target) ≡ Some (put_answer row answer target)
-put_same row (Ok number) target = refl
-put_same row (Err error) target = refl
-
 abbrev kind_in : Option TargetView → Option Kind
 kind_in target = option_map kind_of target
 
-none_is : (found : Option Error) → found ≡ None → IsNone found
-none_is None is = refl
-none_is (Some error) is = absurd cc
+-- a column that has a place among the targets
+module _ {C : Type 0} (target_of : C → Option TargetView) (targets : List C) (column : ℕ) (cell : FieldView)
+    (low : column < length targets) (d : C) where
+  abbrev targets_seen : List (Option TargetView)
+  targets_seen = map target_of targets
 
-module _ (targets : List (Option Target)) (column : ℕ) (cell : FieldView) (low : column < length targets) (d : Option Target) where
-  view_low : column < length (views_of targets)
-  view_low = omega (arith, low, length-map targets (option_map view_of_target))
+  low_seen : column < length targets_seen
+  low_seen = omega (arith, low, length-map targets target_of)
 
-  kind_low : column < length (kinds_of (views_of targets))
-  kind_low = omega (arith, view_low, length-map (views_of targets) kind_in)
+  target_is : get_or targets_seen column (target_of d) ≡ target_of (get_or targets column d)
+  target_is = at_map target_of targets column d
 
-  view_is : get_or (views_of targets) column (option_map view_of_target d)
-      ≡ option_map view_of_target (get_or targets column d)
-  view_is = at_map (option_map view_of_target) targets column d
+  pub usable_at : (room : ℕ) → AreUsable room targets_seen → IsUsable room (target_of (get_or targets column d))
+  usable_at room usable = subst (IsUsable room) target_is (use_at room column targets_seen (target_of d) low_seen usable)
 
-  answer_of_kind : answer_at (kinds_of (views_of targets)) column cell
-      ≡ answer_as (kind_in (option_map view_of_target (get_or targets column d))) cell
-  answer_of_kind =
-      answer_is (kinds_of (views_of targets)) column cell (kind_in (option_map view_of_target d)) kind_low
-      ∙ ap (λ k. answer_as k cell)
-      (at_map kind_in (views_of targets) column (option_map view_of_target d) ∙ ap kind_in view_is)
+  pub answer_told : answer_as (kind_in (target_of (get_or targets column d))) cell ≡ answer_at (kinds_of targets_seen) column cell
+  answer_told = sym (answer_is (kinds_of targets_seen) column cell (kind_in (target_of d))
+      (omega (arith, low_seen, length-map targets_seen kind_in))
+      ∙ ap (λ k. answer_as k cell) (at_map kind_in targets_seen column (target_of d) ∙ ap kind_in target_is))
 
-  module _ (target : Target) (is : get_or targets column d ≡ Some target) where
-    pub target_usable : (room : ℕ) → AreUsable room (views_of targets) → IsUsable room (Some (view_of_target target))
-    target_usable room usable =
-        subst (IsUsable room) (view_is ∙ ap (option_map view_of_target) is)
-        (use_at room column (views_of targets) (option_map view_of_target d) view_low usable)
-
-    pub target_valid : (room : ℕ) → AreUsable room (views_of targets) → IsNone (fault target.format)
-    target_valid room usable = none_is (fault target.format) (target_usable room usable).0
-
-    answer_told : answer_at (kinds_of (views_of targets)) column cell
-        ≡ some_number (field_answer target.format (type_of target.numbers) cell)
-    answer_told = answer_of_kind ∙ ap (λ t. answer_as (kind_in (option_map view_of_target t)) cell) is
-
-    pub fault_told : error_in (field_answer target.format (type_of target.numbers) cell)
-        ≡ fault_in (answer_at (kinds_of (views_of targets)) column cell)
-    fault_told =
-        fault_same (field_answer target.format (type_of target.numbers) cell) ∙ ap fault_in (sym answer_told)
-
-    pub targets_told : (row : ℕ) (new : Target) → view_of_target new
-        ≡ put_answer row (field_answer target.format (type_of target.numbers) cell) (view_of_target target)
-        → views_of (set targets column (Some new)) ≡ put_at row column
-        (value_in (answer_at (kinds_of (views_of targets)) column cell)) (views_of targets)
-    targets_told row new told =
-        let answer = field_answer target.format (type_of target.numbers) cell in
-        map-set (option_map view_of_target) targets column (Some new)
-        ∙ set_as_put row column (value_in (some_number answer)) (views_of targets) (Some (view_of_target new))
-        (option_map view_of_target d) view_low
-        (ap (put_number row (value_in (some_number answer))) (view_is ∙ ap (option_map view_of_target) is)
-        ∙ put_same row answer (view_of_target target) ∙ ap Some (sym told))
-        ∙ ap (λ a. put_at row column (value_in a) (views_of targets)) (sym answer_told)
-
-  -- a cell that has no target
-  module _ (is : get_or targets column d ≡ None) where
-    none_told : answer_at (kinds_of (views_of targets)) column cell ≡ Ok None
-    none_told = answer_of_kind ∙ ap (λ t. answer_as (kind_in (option_map view_of_target t)) cell) is
-
-    pub no_fault : None ≡ fault_in (answer_at (kinds_of (views_of targets)) column cell)
-    no_fault = ap fault_in (sym none_told)
-
-    pub targets_same : (row : ℕ) → views_of (set targets column (get_or targets column d)) ≡ put_at row column
-        (value_in (answer_at (kinds_of (views_of targets)) column cell)) (views_of targets)
-    targets_same row =
-        ap views_of (set-get_or targets column d) ∙ sym (put_nothing row column (views_of targets))
-        ∙ ap (λ a. put_at row column (value_in a) (views_of targets)) (sym none_told)
+  pub targets_told : (row : ℕ) (new : C) → target_of new
+      ≡ put_number row (value_in (answer_as (kind_in (target_of (get_or targets column d))) cell)) (target_of (get_or targets column d))
+      → map target_of (set targets column new)
+      ≡ put_at row column (value_in (answer_at (kinds_of targets_seen) column cell)) targets_seen
+  targets_told row new told =
+      map-set target_of targets column new
+      ∙ set_as_put row column (value_in (answer_at (kinds_of targets_seen) column cell)) targets_seen (target_of new)
+      (target_of d) low_seen
+      (ap (λ t. put_number row (value_in (answer_at (kinds_of targets_seen) column cell)) t) target_is
+      ∙ ap (λ a. put_number row (value_in a) (target_of (get_or targets column d))) (sym answer_told) ∙ sym told)
 
 -- a column behind all targets
-module _ (targets : List (Option Target)) (column : ℕ) (cell : FieldView) (high : length targets ≤ column) where
-  beyond_told : answer_at (kinds_of (views_of targets)) column cell ≡ Ok None
-  beyond_told =
-      answer_beyond (kinds_of (views_of targets)) column cell
-      (omega (arith, high, length-map targets (option_map view_of_target), length-map (views_of targets) kind_in))
+module _ (targets : List (Option TargetView)) (column : ℕ) (cell : FieldView) (high : length targets ≤ column) where
+  beyond_told : answer_at (kinds_of targets) column cell ≡ Ok None
+  beyond_told = answer_beyond (kinds_of targets) column cell (omega (arith, high, length-map targets kind_in))
 
-  pub beyond_fault : None ≡ fault_in (answer_at (kinds_of (views_of targets)) column cell)
+  pub beyond_fault : None ≡ fault_in (answer_at (kinds_of targets) column cell)
   beyond_fault = ap fault_in (sym beyond_told)
 
-  pub beyond_same : (row : ℕ) → views_of targets ≡ put_at row column
-      (value_in (answer_at (kinds_of (views_of targets)) column cell)) (views_of targets)
+  pub beyond_same : (row : ℕ) → targets ≡ put_at row column
+      (value_in (answer_at (kinds_of targets) column cell)) targets
   beyond_same row =
-      sym (put_nothing row column (views_of targets))
-      ∙ ap (λ a. put_at row column (value_in a) (views_of targets)) (sym beyond_told)
+      sym (put_nothing row column targets)
+      ∙ ap (λ a. put_at row column (value_in a) targets) (sym beyond_told)

@@ -8,22 +8,17 @@ use Rattle.lexical_fields.specs.Columns as columns
 use Rattle.lexical_fields.specs.Fields.{FieldView, fields, fields_from}
 use Rattle.lexical_fields.specs.ReadFields.{field_answer}
 use Rattle.lexical_tables.specs.Rows.{RowView, line_feed, rows}
-use Rattle.lexical_tables.specs.Targets.{TargetView, view_of_target}
+use Rattle.lexical_tables.specs.Targets.{TargetView}
 use Rattle.lexical_tables.specs.declared.answers.CellFault.{CellFault}
 use Rattle.lexical_tables.specs.declared.answers.CellFault.TheVariants.{MissingReturn, NotNumber, TooFewCells, TooManyCells}
 use Rattle.lexical_tables.specs.declared.answers.Table.{Table}
 use Rattle.lexical_tables.specs.declared.answers.TableError.{TableError}
 use Rattle.lexical_tables.specs.declared.dialect.Dialect.{Dialect}
-use Rattle.lexical_tables.specs.declared.targets.Target.{Target}
 
 -- What a column's cells are read as.
 pub record Kind : Type 0 where
   pub format : Format
   pub type : IntegerType
-
--- targets as contracts see them
-abbrev pub views_of : List (Option Target) → List (Option TargetView)
-views_of targets = map (option_map view_of_target) targets
 
 -- what the column of a target is read as
 abbrev pub kind_of : TargetView → Kind

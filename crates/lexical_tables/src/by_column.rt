@@ -1,37 +1,35 @@
 //! Tables whose columns go into slices of their own.
 
-ghost use Rattle.std.specs.Prelude.{◌≡◌, ◌+◌, ◌<◌, ◌^◌, length, IfOk};
-ghost use Rattle.lexical_tables.specs.ByColumn.{AreUsable, StopsAt, answer_at, columns_answer, columns_put, end_fault, fault_in, kinds_of, put_at, put_row, row_fault, row_values, value_in, views_of};
+ghost use Rattle.std.specs.Prelude.{◌≡◌, ◌+◌, ◌<◌, ◌^◌, length, map, IfOk};
+ghost use Rattle.lexical_tables.specs.ByColumn.{AreUsable, StopsAt, answer_at, columns_answer, columns_put, end_fault, fault_in, kinds_of, put_at, put_row, row_fault, row_values, value_in};
 ghost use Rattle.lexical_tables.specs.Rows.{view_of_row};
 
 use crate::answers::{CellFault, Table, TableError};
 use crate::dialect::Dialect;
 use crate::rows::{Row, first_row, split};
-use crate::targets::Target;
+use crate::targets::TableColumn;
 use lexical_parse_integer::{Error, Options};
 
-// Reads the cell of a column, if that has a target: its number goes to the row's place there.
+// Reads the cell of a column, if there is such a target: its number goes to the row's place there.
 #[inline(always)]
-fn read_cell(
-    targets: &mut [Option<Target<'_>>],
+fn read_cell<C: TableColumn>(
+    targets: &mut [C],
     column: usize,
     row: usize,
     start: usize,
     cell: &[u8],
     options: &Options,
 ) -> Option<Error>
-    requires usable { AreUsable (row + 1) (views_of targets.old) }
+    requires usable { AreUsable (row + 1) (map C.target targets.old) }
     requires fits { start + length cell.now < 2 ^ 64 }
-    ensures fault { result ≡ fault_in (answer_at (kinds_of (views_of targets.old)) column
+    ensures fault { result ≡ fault_in (answer_at (kinds_of (map C.target targets.old)) column
         (record { start = start; text = cell.now })) }
-    ensures targets { views_of targets.new ≡ put_at row column (value_in
-        (answer_at (kinds_of (views_of targets.old)) column
-        (record { start = start; text = cell.now }))) (views_of targets.old) }
+    ensures targets { map C.target targets.new ≡ put_at row column (value_in
+        (answer_at (kinds_of (map C.target targets.old)) column
+        (record { start = start; text = cell.now }))) (map C.target targets.old) }
 {
     if column < targets.len() {
-        if let Some(target) = &mut targets[column] {
-            return target.read(row, start, cell, options);
-        }
+        return targets[column].read(row, start, cell, options);
     }
     None
 }
@@ -69,20 +67,20 @@ fn end_fault(
 
 // The numbers of a row go to its place in the targets, up to the row's fault.
 #[inline(always)]
-fn read_cells(
+fn read_cells<C: TableColumn>(
     row: &Row<'_>,
     index: usize,
     dialect: &Dialect,
     options: &Options,
-    targets: &mut [Option<Target<'_>>],
+    targets: &mut [C],
 ) -> Option<TableError>
-    requires usable { AreUsable (index + 1) (views_of targets.old) }
+    requires usable { AreUsable (index + 1) (map C.target targets.old) }
     requires fits { row.now.start + length row.now.text.now < 2 ^ 64 }
-    ensures fault { result ≡ row_fault (kinds_of (views_of targets.old)) dialect.now index
+    ensures fault { result ≡ row_fault (kinds_of (map C.target targets.old)) dialect.now index
         (view_of_row row.now) }
-    ensures targets { views_of targets.new ≡ put_row index (row_values
-        (kinds_of (views_of targets.old)) dialect.now (view_of_row row.now))
-        (views_of targets.old) }
+    ensures targets { map C.target targets.new ≡ put_row index (row_values
+        (kinds_of (map C.target targets.old)) dialect.now (view_of_row row.now))
+        (map C.target targets.old) }
 {
     let mut rest = row.text;
     let mut ended = false;
@@ -118,18 +116,19 @@ fn read_cells(
 ///
 /// With a comma, three columns and targets of `u64` for the first and of `i8` for the third, `1,a,-2\n`
 /// puts 1 and -2 at place 0, and stops at 7.
-pub fn read_columns(
+#[inline(never)]
+pub fn read_columns<C: TableColumn>(
     text: &[u8],
     dialect: &Dialect,
     options: &Options,
     rows: usize,
-    targets: &mut [Option<Target<'_>>],
+    targets: &mut [C],
 ) -> Result<Table, TableError>
-    requires usable { AreUsable rows (views_of targets.old) }
-    ensures answer { result ≡ columns_answer (kinds_of (views_of targets.old)) dialect.now rows
+    requires usable { AreUsable rows (map C.target targets.old) }
+    ensures answer { result ≡ columns_answer (kinds_of (map C.target targets.old)) dialect.now rows
         text.now }
-    ensures targets { views_of targets.new ≡ columns_put dialect.now rows text.now
-        (views_of targets.old) }
+    ensures targets { map C.target targets.new ≡ columns_put dialect.now rows text.now
+        (map C.target targets.old) }
     ensures goes_on { IfOk result (StopsAt rows text.now) }
 {
     let mut rest = text;

@@ -19,4 +19,4 @@ pub use by_column::read_columns;
 pub use dialect::Dialect;
 pub use parts::{columns_in_parts, read_columns_part};
 pub use rows::after_lines;
-pub use targets::{Numbers, Target};
+pub use targets::{Numbers, TableColumn, Target, put_cell};

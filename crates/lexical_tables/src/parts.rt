@@ -1,15 +1,15 @@
 //! Tables of a text that comes in parts, as a file that is read in blocks.
 
-ghost use Rattle.std.specs.Prelude.{◌≡◌, ℕ, List, Option, IfOk};
+ghost use Rattle.std.specs.Prelude.{◌≡◌, ℕ, List, Option, map, IfOk};
 ghost use Rattle.lexical_fields.specs.Parts.{readable};
-ghost use Rattle.lexical_tables.specs.ByColumn.{AreUsable, Kind, StopsAt, columns_answer, columns_put, kinds_of, views_of};
+ghost use Rattle.lexical_tables.specs.ByColumn.{AreUsable, Kind, StopsAt, columns_answer, columns_put, kinds_of};
 ghost use Rattle.lexical_tables.specs.Parts.{AreValid, ColumnsInParts};
 ghost use Rattle.lexical_tables.specs.Rows.{line_feed};
 
 use crate::answers::{Table, TableError};
 use crate::by_column::read_columns;
 use crate::dialect::Dialect;
-use crate::targets::Target;
+use crate::targets::TableColumn;
 use lexical_fields::whole_fields;
 use lexical_parse_integer::Options;
 
@@ -22,19 +22,19 @@ use lexical_parse_integer::Options;
 ///
 /// With a comma and two columns, `1,2\n3,4` gives one row and stops at 4 where more follows, and two rows
 /// where it is the last part.
-pub fn read_columns_part(
+pub fn read_columns_part<C: TableColumn>(
     text: &[u8],
     is_last: bool,
     dialect: &Dialect,
     options: &Options,
     rows: usize,
-    targets: &mut [Option<Target<'_>>],
+    targets: &mut [C],
 ) -> Result<Table, TableError>
-    requires usable { AreUsable rows (views_of targets.old) }
-    ensures answer { result ≡ columns_answer (kinds_of (views_of targets.old)) dialect.now rows
+    requires usable { AreUsable rows (map C.target targets.old) }
+    ensures answer { result ≡ columns_answer (kinds_of (map C.target targets.old)) dialect.now rows
         (readable is_last line_feed text.now) }
-    ensures targets { views_of targets.new ≡ columns_put dialect.now rows
-        (readable is_last line_feed text.now) (views_of targets.old) }
+    ensures targets { map C.target targets.new ≡ columns_put dialect.now rows
+        (readable is_last line_feed text.now) (map C.target targets.old) }
     ensures goes_on { IfOk result (StopsAt rows (readable is_last line_feed text.now)) }
 {
     if is_last {

@@ -1,9 +1,10 @@
 //! Where the numbers of a table's columns go.
 
-ghost use Rattle.std.specs.Prelude.{◌≡◌, ◌+◌, ◌<◌, ◌^◌, length, map, IsNone};
+ghost use Rattle.std.specs.Prelude.{◌≡◌, ◌+◌, ◌<◌, ◌^◌, Option, length, map, option_map, IsNone};
 ghost use Rattle.lexical_util.specs.Validity.{fault};
 ghost use Rattle.lexical_fields.specs.ReadFields.{field_answer};
-ghost use Rattle.lexical_tables.specs.Targets.{error_in, put_answer, view_of_target, with_number};
+ghost use Rattle.lexical_tables.specs.ByColumn.{IsUsable, answer_as, fault_in, kind_of, put_number, value_in};
+ghost use Rattle.lexical_tables.specs.Targets.{TargetView, error_in, put_answer, view_of_target, with_number};
 
 use lexical_fields::error_in_text;
 use lexical_parse_integer::laws::grammar::fault_places;
@@ -40,9 +41,11 @@ pub struct Target<'a> {
     pub numbers: Numbers<'a>,
 }
 
-// Puts the number of a cell that starts at a place into a row's place of a slice, or tells the cell's fault.
+/// Puts the number of a cell that starts at a place into a row's place of a slice, or tells the cell's fault.
+///
+/// It is for a [`TableColumn`] of one's own. The format has to be valid, and the slice has to have that place.
 #[inline(always)]
-fn put<T: ParseInteger>(
+pub fn put_cell<T: ParseInteger>(
     values: &mut [T],
     row: usize,
     start: usize,
@@ -69,16 +72,40 @@ fn put<T: ParseInteger>(
     }
 }
 
+/// A column of a table: its cells are read, and their numbers put somewhere, or they aren't read.
+///
+/// An `Option<Target>` is one. Another type may be one too, if it meets the clauses.
+pub trait TableColumn {
+    // The target that the column has, if any.
+    ghost target: { Self → Option TargetView };
+
+    /// Puts the number of a cell into a row's place, or tells the cell's fault.
+    fn read(&mut self, row: usize, start: usize, cell: &[u8], options: &Options) -> Option<Error>
+        requires usable { IsUsable (row + 1) (target self.old) }
+        requires fits { start + length cell.now < 2 ^ 64 }
+        ensures fault { result ≡ fault_in (answer_as (option_map kind_of (target self.old))
+            (record { start = start; text = cell.now })) }
+        ensures target { target self.new ≡ put_number row (value_in (answer_as
+            (option_map kind_of (target self.old)) (record { start = start; text = cell.now })))
+            (target self.old) };
+}
+
+impl TableColumn for Option<Target<'_>> {
+    ghost target = { option_map view_of_target };
+
+    #[inline(always)]
+    fn read(&mut self, row: usize, start: usize, cell: &[u8], options: &Options) -> Option<Error> {
+        match self {
+            Some(target) => target.read(row, start, cell, options),
+            None => None,
+        }
+    }
+}
+
 impl Target<'_> {
     // Puts the number of a cell into a row's place, or tells the cell's fault.
     #[inline(always)]
-    pub(crate) fn read(
-        &mut self,
-        row: usize,
-        start: usize,
-        cell: &[u8],
-        options: &Options,
-    ) -> Option<Error>
+    fn read(&mut self, row: usize, start: usize, cell: &[u8], options: &Options) -> Option<Error>
         requires valid { IsNone (fault self.old.format) }
         requires room { row < length (view_of_target self.old).numbers }
         requires fits { start + length cell.now < 2 ^ 64 }
@@ -90,14 +117,14 @@ impl Target<'_> {
     {
         let format = &self.format;
         match &mut self.numbers {
-            Numbers::U8(values) => put::<u8>(values, row, start, cell, format, options),
-            Numbers::U16(values) => put::<u16>(values, row, start, cell, format, options),
-            Numbers::U32(values) => put::<u32>(values, row, start, cell, format, options),
-            Numbers::U64(values) => put::<u64>(values, row, start, cell, format, options),
-            Numbers::I8(values) => put::<i8>(values, row, start, cell, format, options),
-            Numbers::I16(values) => put::<i16>(values, row, start, cell, format, options),
-            Numbers::I32(values) => put::<i32>(values, row, start, cell, format, options),
-            Numbers::I64(values) => put::<i64>(values, row, start, cell, format, options),
+            Numbers::U8(values) => put_cell::<u8>(values, row, start, cell, format, options),
+            Numbers::U16(values) => put_cell::<u16>(values, row, start, cell, format, options),
+            Numbers::U32(values) => put_cell::<u32>(values, row, start, cell, format, options),
+            Numbers::U64(values) => put_cell::<u64>(values, row, start, cell, format, options),
+            Numbers::I8(values) => put_cell::<i8>(values, row, start, cell, format, options),
+            Numbers::I16(values) => put_cell::<i16>(values, row, start, cell, format, options),
+            Numbers::I32(values) => put_cell::<i32>(values, row, start, cell, format, options),
+            Numbers::I64(values) => put_cell::<i64>(values, row, start, cell, format, options),
         }
     }
 }

@@ -2,7 +2,7 @@ use Rattle.std.proofs.Common.{Ok, Err, Some, ap, map, ◌∙◌}
 use Rattle.std.proofs.lemmas.List.{map-set}
 use Rattle.lexical_fields.proofs.FieldAnswers.{answered}
 use Rattle.lexical_tables.specs.Targets.{error_in, with_number}
-use Rattle.lexical_tables.proofs.targets.put.Goals as goal
+use Rattle.lexical_tables.proofs.targets.put_cell.Goals as goal
 
 pub returns-in-Ok : goal.returns-in-Ok
 returns-in-Ok g c =
