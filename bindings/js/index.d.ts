@@ -99,11 +99,46 @@ export function parseColumn<T extends keyof Columns>(
   format?: Format,
 ): Columns[T];
 
+/** A column of a table: its type, or its type and format; null where it isn't read. */
+export type TableColumn = keyof Columns | { type: keyof Columns; format?: Format } | null;
+
+/** What is read of a column. */
+export type TableArray<C> = C extends { type: infer T extends keyof Columns }
+  ? Columns[T]
+  : C extends keyof Columns
+    ? Columns[C]
+    : null;
+
+/** How a table is written. */
+export interface Table {
+  /** The byte between two cells of a row: by default ",". A line feed ends a row, whatever this is. */
+  separator?: Byte;
+  /** A carriage return stands before each line feed. Else it is a byte of its cell. */
+  has_returns?: boolean;
+}
+
+/**
+ * The rows of a text, each column as an array: null for one that isn't read, whose cells may hold any
+ * bytes but the separator and a line feed. A row is a line, and has one cell more than separators, as
+ * many as there are columns. The text may be of any length; a row of more than `LONGEST_ROW` bytes is
+ * a `RangeError`. A header is no row: hand over what follows it.
+ *
+ * Throws `ParseError` for the first wrong cell in reading order, with its row and column.
+ */
+export function parseTable<const C extends readonly TableColumn[]>(
+  text: Text,
+  columns: C,
+  table?: Table,
+): { -readonly [K in keyof C]: TableArray<C[K]> };
+
 /** How many bytes a text of one number may have. */
 export const LONGEST: number;
 
 /** How many bytes a field of a column may have. */
 export const LONGEST_FIELD: number;
+
+/** How many bytes a row of a table may have. */
+export const LONGEST_ROW: number;
 
 /** The fields of a format. */
 export interface Fields {
@@ -241,6 +276,10 @@ export type TextFault =
   | "InvalidPositiveSign"
   | "InvalidLeadingZeros";
 
+/** What else may be wrong with a table: the place is where the row ends, where the first cell too many
+ * starts, or the line feed without a return. */
+export type TableFault = "TooFewCells" | "TooManyCells" | "MissingReturn";
+
 /** Which rule a format may break. */
 export type FormatFault =
   | "InvalidMantissaRadix"
@@ -260,7 +299,7 @@ export class JadvolniError extends Error {}
 /** A text is no number of its type, or none under its format. */
 export class ParseError extends JadvolniError {
   /** What is wrong. */
-  readonly kind: TextFault;
+  readonly kind: TextFault | TableFault;
   /**
    * At which byte, from 0; the text's length where something is missing at its end. It is also the
    * index into a string that has ASCII alone before it.
@@ -268,6 +307,9 @@ export class ParseError extends JadvolniError {
   readonly place: number;
   /** In a column the index, from 0, of the first field that is no number; else undefined. */
   readonly field: number | undefined;
+  /** In a table the wrong cell's row and column, both from 0; else undefined. */
+  readonly row: number | undefined;
+  readonly column: number | undefined;
 }
 
 /** A format is invalid. */
