@@ -99,12 +99,29 @@ export function parseColumn<T extends keyof Columns>(
   format?: Format,
 ): Columns[T];
 
-/** A column of a table: its type, or its type and format; null where it isn't read. */
-export type TableColumn = keyof Columns | { type: keyof Columns; format?: Format } | null;
+/** What is read of a column of a table: where it may miss numbers, those are told. */
+export interface ReadColumn {
+  type: keyof Columns;
+  format?: Format;
+  may_miss?: boolean;
+}
+
+/** A column of a table: its type, or its type with more; null where it isn't read. */
+export type TableColumn = keyof Columns | ReadColumn | null;
+
+/** The numbers of a column that may miss some: those are 0, and `present` has 0 for their rows, else 1. */
+export interface Sparse<A> {
+  numbers: A;
+  present: Uint8Array;
+}
 
 /** What is read of a column. */
 export type TableArray<C> = C extends { type: infer T extends keyof Columns }
-  ? Columns[T]
+  ? C extends { may_miss: true }
+    ? Sparse<Columns[T]>
+    : C extends { may_miss: boolean }
+      ? Columns[T] | Sparse<Columns[T]>
+      : Columns[T]
   : C extends keyof Columns
     ? Columns[C]
     : null;
@@ -115,11 +132,19 @@ export interface Table {
   separator?: Byte;
   /** A carriage return stands before each line feed. Else it is a byte of its cell. */
   has_returns?: boolean;
+  /** A cell may stand within quotes, '"', and then hold separators and line feeds. */
+  has_quotes?: boolean;
+  /** Spaces and tabs may stand around a number. */
+  allows_blanks?: boolean;
+  /** A row without a byte is none. Else it is a row of one empty cell. */
+  skips_empty_rows?: boolean;
+  /** What stands for a missing number in columns that may miss some: by default an empty cell. */
+  missing?: Text;
 }
 
 /**
  * The rows of a text, each column as an array: null for one that isn't read, whose cells may hold any
- * bytes but the separator and a line feed. A row is a line, and has one cell more than separators, as
+ * bytes but the separator and a line feed, or these too within quotes. A row is a line, and has one cell more than separators, as
  * many as there are columns. The text may be of any length; a row of more than `LONGEST_ROW` bytes is
  * a `RangeError`. A header is no row: hand over what follows it.
  *
@@ -277,8 +302,8 @@ export type TextFault =
   | "InvalidLeadingZeros";
 
 /** What else may be wrong with a table: the place is where the row ends, where the first cell too many
- * starts, or the line feed without a return. */
-export type TableFault = "TooFewCells" | "TooManyCells" | "MissingReturn";
+ * starts, the line feed without a return, or the quote. */
+export type TableFault = "TooFewCells" | "TooManyCells" | "MissingReturn" | "MisplacedQuote";
 
 /** Which rule a format may break. */
 export type FormatFault =

@@ -102,6 +102,32 @@ test("each column has its format", () => {
   });
 });
 
+test("quotes, blanks, empty rows and missing numbers", () => {
+  const text = '"a,b"; 1 ;-\r\n\r\n"c\nd";"2";7\r\n';
+  const table = {
+    separator: ";", has_returns: true, has_quotes: true, allows_blanks: true,
+    skips_empty_rows: true, missing: "-",
+  };
+  const columns = [null, "u8", { type: "i32", may_miss: true }];
+  const present = Uint8Array.of(0, 1);
+  const wanted = [null, Uint8Array.of(1, 2), { numbers: Int32Array.of(0, 7), present }];
+  assert.deepEqual(parseTable(text, columns, table), wanted);
+  const { missing, ...others } = table;
+  const fault = { kind: "InvalidDigit", place: 10, column: 2, row: 0 };
+  assert.deepEqual(readTable(text, columns, others), fault);
+  assert.equal(readTable(text, columns, { ...table, has_quotes: false }).kind, "TooFewCells");
+  assert.equal(readTable('"1;2;3', ["u8", "u8", "u8"], table).kind, "MisplacedQuote");
+});
+
+test("missing numbers of several pieces are told", () => {
+  const column = { type: "u8", may_miss: true };
+  const times = Math.ceil(LONGEST_ROW / 3);
+  const [{ numbers, present }] = parseTable("1\n\n22\n".repeat(times), [column]);
+  assert.equal(numbers.length, 3 * times);
+  assert.ok(numbers.every((it, row) => it === [1, 0, 22][row % 3]));
+  assert.ok(present.every((it, row) => it === Number(row % 3 !== 1)));
+});
+
 test("random tables are read as their cells are", () => {
   const pieces = ["1", "-7", "300", "x", "", ",", ",", ",", "\n", "\n", "\r\n", "\r", "\0", ";", "é"];
   const settings = [
@@ -168,6 +194,8 @@ test("wrong arguments", () => {
   refuses(() => parseTable(1, ["u8"]), /^text has to be/);
   refuses(() => parseTable("1", ["u8"], { separator: ";;" }), /^separator has to be one/);
   refuses(() => parseTable("1", ["u8"], { has_returns: 1 }), /^has_returns has to be true or false/);
+  refuses(() => parseTable("1", [{ type: "u8", may_miss: 1 }]), /^may_miss has to be true or false/);
+  refuses(() => parseTable("1", ["u8"], { missing: null }), /^missing has to be a string or a Uint8/);
   refuses(() => parseTable("1", ["u8"], { seperator: ";" }), 'a table has no field "seperator"');
   refuses(() => parseTable("1", ["u8"], null), "the fields of a table have to be an object, and not null");
   const many = Array(1e6).fill("u64");
