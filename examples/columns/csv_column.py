@@ -2,9 +2,8 @@
 
     python3 csv_column.py FILE COLUMN
 
-The column counts from 1, and the first line has the names, as many as each line has cells. All
-lines end as it does, with a line feed or with a carriage return and a line feed. Cells have no
-quotes.
+The column counts from 1. The first line has the names, without quotes, as many as each row has
+cells. All lines end as it does, with a line feed or with a carriage return and a line feed.
 """
 
 import sys
@@ -12,19 +11,21 @@ import sys
 import jadvolni
 
 
-def column_of(names: bytes, text: bytes, column: int):
-    """The numbers of a column below its names. ValueError has the place of the first fault."""
+def numbers_of(file, column: int):
+    """The numbers of a column, by blocks. ValueError has the place of the first fault."""
+    names = file.readline()
     count = names.count(b",") + 1
+    if b'"' in names:
+        raise ValueError("line 1 has a quote")
     if column > count:
-        raise ValueError(f"line 1 has {count} cells, and no column {column}")
-    quote = (names + text).find(b'"')
-    if quote >= 0:
-        raise ValueError(f"byte {quote}: a quote")
+        raise ValueError(f"line 1 has {count} names, and no column {column}")
     cells = {cell: "i64" if cell == column else None for cell in range(1, count + 1)}
+    has_returns = names.endswith(b"\r\n")
     try:
-        return jadvolni.parse_table(text, cells, ",", names.endswith(b"\r\n"))[column]
+        for rows in jadvolni.iter_table(file, cells, ",", has_returns, has_quotes=True):
+            yield rows[column].tolist()
     except jadvolni.ParseError as error:
-        cell = f"line {error.row + 2}, cell {error.column + 1}, byte {len(names) + error.place}"
+        cell = f"row {error.row + 2}, cell {error.column + 1}, byte {len(names) + error.place}"
         raise ValueError(f"{cell}: {error.kind}") from error
 
 
@@ -39,8 +40,8 @@ def main() -> None:
         sys.exit(2)
     try:
         with open(path, "rb") as file:
-            numbers = column_of(file.readline(), file.read(), column).tolist()
-        print(f"{len(numbers)} numbers, sum {sum(numbers)}")
+            found = [(len(numbers), sum(numbers)) for numbers in numbers_of(file, column)]
+        print(f"{sum(it[0] for it in found)} numbers, sum {sum(it[1] for it in found)}")
     except OSError as error:
         sys.exit(f"{path}: {error.strerror}")
     except ValueError as error:

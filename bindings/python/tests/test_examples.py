@@ -116,6 +116,8 @@ class CsvColumn(Case):
             (b"name,count\na,12\nb,30", 2, 42),
             (b"name,count,\r\na,12,x\r\n", 1, 12),
             (b"name,count", 0, 0),
+            (b'name,count\n"a,5,b",7\n"c""\nd","8"\n', 2, 15),
+            (b"name,count\n" + b"a,7\n" * 500_000, 500_000, 3_500_000),
             (b"name,count\n" + b"x" * 100_000 + b",7\n", 1, 7),
         ):
             with self.subTest(content=content[:40]):
@@ -125,17 +127,19 @@ class CsvColumn(Case):
     def test_wrong_files(self):
         table = b"name,count\na,12\nb,30\n"
         for content, told in (
-            (table + b"c,\n", "line 4, cell 2, byte 23: Empty"),
-            (table + b"c,", "line 4, cell 2, byte 23: Empty"),
-            (table + b"c\n", "line 4, cell 2, byte 22: TooFewCells"),
-            (table + b"\n", "line 4, cell 2, byte 21: TooFewCells"),
-            (table + b"c,1,2\n", "line 4, cell 3, byte 25: TooManyCells"),
-            (b"name\n", "line 1 has 1 cells, and no column 2"),
-            (b"", "line 1 has 1 cells, and no column 2"),
-            (b"n,c\r\na,12\n", "line 2, cell 3, byte 9: MissingReturn"),
-            (b"n,c\na,12\r\n", "line 2, cell 2, byte 8: InvalidDigit"),
-            (b'n,c\n"a,5,b",7\n', "byte 4: a quote"),
-            (b"n,c\na,1\0\n", "line 2, cell 2, byte 7: InvalidDigit"),
+            (table + b"c,\n", "row 4, cell 2, byte 23: Empty"),
+            (table + b"c,", "row 4, cell 2, byte 23: Empty"),
+            (table + b"c\n", "row 4, cell 2, byte 22: TooFewCells"),
+            (table + b"\n", "row 4, cell 2, byte 21: TooFewCells"),
+            (table + b"c,1,2\n", "row 4, cell 3, byte 25: TooManyCells"),
+            (table + b'c"d,1\n', "row 4, cell 1, byte 22: MisplacedQuote"),
+            (table + b'"c\nd",1\ne,x', "row 5, cell 2, byte 31: InvalidDigit"),
+            (b"n,c\r\na,12\n", "row 2, cell 3, byte 9: MissingReturn"),
+            (b"n,c\na,12\r\n", "row 2, cell 2, byte 8: InvalidDigit"),
+            (b"n,c\na,1\0\n", "row 2, cell 2, byte 7: InvalidDigit"),
+            (b"name\n", "line 1 has 1 names, and no column 2"),
+            (b"", "line 1 has 1 names, and no column 2"),
+            (b'"n",c\n', "line 1 has a quote"),
         ):
             with self.subTest(content=content):
                 self.assertEqual(self.answer("csv_column.py", content, "2"), (1, "", f"{told}\n"))
