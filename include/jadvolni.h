@@ -150,9 +150,13 @@ typedef enum jadvolni_status {
     /* The line feed at the place has no carriage return before it, and the table has returns. */
     JADVOLNI_MISSING_RETURN = 16,
 
-    /* A reserved byte of the table isn't 0; or the array of a column has less room than rows are asked
-     * for, and then that column is told. The place is 0. */
+    /* A reserved byte of the table isn't 0; or the array or the bits of a column have less room than
+     * rows are asked for, and then that column is told. The place is 0. */
     JADVOLNI_INVALID_TABLE = 17,
+
+    /* A quote in a cell is neither its first and last byte nor doubled, or there is an odd number of
+     * them, or one stands within a number. The place is that of the quote. */
+    JADVOLNI_MISPLACED_QUOTE = 18,
 
     /* A reserved byte or bit of the format isn't 0: it was written for a later version of the
      * library, or it was never set. It comes before the rules of formats. */
@@ -602,8 +606,22 @@ typedef struct jadvolni_table {
      * cell, and so a fault in a number. */
     uint8_t has_returns;
 
+    /* Flag: a cell may stand within quotes, '"', and then hold separators and line feeds. */
+    uint8_t has_quotes;
+
+    /* Flag: spaces and tabs may stand around a number. */
+    uint8_t allows_blanks;
+
+    /* Flag: a row without a byte is none. Else it is a row of one empty cell. */
+    uint8_t skips_empty_rows;
+
     /* 0, each of them: they are for fields of later versions. */
-    uint8_t reserved[30];
+    uint8_t reserved[11];
+
+    /* What stands for a missing number, byte for byte, in columns that have bits for it. With no
+     * byte, which NULL may stand for, an empty cell does. */
+    const char *missing;
+    size_t missing_len;
 } jadvolni_table;
 
 /* An array of a column, and how many numbers it has room for. */
@@ -622,14 +640,22 @@ typedef struct jadvolni_table_column {
     /* What a cell that is read looks like. It isn't looked at where no array has room. */
     jadvolni_format format;
 
-    JADVOLNI_ARRAY_(u8, uint8_t);
-    JADVOLNI_ARRAY_(u16, uint16_t);
-    JADVOLNI_ARRAY_(u32, uint32_t);
-    JADVOLNI_ARRAY_(u64, uint64_t);
-    JADVOLNI_ARRAY_(i8, int8_t);
-    JADVOLNI_ARRAY_(i16, int16_t);
-    JADVOLNI_ARRAY_(i32, int32_t);
     JADVOLNI_ARRAY_(i64, int64_t);
+    JADVOLNI_ARRAY_(u64, uint64_t);
+    JADVOLNI_ARRAY_(i32, int32_t);
+    JADVOLNI_ARRAY_(u32, uint32_t);
+    JADVOLNI_ARRAY_(i16, int16_t);
+    JADVOLNI_ARRAY_(u16, uint16_t);
+    JADVOLNI_ARRAY_(i8, int8_t);
+    JADVOLNI_ARRAY_(u8, uint8_t);
+
+    /* The bits that say where there is a number: for row k the bit k & 7 of byte k >> 3, where bit 0 is
+     * the lowest. It is 1 for a number, and 0 for a missing one, which is 0 in the array. Without bytes
+     * no number may be missing. */
+    struct {
+        uint8_t *bytes;
+        size_t size;
+    } present;
 } jadvolni_table_column;
 
 #undef JADVOLNI_ARRAY_
@@ -682,13 +708,12 @@ typedef struct jadvolni_table_result {
  * `capacity` bounds the rows of one call: before the next part is read, call again with what is left,
  * until fewer rows than `capacity` come.
  *
- * A header is no row of the table: hand over what follows it. Quotes have no meaning, and an empty line
- * is a row of one empty cell.
+ * A header is no row of the table: hand over what follows it.
  *
  * Beside what the head of this file says, `columns` points to `column_count` of them, and may be NULL
- * where that is 0. The array of a column points to as many numbers that may be written, and may be NULL
- * where that is 0. No array lies in the text, in a struct or in another array. The structs stay as they
- * are.
+ * where that is 0. The array of a column points to as many numbers that may be written, `present.bytes`
+ * to `present.size` bytes and `missing` to `missing_len`, and each may be NULL where its count is 0. None
+ * lies in the text, in a struct or in another. The structs stay as they are.
  */
 jadvolni_table_result jadvolni_parse_table(const char *text, size_t len, bool is_last,
                                            const jadvolni_table *table, size_t capacity,
@@ -754,6 +779,7 @@ static inline const char *jadvolni_status_name(uint32_t status)
     case JADVOLNI_TOO_MANY_CELLS: return "TooManyCells";
     case JADVOLNI_MISSING_RETURN: return "MissingReturn";
     case JADVOLNI_INVALID_TABLE: return "InvalidTable";
+    case JADVOLNI_MISPLACED_QUOTE: return "MisplacedQuote";
     case JADVOLNI_UNKNOWN_FIELD: return "UnknownField";
     default: return "Unknown";
     }
@@ -791,6 +817,7 @@ static inline const char *jadvolni_status_text(uint32_t status)
     case JADVOLNI_INVALID_TABLE:
         return "the array of each column has to have room for all rows, and the reserved "
                "bytes of a table have to be 0";
+    case JADVOLNI_MISPLACED_QUOTE: return "misplaced quote";
     case JADVOLNI_UNKNOWN_FIELD:
         return "the reserved bytes and bits of the format have to be 0";
     default: return "a status that only a later library has";
@@ -840,9 +867,10 @@ JADVOLNI_ASSERT_(mantissa_radix_is_at_0, offsetof(jadvolni_format, mantissa_radi
 JADVOLNI_ASSERT_(base_suffix_is_at_3, offsetof(jadvolni_format, base_suffix) == 3);
 JADVOLNI_ASSERT_(literal_prefixes_is_at_16, offsetof(jadvolni_format, literal_prefixes) == 16);
 JADVOLNI_ASSERT_(table_has_32_bytes, sizeof(jadvolni_table) == 32);
-JADVOLNI_ASSERT_(table_column_has_160_bytes, sizeof(jadvolni_table_column) == 160);
-JADVOLNI_ASSERT_(first_array_is_at_32, offsetof(jadvolni_table_column, u8) == 32);
-JADVOLNI_ASSERT_(last_array_is_at_144, offsetof(jadvolni_table_column, i64) == 144);
+JADVOLNI_ASSERT_(table_column_has_176_bytes, sizeof(jadvolni_table_column) == 176);
+JADVOLNI_ASSERT_(missing_is_at_16, offsetof(jadvolni_table, missing) == 16);
+JADVOLNI_ASSERT_(first_array_is_at_32, offsetof(jadvolni_table_column, i64) == 32);
+JADVOLNI_ASSERT_(last_array_is_at_144, offsetof(jadvolni_table_column, u8) == 144);
 JADVOLNI_ASSERT_(table_result_has_32_bytes, sizeof(jadvolni_table_result) == 32);
 JADVOLNI_ASSERT_(column_is_at_8, offsetof(jadvolni_table_result, column) == 8);
 JADVOLNI_ASSERT_(uint128_has_16_bytes, sizeof(jadvolni_uint128) == 16);

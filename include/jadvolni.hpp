@@ -51,6 +51,7 @@ enum class status : std::uint32_t {
     too_many_cells = JADVOLNI_TOO_MANY_CELLS,
     missing_return = JADVOLNI_MISSING_RETURN,
     invalid_table = JADVOLNI_INVALID_TABLE,
+    misplaced_quote = JADVOLNI_MISPLACED_QUOTE,
     unknown_field = JADVOLNI_UNKNOWN_FIELD
 };
 

@@ -39,7 +39,7 @@ BUILT = ["-o", "build/libjadvolni.a", "-o", "build/symbols.map", "-o", "build/li
 FORMS = [what + under for what in ("", "_front", "_partial") for under in ("", "_with_format")]
 # The structs of the header, by their names in the crate. jadvolni-sys has the header's names.
 STRUCTS = {"result": "Outcome", "format": "FormatFields", "uint128": "Unsigned128",
-           "int128": "Signed128", "table": "TableFields", "table_result": "TableOutcome"}
+           "int128": "Signed128", "table_result": "TableOutcome"}
 OF_RUST = {"uint8_t": "u8", "uint32_t": "u32", "uint64_t": "u64", "int64_t": "i64",
            "size_t": "usize"}
 COLUMN_TYPES = [f"{sign}{size}" for sign in "ui" for size in (8, 16, 32, 64)]

@@ -16,7 +16,8 @@ STATUSES = os.path.join("bindings", "errors.txt")
 # The fields of the standard format that aren't 0.
 STANDARD = {"mantissa_radix": 10, "required_mantissa_digits": True}
 # From which status on Rust's errors have a place (or a number), or have none.
-PLACES = {"InvalidMantissaRadix": "", "TooFewCells": "(_)", "InvalidTable": "", "Unknown": "(_)"}
+PLACES = {"InvalidMantissaRadix": "", "TooFewCells": "(_)", "InvalidTable": "",
+          "MisplacedQuote": "(_)"}
 # The bytes of C's struct but that of nul_is_punctuation.
 ROOM = 31
 

@@ -40,6 +40,7 @@ export const STATUSES = [
   ["TooManyCells", "too many cells"],
   ["MissingReturn", "missing carriage return"],
   ["InvalidTable", "the array of each column has to have room for all rows, and the reserved bytes of a table have to be 0"],
+  ["MisplacedQuote", "misplaced quote"],
 ];
 
 export const LANGUAGES = [

@@ -118,7 +118,7 @@ static void ends(void)
     CHECK(answers(jadvolni_parse_table("x", 1, true, &table, 0, &column, 1), JADVOLNI_OK, 0, 0, 0));
     CHECK(bytes[0] == 77 && wide[0] == 77);
     CHECK(answers(jadvolni_parse_table("5\n6\n7", 5, true, &table, 2, &column, 1), JADVOLNI_OK, 0, 2, 4));
-    CHECK(bytes[0] == 5 && bytes[1] == 6 && wide[0] == 77 && wide[1] == 77);
+    CHECK(wide[0] == 5 && wide[1] == 6 && bytes[0] == 77 && bytes[1] == 77);
 }
 
 /* A text that is cut at each place, and read in two parts, gives what the whole one gives. */
@@ -159,8 +159,52 @@ static void formats(void)
     CHECK(colours[0] == 1 && levels[0] == 9);
 }
 
+/* A missing number is 0 without its bit, in columns with bits alone; all other bits stay. */
+static void missing_numbers(void)
+{
+    int16_t numbers[10], others[10];
+    uint8_t bits[2] = {0xA5, 0xA5};
+    jadvolni_table table = {.separator = ',', .allows_blanks = 1, .skips_empty_rows = 1, .missing = "NA", .missing_len = 2};
+    jadvolni_table_column columns[] = {{.format = STANDARD, .i16 = {numbers, 10}, .present = {bits, 2}},
+                                       {.format = STANDARD, .i16 = {others, 10}}};
+    static const char text[] = "1,2\n NA ,3\n\n-4,5\nNA,6\n7,8\n9,1\n1,1\n2,2\nNA,3\nNAN,NA\n";
+    for (size_t k = 0; k < 10; k++) numbers[k] = others[k] = 77;
+    char *bytes = exactly(text, sizeof text - 1);
+    jadvolni_table_result r = jadvolni_parse_table(bytes, sizeof text - 1, true, &table, 10, columns, 2);
+    free(bytes);
+    CHECK(answers(r, JADVOLNI_INVALID_DIGIT, 0, 9, sizeof text - 1 - 7));
+    CHECK(numbers[0] == 1 && numbers[1] == 0 && numbers[2] == -4 && numbers[3] == 0 && numbers[8] == 0 && numbers[9] == 77);
+    CHECK(others[0] == 2 && others[8] == 3 && others[9] == 77);
+    CHECK(bits[0] == 0xF5 && bits[1] == 0xA4);
+    r = jadvolni_parse_table("1,NA", 4, true, &table, 10, columns, 2);
+    CHECK(answers(r, JADVOLNI_INVALID_DIGIT, 1, 0, 2));
+    columns[0].present.size = 1;
+    CHECK(answers(jadvolni_parse_table("1,2", 3, true, &table, 9, columns, 2), JADVOLNI_INVALID_TABLE, 0, 0, 0));
+    CHECK(answers(jadvolni_parse_table("1,2", 3, true, &table, 8, columns, 2), JADVOLNI_OK, 0, 1, 3));
+    table.missing = NULL;
+    table.missing_len = 0;
+    CHECK(answers(jadvolni_parse_table(",2", 2, true, &table, 8, columns, 2), JADVOLNI_OK, 0, 1, 2));
+    CHECK(numbers[0] == 0 && bits[0] == 0xF4);
+    /* Bits of a column that isn't read are left alone. */
+    columns[0].i16.capacity = 0;
+    CHECK(answers(jadvolni_parse_table("x,2", 3, true, &table, 9, columns, 2), JADVOLNI_OK, 0, 1, 3));
+    CHECK(bits[0] == 0xF4 && bits[1] == 0xA4);
+}
+
+/* Cells within quotes hold separators and line feeds, and each quote has its place. */
+static void quotes(void)
+{
+    jadvolni_table table = {.separator = ',', .has_quotes = 1, .allows_blanks = 1}, plain = {.separator = ','};
+    EXPECT("\"1\",\"a,\n\",2\n\" -3 \",\"\"\"\",4\n", table, JADVOLNI_OK, 0, 2, 26, 1, 2, -3, 4);
+    EXPECT("1,x\"y,2\n", table, JADVOLNI_MISPLACED_QUOTE, 1, 0, 3, 1, 99, 77, 99);
+    EXPECT("1,,2\n-3,,\"4\n", table, JADVOLNI_MISPLACED_QUOTE, 2, 1, 9, 1, 2, -3, 99);
+    EXPECT("\"1\",,2\n", plain, JADVOLNI_INVALID_DIGIT, 0, 0, 0, 77, 99, 77, 99);
+}
+
 int main(void)
 {
+    missing_numbers();
+    quotes();
     each_type();
     faults_of_cells();
     faults_of_tables();

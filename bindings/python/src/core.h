@@ -108,8 +108,8 @@ void raise_table(const core_state *state, jadvolni_table_result answer, const ta
 
 /* ---- tables.c ---- */
 
-/* The rows of a part of a text: _parse_table(text, is_last, separator, has_returns, capacity, columns,
- * row, start). A column is None, or its buffer, type and format. It gives how many rows were read, and where
+/* The rows of a part of a text: _parse_table(text, is_last, separator, flags, capacity, columns,
+ * row, start), where flags are has_returns, has_quotes, allows_blanks, skips_empty_rows. A column is None, or its buffer, type and format. It gives how many rows were read, and where
  * reading stopped. */
 PyObject *parse_table(PyObject *module, PyObject *const *args, Py_ssize_t count);
 

@@ -88,7 +88,14 @@ PyObject *parse_table(PyObject *module, PyObject *const *args, Py_ssize_t count)
     }
     const core_state *state = PyModule_GetState(module);
     int separator = separator_of(args[2]), is_last = PyObject_IsTrue(args[1]);
-    jadvolni_table table = {(uint8_t)separator, (uint8_t)(PyObject_IsTrue(args[3]) == 1), {0}};
+    jadvolni_table table = {.separator = (uint8_t)separator};
+    int flags[4];
+    if (!PyArg_ParseTuple(args[3], "pppp", &flags[0], &flags[1], &flags[2], &flags[3]))
+        return NULL;
+    table.has_returns = (uint8_t)flags[0];
+    table.has_quotes = (uint8_t)flags[1];
+    table.allows_blanks = (uint8_t)flags[2];
+    table.skips_empty_rows = (uint8_t)flags[3];
     size_t capacity = PyLong_AsSize_t(args[4]);
     table_place first = {PyLong_AsSize_t(args[6]), PyLong_AsSize_t(args[7])};
     columns all;

@@ -33,7 +33,7 @@ OF_FORMATS = {
     "InvalidLiteralPrefixes": {"mantissa_radix": 8, "literal_octal_zero": True},
 }
 # The kinds that tables alone have.
-OF_TABLES = {"TooFewCells", "TooManyCells", "MissingReturn", "InvalidTable"}
+OF_TABLES = {"TooFewCells", "TooManyCells", "MissingReturn", "InvalidTable", "MisplacedQuote"}
 
 
 def listed():

@@ -2,6 +2,7 @@
 
 import importlib.util
 import io
+import os
 import pathlib
 import random
 import subprocess
@@ -82,6 +83,26 @@ class Tables(unittest.TestCase):
             for rows in range(1, 4):
                 self.assertEqual(rows_of(io.BytesIO(TEXT), rows=rows, size=size), wanted)
 
+    def test_options(self):
+        text = b'"1";"a;\n";" 2 "\n\n 3;;\t4\n'
+        given = {"has_quotes": True, "allows_blanks": True, "skips_empty_rows": True}
+        wanted = {"day": [1, 3], "cents": [2, 4]}
+        self.assertEqual(lists(parse_table(text, LEDGER, ";", **given)), wanted)
+        for size in range(15, 30):
+            found = {"day": [], "cents": []}
+            for table in iter_table(io.BytesIO(text), LEDGER, ";", size=size, **given):
+                for name, values in table.items():
+                    found[name] += values.tolist()
+            self.assertEqual(found, wanted)
+        self.fails(b'1;a;2\n7;b"c;8\n', "MisplacedQuote", 1, 1, 9, has_quotes=True)
+
+    def test_a_pipe(self):
+        first, second = os.pipe()
+        os.write(second, TEXT)
+        os.close(second)
+        self.assertEqual(lists(read_table(f"/dev/fd/{first}", LEDGER, ";", True))["day"], [1, 365])
+        os.close(first)
+
     def test_types_and_formats(self):
         hexadecimal = Format(mantissa_radix=16)
         for bits in (8, 16, 32, 64):
@@ -95,17 +116,17 @@ class Tables(unittest.TestCase):
     def test_arrays_of_the_caller(self):
         out = {"day": array("H", [9] * 3), "cents": array("q", [9] * 3)}
         wanted = {"day": [1, 365], "cents": [-80000, 7]}
-        self.assertEqual(lists(parse_table(TEXT, LEDGER, ";", True, out)), wanted)
+        self.assertEqual(lists(parse_table(TEXT, LEDGER, ";", True, out=out)), wanted)
         with self.assertRaises(ParseError):
             parse_table(b"5;;6\n7;;x\n", LEDGER, ";", out=out)
         self.assertEqual(lists(out), {"day": [5, 7, 9], "cents": [6, 7, 9]})
         for code, count in ("H", 1), ("h", 2), ("I", 2), ("B", 4):
             out["day"] = array(code, [9] * count)
-            self.assertRaises(ValueError, parse_table, TEXT, LEDGER, ";", True, out)
+            self.assertRaises(ValueError, parse_table, TEXT, LEDGER, ";", True, out=out)
         out["day"] = b"1234"
-        self.assertRaises(BufferError, parse_table, TEXT, LEDGER, ";", True, out)
+        self.assertRaises(BufferError, parse_table, TEXT, LEDGER, ";", True, out=out)
         del out["day"]
-        self.assertRaises(KeyError, parse_table, TEXT, LEDGER, ";", True, out)
+        self.assertRaises(KeyError, parse_table, TEXT, LEDGER, ";", True, out=out)
 
     def test_wrong_arguments(self):
         for columns in ({"a": "u128"}, {"a": "u7"}, {"a": "f64"}):
@@ -155,7 +176,7 @@ class Tables(unittest.TestCase):
         before = [sys.getrefcount(values) for values in out.values()]
         for text in [TEXT, b"1;2"] * 200:
             try:
-                parse_table(text, LEDGER, ";", True, out)
+                parse_table(text, LEDGER, ";", True, out=out)
             except ParseError:
                 pass
         self.assertEqual([sys.getrefcount(values) for values in out.values()], before)
@@ -168,9 +189,9 @@ class Tables(unittest.TestCase):
         table = parse_table(TEXT, LEDGER, ";", True)
         self.assertEqual((table["day"].dtype, table["cents"].dtype), (numpy.uint16, numpy.int64))
         out = {"day": numpy.zeros((2, 2), "u2")[:, 0], "cents": numpy.zeros(2, "i8")}
-        self.assertRaises(ValueError, parse_table, TEXT, LEDGER, ";", True, out)
+        self.assertRaises(ValueError, parse_table, TEXT, LEDGER, ";", True, out=out)
         out["day"] = numpy.zeros(2, "u2")
-        parse_table(TEXT, LEDGER, ";", True, out)
+        parse_table(TEXT, LEDGER, ";", True, out=out)
         self.assertEqual(lists(out), {"day": [1, 365], "cents": [-80000, 7]})
 
     def test_without_numpy(self):

@@ -1,5 +1,5 @@
 -- Columns that can be read.
-use Rattle.std.proofs.Common.{◌≡◌, ◌+◌, ℕ, Bool, true, false, cond, List, [], ◌∷◌, length, map, nat_eq, nat_lt, Option, Some, None, refl, arith}
+use Rattle.std.proofs.Common.{◌≡◌, ◌+◌, ℕ, Bool, true, false, cond, List, [], ◌∷◌, length, map, nat_eq, nat_lt, Option, Some, None, refl, arith, ◌||◌, IfSome, ◌*◌, ◌≤◌}
 use Rattle.std.proofs.lemmas.Bool.Decides.{nat_tests}
 use Rattle.std.proofs.Math.IntN.{ℤ, pos}
 use Rattle.lexical_util.specs.Number.{IntegerType}
@@ -9,7 +9,7 @@ use Rattle.lexical_util.specs.declared.error.Error.TheVariants.{Overflow, Underf
 use Rattle.lexical_tables.specs.ByColumn.{AreUsable, IsUsable}
 use Rattle.jadvolni.specs.Effect.{format_status, rule_status, signed, unsigned}
 use Rattle.jadvolni.specs.FormatFields.{are_known, format_of}
-use Rattle.jadvolni.specs.Tables.{column_status, number_type, refused, target_as, target_of, target_status, target_with, wrong_column}
+use Rattle.jadvolni.specs.Tables.{bits_of, column_status, lacks_bits, number_type, refused, target_as, target_of, target_status, target_with, wrong_column}
 use Rattle.jadvolni.specs.declared.format.FormatFields.{FormatFields}
 use Rattle.jadvolni.specs.declared.table_columns.ColumnFields.{ColumnFields}
 use Rattle.jadvolni.specs.declared.table_columns.NumberType.{NumberType}
@@ -41,22 +41,36 @@ valid : (fields : FormatFields) → format_status fields ≡ 0 → fault (format
 valid fields is = no_rule (fault (format_of fields)) (known (are_known fields) (rule_status (fault (format_of fields))) is)
 
 -- what has no status has room, and a valid format
-roomy : (less : Bool) (format : ℕ) → cond less 17 format ≡ 0 → less ≡ false
-roomy true format is = absurd cc
-roomy false format is = refl
+roomy : (less lacks : Bool) (format : ℕ) → cond (less || lacks) 17 format ≡ 0 → less ≡ false
+roomy true lacks format is = absurd cc
+roomy false lacks format is = refl
+
+lacks_none : (less lacks : Bool) (format : ℕ) → cond (less || lacks) 17 format ≡ 0 → lacks ≡ false
+lacks_none true lacks format is = absurd cc
+lacks_none false true format is = absurd cc
+lacks_none false false format is = refl
 
 then_format : (less : Bool) (format : ℕ) → cond less 17 format ≡ 0 → format ≡ 0
 then_format true format is = absurd cc
 then_format false format is = is
+
+bits_roomy : (rows : ℕ) (bits : Option (List ℕ)) → lacks_bits rows bits ≡ false
+    → IfSome bits (λ bytes. rows ≤ 8 * length bytes)
+bits_roomy rows None is = tt
+bits_roomy rows (Some bytes) is = grind (arith, nat_tests)
 
 module _ (rows : ℕ) (column : ColumnFields) where
   with_usable : (type : IntegerType) (numbers : List ℤ)
       → target_status rows (format_status column.format) (target_with column type numbers) ≡ 0
       → IsUsable rows (target_with column type numbers)
   with_usable type numbers is =
-      let not_less = roomy (nat_lt (length numbers) rows) (format_status column.format) is in (
-        valid column.format (then_format (nat_lt (length numbers) rows) (format_status column.format) is),
+      let less = nat_lt (length numbers) rows in
+      let bits = bits_of column.present.now in
+      let lacks = lacks_bits rows bits in
+      let not_less = roomy less lacks (format_status column.format) is in (
+        valid column.format (then_format (less || lacks) (format_status column.format) is),
         grind (arith, nat_tests),
+        bits_roomy rows bits (lacks_none less lacks (format_status column.format) is),
       )
 
   as_usable : (type : Option NumberType)

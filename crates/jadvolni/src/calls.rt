@@ -11,7 +11,9 @@ ghost use Rattle.jadvolni.specs.FormatFields.{are_known, format_of};
 use crate::format::FormatFields;
 use crate::outcome::{Outcome, UNKNOWN_FIELD};
 use crate::slot::Slot;
-use lexical_parse_integer::quick::{complete_if_not_short, front_if_plain, value_if_short};
+use lexical_parse_integer::quick::{
+    complete_if_not_short, complete_under_if_not_short, front_if_plain, value_if_short,
+};
 use lexical_parse_integer::{
     FromLexical, FromLexicalWithOptions, NumberFormatBuilder, Options, Result, format,
     number_in_front, options,
@@ -87,7 +89,7 @@ pub(crate) const UNKNOWN: Outcome = Outcome {
     place: 0,
 };
 
-// The whole text, under a format that is made field by field.
+// The whole text, under a format that is made field by field: a plain decimal one has been asked for a short text.
 #[inline(never)]
 fn complete_under_any<T: FromLexicalWithOptions<Options = Options>, S: Slot<T>>(
     text: &[u8],
@@ -100,7 +102,7 @@ fn complete_under_any<T: FromLexicalWithOptions<Options = Options>, S: Slot<T>>(
     if !fields.are_known() {
         return UNKNOWN;
     }
-    let answer = T::from_lexical_with_options(text, &fields.format(), &options::STANDARD);
+    let answer = complete_under_if_not_short::<T>(text, &fields.format());
     store(answer, text.len(), value)
 }
 

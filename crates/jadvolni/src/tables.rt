@@ -12,20 +12,21 @@ use lexical_tables::{CellFault, Dialect, Table, TableError, read_columns_part};
 /// How a table is written: `jadvolni_table` in C, where each field is described.
 #[repr(C)]
 #[derive(Copy, Clone)]
-pub struct TableFields {
+pub struct TableFields<'a> {
     pub separator: u8,
     pub has_returns: u8,
-    pub reserved: [u8; 30],
+    pub has_quotes: u8,
+    pub allows_blanks: u8,
+    pub skips_empty_rows: u8,
+    pub reserved: [u8; 11],
+    pub missing: &'a [u8],
 }
 
-impl TableFields {
-    // Whether the bytes that are kept for later versions are 0.
-    #[tactic(auto, using(crate::proofs::ZeroBytes::thirty_zeros))]
-    fn are_known(&self) -> bool
-        ensures { result ≡ are_zeros self.now.reserved }
-    {
-        self.reserved == [0; 30]
-    }
+// Whether the bytes that are kept for later versions are 0.
+fn are_zeros(bytes: [u8; 11]) -> bool
+    ensures { result ≡ are_zeros bytes }
+{
+    bytes == [0; 11]
 }
 
 /// What is answered of a table: `jadvolni_table_result` in C.
@@ -60,6 +61,7 @@ fn cell_outcome(fault: CellFault) -> (u32, usize)
         CellFault::TooFewCells(place) => (14, place),
         CellFault::TooManyCells(place) => (15, place),
         CellFault::MissingReturn(place) => (16, place),
+        CellFault::MisplacedQuote(place) => (18, place),
     }
 }
 
@@ -108,14 +110,14 @@ fn wrong_column(columns: &[ColumnFields<'_>], rows: usize) -> Option<TableOutcom
 pub extern "C" fn jadvolni_parse_table(
     text: &[u8],
     is_last: bool,
-    table: &TableFields,
+    table: &TableFields<'_>,
     rows: usize,
     columns: &mut [ColumnFields<'_>],
 ) -> TableOutcome
     ensures { table_effect result columns.new
         ≡ table_call table.now is_last rows text.now columns.old }
 {
-    if !table.are_known() {
+    if !are_zeros(table.reserved) {
         return refused(INVALID_TABLE, 0);
     }
     if let Some(wrong) = wrong_column(columns, rows) {
@@ -125,6 +127,10 @@ pub extern "C" fn jadvolni_parse_table(
         separator: table.separator,
         columns: columns.len(),
         has_returns: table.has_returns != 0,
+        has_quotes: table.has_quotes != 0,
+        allows_blanks: table.allows_blanks != 0,
+        skips_empty_rows: table.skips_empty_rows != 0,
+        missing: table.missing,
     };
     outcome_of(read_columns_part(text, is_last, &dialect, &options::STANDARD, rows, columns))
 }

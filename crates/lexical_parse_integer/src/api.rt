@@ -4,7 +4,7 @@ ghost use Rattle.lexical_util.specs.Format.{standard};
 ghost use Rattle.lexical_parse_integer.specs.Answer.{with_place, view_of};
 ghost use Rattle.lexical_parse_integer.specs.Grammar.{complete, complete_if_valid, partial, partial_if_valid};
 
-mod impls;
+pub(crate) mod impls;
 
 use crate::algorithm::{algorithm_complete, algorithm_partial};
 use crate::options;

@@ -10,6 +10,7 @@ pub use crate::algorithm::plain::fields::{field_in_front, is_separated};
 pub use crate::algorithm::plain::{front_if_plain, value_if_short};
 use crate::algorithm::standard_complete;
 use crate::api::FromLexical;
+pub use crate::api::impls::complete_under_if_not_short;
 use lexical_util::result::Result;
 
 /// The integer that the whole text stands for under the standard format, for a text that `value_if_short` has left: one

@@ -5,22 +5,38 @@ use Rattle.lexical_util.specs.declared.error.Error.TheVariants.{Empty, InvalidDi
 use Rattle.lexical_util.specs.Format.{standard}
 use Rattle.lexical_util.specs.Number.{integer_type}
 use Rattle.lexical_parse_integer.specs.Computed.{grammar}
-use Rattle.lexical_tables.specs.ByColumn.{Kind, columns_answer, columns_put, kinds_of, wrong_cell}
+use Rattle.lexical_tables.specs.ByColumn.{columns_answer, columns_put, kinds_of, wrong_cell}
+use Rattle.lexical_tables.specs.Cells.{Kind}
+use Rattle.lexical_tables.specs.Header.{behind_lines}
+use Rattle.lexical_tables.specs.Parts.{readable}
 use Rattle.lexical_tables.specs.Targets.{TargetView}
 use Rattle.lexical_tables.specs.declared.answers.CellFault.TheVariants.{MissingReturn, NotNumber, TooFewCells, TooManyCells}
 use Rattle.lexical_tables.specs.declared.dialect.Dialect.{Dialect}
 
--- four columns between commas
+-- so many columns between commas, with returns or without, and nothing else
+abbrev pub plain : ℕ → Bool → Dialect
+plain columns has_returns = record {
+  separator = 44;
+  columns = columns;
+  has_returns = has_returns;
+  has_quotes = false;
+  allows_blanks = false;
+  skips_empty_rows = false;
+  missing = record { ref_ptr = (0, 0); now = [] };
+}
+
+-- four columns
 abbrev four : Dialect
-four = record { separator = 44; columns = 4; has_returns = false }
+four = plain 4 false
 
 -- the first column is read as `u8`, the third as hexadecimal `i8`, the second and the fourth aren't read
 abbrev targets : List ℤ → List ℤ → List (Option TargetView)
-targets first third = Some (record { format = standard; type = integer_type 8 false; numbers = first })
+targets first third = Some (record { format = standard; type = integer_type 8 false; numbers = first; present = None })
     ∷ None ∷ Some (record {
       format = record standard { mantissa_radix = 16 };
       type = integer_type 8 true;
       numbers = third;
+      present = None;
     }) ∷ []
 
 -- three places in each slice
@@ -64,11 +80,11 @@ empty_last = refl
 
 abbrev both : List (Option Kind)
 both =
-    Some (record { format = standard; type = integer_type 8 false })
-    ∷ Some (record { format = standard; type = integer_type 8 false }) ∷ []
+    Some (record { format = standard; type = integer_type 8 false; may_miss = false })
+    ∷ Some (record { format = standard; type = integer_type 8 false; may_miss = false }) ∷ []
 
 abbrev pairs : Bool → Dialect
-pairs has_returns = record { separator = 44; columns = 2; has_returns = has_returns }
+pairs has_returns = plain 2 has_returns
 
 -- lines with a line feed, and with a return in front of it
 abbrev line : List ℕ → List ℕ
@@ -143,7 +159,7 @@ number_first : columns_answer both (pairs false) 4 (line (codes "1,x,3"))
 unfolding grammar columns_answer
 number_first = refl
 
--- quotes have no meaning
+-- quotes have no meaning without being asked for
 quotes : columns_answer both (pairs false) 4 (codes "1,\"2\"")
     ≡ Err (wrong_cell 0 1 (NotNumber (InvalidDigit 2)))
 unfolding grammar columns_answer
@@ -184,3 +200,81 @@ digit_separator : columns_answer both (record (pairs false) { separator = 48 }) 
     ≡ Ok (record { rows = 1; stop = 4 })
 unfolding grammar columns_answer
 digit_separator = refl
+
+-- ---- empty rows that are skipped
+
+abbrev spaced : Bool → Dialect
+spaced has_returns = record (pairs has_returns) { skips_empty_rows = true }
+
+-- they aren't counted, and what stops behind them is the next row
+skipped : columns_answer both (spaced false) 1 (line [] ++ line (codes "1,2") ++ line [] ++ line [] ++ codes "x")
+    ≡ Ok (record { rows = 1; stop = 7 })
+unfolding grammar columns_answer
+skipped = refl
+
+-- or the end of the text
+skipped_last : columns_answer both (spaced false) 2 (line (codes "1,2") ++ line []) ≡ Ok (record { rows = 1; stop = 5 })
+unfolding grammar columns_answer
+skipped_last = refl
+
+-- a fault is in its row of those that count, and at its place in the text
+behind_skipped : columns_answer both (spaced false) 2 (line [] ++ line (codes "1,2") ++ line [] ++ codes "3,x")
+    ≡ Err (wrong_cell 1 1 (NotNumber (InvalidDigit 8)))
+unfolding grammar columns_answer
+behind_skipped = refl
+
+-- with returns a row of one is empty, and so is one that lacks it, but not a return that no line feed follows
+skipped_returns : columns_answer both (spaced true) 2 (returned [] ++ line [] ++ returned (codes "1,2") ++ 13 ∷ [])
+    ≡ Err (wrong_cell 1 0 (NotNumber (InvalidDigit 8)))
+unfolding grammar columns_answer
+skipped_returns = refl
+
+-- ---- quotes
+
+abbrev quoted : Dialect
+quoted = record (pairs false) { has_quotes = true }
+
+-- the first column is read
+abbrev first : List (Option Kind)
+first = Some (record { format = standard; type = integer_type 8 false; may_miss = false }) ∷ []
+
+-- within quotes a separator parts no cells, and a line feed ends no row
+within_quotes : columns_answer first quoted 4 (line (codes "1,\"a,b" ++ 10 ∷ codes "c\"") ++ codes "2,")
+    ≡ Ok (record { rows = 2; stop = 12 })
+unfolding grammar columns_answer
+within_quotes = refl
+
+-- nor within two that stand beside each other, but between them
+doubled_quotes : columns_answer first quoted 4 (line (codes "1,\"a\"\",b\"") ++ line (codes "2,\"\""))
+    ≡ Ok (record { rows = 2; stop = 15 })
+unfolding grammar columns_answer
+doubled_quotes = refl
+
+-- a place behind quotes counts all bytes
+behind_quotes : columns_answer first quoted 4 (line (codes "1,\"" ++ 10 ∷ codes "\"") ++ codes "2x,")
+    ≡ Err (wrong_cell 1 0 (NotNumber (InvalidDigit 7)))
+unfolding grammar columns_answer
+behind_quotes = refl
+
+-- a row whose quotes are closed is whole, whatever stands within them
+whole_quoted : readable false true (line (codes "1,\"" ++ 10 ∷ codes "\"") ++ codes "2,\"" ++ 10 ∷ [])
+    ≡ line (codes "1,\"" ++ 10 ∷ codes "\"")
+whole_quoted = refl
+
+-- ---- headers
+
+-- a line ends at a line feed outside quotes
+header : behind_lines true 1 (line (codes "\"width" ++ 10 ∷ codes "in mm\",2") ++ codes "1,2") ≡ codes "1,2"
+header = refl
+
+-- where a quote never closes, at any line feed
+stray_quote : behind_lines true 1 (line (codes "width 5\"") ++ line (codes "1,\"a\"")) ≡ line (codes "1,\"a\"")
+stray_quote = refl
+
+-- without quotes at each
+plain_header : behind_lines false 2 (line (codes "\"width") ++ line (codes "in mm\"") ++ codes "1") ≡ codes "1"
+plain_header = refl
+
+-- a text may have fewer
+short_header : behind_lines true 3 (line (codes "a") ++ codes "b") ≡ []
+short_header = refl

@@ -1,29 +1,29 @@
 -- A row whose cells go into targets, one cell after another.
-use Rattle.std.proofs.Common.{◌≡◌, ◌∙◌, ℕ, suc, ◌+◌, ◌-◌, ◌<◌, ◌≤◌, List, [], ◌∷◌, ◌++◌, length, take, drop, Bool, true, false, not, cond, eqb, eq-eqb, ℤ, Result, Option, Some, None, Ok, Err, refl, ap, ap₂, sym, subst, arith, inl, inr, ◌⊎◌, length-append, length-take-le, take-append-drop}
+use Rattle.std.proofs.Common.{◌≡◌, ◌∙◌, ℕ, suc, ◌+◌, ◌-◌, ◌<◌, ◌≤◌, List, [], ◌∷◌, ◌++◌, length, take, drop, Bool, true, false, not, cond, eqb, ℤ, Result, Option, Some, None, Ok, Err, refl, ap, ap₂, sym, subst, arith, inl, inr, ◌⊎◌, length-take-le, take-append-drop}
 use Rattle.std.specs.Bool.{then_some}
-use Rattle.std.proofs.lemmas.Bool.Decides.{eqb_tells}
-use Rattle.std.proofs.lemmas.List.{drop_all, drop-append-le, drop-drop, take-append-le, take_all}
-use Rattle.lexical_util.specs.declared.error.Error.{Error}
+use Rattle.std.proofs.lemmas.List.{drop_all, drop-drop, take_all}
 use Rattle.lexical_fields.specs.Columns as columns
-use Rattle.lexical_fields.specs.Fields.{FieldView, field_length, fields_from}
-use Rattle.lexical_fields.proofs.FieldSteps.{next_field}
-use Rattle.lexical_tables.specs.ByColumn.{AreUsable, Kind, answer_at, cell_answers, cells_of, end_fault, fault_in, fault_of, first_start, kinds_of, put_at, put_row, row_answers, row_fault, row_values, value_in, wrong_cell}
+use Rattle.lexical_fields.specs.Fields.{FieldView}
+use Rattle.lexical_tables.specs.ByColumn.{AreUsable, answer_at, cell_answers, cells_of, end_fault, fault_in, fault_of, first_start, kinds_of, put_read_at, put_row, row_answers, row_fault, row_values, wrong_cell}
+use Rattle.lexical_tables.specs.Cells.{Kind}
+use Rattle.lexical_tables.specs.Quotes.{length_outside, pieces_outside}
 use Rattle.lexical_tables.specs.Rows.{RowView}
 use Rattle.lexical_tables.specs.Targets.{TargetView}
-use Rattle.lexical_tables.specs.declared.answers.CellFault.TheVariants.{NotNumber}
+use Rattle.lexical_tables.specs.declared.answers.CellFault.{CellFault}
 use Rattle.lexical_tables.specs.declared.answers.TableError.{TableError}
 use Rattle.lexical_tables.specs.declared.dialect.Dialect.{Dialect}
+use Rattle.lexical_tables.proofs.OutsideSteps.{next_piece, outside_within}
 use Rattle.lexical_tables.proofs.PutSteps.{answers_go, kinds_put, put_nothing, row_goes, use_put}
 
 -- what is left of a row, as cells at their places in the text: none, if its last cell was read
 abbrev pub left_in : Dialect → RowView → Bool → List ℕ → List FieldView
 left_in d row ended rest =
-    cond ended [] (fields_from d.separator (row.start + (length row.text - length rest)) (rest ++ d.separator ∷ []))
+    cond ended [] (pieces_outside d.has_quotes d.separator (row.start + (length row.text - length rest)) rest)
 
 -- what those of them stand for that have a column
-abbrev pub answers_left : List (Option Kind) → Dialect → RowView → ℕ → Bool → List ℕ → List (Result (Option ℤ) Error)
+abbrev pub answers_left : List (Option Kind) → Dialect → RowView → ℕ → Bool → List ℕ → List (Result (Option ℤ) CellFault)
 answers_left kinds d row column ended rest =
-    cell_answers (drop column kinds) (take (d.columns - column) (left_in d row ended rest))
+    cell_answers d (drop column kinds) (take (d.columns - column) (left_in d row ended rest))
 
 -- So many cells of a row were read, and what is read of those that are left, with them, is what is read of the row.
 pub record IsRowPut (kinds : List (Option Kind)) (d : Dialect) (index : ℕ) (row : RowView)
@@ -55,9 +55,9 @@ row_starts kinds d index row old same usable =
     let place : row.start + (length row.text - length row.text) ≡ row.start = omega arith in
     let all : d.columns - 0 ≡ d.columns = omega arith in
     let cells : left_in d row false row.text ≡ cells_of d row =
-    ap (λ p. fields_from d.separator p (row.text ++ d.separator ∷ [])) place in
+    ap (λ p. pieces_outside d.has_quotes d.separator p row.text) place in
     let answers : answers_left kinds d row 0 false row.text ≡ row_answers kinds d row =
-    ap₂ (λ n l. cell_answers kinds (take n l)) all cells in
+    ap₂ (λ n l. cell_answers d kinds (take n l)) all cells in
     record {
       within = omega arith;
       few = omega arith;
@@ -70,64 +70,22 @@ row_starts kinds d index row old same usable =
       first = ap columns.first_fault answers;
     }
 
--- ---- the first cell of what is left
-
--- a separator that is added changes no first field
-length_behind : (s : ℕ) (bs : List ℕ) → field_length s (bs ++ s ∷ []) ≡ field_length s bs
-length_behind s [] = by_test (eqb s s) (eq-eqb s s refl)
-  where
-    by_test : (t : Bool) → t ≡ true → ◌≡◌ {A = ℕ} (cond (not t) 1 0) 0
-    by_test true is = refl
-    by_test false is = absurd cc
-length_behind s (b ∷ bs) = ap (λ n. cond (not (eqb b s)) (1 + n) 0) (length_behind s bs)
-
--- the cells behind the first, by whether that is the last
-abbrev behind_first : ℕ → ℕ → Bool → List ℕ → List FieldView
-behind_first s place ended behind = cond ended [] (fields_from s place (behind ++ s ∷ []))
-
-next_cell : (s p : ℕ) (rest cell behind : List ℕ) → cell ≡ take (field_length s rest) rest
-    → behind ≡ drop (field_length s rest + 1) rest → length cell ≡ field_length s rest → length cell ≤ length rest
-    → fields_from s p (rest ++ s ∷ []) ≡ record { start = p; text = cell }
-    ∷ behind_first s (p + (length rest - length behind)) (eqb (length cell) (length rest)) behind
-next_cell s p rest cell behind front back sized within =
-    let bs = rest ++ s ∷ [] in
-    let n = field_length s rest in
-    let same = length_behind s rest in
-    let long : length bs ≡ length rest + 1 = length-append rest (s ∷ []) in
-    let low : n ≤ length rest = omega (arith, sized) in
-    let cell_is : cell ≡ take (field_length s bs) bs =
-    front ∙ sym (take-append-le n rest (s ∷ []) low) ∙ ap (λ k. take k bs) (sym same) in
-    let rest_of : drop (field_length s bs + 1) bs ≡ drop (n + 1) bs = ap (λ k. drop (k + 1) bs) same in
-    elim (eqb_tells (length cell) (length rest)) [
-      | inl is ↦
-          let none : [] ≡ drop (field_length s bs + 1) bs =
-          sym (rest_of ∙ drop_all (n + 1) bs (omega (arith, is.1, sized, long))) in
-          next_field s p bs cell [] (omega (arith, long)) cell_is none
-          ∙ ap (λ t. record { start = p; text = cell } ∷ behind_first s (p + (length rest - length behind)) t behind) (sym is.0)
-      | inr is ↦
-          let less : n < length rest = omega (arith, is.1, sized, within) in
-          let left : behind ++ s ∷ [] ≡ drop (field_length s bs + 1) bs =
-          ap (λ l. l ++ s ∷ []) back ∙ sym (drop-append-le (n + 1) rest (s ∷ []) (omega arith)) ∙ sym rest_of in
-          let behind_long : length (behind ++ s ∷ []) ≡ length behind + 1 = length-append behind (s ∷ []) in
-          let at : p + (length bs - length (behind ++ s ∷ [])) ≡ p + (length rest - length behind) =
-          omega (arith, long, behind_long) in
-          next_field s p bs cell (behind ++ s ∷ []) (omega (arith, long)) cell_is left
-          ∙ ap (λ k. record { start = p; text = cell } ∷ fields_from s k (behind ++ s ∷ [])) at
-          ∙ ap (λ t. record { start = p; text = cell } ∷ behind_first s (p + (length rest - length behind)) t behind) (sym is.0)
-    ]
-
 -- answers by their faults
-ok_of : (answer : Result (Option ℤ) Error) → None ≡ fault_in answer → answer ≡ Ok (value_in answer)
+abbrev value_in : Result (Option ℤ) CellFault → Option ℤ
+value_in (Ok value) = value
+value_in (Err fault) = None
+
+ok_of : (answer : Result (Option ℤ) CellFault) → None ≡ fault_in answer → answer ≡ Ok (value_in answer)
 ok_of (Ok value) none = refl
 ok_of (Err error) none = absurd cc
 
-err_of : (answer : Result (Option ℤ) Error) (error : Error) → Some error ≡ fault_in answer → answer ≡ Err error
-err_of (Ok value) error some = absurd cc
-err_of (Err other) error some = cc
+err_of : (answer : Result (Option ℤ) CellFault) (fault : CellFault) → Some fault ≡ fault_in answer → answer ≡ Err fault
+err_of (Ok value) fault some = absurd cc
+err_of (Err other) fault some = cc
 
-no_answers : (kinds : List (Option Kind)) → cell_answers kinds [] ≡ []
-no_answers [] = refl
-no_answers (kind ∷ kinds) = refl
+no_answers : (d : Dialect) (kinds : List (Option Kind)) → cell_answers d kinds [] ≡ []
+no_answers d [] = refl
+no_answers d (kind ∷ kinds) = refl
 
 take_none : {X : Type 0} (n : ℕ) → take {A = X} n [] ≡ []
 take_none {X} n = take_all n [] (omega arith)
@@ -141,12 +99,12 @@ module _ (kinds : List (Option Kind)) (d : Dialect) (index : ℕ) (row : RowView
     (column : ℕ) (ended : Bool) (rest : List ℕ) (reading : IsRowPut kinds d index row old now column ended rest) where
   none_left : (ended ≡ true) ⊎ (d.columns ≤ column) → answers_left kinds d row column ended rest ≡ []
   none_left (inl e) =
-      ap (λ t. cell_answers (drop column kinds) (take (d.columns - column) (left_in d row t rest))) e
-      ∙ ap (cell_answers (drop column kinds)) (take_none (d.columns - column)) ∙ no_answers (drop column kinds)
+      ap (λ t. cell_answers d (drop column kinds) (take (d.columns - column) (left_in d row t rest))) e
+      ∙ ap (cell_answers d (drop column kinds)) (take_none (d.columns - column)) ∙ no_answers d (drop column kinds)
   none_left (inr full) =
       let none : d.columns - column ≡ 0 = omega arith in
-      ap (λ n. cell_answers (drop column kinds) (take n (left_in d row ended rest))) none
-      ∙ no_answers (drop column kinds)
+      ap (λ n. cell_answers d (drop column kinds) (take n (left_in d row ended rest))) none
+      ∙ no_answers d (drop column kinds)
 
   count_is : (ended ≡ true) ⊎ (d.columns ≤ column) → length (take d.columns (cells_of d row)) ≡ column
   count_is (inl e) =
@@ -174,13 +132,15 @@ module _ (kinds : List (Option Kind)) (d : Dialect) (index : ℕ) (row : RowView
           let at : d.columns ≡ column = omega (arith, reading.few) in
           ap (λ n. first_start (drop n (cells_of d row))) at
           ∙ ap first_start (reading.place ∙ ap (λ t. left_in d row t rest) is)
-          ∙ starts (rest ++ d.separator ∷ []) (omega (arith, length-append rest (d.separator ∷ [])))
+          ∙ starts rest
         where
-          starts : (bs : List ℕ) → 0 < length bs
-              → first_start (fields_from d.separator (row.start + (length row.text - length rest)) bs)
+          starts : (bs : List ℕ)
+              → first_start (pieces_outside d.has_quotes d.separator (row.start + (length row.text - length rest)) bs)
               ≡ Some (row.start + (length row.text - length rest))
-          starts bs some =
-              ap first_start (next_field d.separator (row.start + (length row.text - length rest)) bs _ _ some refl refl)
+          starts bs =
+              let n = length_outside d.has_quotes d.separator bs in
+              ap first_start (next_piece d.has_quotes d.separator (row.start + (length row.text - length rest)) bs
+              (take n bs) (drop (n + 1) bs) refl refl (length-take-le n bs (outside_within d.has_quotes d.separator bs)))
 
   -- no cell more
   pub row_ends : (answer : Option TableError) (extra : Option ℕ) → (ended ≡ true) ⊎ (d.columns ≤ column)
@@ -201,9 +161,9 @@ module _ (kinds : List (Option Kind)) (d : Dialect) (index : ℕ) (row : RowView
       }
 
   module _ (cell behind : List ℕ) (some : ended ≡ false) (more : column < d.columns)
-      (front : cell ≡ take (field_length d.separator rest) rest)
-      (back : behind ≡ drop (field_length d.separator rest + 1) rest)
-      (sized : length cell ≡ field_length d.separator rest) (short : length cell ≤ length rest)
+      (front : cell ≡ take (length_outside d.has_quotes d.separator rest) rest)
+      (back : behind ≡ drop (length_outside d.has_quotes d.separator rest + 1) rest)
+      (sized : length cell ≡ length_outside d.has_quotes d.separator rest) (short : length cell ≤ length rest)
       (shorter : length behind ≤ length rest) where
     next_place : left_in d row ended rest
         ≡ record { start = row.start + (length row.text - length rest); text = cell }
@@ -213,27 +173,27 @@ module _ (kinds : List (Option Kind)) (d : Dialect) (index : ℕ) (row : RowView
         let at : place + (length rest - length behind) ≡ row.start + (length row.text - length behind) =
         omega (arith, reading.within) in
         ap (λ t. left_in d row t rest) some
-        ∙ next_cell d.separator place rest cell behind front back sized short
+        ∙ next_piece d.has_quotes d.separator place rest cell behind front back sized
         ∙ ap (λ p. record { start = place; text = cell }
-        ∷ behind_first d.separator p (eqb (length cell) (length rest)) behind) at
+        ∷ cond (eqb (length cell) (length rest)) [] (pieces_outside d.has_quotes d.separator p behind)) at
 
     next : answers_left kinds d row column ended rest
-        ≡ answer_at kinds column (record { start = row.start + (length row.text - length rest); text = cell })
+        ≡ answer_at d kinds column (record { start = row.start + (length row.text - length rest); text = cell })
         ∷ answers_left kinds d row (column + 1) (eqb (length cell) (length rest)) behind
     next =
         let place = row.start + (length row.text - length rest) in
         let left = left_in d row (eqb (length cell) (length rest)) behind in
         let one : d.columns - column ≡ suc (d.columns - (column + 1)) = omega arith in
         let plus : suc column ≡ column + 1 = omega arith in
-        ap₂ (λ n l. cell_answers (drop column kinds) (take n l)) one next_place
-        ∙ answers_go kinds column (record { start = place; text = cell }) (take (d.columns - (column + 1)) left)
-        ∙ ap (λ k. answer_at kinds column (record { start = place; text = cell })
-        ∷ cell_answers (drop k kinds) (take (d.columns - (column + 1)) left)) plus
+        ap₂ (λ n l. cell_answers d (drop column kinds) (take n l)) one next_place
+        ∙ answers_go d kinds column (record { start = place; text = cell }) (take (d.columns - (column + 1)) left)
+        ∙ ap (λ k. answer_at d kinds column (record { start = place; text = cell })
+        ∷ cell_answers d (drop k kinds) (take (d.columns - (column + 1)) left)) plus
 
     -- one cell more
     pub cell_goes : (new : List (Option TargetView)) (value : Option ℤ)
-        → answer_at kinds column (record { start = row.start + (length row.text - length rest); text = cell }) ≡ Ok value
-        → new ≡ put_at index column value now
+        → answer_at d kinds column (record { start = row.start + (length row.text - length rest); text = cell }) ≡ Ok value
+        → new ≡ put_read_at index column (Ok value) now
         → IsRowPut kinds d index row old new (column + 1) (eqb (length cell) (length rest)) behind
     cell_goes new value told are =
         let later = columns.values_before_fault (answers_left kinds d row (column + 1) (eqb (length cell) (length rest)) behind) in
@@ -245,8 +205,8 @@ module _ (kinds : List (Option Kind)) (d : Dialect) (index : ℕ) (row : RowView
           few = omega arith;
           place = sym (drop-drop 1 column (cells_of d row)) ∙ ap (drop 1) (reading.place ∙ next_place);
           counted = omega (arith, reading.counted, ap length next_place);
-          kinds_are = ap kinds_of are ∙ kinds_put index column value now ∙ reading.kinds_are;
-          usable = subst (AreUsable (index + 1)) (sym are) (use_put (index + 1) index column value now reading.usable);
+          kinds_are = ap kinds_of are ∙ kinds_put index column (Ok value) now ∙ reading.kinds_are;
+          usable = subst (AreUsable (index + 1)) (sym are) (use_put (index + 1) index column (Ok value) now reading.usable);
           values =
               ap₂ (λ n l. take n l ++ put_row index later (drop n l)) plus are
               ∙ sym (row_goes index column value later now)
@@ -256,20 +216,20 @@ module _ (kinds : List (Option Kind)) (d : Dialect) (index : ℕ) (row : RowView
           first = ap columns.first_fault (sym at) ∙ reading.first;
         }
 
-    -- a cell that is no number
-    pub cell_fault : (new : List (Option TargetView)) (error : Error)
-        → answer_at kinds column (record { start = row.start + (length row.text - length rest); text = cell }) ≡ Err error
-        → new ≡ now → IsRowDone kinds d index row old new (Some (wrong_cell index column (NotNumber error)))
-    cell_fault new error told same =
-        let at : answers_left kinds d row column ended rest ≡ Err error ∷ answers_left kinds d row (column + 1) (eqb (length cell) (length rest)) behind =
+    -- a wrong cell
+    pub cell_fault : (new : List (Option TargetView)) (fault : CellFault)
+        → answer_at d kinds column (record { start = row.start + (length row.text - length rest); text = cell }) ≡ Err fault
+        → new ≡ now → IsRowDone kinds d index row old new (Some (wrong_cell index column fault))
+    cell_fault new fault told same =
+        let at : answers_left kinds d row column ended rest ≡ Err fault ∷ answers_left kinds d row (column + 1) (eqb (length cell) (length rest)) behind =
         next ∙ ap (λ a. a ∷ answers_left kinds d row (column + 1) (eqb (length cell) (length rest)) behind) told in
-        let first : columns.first_fault (row_answers kinds d row) ≡ Some error =
+        let first : columns.first_fault (row_answers kinds d row) ≡ Some fault =
         sym reading.first ∙ ap columns.first_fault at in
         let count : column ≡ length (row_values kinds d row) =
         omega (arith, reading.size, ap (λ l. length (columns.values_before_fault l)) at) in
         record {
           fault_is =
-              ap (λ n. Some (wrong_cell index n (NotNumber error))) count
+              ap (λ n. Some (wrong_cell index n fault)) count
               ∙ ap (fault_of d index row (length (row_values kinds d row))) (sym first);
           targets_are =
               same ∙ sym (take-append-drop column now)
@@ -278,23 +238,26 @@ module _ (kinds : List (Option Kind)) (d : Dialect) (index : ℕ) (row : RowView
         }
 
     -- the cell that was read, by what is answered of it
-    abbrev answer_here : Result (Option ℤ) Error
-    answer_here = answer_at (kinds_of now) column (record { start = row.start + (length row.text - length rest); text = cell })
+    abbrev answer_here : Result (Option ℤ) CellFault
+    answer_here = answer_at d (kinds_of now) column (record { start = row.start + (length row.text - length rest); text = cell })
 
-    as_here : answer_at kinds column (record { start = row.start + (length row.text - length rest); text = cell }) ≡ answer_here
+    as_here : answer_at d kinds column (record { start = row.start + (length row.text - length rest); text = cell }) ≡ answer_here
     as_here =
-        ap (λ k. answer_at k column (record { start = row.start + (length row.text - length rest); text = cell }))
+        ap (λ k. answer_at d k column (record { start = row.start + (length row.text - length rest); text = cell }))
         (sym reading.kinds_are)
 
     pub after_cell : (new : List (Option TargetView)) → None ≡ fault_in answer_here
-        → new ≡ put_at index column (value_in answer_here) now
+        → new ≡ put_read_at index column answer_here now
         → IsRowPut kinds d index row old new (column + 1) (eqb (length cell) (length rest)) behind
-    after_cell new none are = cell_goes new (value_in answer_here) (as_here ∙ ok_of answer_here none) are
+    after_cell new none are =
+        let right = ok_of answer_here none in
+        cell_goes new (value_in answer_here) (as_here ∙ right)
+        (are ∙ ap (λ a. put_read_at index column a now) right)
 
-    pub after_fault : (new : List (Option TargetView)) (error : Error) → Some error ≡ fault_in answer_here
-        → new ≡ put_at index column (value_in answer_here) now
-        → IsRowDone kinds d index row old new (Some (wrong_cell index column (NotNumber error)))
-    after_fault new error told are =
-        let wrong = err_of answer_here error told in
-        cell_fault new error (as_here ∙ wrong)
-        (are ∙ ap (λ a. put_at index column (value_in a) now) wrong ∙ put_nothing index column now)
+    pub after_fault : (new : List (Option TargetView)) (fault : CellFault) → Some fault ≡ fault_in answer_here
+        → new ≡ put_read_at index column answer_here now
+        → IsRowDone kinds d index row old new (Some (wrong_cell index column fault))
+    after_fault new fault told are =
+        let wrong = err_of answer_here fault told in
+        cell_fault new fault (as_here ∙ wrong)
+        (are ∙ ap (λ a. put_read_at index column a now) wrong ∙ put_nothing index column fault now)

@@ -1,23 +1,22 @@
 -- A table whose columns go into targets, one row after another.
-use Rattle.std.proofs.Common.{◌≡◌, ◌∙◌, ℕ, suc, ◌+◌, ◌-◌, ◌<◌, ◌≤◌, List, [], ◌∷◌, length, take, drop, map, cond, Result, Option, Some, None, Ok, Err, refl, ap, ap₂, sym, subst, arith, inl, inr, ◌⊎◌}
+use Rattle.std.proofs.Common.{◌≡◌, ◌∙◌, ℕ, suc, ◌+◌, ◌-◌, ◌<◌, ◌≤◌, List, [], ◌∷◌, length, take, drop, cond, Result, Option, Some, None, Ok, Err, refl, ap, ap₂, sym, subst, arith, inl, inr, ◌⊎◌}
 use Rattle.std.specs.Prelude.{IfOk, is_none}
 use Rattle.std.proofs.lemmas.List.{drop_all, drop-drop, take_all}
-use Rattle.lexical_fields.specs.Columns.{next_start}
-use Rattle.lexical_fields.specs.Fields.{field_length, fields, fields_from}
-use Rattle.lexical_fields.specs.ReadSoFar.{left_of}
-use Rattle.lexical_fields.proofs.ColumnSteps.{start_of_left, tail_goes}
+use Rattle.lexical_fields.proofs.ColumnSteps.{tail_goes}
 use Rattle.lexical_tables.specs.ByColumn.{AreUsable, StopsAt, columns_answer, columns_put, first_fault, first_of, kinds_of, put_row, put_rows, row_fault, row_values, unless, values_to_fault}
-use Rattle.lexical_tables.specs.Rows.{RowView, line_feed, row_of, rows}
+use Rattle.lexical_tables.specs.Quotes.{length_outside}
+use Rattle.lexical_tables.specs.Rows.{FirstCounts, RowView, line_feed, next_start, row_of, rows, rows_from}
 use Rattle.lexical_tables.specs.Targets.{TargetView}
 use Rattle.lexical_tables.specs.declared.answers.Table.{Table}
 use Rattle.lexical_tables.specs.declared.answers.TableError.{TableError}
 use Rattle.lexical_tables.specs.declared.dialect.Dialect.{Dialect}
-use Rattle.lexical_tables.proofs.LineSteps.{next_left, none_of}
+use Rattle.lexical_tables.proofs.LineSteps.{none_of}
 use Rattle.lexical_tables.proofs.PutSteps.{kinds_put_row, use_less, use_put_row}
+use Rattle.lexical_tables.proofs.RowSteps.{HasRowsOf, next_row, no_rows, start_of_rows, tail_of_tail}
 
 -- the rows of what is left of a text
 abbrev rows_left : Dialect → List ℕ → List ℕ → List RowView
-rows_left d text rest = map (row_of d.has_returns (length text)) (left_of line_feed text rest)
+rows_left d text rest = rows_from d (length text - length rest) rest
 
 -- the rows that are left to read, of so many at most
 abbrev pub left_to_read : Dialect → ℕ → List ℕ → ℕ → List ℕ → List RowView
@@ -29,36 +28,37 @@ pub record IsTablePut (d : Dialect) (room : ℕ) (text : List ℕ) (old now : Li
   pub within : length rest ≤ length text
   pub few : count ≤ room
   pub tail : rest ≡ drop (length text - length rest) text
-  pub place : drop count (fields line_feed text) ≡ left_of line_feed text rest
-  pub counted : count + length (left_to_read d room text count rest) ≡ length (take room (rows d.has_returns text))
+  pub first_counts : FirstCounts d rest
+  pub place : drop count (rows d text) ≡ rows_left d text rest
+  pub counted : count + length (left_to_read d room text count rest) ≡ length (take room (rows d text))
   pub kinds_are : kinds_of now ≡ kinds_of old
   pub usable : AreUsable room now
   pub values : put_rows count (values_to_fault (kinds_of old) d count (left_to_read d room text count rest)) now
-      ≡ put_rows 0 (values_to_fault (kinds_of old) d 0 (take room (rows d.has_returns text))) old
+      ≡ put_rows 0 (values_to_fault (kinds_of old) d 0 (take room (rows d text))) old
   pub first : first_fault (kinds_of old) d count (left_to_read d room text count rest)
-      ≡ first_fault (kinds_of old) d 0 (take room (rows d.has_returns text))
+      ≡ first_fault (kinds_of old) d 0 (take room (rows d text))
 
 -- What is answered of a text, and what the targets then are.
 pub record IsTableDone (d : Dialect) (room : ℕ) (text : List ℕ) (old now : List (Option TargetView))
     (answer : Result Table TableError) : Type 0 where
   pub answer_is : answer ≡ columns_answer (kinds_of old) d room text
   pub targets_are : now ≡ columns_put d room text old
-  pub goes_on : IfOk answer (StopsAt room text)
+  pub goes_on : IfOk answer (StopsAt d room text)
 
 -- before the first row
-pub table_starts : (d : Dialect) (room : ℕ) (text : List ℕ) (old : List (Option TargetView)) → AreUsable room old
-    → IsTablePut d room text old old 0 text
-table_starts d room text old usable =
-    let start : length text - length text ≡ 0 = omega arith in
+pub table_starts : (d : Dialect) (room : ℕ) (text rest : List ℕ) (old : List (Option TargetView)) → AreUsable room old
+    → HasRowsOf d text rest → FirstCounts d rest → IsTablePut d room text old old 0 rest
+table_starts d room text rest old usable skipped first =
+    let start : 0 + (length text - length rest) ≡ length text - length rest = omega arith in
     let whole : room - 0 ≡ room = omega arith in
-    let left : rows_left d text text ≡ rows d.has_returns text =
-    ap (λ k. map (row_of d.has_returns (length text)) (fields_from line_feed k text)) start in
-    let all : left_to_read d room text 0 text ≡ take room (rows d.has_returns text) = ap₂ (λ n l. take n l) whole left in
+    let left : rows d text ≡ rows_left d text rest = skipped.rows_are 0 ∙ ap (λ k. rows_from d k rest) start in
+    let all : left_to_read d room text 0 rest ≡ take room (rows d text) = ap₂ (λ n l. take n l) whole (sym left) in
     record {
-      within = omega arith;
+      within = skipped.within;
       few = omega arith;
-      tail = ap (λ k. drop k text) (sym start);
-      place = ap (λ k. fields_from line_feed k text) (sym start);
+      tail = skipped.tail;
+      first_counts = first;
+      place = left;
       counted = omega (arith, ap length all);
       kinds_are = refl;
       usable = usable;
@@ -72,32 +72,35 @@ take_none {X} n = take_all n [] (omega arith)
 module _ (d : Dialect) (room : ℕ) (text : List ℕ) (old now : List (Option TargetView)) (count : ℕ) (rest : List ℕ)
     (reading : IsTablePut d room text old now count rest) where
   nothing_left : (length rest ≡ 0) ⊎ (room ≤ count) → left_to_read d room text count rest ≡ []
-  nothing_left (inl ended) = ap (left_to_read d room text count) (none_of rest ended) ∙ take_none (room - count)
+  nothing_left (inl ended) =
+      ap (take (room - count)) (ap (rows_left d text) (none_of rest ended) ∙ no_rows d (length text - 0))
+      ∙ take_none (room - count)
   nothing_left (inr full) =
       let none : room - count ≡ 0 = omega arith in
       ap (λ n. take n (rows_left d text rest)) none
 
   stop_is : (length rest ≡ 0) ⊎ (room ≤ count)
-      → next_start (length text) (drop room (fields line_feed text)) ≡ length text - length rest
+      → next_start (length text) (drop room (rows d text)) ≡ length text - length rest
   stop_is (inl ended) =
       let at : count + (room - count) ≡ room = omega (arith, reading.few) in
-      let none : drop room (fields line_feed text) ≡ [] =
-      ap (λ n. drop n (fields line_feed text)) (sym at)
-      ∙ sym (drop-drop (room - count) count (fields line_feed text))
-      ∙ ap (drop (room - count)) (reading.place ∙ ap (left_of line_feed text) (none_of rest ended))
+      let none : drop room (rows d text) ≡ [] =
+      ap (λ n. drop n (rows d text)) (sym at)
+      ∙ sym (drop-drop (room - count) count (rows d text))
+      ∙ ap (drop (room - count))
+      (reading.place ∙ ap (rows_left d text) (none_of rest ended) ∙ no_rows d (length text - 0))
       ∙ drop_all (room - count) [] (omega arith) in
       ap (next_start (length text)) none ∙ omega (arith, ended)
   stop_is (inr full) =
       let at : room ≡ count = omega (arith, reading.few, full) in
-      ap (λ n. next_start (length text) (drop n (fields line_feed text))) at
-      ∙ ap (next_start (length text)) reading.place ∙ start_of_left line_feed text rest
+      ap (λ n. next_start (length text) (drop n (rows d text))) at
+      ∙ ap (next_start (length text)) reading.place ∙ start_of_rows d text rest reading.first_counts
 
   -- no row more
   pub table_ends : (length rest ≡ 0) ⊎ (room ≤ count)
       → IsTableDone d room text old now (Ok (record { rows = count; stop = length text - length rest }))
   unfolding columns_answer columns_put
   table_ends ended =
-      let all = take room (rows d.has_returns text) in
+      let all = take room (rows d text) in
       let none = nothing_left ended in
       let first : first_fault (kinds_of old) d 0 all ≡ None =
       sym reading.first ∙ ap (first_fault (kinds_of old) d count) none in
@@ -106,7 +109,7 @@ module _ (d : Dialect) (room : ℕ) (text : List ℕ) (old now : List (Option Ta
         answer_is =
             sym (ap (λ e. unless e (Ok (record {
               rows = length all;
-              stop = next_start (length text) (drop room (fields line_feed text));
+              stop = next_start (length text) (drop room (rows d text));
             }))) first
             ∙ ap₂ (λ n k. Ok (record { rows = n; stop = k })) rows_are (stop_is ended));
         targets_are =
@@ -114,7 +117,7 @@ module _ (d : Dialect) (room : ℕ) (text : List ℕ) (old now : List (Option Ta
         goes_on = record {
           within_room = reading.few;
           within_text = omega arith;
-          left = ap (fields_from line_feed (length text - length rest)) (sym reading.tail) ∙ sym reading.place;
+          left = ap (rows_from d (length text - length rest)) (sym reading.tail) ∙ sym reading.place;
         };
       }
 
@@ -122,39 +125,47 @@ module _ (d : Dialect) (room : ℕ) (text : List ℕ) (old now : List (Option Ta
   pub row_usable : count < room → AreUsable (count + 1) now
   row_usable more = use_less (count + 1) room now (omega arith) reading.usable
 
-  module _ (row : RowView) (line behind : List ℕ) (more : count < room) (some : 0 < length rest)
-      (front : line ≡ take (field_length line_feed rest) rest)
-      (back : behind ≡ drop (field_length line_feed rest + 1) rest)
+  module _ (row : RowView) (line behind left : List ℕ) (more : count < room) (some : 0 < length rest)
+      (front : line ≡ take (length_outside d.has_quotes line_feed rest) rest)
+      (back : behind ≡ drop (length_outside d.has_quotes line_feed rest + 1) rest)
       (shorter : length behind < length rest)
       (row_is : row ≡ row_of d.has_returns (length text - length rest + length rest)
-      (record { start = length text - length rest; text = line })) (new : List (Option TargetView))
-      (are : new ≡ put_row count (row_values (kinds_of now) d row) now) where
-    next_rows : left_to_read d room text count rest ≡ row ∷ left_to_read d room text (count + 1) behind
+      (record { start = length text - length rest; text = line })) (skipped : HasRowsOf d behind left)
+      (new : List (Option TargetView)) (are : new ≡ put_row count (row_values (kinds_of now) d row) now) where
+    rows_go : rows_left d text rest ≡ row ∷ rows_left d text left
+    rows_go =
+        let place = length text - length rest in
+        let behind_at = place + (length rest - length behind) in
+        let at : behind_at + (length behind - length left) ≡ length text - length left =
+        omega (arith, reading.within, skipped.within) in
+        next_row d place rest line behind some front back (omega arith) reading.first_counts
+        ∙ ap₂ (λ r l. r ∷ l) (sym row_is)
+        (skipped.rows_are behind_at ∙ ap (λ k. rows_from d k left) at)
+
+    next_rows : left_to_read d room text count rest ≡ row ∷ left_to_read d room text (count + 1) left
     next_rows =
         let one : room - count ≡ suc (room - (count + 1)) = omega arith in
-        let end : length text - length rest + length rest ≡ length text = omega (arith, reading.within) in
-        ap₂ (λ n l. take n (map (row_of d.has_returns (length text)) l)) one
-        (next_left line_feed text rest line behind reading.within some front back (omega arith))
-        ∙ ap (λ r. r ∷ left_to_read d room text (count + 1) behind)
-        (sym (row_is ∙ ap (λ e. row_of d.has_returns e (record { start = length text - length rest; text = line })) end))
+        ap₂ (λ n l. take n l) one rows_go
 
     new_is : new ≡ put_row count (row_values (kinds_of old) d row) now
     new_is = are ∙ ap (λ k. put_row count (row_values k d row) now) reading.kinds_are
 
     -- one row more
-    pub table_goes : row_fault (kinds_of now) d count row ≡ None → IsTablePut d room text old new (count + 1) behind
-    table_goes right =
-        let left = left_to_read d room text (count + 1) behind in
+    pub table_goes : row_fault (kinds_of now) d count row ≡ None → FirstCounts d left
+        → IsTablePut d room text old new (count + 1) left
+    table_goes right first =
+        let others = left_to_read d room text (count + 1) left in
         let fine : row_fault (kinds_of old) d count row ≡ None =
         ap (λ k. row_fault k d count row) (sym reading.kinds_are) ∙ right in
-        let later = values_to_fault (kinds_of old) d (count + 1) left in
+        let later = values_to_fault (kinds_of old) d (count + 1) others in
         record {
-          within = omega (arith, reading.within);
+          within = omega (arith, reading.within, skipped.within);
           few = omega arith;
-          tail = tail_goes text rest behind (field_length line_feed rest) reading.within reading.tail back;
-          place =
-              sym (drop-drop 1 count (fields line_feed text))
-              ∙ ap (drop 1) (reading.place ∙ next_left line_feed text rest line behind reading.within some front back (omega arith));
+          tail =
+              tail_of_tail text behind left skipped.within (omega (arith, reading.within))
+              (tail_goes text rest behind (length_outside d.has_quotes line_feed rest) reading.within reading.tail back) skipped.tail;
+          first_counts = first;
+          place = sym (drop-drop 1 count (rows d text)) ∙ ap (drop 1) (reading.place ∙ rows_go);
           counted = omega (arith, ap length next_rows, reading.counted);
           kinds_are =
               ap kinds_of new_is ∙ kinds_put_row count (row_values (kinds_of old) d row) now ∙ reading.kinds_are;
@@ -164,7 +175,7 @@ module _ (d : Dialect) (room : ℕ) (text : List ℕ) (old now : List (Option Ta
               ∙ ap (λ e. put_rows count (row_values (kinds_of old) d row ∷ cond (is_none e) later []) now) (sym fine)
               ∙ ap (λ l. put_rows count (values_to_fault (kinds_of old) d count l) now) (sym next_rows) ∙ reading.values;
           first =
-              ap (λ e. first_of e (first_fault (kinds_of old) d (count + 1) left)) (sym fine)
+              ap (λ e. first_of e (first_fault (kinds_of old) d (count + 1) others)) (sym fine)
               ∙ ap (first_fault (kinds_of old) d count) (sym next_rows) ∙ reading.first;
         }
 
@@ -173,23 +184,23 @@ module _ (d : Dialect) (room : ℕ) (text : List ℕ) (old now : List (Option Ta
         → IsTableDone d room text old new (Err error)
     unfolding columns_answer columns_put
     table_fault error wrong =
-        let all = take room (rows d.has_returns text) in
-        let left = left_to_read d room text (count + 1) behind in
+        let all = take room (rows d text) in
+        let others = left_to_read d room text (count + 1) left in
         let fault_is : row_fault (kinds_of old) d count row ≡ Some error =
         ap (λ k. row_fault k d count row) (sym reading.kinds_are) ∙ wrong in
         let first : first_fault (kinds_of old) d 0 all ≡ Some error =
         sym reading.first ∙ ap (first_fault (kinds_of old) d count) next_rows
-        ∙ ap (λ e. first_of e (first_fault (kinds_of old) d (count + 1) left)) fault_is in
+        ∙ ap (λ e. first_of e (first_fault (kinds_of old) d (count + 1) others)) fault_is in
         record {
           answer_is =
               sym (ap (λ e. unless e (Ok (record {
                 rows = length all;
-                stop = next_start (length text) (drop room (fields line_feed text));
+                stop = next_start (length text) (drop room (rows d text));
               }))) first);
           targets_are =
               new_is
               ∙ ap (λ e. put_rows count (row_values (kinds_of old) d row
-              ∷ cond (is_none e) (values_to_fault (kinds_of old) d (count + 1) left) []) now) (sym fault_is)
+              ∷ cond (is_none e) (values_to_fault (kinds_of old) d (count + 1) others) []) now) (sym fault_is)
               ∙ ap (λ l. put_rows count (values_to_fault (kinds_of old) d count l) now) (sym next_rows) ∙ reading.values;
           goes_on = tt;
         }

@@ -1,21 +1,26 @@
 -- What is read of the columns of a text that is cut.
-use Rattle.std.proofs.Common.{◌≡◌, ◌∙◌, ℕ, zero, suc, ◌+◌, List, [], ◌∷◌, ◌++◌, length, take, drop, map, cond, true, false, Bool, ℤ, Result, Option, Some, None, Ok, Err, refl, ap, ap₂, sym, arith, length-take-le}
+use Rattle.std.proofs.Common.{◌≡◌, ◌∙◌, ℕ, zero, suc, ◌+◌, List, [], ◌∷◌, ◌++◌, length, take, drop, map, cond, ◌&&◌, true, false, Bool, ℤ, Result, Option, Some, None, Ok, Err, refl, ap, ap₂, sym, arith, length-take-le}
+use Rattle.std.specs.List.{prefix_len}
+use Rattle.std.specs.Str.{bytes_eq}
 use Rattle.std.specs.Prelude.{is_none, nat_lt, option_map}
 use Rattle.std.proofs.lemmas.List.{length-map}
 use Rattle.lexical_util.specs.declared.error.Error.{Error}
+use Rattle.lexical_util.specs.Validity.{fault}
 use Rattle.lexical_fields.specs.Columns as columns
-use Rattle.lexical_fields.specs.Fields.{FieldView}
-use Rattle.lexical_fields.specs.Parts.{whole_fields}
-use Rattle.lexical_fields.specs.Places.{error_in_text, in_text}
+use Rattle.lexical_fields.specs.Fields.{FieldView, fields_from}
+use Rattle.lexical_fields.specs.Places.{in_text}
 use Rattle.lexical_fields.specs.ReadFields.{field_answer}
 use Rattle.lexical_fields.proofs.MovedFields.{answer_moved, fields_moved, moved}
-use Rattle.lexical_tables.specs.ByColumn.{Kind, cell_answers, cells_of, end_fault, fault_of, first_fault, first_of, first_start, row_answers, row_fault, row_values, some_number, values_to_fault, wrong_cell}
-use Rattle.lexical_tables.specs.Parts.{AreValid, ColumnsInParts, fault_in, error_behind, values_in}
-use Rattle.lexical_tables.specs.Rows.{RowView, line_feed, rows}
-use Rattle.lexical_tables.specs.declared.answers.CellFault.TheVariants.{MissingReturn, TooFewCells, TooManyCells}
+use Rattle.lexical_tables.specs.ByColumn.{cell_answers, cells_of, end_fault, fault_of, first_fault, first_of, first_start, row_answers, row_fault, row_values, values_to_fault, wrong_cell}
+use Rattle.lexical_tables.specs.Cells.{Kind, answer_as, begins_with_quote, content, is_blank, misplaced_quote, number_at, quote_fault, some_number, unless, within_quotes, without_blanks, without_quotes}
+use Rattle.lexical_tables.specs.Parts.{AreValid, ColumnsInParts, fault_behind, fault_in, error_behind, values_in, whole_rows}
+use Rattle.lexical_tables.specs.Quotes.{as_long_as, seen}
+use Rattle.lexical_tables.specs.Rows.{RowView, rows}
+use Rattle.lexical_tables.specs.declared.answers.CellFault.{CellFault}
+use Rattle.lexical_tables.specs.declared.answers.CellFault.TheVariants.{MisplacedQuote, MissingReturn, TooFewCells, TooManyCells}
 use Rattle.lexical_tables.specs.declared.answers.TableError.{TableError}
 use Rattle.lexical_tables.specs.declared.dialect.Dialect.{Dialect}
-use Rattle.lexical_tables.proofs.RowsInParts.{row_behind, rows_split, whole_within}
+use Rattle.lexical_tables.proofs.RowsInParts.{long_moved, row_behind, rows_split, whole_within}
 
 take_map : {X Y : Type 0} (f : X → Y) (n : ℕ) (xs : List X) → take n (map f xs) ≡ map f (take n xs)
 take_map f zero xs = refl
@@ -67,36 +72,117 @@ end_moved before bytes columns index row count extra =
     by_extra None end = by_tests (nat_lt count columns) row.lacks_return end
     by_extra (Some place) end = by_place (nat_lt count columns) place end
 
-some_moved : (bytes : ℕ) (answer : Result ℤ Error) → some_number (in_text bytes answer) ≡ in_text bytes (some_number answer)
-some_moved bytes (Ok number) = refl
-some_moved bytes (Err error) = refl
+-- ---- a cell further behind
 
-answers_moved : (bytes : ℕ) (kinds : List (Option Kind)) (cells : List FieldView) → AreValid kinds
-    → cell_answers kinds (map (moved bytes) cells) ≡ map (in_text bytes) (cell_answers kinds cells)
-answers_moved bytes kinds [] valid = nothing kinds
+abbrev answer_behind : ℕ → Result (Option ℤ) CellFault → Result (Option ℤ) CellFault
+answer_behind bytes (Ok value) = Ok value
+answer_behind bytes (Err fault) = Err (fault_behind bytes fault)
+
+-- what a cell holds is moved with it
+blanks_moved : (bytes : ℕ) (allows_blanks : Bool) (cell : FieldView)
+    → cond allows_blanks (without_blanks (moved bytes cell)) (moved bytes cell)
+    ≡ moved bytes (cond allows_blanks (without_blanks cell) cell)
+blanks_moved bytes true cell =
+    let front = prefix_len is_blank cell.text in
+    let at : bytes + cell.start + front ≡ bytes + (cell.start + front) = omega arith in
+    ap (λ place. record (without_blanks cell) { start = place }) at
+blanks_moved bytes false cell = refl
+
+unquoted_moved : (bytes : ℕ) (has_quotes : Bool) (cell : FieldView)
+    → without_quotes has_quotes (moved bytes cell) ≡ moved bytes (without_quotes has_quotes cell)
+unquoted_moved bytes has_quotes cell = by_test (has_quotes && begins_with_quote cell.text)
   where
-    nothing : (ks : List (Option Kind)) → cell_answers ks [] ≡ map (in_text bytes) (cell_answers ks [])
+    at : bytes + cell.start + 1 ≡ bytes + (cell.start + 1)
+    at = omega arith
+
+    by_test : (t : Bool) → cond t (within_quotes (moved bytes cell)) (moved bytes cell)
+        ≡ moved bytes (cond t (within_quotes cell) cell)
+    by_test true = ap (λ place. record (within_quotes cell) { start = place }) at
+    by_test false = refl
+
+content_moved : (bytes : ℕ) (has_quotes allows_blanks : Bool) (cell : FieldView)
+    → content has_quotes allows_blanks (moved bytes cell) ≡ moved bytes (content has_quotes allows_blanks cell)
+content_moved bytes has_quotes allows_blanks cell =
+    ap (λ held. cond allows_blanks (without_blanks held) held) (unquoted_moved bytes has_quotes cell)
+    ∙ blanks_moved bytes allows_blanks (without_quotes has_quotes cell)
+
+-- so are its quotes
+quotes_moved : (bytes : ℕ) (has_quotes is_read : Bool) (cell : FieldView)
+    → quote_fault has_quotes is_read (moved bytes cell) ≡ option_map (fault_behind bytes) (quote_fault has_quotes is_read cell)
+quotes_moved bytes false is_read cell = refl
+quotes_moved bytes true is_read cell = by_place (misplaced_quote is_read cell.text)
+  where
+    behind : (place : ℕ) → bytes + cell.start + place ≡ bytes + (cell.start + place)
+    behind place = omega arith
+
+    by_place : (found : Option ℕ) → option_map (λ place. MisplacedQuote (bytes + cell.start + place)) found
+        ≡ option_map (fault_behind bytes) (option_map (λ place. MisplacedQuote (cell.start + place)) found)
+    by_place None = refl
+    by_place (Some place) = ap (λ k. Some (MisplacedQuote k)) (behind place)
+
+unless_moved : (bytes : ℕ) (found : Option CellFault) (answer : Result (Option ℤ) CellFault)
+    → unless (option_map (fault_behind bytes) found) (answer_behind bytes answer) ≡ answer_behind bytes (unless found answer)
+unless_moved bytes None answer = refl
+unless_moved bytes (Some fault) answer = refl
+
+number_moved : (bytes : ℕ) (answer : Result ℤ Error)
+    → some_number (in_text bytes answer) ≡ answer_behind bytes (some_number answer)
+number_moved bytes (Ok number) = refl
+number_moved bytes (Err error) = refl
+
+-- what a text stands for is moved with it
+held_moved : (bytes : ℕ) (mark : List ℕ) (kind : Kind) (held : FieldView) → fault kind.format ≡ None
+    → number_at mark kind (moved bytes held) ≡ answer_behind bytes (number_at mark kind held)
+held_moved bytes mark kind held valid =
+    by_mark (kind.may_miss && bytes_eq held.text mark)
+    (ap some_number (sym (answer_moved kind.format kind.type bytes valid held))
+    ∙ number_moved bytes (field_answer kind.format kind.type held))
+  where
+    by_mark : (is_mark : Bool) → some_number (field_answer kind.format kind.type (moved bytes held))
+        ≡ answer_behind bytes (some_number (field_answer kind.format kind.type held))
+        → cond is_mark (Ok None) (some_number (field_answer kind.format kind.type (moved bytes held)))
+        ≡ answer_behind bytes (cond is_mark (Ok None) (some_number (field_answer kind.format kind.type held)))
+    by_mark true there = refl
+    by_mark false there = there
+
+cell_moved : (bytes : ℕ) (d : Dialect) (kind : Option Kind) (cell : FieldView) → AreValid (kind ∷ [])
+    → answer_as d kind (moved bytes cell) ≡ answer_behind bytes (answer_as d kind cell)
+cell_moved bytes d None cell valid =
+    ap (λ found. unless found (Ok None)) (quotes_moved bytes d.has_quotes false cell)
+    ∙ unless_moved bytes (quote_fault d.has_quotes false cell) (Ok None)
+cell_moved bytes d (Some kind) cell valid =
+    ap₂ unless (quotes_moved bytes d.has_quotes true cell)
+    (ap (number_at d.missing.now kind) (content_moved bytes d.has_quotes d.allows_blanks cell)
+    ∙ held_moved bytes d.missing.now kind (content d.has_quotes d.allows_blanks cell) valid.0)
+    ∙ unless_moved bytes (quote_fault d.has_quotes true cell)
+    (number_at d.missing.now kind (content d.has_quotes d.allows_blanks cell))
+
+answers_moved : (bytes : ℕ) (d : Dialect) (kinds : List (Option Kind)) (cells : List FieldView) → AreValid kinds
+    → cell_answers d kinds (map (moved bytes) cells) ≡ map (answer_behind bytes) (cell_answers d kinds cells)
+answers_moved bytes d kinds [] valid = nothing kinds
+  where
+    nothing : (ks : List (Option Kind)) → cell_answers d ks [] ≡ map (answer_behind bytes) (cell_answers d ks [])
     nothing [] = refl
     nothing (k ∷ ks) = refl
-answers_moved bytes [] (cell ∷ cells) valid = ap (λ l. Ok None ∷ l) (answers_moved bytes [] cells tt)
-answers_moved bytes (None ∷ kinds) (cell ∷ cells) valid = ap (λ l. Ok None ∷ l) (answers_moved bytes kinds cells valid)
-answers_moved bytes (Some kind ∷ kinds) (cell ∷ cells) valid =
-    ap₂ (λ a l. a ∷ l)
-    (ap some_number (sym (answer_moved kind.format kind.type bytes valid.0 cell))
-    ∙ some_moved bytes (field_answer kind.format kind.type cell))
-    (answers_moved bytes kinds cells valid.1)
+answers_moved bytes d [] (cell ∷ cells) valid =
+    ap₂ (λ a l. a ∷ l) (cell_moved bytes d None cell tt) (answers_moved bytes d [] cells tt)
+answers_moved bytes d (None ∷ kinds) (cell ∷ cells) valid =
+    ap₂ (λ a l. a ∷ l) (cell_moved bytes d None cell tt) (answers_moved bytes d kinds cells valid)
+answers_moved bytes d (Some kind ∷ kinds) (cell ∷ cells) valid =
+    ap₂ (λ a l. a ∷ l) (cell_moved bytes d (Some kind) cell (valid.0, tt))
+    (answers_moved bytes d kinds cells valid.1)
 
-values_same : (bytes : ℕ) (answers : List (Result (Option ℤ) Error))
-    → columns.values_before_fault (map (in_text bytes) answers) ≡ columns.values_before_fault answers
+values_same : (bytes : ℕ) (answers : List (Result (Option ℤ) CellFault))
+    → columns.values_before_fault (map (answer_behind bytes) answers) ≡ columns.values_before_fault answers
 values_same bytes [] = refl
 values_same bytes (Ok value ∷ more) = ap (λ l. value ∷ l) (values_same bytes more)
-values_same bytes (Err error ∷ more) = refl
+values_same bytes (Err fault ∷ more) = refl
 
-first_moved : (bytes : ℕ) (answers : List (Result (Option ℤ) Error))
-    → columns.first_fault (map (in_text bytes) answers) ≡ option_map (error_in_text bytes) (columns.first_fault answers)
+first_moved : (bytes : ℕ) (answers : List (Result (Option ℤ) CellFault))
+    → columns.first_fault (map (answer_behind bytes) answers) ≡ option_map (fault_behind bytes) (columns.first_fault answers)
 first_moved bytes [] = refl
 first_moved bytes (Ok value ∷ more) = first_moved bytes more
-first_moved bytes (Err error ∷ more) = refl
+first_moved bytes (Err fault ∷ more) = refl
 
 -- one fault behind another
 first_assoc : (a b c : Option TableError) → first_of a (first_of b c) ≡ first_of (first_of a b) c
@@ -141,14 +227,17 @@ module _ (kinds : List (Option Kind)) (d : Dialect) where
 
   module _ (valid : AreValid kinds) where
     cells_moved : (bytes : ℕ) (row : RowView) → cells_of d (row_behind bytes row) ≡ map (moved bytes) (cells_of d row)
-    cells_moved bytes row = sym (fields_moved d.separator bytes row.start (row.text ++ d.separator ∷ []))
+    cells_moved bytes row =
+        let bytes_seen = seen d.has_quotes d.separator row.text ++ d.separator ∷ [] in
+        ap (λ l. as_long_as l row.text) (sym (fields_moved d.separator bytes row.start bytes_seen))
+        ∙ long_moved bytes (fields_from d.separator row.start bytes_seen) row.text
 
     row_moved : (bytes : ℕ) (row : RowView)
-        → row_answers kinds d (row_behind bytes row) ≡ map (in_text bytes) (row_answers kinds d row)
+        → row_answers kinds d (row_behind bytes row) ≡ map (answer_behind bytes) (row_answers kinds d row)
     row_moved bytes row =
-        ap (λ l. cell_answers kinds (take d.columns l)) (cells_moved bytes row)
-        ∙ ap (cell_answers kinds) (take_map (moved bytes) d.columns (cells_of d row))
-        ∙ answers_moved bytes kinds (take d.columns (cells_of d row)) valid
+        ap (λ l. cell_answers d kinds (take d.columns l)) (cells_moved bytes row)
+        ∙ ap (cell_answers d kinds) (take_map (moved bytes) d.columns (cells_of d row))
+        ∙ answers_moved bytes d kinds (take d.columns (cells_of d row)) valid
 
     row_values_moved : (bytes : ℕ) (row : RowView) → row_values kinds d (row_behind bytes row) ≡ row_values kinds d row
     row_values_moved bytes row =
@@ -162,8 +251,8 @@ module _ (kinds : List (Option Kind)) (d : Dialect) where
         (ap columns.first_fault (row_moved bytes row) ∙ first_moved bytes (row_answers kinds d row))
         ∙ by_error (length (row_values kinds d row)) (columns.first_fault (row_answers kinds d row))
       where
-        by_error : (n : ℕ) (e : Option Error)
-            → fault_of d (before + index) (row_behind bytes row) n (option_map (error_in_text bytes) e)
+        by_error : (n : ℕ) (e : Option CellFault)
+            → fault_of d (before + index) (row_behind bytes row) n (option_map (fault_behind bytes) e)
             ≡ option_map (error_behind before bytes) (fault_of d index row n e)
         by_error n None =
             let cells = cells_of d row in
@@ -173,7 +262,7 @@ module _ (kinds : List (Option Kind)) (d : Dialect) where
             (ap length (take_map (moved bytes) d.columns cells) ∙ length-map (take d.columns cells) (moved bytes))
             (ap first_start (drop_map (moved bytes) d.columns cells) ∙ start_moved bytes (drop d.columns cells))
             ∙ end_moved before bytes d.columns index row (length (take d.columns cells)) (first_start (drop d.columns cells))
-        by_error n (Some error) = refl
+        by_error n (Some fault) = refl
 
     rows_first_moved : (before bytes index : ℕ) (lines : List RowView)
         → first_fault kinds d (before + index) (map (row_behind bytes) lines)
@@ -215,27 +304,26 @@ module _ (kinds : List (Option Kind)) (d : Dialect) where
 pub columns_in_parts : (kinds : List (Option Kind)) (d : Dialect) (part more : List ℕ) → AreValid kinds
     → ColumnsInParts kinds d part more
 columns_in_parts kinds d part more valid =
-    let size = whole_fields line_feed part in
+    let size = whole_rows d.has_quotes part in
     let front = take size part in
     let left = drop size part ++ more in
-    let r = d.has_returns in
-    let count = length (rows r front) in
-    let within = whole_within line_feed part in
-    let cut = rows_split r part more size refl within in
+    let count = length (rows d front) in
+    let within = whole_within d.has_quotes part in
+    let cut = rows_split d part more size refl within in
     let long = sym (length-take-le size part within) in
     let none : 0 + count ≡ count + 0 = omega arith in
     record {
       values =
           ap (values_to_fault kinds d 0) cut
-          ∙ values_append kinds d 0 (rows r front) (map (row_behind size) (rows r left))
+          ∙ values_append kinds d 0 (rows d front) (map (row_behind size) (rows d left))
           ∙ ap (λ l. values_in kinds d front ++ cond (is_none (fault_in kinds d front)) l [])
-          (ap (λ k. values_to_fault kinds d k (map (row_behind size) (rows r left))) none
-          ∙ values_moved kinds d valid count size 0 (rows r left));
+          (ap (λ k. values_to_fault kinds d k (map (row_behind size) (rows d left))) none
+          ∙ values_moved kinds d valid count size 0 (rows d left));
       fault =
           ap (first_fault kinds d 0) cut
-          ∙ first_append kinds d 0 (rows r front) (map (row_behind size) (rows r left))
+          ∙ first_append kinds d 0 (rows d front) (map (row_behind size) (rows d left))
           ∙ ap (first_of (fault_in kinds d front))
-          (ap (λ k. first_fault kinds d k (map (row_behind size) (rows r left))) none
-          ∙ rows_first_moved kinds d valid count size 0 (rows r left)
+          (ap (λ k. first_fault kinds d k (map (row_behind size) (rows d left))) none
+          ∙ rows_first_moved kinds d valid count size 0 (rows d left)
           ∙ ap (λ n. option_map (error_behind count n) (fault_in kinds d left)) long);
     }

@@ -1,62 +1,88 @@
--- The lines of a text, stepped over one after another.
-use Rattle.std.proofs.Common.{◌≡◌, ◌∙◌, ℕ, suc, ◌+◌, ◌-◌, ◌<◌, ◌≤◌, List, [], ◌∷◌, length, take, drop, inl, inr, ◌⊎◌, refl, ap, sym, arith}
+-- The lines of a header, stepped over one after another.
+use Rattle.std.proofs.Common.{◌≡◌, ◌∙◌, ℕ, zero, suc, ◌+◌, ◌-◌, ◌<◌, ◌≤◌, List, [], ◌∷◌, length, take, drop, get_or, Bool, true, false, cond, inl, inr, ◌⊎◌, refl, ap, sym, arith}
 use Rattle.std.proofs.lemmas.List.{drop_all}
-use Rattle.lexical_fields.specs.Columns.{next_start}
-use Rattle.lexical_fields.specs.Fields.{field_length, fields, fields_from}
-use Rattle.lexical_fields.specs.ReadSoFar.{left_of}
-use Rattle.lexical_fields.proofs.ColumnSteps.{start_of_left}
-use Rattle.lexical_fields.proofs.FieldSteps.{next_field}
+use Rattle.std.proofs.Math.Seq.{take-length, take-suc}
+use Rattle.lexical_fields.specs.Fields.{field_length}
+use Rattle.lexical_tables.specs.Header.{behind_lines, header_length}
+use Rattle.lexical_tables.specs.Quotes.{has_odd_quotes, length_outside}
 use Rattle.lexical_tables.specs.Rows.{line_feed}
-
--- the next field of what is left of a text, and those behind it
-pub next_left : (s : ℕ) (text rest field behind : List ℕ) → length rest ≤ length text → 0 < length rest
-    → field ≡ take (field_length s rest) rest → behind ≡ drop (field_length s rest + 1) rest
-    → length behind ≤ length rest → left_of s text rest
-    ≡ record { start = length text - length rest; text = field } ∷ left_of s text behind
-next_left s text rest field behind within some front back shorter =
-    let at : length text - length rest + (length rest - length behind) ≡ length text - length behind = omega arith in
-    next_field s (length text - length rest) rest field behind some front back
-    ∙ ap (λ k. record { start = length text - length rest; text = field } ∷ fields_from s k behind) at
+use Rattle.lexical_tables.proofs.SeenBytes.{odd_behind, turned}
 
 -- a list of no element
 pub none_of : {X : Type 0} (l : List X) → length l ≡ 0 → l ≡ []
 none_of [] e = refl
 none_of (x ∷ xs) e = absurd (omega arith)
 
--- So many lines are still to be stepped over, and the place behind them is the one that is looked for.
-pub record IsOnTheWay (text : List ℕ) (count left : ℕ) (rest : List ℕ) : Type 0 where
-  pub within : length rest ≤ length text
-  pub place : next_start (length text) (drop left (left_of line_feed text rest))
-      ≡ next_start (length text) (drop count (fields line_feed text))
+-- ---- quotes that are counted
 
-pub way_starts : (text : List ℕ) (count : ℕ) → IsOnTheWay text count count text
-way_starts text count =
-    let start : length text - length text ≡ 0 = omega arith in
+-- So many bytes were counted.
+pub record IsCounted (text : List ℕ) (place : ℕ) (odd : Bool) : Type 0 where
+  pub low : place ≤ length text
+  pub odd_is : odd ≡ has_odd_quotes (take place text)
+
+pub count_starts : (text : List ℕ) → IsCounted text 0 false
+count_starts text = record { low = omega arith; odd_is = refl }
+
+pub count_goes : (text : List ℕ) (place : ℕ) (odd : Bool) → IsCounted text place odd → place < length text → (now : Bool)
+    → now ≡ turned true odd (get_or text place 0) → IsCounted text (place + 1) now
+count_goes text place odd counted more now is =
+    let byte = get_or text place 0 in
+    let plus : suc place ≡ place + 1 = omega arith in
     record {
-      within = omega arith;
-      place = ap (λ k. next_start (length text) (drop count (fields_from line_feed k text))) start;
+      low = omega arith;
+      odd_is =
+          is ∙ ap (λ b. turned true b byte) counted.odd_is ∙ sym (odd_behind (take place text) byte)
+          ∙ ap has_odd_quotes (sym (take-suc text place 0 more)) ∙ ap (λ k. has_odd_quotes (take k text)) plus;
     }
 
-pub way_goes : (text : List ℕ) (count left : ℕ) (rest behind : List ℕ) → IsOnTheWay text count left rest → 0 < left
-    → 0 < length rest → behind ≡ drop (field_length line_feed rest + 1) rest → length behind ≤ length rest
-    → IsOnTheWay text count (left - 1) behind
-way_goes text count left rest behind way more some back shorter =
+pub count_ends : (text : List ℕ) (place : ℕ) (odd : Bool) → IsCounted text place odd → length text ≤ place
+    → odd ≡ has_odd_quotes text
+count_ends text place odd counted all =
+    let end : place ≡ length text = omega (arith, counted.low) in
+    counted.odd_is ∙ ap (λ k. has_odd_quotes (take k text)) end ∙ ap has_odd_quotes (take-length text)
+
+-- ---- a line
+
+-- what is behind a line, by whether its quotes never close
+pub line_is : (q : Bool) (text line behind : List ℕ) (odd : Bool)
+    → line ≡ take (length_outside q line_feed text) text → odd ≡ has_odd_quotes line
+    → behind ≡ drop (cond odd (field_length line_feed text) (length_outside q line_feed text) + 1) text
+    → behind ≡ drop (header_length q text + 1) text
+line_is q text line behind odd front counted back =
+    back ∙ ap (λ b. drop (cond b (field_length line_feed text) (length_outside q line_feed text) + 1) text)
+    (counted ∙ ap has_odd_quotes front)
+
+-- ---- lines
+
+-- So many lines are still to be stepped over, and what is behind them is what is looked for.
+pub record IsOnTheWay (q : Bool) (text : List ℕ) (count left : ℕ) (rest : List ℕ) : Type 0 where
+  pub within : length rest ≤ length text
+  pub behind_is : behind_lines q left rest ≡ behind_lines q count text
+
+pub way_starts : (q : Bool) (text : List ℕ) (count : ℕ) → IsOnTheWay q text count count text
+way_starts q text count = record { within = omega arith; behind_is = refl }
+
+pub way_goes : (q : Bool) (text : List ℕ) (count left : ℕ) (rest behind : List ℕ) → IsOnTheWay q text count left rest
+    → 0 < left → behind ≡ drop (header_length q rest + 1) rest → length behind ≤ length rest
+    → IsOnTheWay q text count (left - 1) behind
+way_goes q text count left rest behind way more back shorter =
     let one : left ≡ suc (left - 1) = omega arith in
     record {
       within = omega (arith, way.within);
-      place =
-          ap (λ l. next_start (length text) (drop (suc (left - 1)) l))
-          (sym (next_left line_feed text rest _ behind way.within some refl back shorter))
-          ∙ ap (λ n. next_start (length text) (drop n (left_of line_feed text rest))) (sym one) ∙ way.place;
+      behind_is =
+          ap (behind_lines q (left - 1)) back ∙ ap (λ n. behind_lines q n rest) (sym one) ∙ way.behind_is;
     }
 
-pub way_ends : (text : List ℕ) (count left : ℕ) (rest : List ℕ) → IsOnTheWay text count left rest
-    → (left ≡ 0) ⊎ (length rest ≡ 0)
-    → length text - length rest ≡ next_start (length text) (drop count (fields line_feed text))
-way_ends text count left rest way (inl done) =
-    sym (start_of_left line_feed text rest)
-    ∙ ap (λ n. next_start (length text) (drop n (left_of line_feed text rest))) (sym done) ∙ way.place
-way_ends text count left rest way (inr ended) =
-    let none : drop left (left_of line_feed text rest) ≡ [] =
-    ap (λ r. drop left (left_of line_feed text r)) (none_of rest ended) ∙ drop_all left [] (omega arith) in
-    omega (arith, ended, ap (next_start (length text)) none, way.place)
+behind_none : (q : Bool) (count : ℕ) → behind_lines q count [] ≡ []
+behind_none q zero = refl
+behind_none q (suc count) =
+    ap (behind_lines q count) (drop_all (header_length q [] + 1) [] (omega arith)) ∙ behind_none q count
+
+pub way_ends : (q : Bool) (text : List ℕ) (count left : ℕ) (rest : List ℕ) → IsOnTheWay q text count left rest
+    → (left ≡ 0) ⊎ (length rest ≡ 0) → length text - length rest ≡ length text - length (behind_lines q count text)
+way_ends q text count left rest way (inl done) =
+    ap (λ l. length text - length l) (ap (λ n. behind_lines q n rest) (sym done) ∙ way.behind_is)
+way_ends q text count left rest way (inr ended) =
+    ap (λ l. length text - length l)
+    (none_of rest ended ∙ sym (behind_none q left) ∙ ap (behind_lines q left) (sym (none_of rest ended))
+    ∙ way.behind_is)

@@ -1,14 +1,21 @@
 -- The rows of a text that is cut.
-use Rattle.std.proofs.Common.{◌≡◌, ◌∙◌, ℕ, suc, ◌+◌, ◌==◌, ◌&&◌, ◌-◌, ◌<◌, ◌≤◌, List, [], ◌∷◌, ◌++◌, length, take, drop, map, Bool, true, false, not, cond, refl, ap, ap₂, sym, subst, arith, inl, inr, length-append, length-drop, length-take-le}
+use Rattle.std.proofs.Common.{◌≡◌, ◌∙◌, ℕ, zero, suc, ◌+◌, ◌==◌, ◌&&◌, ◌-◌, ◌<◌, ◌≤◌, List, [], ◌∷◌, ◌++◌, length, take, drop, map, filter, Bool, true, false, not, cond, refl, ap, ap₂, sym, subst, arith, inl, inr, length-append, length-drop, length-take-le}
 use Rattle.std.specs.Prelude.{nat_lt}
 use Rattle.std.specs.List.{list_any}
-use Rattle.std.proofs.lemmas.Bool.{cases_lt, le-ltb, lt-ltb}
+use Rattle.std.proofs.lemmas.Bool.{lt-ltb}
 use Rattle.std.proofs.lemmas.List.{map-append}
-use Rattle.lexical_fields.specs.Fields.{FieldView, fields, fields_from, onto_field}
+use Rattle.std.proofs.lemmas.List.Elements.{filter-append}
+use Rattle.lexical_fields.specs.Fields.{FieldView, fields_from, onto_field}
 use Rattle.lexical_fields.specs.Parts.{whole_fields}
-use Rattle.lexical_fields.proofs.FieldsInParts.{either, here, on, split, whole_here, whole_none, whole_on}
+use Rattle.lexical_fields.proofs.FieldsInParts.{either, here, on, whole_here, whole_none, whole_on}
 use Rattle.lexical_fields.proofs.MovedFields.{fields_moved, moved}
-use Rattle.lexical_tables.specs.Rows.{RowView, carriage_return, ends_in, line_feed, row_of, rows}
+use Rattle.lexical_tables.specs.Parts.{whole_rows}
+use Rattle.lexical_tables.specs.Quotes.{as_long_as, fields_outside, seen}
+use Rattle.lexical_tables.specs.Rows.{RowView, carriage_return, counts, ends_in, line_feed, row_of, rows}
+use Rattle.lexical_tables.specs.declared.dialect.Dialect.{Dialect}
+use Rattle.lexical_tables.proofs.OutsideInParts.{split_outside}
+use Rattle.lexical_tables.proofs.RowSteps.{moved_test}
+use Rattle.lexical_tables.proofs.SeenBytes.{seen_long, seen_take}
 
 -- ---- lines in front of a cut are ended
 
@@ -68,6 +75,17 @@ whole_before s place (byte ∷ rest) =
           ]
     ]
 
+-- lines of fewer bytes do
+long_before : (end : ℕ) (lines : List FieldView) (text : List ℕ) → AllBefore end lines → AllBefore end (as_long_as lines text)
+long_before end [] text all = tt
+long_before end (line ∷ more) text all =
+    (omega (arith, all.0, length_take (length line.text) text), long_before end more (drop (length line.text + 1) text) all.1)
+  where
+    length_take : (n : ℕ) (bs : List ℕ) → length (take n bs) ≤ n
+    length_take zero bs = omega arith
+    length_take (suc n) [] = omega arith
+    length_take (suc n) (b ∷ bs) = omega (arith, length_take n bs)
+
 -- ---- lines as rows
 
 -- a line as a row, by whether a line feed is behind it
@@ -93,14 +111,6 @@ rows_before r end other (line ∷ more) all low =
     (ap (row_by r line) (lt-ltb place other (omega (arith, all.0)) ∙ sym (lt-ltb place end all.0)))
     (rows_before r end other more all.1 low)
 
--- the tests of two places that are moved alike
-moved_test : (bytes a b : ℕ) → nat_lt (bytes + a) (bytes + b) ≡ nat_lt a b
-moved_test bytes a b =
-    elim (cases_lt a b) [
-      | inl lt ↦ lt-ltb (bytes + a) (bytes + b) (omega arith) ∙ sym (lt-ltb a b lt)
-      | inr ge ↦ le-ltb (bytes + a) (bytes + b) (omega arith) ∙ sym (le-ltb a b ge)
-    ]
-
 rows_moved : (r : Bool) (bytes end : ℕ) (lines : List FieldView)
     → map (row_of r (bytes + end)) (map (moved bytes) lines) ≡ map (row_behind bytes) (map (row_of r end) lines)
 rows_moved r bytes end [] = refl
@@ -111,29 +121,50 @@ rows_moved r bytes end (line ∷ more) =
     (ap (row_by r (moved bytes line)) (ap (λ k. nat_lt k (bytes + end)) at ∙ moved_test bytes place end))
     (rows_moved r bytes end more)
 
--- the rows of a text that is cut
-pub rows_split : (r : Bool) (part more : List ℕ) (size : ℕ) → size ≡ whole_fields line_feed part → size ≤ length part
-    → rows r (part ++ more) ≡ rows r (take size part) ++ map (row_behind size) (rows r (drop size part ++ more))
-rows_split r part more size is within =
-    let front = fields_from line_feed 0 (take size part) in
+-- the lines of a text as rows, also those that don't count
+abbrev lines : Bool → Bool → List ℕ → List RowView
+lines q r text = map (row_of r (length text)) (fields_outside q line_feed 0 text)
+
+-- the fields of a text that stands further behind
+pub long_moved : (size : ℕ) (fields : List FieldView) (text : List ℕ)
+    → as_long_as (map (moved size) fields) text ≡ map (moved size) (as_long_as fields text)
+long_moved size [] text = refl
+long_moved size (field ∷ more) text =
+    ap (λ l. record { start = size + field.start; text = take (length field.text) text } ∷ l)
+    (long_moved size more (drop (length field.text + 1) text))
+
+outside_moved : (q : Bool) (s size place : ℕ) (text : List ℕ)
+    → map (moved size) (fields_outside q s place text) ≡ fields_outside q s (size + place) text
+outside_moved q s size place text =
+    sym (long_moved size (fields_from s place (seen q s text)) text)
+    ∙ ap (λ l. as_long_as l text) (fields_moved s size place (seen q s text))
+
+-- the lines of a text that is cut
+lines_split : (q r : Bool) (part more : List ℕ) (size : ℕ) → size ≡ whole_rows q part → size ≤ length part
+    → lines q r (part ++ more) ≡ lines q r (take size part) ++ map (row_behind size) (lines q r (drop size part ++ more))
+lines_split q r part more size is within =
+    let front = fields_outside q line_feed 0 (take size part) in
+    let bytes = seen q line_feed part in
     let left = drop size part ++ more in
     let front_size : length (take size part) ≡ size = length-take-le size part within in
     let all : length (part ++ more) ≡ size + length left =
     omega (arith, length-append part more, length-append (drop size part) more, length-drop size part) in
     let ended : AllBefore (length (take size part)) front =
     subst (λ n. AllBefore n front) (zero_add size ∙ sym front_size)
-    (subst (λ n. AllBefore (0 + n) (fields_from line_feed 0 (take n part))) (sym is) (whole_before line_feed 0 part)) in
-    let cut : fields line_feed (part ++ more) ≡ front ++ map (moved size) (fields line_feed left) =
-    subst (λ n. fields_from line_feed 0 (part ++ more) ≡ fields_from line_feed 0 (take n part)
-    ++ fields_from line_feed (0 + n) (drop n part ++ more)) (sym is) (split line_feed 0 part more)
-    ∙ ap (λ p. front ++ fields_from line_feed p left) (zero_add size ∙ add_zero size)
-    ∙ ap (λ l. front ++ l) (sym (fields_moved line_feed size 0 left)) in
+    (long_before (0 + size) (fields_from line_feed 0 (seen q line_feed (take size part))) (take size part)
+    (subst (λ l. AllBefore (0 + size) (fields_from line_feed 0 l)) (sym (seen_take q line_feed size part))
+    (subst (λ n. AllBefore (0 + n) (fields_from line_feed 0 (take n bytes))) (sym is) (whole_before line_feed 0 bytes)))) in
+    let cut : fields_outside q line_feed 0 (part ++ more) ≡ front ++ map (moved size) (fields_outside q line_feed 0 left) =
+    subst (λ n. fields_outside q line_feed 0 (part ++ more) ≡ fields_outside q line_feed 0 (take n part)
+    ++ fields_outside q line_feed (0 + n) (drop n part ++ more)) (sym is) (split_outside q line_feed 0 part more)
+    ∙ ap (λ p. front ++ fields_outside q line_feed p left) (zero_add size ∙ add_zero size)
+    ∙ ap (λ l. front ++ l) (sym (outside_moved q line_feed size 0 left)) in
     ap (map (row_of r (length (part ++ more)))) cut
-    ∙ map-append (row_of r (length (part ++ more))) front (map (moved size) (fields line_feed left))
+    ∙ map-append (row_of r (length (part ++ more))) front (map (moved size) (fields_outside q line_feed 0 left))
     ∙ ap₂ (λ a b. a ++ b)
     (rows_before r (length (take size part)) (length (part ++ more)) front ended (omega (arith, all, front_size)))
-    (ap (λ n. map (row_of r n) (map (moved size) (fields line_feed left))) all
-    ∙ rows_moved r size (length left) (fields line_feed left))
+    (ap (λ n. map (row_of r n) (map (moved size) (fields_outside q line_feed 0 left))) all
+    ∙ rows_moved r size (length left) (fields_outside q line_feed 0 left))
   where
     zero_add : (n : ℕ) → 0 + n ≡ n
     zero_add n = omega arith
@@ -141,11 +172,46 @@ rows_split r part more size is within =
     add_zero : (n : ℕ) → n ≡ n + 0
     add_zero n = omega arith
 
--- the whole lines of a text are some of its bytes
-pub whole_within : (s : ℕ) (text : List ℕ) → whole_fields s text ≤ length text
-whole_within s [] = omega arith
-whole_within s (byte ∷ rest) = by_test (list_any (λ b. b == s) (byte ∷ rest)) (whole_within s rest)
+-- the rows of a text that is cut
+filter_behind : (d : Dialect) (size : ℕ) (lines : List RowView)
+    → filter (counts d) (map (row_behind size) lines) ≡ map (row_behind size) (filter (counts d) lines)
+filter_behind d size [] = refl
+filter_behind d size (line ∷ more) = by_test (counts d line) (filter_behind d size more)
+  where
+    by_test : (t : Bool) → filter (counts d) (map (row_behind size) more) ≡ map (row_behind size) (filter (counts d) more)
+        → cond t (row_behind size line ∷ filter (counts d) (map (row_behind size) more))
+        (filter (counts d) (map (row_behind size) more))
+        ≡ map (row_behind size) (cond t (line ∷ filter (counts d) more) (filter (counts d) more))
+    by_test true same = ap (λ l. row_behind size line ∷ l) same
+    by_test false same = same
+
+rows_are : (d : Dialect) (text : List ℕ) → rows d text ≡ filter (counts d) (lines d.has_quotes d.has_returns text)
+rows_are d text =
+    ap (λ end. filter (counts d) (map (row_of d.has_returns end) (fields_outside d.has_quotes line_feed 0 text))) (zero_add (length text))
+  where
+    zero_add : (n : ℕ) → 0 + n ≡ n
+    zero_add n = omega arith
+
+pub rows_split : (d : Dialect) (part more : List ℕ) (size : ℕ) → size ≡ whole_rows d.has_quotes part → size ≤ length part
+    → rows d (part ++ more) ≡ rows d (take size part) ++ map (row_behind size) (rows d (drop size part ++ more))
+rows_split d part more size is within =
+    let front = lines d.has_quotes d.has_returns (take size part) in
+    let left = drop size part ++ more in
+    rows_are d (part ++ more)
+    ∙ ap (filter (counts d)) (lines_split d.has_quotes d.has_returns part more size is within)
+    ∙ filter-append (counts d) front (map (row_behind size) (lines d.has_quotes d.has_returns left))
+    ∙ ap₂ (λ a b. a ++ b) (sym (rows_are d (take size part)))
+    (filter_behind d size (lines d.has_quotes d.has_returns left) ∙ ap (map (row_behind size)) (sym (rows_are d left)))
+
+-- the whole rows of a text are some of its bytes
+fields_within : (s : ℕ) (text : List ℕ) → whole_fields s text ≤ length text
+fields_within s [] = omega arith
+fields_within s (byte ∷ rest) = by_test (list_any (λ b. b == s) (byte ∷ rest)) (fields_within s rest)
   where
     by_test : (t : Bool) → whole_fields s rest ≤ length rest → cond t (suc (whole_fields s rest)) 0 ≤ suc (length rest)
     by_test true low = omega arith
     by_test false low = omega arith
+
+pub whole_within : (q : Bool) (text : List ℕ) → whole_rows q text ≤ length text
+whole_within q text =
+    omega (arith, fields_within line_feed (seen q line_feed text), seen_long q line_feed text)

@@ -1,28 +1,25 @@
 -- What is read of a table whose columns go into slices of their own.
-use Rattle.std.specs.Prelude.{◌≡◌, ◌+◌, ◌≤◌, ℕ, zero, suc, ℤ, if◌then◌else◌, List, [], ◌∷◌, ◌++◌, length, take, drop, map, set, is_none, nat_lt, option_map, Option, Some, None, Result, Ok, Err}
-use Rattle.lexical_util.specs.declared.error.Error.{Error}
-use Rattle.lexical_util.specs.Format.{Format}
-use Rattle.lexical_util.specs.Number.{IntegerType}
+use Rattle.std.specs.Prelude.{◌≡◌, ◌+◌, ◌*◌, ◌≤◌, ℕ, zero, suc, ℤ, if◌then◌else◌, List, [], ◌∷◌, length, take, drop, map, is_none, is_some, nat_lt, option_map, Option, Some, None, Result, Ok, Err, IfSome}
 use Rattle.lexical_util.specs.Validity.{fault}
 use Rattle.lexical_fields.specs.Columns as columns
-use Rattle.lexical_fields.specs.Fields.{FieldView, fields, fields_from}
-use Rattle.lexical_fields.specs.ReadFields.{field_answer}
-use Rattle.lexical_tables.specs.Rows.{RowView, line_feed, rows}
-use Rattle.lexical_tables.specs.Targets.{TargetView}
+use Rattle.lexical_fields.specs.Fields.{FieldView}
+pub use Rattle.lexical_tables.specs.Cells.{Kind, answer_as, first_of, unless}
+use Rattle.lexical_tables.specs.Quotes.{pieces_outside}
+use Rattle.lexical_tables.specs.Rows.{RowView, next_start, rows, rows_from}
+use Rattle.lexical_tables.specs.Targets.{TargetView, put_value}
 use Rattle.lexical_tables.specs.declared.answers.CellFault.{CellFault}
-use Rattle.lexical_tables.specs.declared.answers.CellFault.TheVariants.{MissingReturn, NotNumber, TooFewCells, TooManyCells}
+use Rattle.lexical_tables.specs.declared.answers.CellFault.TheVariants.{MissingReturn, TooFewCells, TooManyCells}
 use Rattle.lexical_tables.specs.declared.answers.Table.{Table}
 use Rattle.lexical_tables.specs.declared.answers.TableError.{TableError}
 use Rattle.lexical_tables.specs.declared.dialect.Dialect.{Dialect}
 
--- What a column's cells are read as.
-pub record Kind : Type 0 where
-  pub format : Format
-  pub type : IntegerType
-
 -- what the column of a target is read as
 abbrev pub kind_of : TargetView → Kind
-kind_of target = record { format = target.format; type = target.type }
+kind_of target = record {
+  format = target.format;
+  type = target.type;
+  may_miss = is_some target.present;
+}
 
 -- what the columns of targets are read as
 abbrev pub kinds_of : List (Option TargetView) → List (Option Kind)
@@ -30,29 +27,23 @@ kinds_of targets = map (option_map kind_of) targets
 
 -- ---- rows
 
--- a number that is read
-abbrev pub some_number : Result ℤ Error → Result (Option ℤ) Error
-some_number (Ok number) = Ok (Some number)
-some_number (Err error) = Err error
-
--- what a cell stands for in its column: nothing, where it isn't read
-abbrev pub answer_as : Option Kind → FieldView → Result (Option ℤ) Error
-answer_as None cell = Ok None
-answer_as (Some kind) cell = some_number (field_answer kind.format kind.type cell)
-
 -- what the cells of a row stand for; those behind the last kind aren't read
-abbrev pub cell_answers : List (Option Kind) → List FieldView → List (Result (Option ℤ) Error)
-cell_answers kinds [] = []
-cell_answers [] (cell ∷ cells) = Ok None ∷ cell_answers [] cells
-cell_answers (kind ∷ kinds) (cell ∷ cells) = answer_as kind cell ∷ cell_answers kinds cells
+abbrev pub cell_answers : Dialect → List (Option Kind) → List FieldView
+    → List (Result (Option ℤ) CellFault)
+cell_answers dialect kinds [] = []
+cell_answers dialect [] (cell ∷ cells) = answer_as dialect None cell ∷ cell_answers dialect [] cells
+cell_answers dialect (kind ∷ kinds) (cell ∷ cells) =
+    answer_as dialect kind cell ∷ cell_answers dialect kinds cells
 
--- the cells of a row, at their places in the text: one more than it has separators
+-- the cells of a row, at their places in the text: one more than it has separators outside quotes
 abbrev pub cells_of : Dialect → RowView → List FieldView
-cells_of dialect row = fields_from dialect.separator row.start (row.text ++ dialect.separator ∷ [])
+cells_of dialect row = pieces_outside dialect.has_quotes dialect.separator row.start row.text
 
 -- what the cells of a row stand for that have a column
-abbrev pub row_answers : List (Option Kind) → Dialect → RowView → List (Result (Option ℤ) Error)
-row_answers kinds dialect row = cell_answers kinds (take dialect.columns (cells_of dialect row))
+abbrev pub row_answers : List (Option Kind) → Dialect → RowView
+    → List (Result (Option ℤ) CellFault)
+row_answers kinds dialect row =
+    cell_answers dialect kinds (take dialect.columns (cells_of dialect row))
 
 -- what is read of a row: a number or nothing for each cell, up to one that is no number
 abbrev pub row_values : List (Option Kind) → Dialect → RowView → List (Option ℤ)
@@ -82,12 +73,12 @@ end_fault columns index row count None =
     else None
 
 -- a fault of the cell behind those that were read, or else of the row's end
-abbrev pub fault_of : Dialect → ℕ → RowView → ℕ → Option Error → Option TableError
+abbrev pub fault_of : Dialect → ℕ → RowView → ℕ → Option CellFault → Option TableError
 fault_of dialect index row count None =
     let cells = cells_of dialect row in
     end_fault dialect.columns index row (length (take dialect.columns cells))
     (first_start (drop dialect.columns cells))
-fault_of dialect index row count (Some error) = Some (wrong_cell index count (NotNumber error))
+fault_of dialect index row count (Some fault) = Some (wrong_cell index count fault)
 
 -- the fault of a row
 abbrev pub row_fault : List (Option Kind) → Dialect → ℕ → RowView → Option TableError
@@ -96,30 +87,24 @@ row_fault kinds dialect index row = fault_of dialect index row
 
 -- ---- targets
 
--- a target with a number at a row's place, if there is both
-abbrev pub put_number : ℕ → Option ℤ → Option TargetView → Option TargetView
-put_number row None target = target
-put_number row (Some number) None = None
-put_number row (Some number) (Some target) =
-    Some (record target { numbers = set target.numbers row number })
-
--- targets with each number of a row at the row's place of its column
+-- targets with what is read of a row's cells at the row's place of each column
 abbrev pub put_row : ℕ → List (Option ℤ) → List (Option TargetView) → List (Option TargetView)
 put_row row [] targets = targets
 put_row row (value ∷ values) [] = []
 put_row row (value ∷ values) (target ∷ targets) =
-    put_number row value target ∷ put_row row values targets
+    option_map (put_value row value) target ∷ put_row row values targets
 
--- targets with the numbers of rows, where these are counted from a number on
+-- targets with what is read of rows, where these are counted from a number on
 abbrev pub put_rows : ℕ → List (List (Option ℤ)) → List (Option TargetView)
     → List (Option TargetView)
 put_rows row [] targets = targets
 put_rows row (values ∷ more) targets = put_rows (row + 1) more (put_row row values targets)
 
--- a target is usable if its format is valid, and its slice has room for so many numbers
+-- a target is usable if its format is valid, and its slice has room for so many numbers, and its bytes for so many bits
 abbrev pub IsUsable : ℕ → Option TargetView → Type 0
 IsUsable room None = Unit {0}
 IsUsable room (Some target) = (fault target.format ≡ None) × (room ≤ length target.numbers)
+    × IfSome target.present (λ bytes. room ≤ 8 * length bytes)
 
 -- each target is
 abbrev pub AreUsable : ℕ → List (Option TargetView) → Type 0
@@ -129,38 +114,30 @@ AreUsable room (target ∷ targets) = IsUsable room target × AreUsable room tar
 -- ---- one cell of a row
 
 -- what the cell of a column stands for
-abbrev pub answer_at : List (Option Kind) → ℕ → FieldView → Result (Option ℤ) Error
-answer_at [] column cell = Ok None
-answer_at (kind ∷ kinds) zero cell = answer_as kind cell
-answer_at (kind ∷ kinds) (suc column) cell = answer_at kinds column cell
-
--- what is read by an answer, if anything
-abbrev pub value_in : Result (Option ℤ) Error → Option ℤ
-value_in (Ok value) = value
-value_in (Err error) = None
+abbrev pub answer_at : Dialect → List (Option Kind) → ℕ → FieldView → Result (Option ℤ) CellFault
+answer_at dialect [] column cell = answer_as dialect None cell
+answer_at dialect (kind ∷ kinds) zero cell = answer_as dialect kind cell
+answer_at dialect (kind ∷ kinds) (suc column) cell = answer_at dialect kinds column cell
 
 -- the fault of an answer
-abbrev pub fault_in : Result (Option ℤ) Error → Option Error
+abbrev pub fault_in : Result (Option ℤ) CellFault → Option CellFault
 fault_in (Ok value) = None
-fault_in (Err error) = Some error
+fault_in (Err fault) = Some fault
 
--- targets with a number at the row's place of a column
-abbrev pub put_at : ℕ → ℕ → Option ℤ → List (Option TargetView) → List (Option TargetView)
-put_at row column value [] = []
-put_at row zero value (target ∷ targets) = put_number row value target ∷ targets
-put_at row (suc column) value (target ∷ targets) = target ∷ put_at row column value targets
+-- a target with what is answered of a cell at the row's place; a fault puts nothing
+abbrev pub put_read : ℕ → Result (Option ℤ) CellFault → TargetView → TargetView
+put_read row (Ok value) target = put_value row value target
+put_read row (Err fault) target = target
+
+-- targets with what is answered of a cell at the row's place of a column
+abbrev pub put_read_at : ℕ → ℕ → Result (Option ℤ) CellFault → List (Option TargetView)
+    → List (Option TargetView)
+put_read_at row column answer [] = []
+put_read_at row zero answer (target ∷ targets) = option_map (put_read row answer) target ∷ targets
+put_read_at row (suc column) answer (target ∷ targets) =
+    target ∷ put_read_at row column answer targets
 
 -- ---- tables
-
--- the first of two that is there
-abbrev pub first_of : {A : Type 0} → Option A → Option A → Option A
-first_of None other = other
-first_of (Some it) other = Some it
-
--- an answer, where nothing is wrong
-abbrev pub unless : {A E : Type 0} → Option E → Result A E → Result A E
-unless None answer = answer
-unless (Some fault) answer = Err fault
 
 -- what is read of rows, up to the first wrong one
 abbrev pub values_to_fault : List (Option Kind) → Dialect → ℕ → List RowView
@@ -179,22 +156,22 @@ first_fault kinds dialect index (row ∷ more) = first_of (row_fault kinds diale
 -- what `read_columns` answers of a text, with room for so many rows
 unfoldable pub columns_answer : List (Option Kind) → Dialect → ℕ → List ℕ → Result Table TableError
 columns_answer kinds dialect room text =
-    let all = take room (rows dialect.has_returns text) in
-    unless (first_fault kinds dialect 0 all) (Ok (record {
-      rows = length all;
-      stop = columns.next_start (length text) (drop room (fields line_feed text));
+    let all = rows dialect text in
+    unless (first_fault kinds dialect 0 (take room all)) (Ok (record {
+      rows = length (take room all);
+      stop = next_start (length text) (drop room all);
     }))
 
 -- what `read_columns` leaves in targets
 unfoldable pub columns_put : Dialect → ℕ → List ℕ → List (Option TargetView)
     → List (Option TargetView)
 columns_put dialect room text targets = put_rows 0 (values_to_fault (kinds_of targets) dialect 0
-    (take room (rows dialect.has_returns text))) targets
+    (take room (rows dialect text))) targets
 
 -- How far a text was read: no more rows than there was room for, and up to a place from which on the text has the rows
 -- that are left.
-pub record StopsAt (room : ℕ) (text : List ℕ) (table : Table) : Type 0 where
+pub record StopsAt (dialect : Dialect) (room : ℕ) (text : List ℕ) (table : Table) : Type 0 where
   pub within_room : table.rows ≤ room
   pub within_text : table.stop ≤ length text
-  pub left : fields_from line_feed table.stop (drop table.stop text)
-      ≡ drop table.rows (fields line_feed text)
+  pub left : rows_from dialect table.stop (drop table.stop text)
+      ≡ drop table.rows (rows dialect text)

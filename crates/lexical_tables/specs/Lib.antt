@@ -1,5 +1,8 @@
 -- The definitions that contracts name, a file for each subject.
 pub mod ByColumn
+pub mod Cells
+pub mod Header
 pub mod Parts
+pub mod Quotes
 pub mod Rows
 pub mod Targets

@@ -1,18 +1,28 @@
 -- Texts that come in parts, as from a file that is read in blocks.
-use Rattle.std.specs.Prelude.{◌≡◌, ◌+◌, ℕ, ℤ, if◌then◌else◌, List, [], ◌∷◌, ◌++◌, length, drop, false, is_none, option_map, Option, Some, None}
+use Rattle.std.specs.Prelude.{◌≡◌, ◌+◌, ℕ, ℤ, Bool, if◌then◌else◌, List, [], ◌∷◌, ◌++◌, length, take, drop, false, is_none, option_map, Option, Some, None}
 use Rattle.lexical_util.specs.Validity.{fault}
-use Rattle.lexical_fields.specs.Parts.{readable, whole_fields}
 use Rattle.lexical_fields.specs.Places.{error_in_text}
-use Rattle.lexical_tables.specs.ByColumn.{Kind, first_fault, first_of, values_to_fault, wrong_cell}
+use Rattle.lexical_tables.specs.ByColumn.{first_fault, first_of, values_to_fault, wrong_cell}
+use Rattle.lexical_tables.specs.Cells.{Kind}
+use Rattle.lexical_tables.specs.Quotes.{whole_outside}
 use Rattle.lexical_tables.specs.Rows.{line_feed, rows}
 use Rattle.lexical_tables.specs.declared.answers.CellFault.{CellFault}
-use Rattle.lexical_tables.specs.declared.answers.CellFault.TheVariants.{MissingReturn, NotNumber, TooFewCells, TooManyCells}
+use Rattle.lexical_tables.specs.declared.answers.CellFault.TheVariants.{MisplacedQuote, MissingReturn, NotNumber, TooFewCells, TooManyCells}
 use Rattle.lexical_tables.specs.declared.answers.TableError.{TableError}
 use Rattle.lexical_tables.specs.declared.dialect.Dialect.{Dialect}
+
+-- how many bytes of a text are whole rows: those up to its last line feed outside quotes, that one counted
+abbrev pub whole_rows : Bool → List ℕ → ℕ
+whole_rows has_quotes text = whole_outside has_quotes line_feed text
+
+-- what is read of a part: its whole rows, and all of the last part
+abbrev pub readable : Bool → Bool → List ℕ → List ℕ
+readable is_last has_quotes text = if is_last then text else take (whole_rows has_quotes text) text
 
 -- what is wrong with a cell that stands so many bytes further behind
 abbrev pub fault_behind : ℕ → CellFault → CellFault
 fault_behind bytes (NotNumber error) = NotNumber (error_in_text bytes error)
+fault_behind bytes (MisplacedQuote place) = MisplacedQuote (bytes + place)
 fault_behind bytes (TooFewCells place) = TooFewCells (bytes + place)
 fault_behind bytes (TooManyCells place) = TooManyCells (bytes + place)
 fault_behind bytes (MissingReturn place) = MissingReturn (bytes + place)
@@ -30,24 +40,24 @@ AreValid (Some kind ∷ kinds) = (fault kind.format ≡ None) × AreValid kinds
 
 -- what is read of the rows of a text, up to the first fault
 abbrev pub values_in : List (Option Kind) → Dialect → List ℕ → List (List (Option ℤ))
-values_in kinds dialect text = values_to_fault kinds dialect 0 (rows dialect.has_returns text)
+values_in kinds dialect text = values_to_fault kinds dialect 0 (rows dialect text)
 
 -- the first fault in a text
 abbrev pub fault_in : List (Option Kind) → Dialect → List ℕ → Option TableError
 fault_in kinds dialect text =
-    first_fault kinds dialect 0 (rows dialect.has_returns text)
+    first_fault kinds dialect 0 (rows dialect text)
 
 -- Wherever a text is cut, what is read of the whole rows in front of the cut, and then of all that is left, is what is
 -- read of the text: the rows and bytes in front are counted on.
 pub record ColumnsInParts (kinds : List (Option Kind)) (dialect : Dialect)
     (part more : List ℕ) : Type 0 where
-  pub values : let front = readable false line_feed part in
-      let left = drop (whole_fields line_feed part) part ++ more in
+  pub values : let front = readable false dialect.has_quotes part in
+      let left = drop (whole_rows dialect.has_quotes part) part ++ more in
       values_in kinds dialect (part ++ more) ≡ values_in kinds dialect front
       ++ (if is_none (fault_in kinds dialect front)
       then values_in kinds dialect left else [])
-  pub fault : let front = readable false line_feed part in
-      let left = drop (whole_fields line_feed part) part ++ more in
+  pub fault : let front = readable false dialect.has_quotes part in
+      let left = drop (whole_rows dialect.has_quotes part) part ++ more in
       fault_in kinds dialect (part ++ more) ≡ first_of (fault_in kinds dialect front)
-      (option_map (error_behind (length (rows dialect.has_returns front)) (length front))
+      (option_map (error_behind (length (rows dialect front)) (length front))
       (fault_in kinds dialect left))

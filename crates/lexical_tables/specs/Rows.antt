@@ -1,6 +1,8 @@
 -- The rows of a text.
-use Rattle.std.specs.Prelude.{◌==◌, ◌&&◌, ◌+◌, ◌-◌, ℕ, Bool, not, if◌then◌else◌, List, length, take, map, nat_lt, slice_index}
-use Rattle.lexical_fields.specs.Fields.{FieldView, fields}
+use Rattle.std.specs.Prelude.{◌≡◌, ◌==◌, ◌&&◌, ◌||◌, ◌+◌, ◌-◌, ◌<◌, ℕ, Bool, true, not, if◌then◌else◌, List, [], ◌∷◌, length, take, map, filter, nat_lt, slice_index}
+use Rattle.lexical_fields.specs.Fields.{FieldView}
+use Rattle.lexical_tables.specs.Quotes.{fields_outside, length_outside}
+use Rattle.lexical_tables.specs.declared.dialect.Dialect.{Dialect}
 use Rattle.lexical_tables.specs.declared.rows.Row.{Row}
 
 abbrev pub line_feed : ℕ
@@ -34,9 +36,32 @@ row_of has_returns end line =
       lacks_return = asks && not returned;
     }
 
--- the rows of a text, which are its lines
-abbrev pub rows : Bool → List ℕ → List RowView
-rows has_returns text = map (row_of has_returns (length text)) (fields line_feed text)
+-- whether a row counts: it has a byte, or empty rows aren't skipped
+abbrev pub counts : Dialect → RowView → Bool
+counts dialect row = not dialect.skips_empty_rows || nat_lt 0 (length row.text)
+
+-- the rows of a text that stands at a place: its lines that count
+abbrev pub rows_from : Dialect → ℕ → List ℕ → List RowView
+rows_from dialect place text = filter (counts dialect)
+    (map (row_of dialect.has_returns (place + length text))
+    (fields_outside dialect.has_quotes line_feed place text))
+
+-- the rows of a text
+abbrev pub rows : Dialect → List ℕ → List RowView
+rows dialect text = rows_from dialect 0 text
+
+-- the start of the first of some rows, or the text's end where there is none
+abbrev pub next_start : ℕ → List RowView → ℕ
+next_start end [] = end
+next_start end (row ∷ more) = row.start
+
+-- the first line of a text, if it has one, counts
+abbrev pub FirstCounts : Dialect → List ℕ → Type 0
+FirstCounts dialect text = 0 < length text
+    → counts dialect (row_of dialect.has_returns (length text) (record {
+      start = 0;
+      text = take (length_outside dialect.has_quotes line_feed text) text;
+    })) ≡ true
 
 -- a row as the program has it
 abbrev pub view_of_row : Row → RowView

@@ -1,17 +1,23 @@
 -- Where the numbers of a table's columns go.
-use Rattle.std.specs.Prelude.{ℕ, ℤ, pos, true, false, List, map, set, Option, Some, None, Result, Ok, Err}
+use Rattle.std.specs.Prelude.{◌/◌, ◌%◌, ◌^◌, ℕ, ℤ, pos, Bool, true, false, List, map, set, slice_index, is_some, option_map, unwrap_or, Option, Some, None, Result, Ok, Err}
+use Rattle.std.specs.Int.{bit_not, w8}
+use Rattle.std.specs.Int.Bits.{bit_and, bit_or}
 use Rattle.lexical_util.specs.declared.error.Error.{Error}
 use Rattle.lexical_util.specs.Format.{Format}
 use Rattle.lexical_util.specs.Number.{IntegerType, integer_type}
+use Rattle.lexical_fields.specs.Fields.{FieldView}
+use Rattle.lexical_fields.specs.ReadFields.{field_answer}
 use Rattle.lexical_tables.specs.declared.targets.Numbers.{Numbers}
 use Rattle.lexical_tables.specs.declared.targets.Numbers.TheVariants.{I16, I32, I64, I8, U16, U32, U64, U8}
 use Rattle.lexical_tables.specs.declared.targets.Target.{Target}
 
--- A column's target: the format and the type of its numbers, and what its slice has.
+-- A column's target: the format and the type of its numbers, what its slice has, and the bytes with the bits that say
+-- where there is a number, if it has any.
 pub record TargetView : Type 0 where
   pub format : Format
   pub type : IntegerType
   pub numbers : List ℤ
+  pub present : Option (List ℕ)
 
 -- the type of a slice's numbers
 abbrev pub type_of : Numbers → IntegerType
@@ -41,7 +47,27 @@ view_of_target target = record {
   format = target.format;
   type = type_of target.numbers;
   numbers = numbers_in target.numbers;
+  present = option_map (λ bytes. bytes.now) target.present;
 }
+
+-- a byte with the bit of a place set, or cleared
+abbrev pub with_bit : ℕ → Bool → ℕ → ℕ
+with_bit place true byte = bit_or byte (2 ^ place)
+with_bit place false byte = bit_and byte (bit_not w8 (2 ^ place))
+
+-- bytes with the bit of a row: the lowest bit of a byte comes first
+abbrev pub with_row_bit : ℕ → Bool → List ℕ → List ℕ
+with_row_bit row is_there bytes =
+    set bytes (row / 8) (with_bit (row % 8) is_there (slice_index bytes (row / 8)))
+
+-- a target with what is read at a row's place: a number and its bit, or 0 without it where there is none
+abbrev pub put_value : ℕ → Option ℤ → TargetView → TargetView
+put_value row value target = record target {
+  numbers = set target.numbers row (unwrap_or value (pos 0));
+  present = option_map (with_row_bit row (is_some value)) target.present;
+}
+
+-- ---- a text that is read in a column
 
 -- the fault of an answer
 abbrev pub error_in : Result ℤ Error → Option Error
@@ -53,6 +79,25 @@ abbrev pub with_number : ℕ → Result ℤ Error → List ℤ → List ℤ
 with_number row (Ok number) numbers = set numbers row number
 with_number row (Err error) numbers = numbers
 
--- a target with the number of an answer at a row's place
+-- a target with the number of an answer at a row's place, and its bit; a fault changes nothing
 abbrev pub put_answer : ℕ → Result ℤ Error → TargetView → TargetView
-put_answer row answer target = record target { numbers = with_number row answer target.numbers }
+put_answer row (Ok number) target = put_value row (Some number) target
+put_answer row (Err error) target = target
+
+-- what all of a text stands for in a target's column
+abbrev pub text_answer : TargetView → FieldView → Result ℤ Error
+text_answer target text = field_answer target.format target.type text
+
+-- the fault of a text in a column, if that is read
+abbrev pub text_fault : Option TargetView → FieldView → Option Error
+text_fault None text = None
+text_fault (Some target) text = error_in (text_answer target text)
+
+-- a target with the number of a text
+abbrev pub put_text : ℕ → FieldView → TargetView → TargetView
+put_text row text target = put_answer row (text_answer target text) target
+
+-- whether a column has bits, so that a number may be missing there
+abbrev pub has_bits : Option TargetView → Bool
+has_bits None = false
+has_bits (Some target) = is_some target.present

@@ -17,6 +17,8 @@ pub struct Table {
 pub enum CellFault {
     /// The cell is no number of the type.
     NotNumber(Error),
+    /// The quote at this place is out of place in the cell, or opens one that nothing closes.
+    MisplacedQuote(usize),
     /// The row ends at this place, before the cell.
     TooFewCells(usize),
     /// A cell that the row shouldn't have starts at this place.

@@ -1,37 +1,75 @@
 //! Tables whose columns go into slices of their own.
 
-ghost use Rattle.std.specs.Prelude.{◌≡◌, ◌+◌, ◌<◌, ◌^◌, length, map, IfOk};
-ghost use Rattle.lexical_tables.specs.ByColumn.{AreUsable, StopsAt, answer_at, columns_answer, columns_put, end_fault, fault_in, kinds_of, put_at, put_row, row_fault, row_values, value_in};
+ghost use Rattle.std.specs.Prelude.{◌≡◌, ◌+◌, ◌<◌, ◌^◌, length, map, is_some, option_map, true, IfOk};
+ghost use Rattle.lexical_tables.specs.ByColumn.{AreUsable, IsUsable, StopsAt, answer_at, columns_answer, columns_put, end_fault, fault_in, kind_of, kinds_of, put_read, put_read_at, put_row, row_fault, row_values};
+ghost use Rattle.lexical_tables.specs.Cells.{answer_as, view_of_cell};
 ghost use Rattle.lexical_tables.specs.Rows.{view_of_row};
 
 use crate::answers::{CellFault, Table, TableError};
+use crate::content::{Cell, content};
 use crate::dialect::Dialect;
-use crate::rows::{Row, first_row, split};
+use crate::misplaced::quote_fault;
+use crate::rows::{Row, first_row, split, without_empty_rows};
 use crate::targets::TableColumn;
-use lexical_parse_integer::{Error, Options};
+use lexical_parse_integer::Options;
 
-// Reads the cell of a column, if there is such a target: its number goes to the row's place there.
+// Reads a cell in its column, if its quotes are in place: it holds the mark or a number, which goes to the row's place.
+#[inline(always)]
+fn read_number<C: TableColumn>(
+    target: &mut C,
+    row: usize,
+    cell: Cell<'_>,
+    dialect: &Dialect<'_>,
+    options: &Options,
+) -> Option<CellFault>
+    requires usable { IsUsable (row + 1) (C.target target.old) }
+    requires read { is_some (C.target target.old) ≡ true }
+    requires fits { cell.start + length cell.text.now < 2 ^ 64 }
+    ensures fault { result ≡ fault_in (answer_as dialect.now
+        (option_map kind_of (C.target target.old)) (view_of_cell cell.entry)) }
+    ensures target { C.target target.new ≡ option_map (put_read row (answer_as dialect.now
+        (option_map kind_of (C.target target.old)) (view_of_cell cell.entry)))
+        (C.target target.old) }
+{
+    if let Some(fault) = quote_fault(dialect.has_quotes, true, cell) {
+        return Some(fault);
+    }
+    let held = content(cell, dialect.has_quotes, dialect.allows_blanks);
+    if target.may_miss() && held.text == dialect.missing {
+        target.put_missing(row);
+        return None;
+    }
+    match target.read(row, held.start, held.text, options) {
+        Some(error) => Some(CellFault::NotNumber(error)),
+        None => None,
+    }
+}
+
+// Reads the cell of a column, if that has a target: what is read goes to the row's place there.
 #[inline(always)]
 fn read_cell<C: TableColumn>(
     targets: &mut [C],
     column: usize,
     row: usize,
-    start: usize,
-    cell: &[u8],
+    cell: Cell<'_>,
+    dialect: &Dialect<'_>,
     options: &Options,
-) -> Option<Error>
+) -> Option<CellFault>
     requires usable { AreUsable (row + 1) (map C.target targets.old) }
-    requires fits { start + length cell.now < 2 ^ 64 }
-    ensures fault { result ≡ fault_in (answer_at (kinds_of (map C.target targets.old)) column
-        (record { start = start; text = cell.now })) }
-    ensures targets { map C.target targets.new ≡ put_at row column (value_in
-        (answer_at (kinds_of (map C.target targets.old)) column
-        (record { start = start; text = cell.now }))) (map C.target targets.old) }
+    requires fits { cell.start + length cell.text.now < 2 ^ 64 }
+    ensures fault { result ≡ fault_in (answer_at dialect.now (kinds_of (map C.target targets.old))
+        column (view_of_cell cell.entry)) }
+    ensures targets { map C.target targets.new ≡ put_read_at row column (answer_at dialect.now
+        (kinds_of (map C.target targets.old)) column (view_of_cell cell.entry))
+        (map C.target targets.old) }
 {
-    if column < targets.len() {
-        return targets[column].read(row, start, cell, options);
+    if column >= targets.len() {
+        return quote_fault(dialect.has_quotes, false, cell);
     }
-    None
+    if targets[column].is_read() {
+        return read_number(&mut targets[column], row, cell, dialect, options);
+    }
+    quote_fault(dialect.has_quotes, false, cell)
 }
 
 // What is wrong with the number of a row's cells, or with its end, if so many have a column, and one more starts there.
@@ -70,7 +108,7 @@ fn end_fault(
 fn read_cells<C: TableColumn>(
     row: &Row<'_>,
     index: usize,
-    dialect: &Dialect,
+    dialect: &Dialect<'_>,
     options: &Options,
     targets: &mut [C],
 ) -> Option<TableError>
@@ -87,15 +125,16 @@ fn read_cells<C: TableColumn>(
     let mut column = 0;
     while column < dialect.columns && !ended {
         let start = row.start + (row.text.len() - rest.len());
-        let (cell, behind) = split(rest, dialect.separator);
-        if let Some(error) = read_cell(targets, column, index, start, cell, options) {
+        let (text, behind) = split(rest, dialect.separator, dialect.has_quotes);
+        let cell = Cell { start, text };
+        if let Some(fault) = read_cell(targets, column, index, cell, dialect, options) {
             return Some(TableError {
                 row: index,
                 column,
-                fault: CellFault::NotNumber(error),
+                fault,
             });
         }
-        ended = cell.len() == rest.len();
+        ended = text.len() == rest.len();
         rest = behind;
         column += 1;
     }
@@ -107,19 +146,20 @@ fn read_cells<C: TableColumn>(
 /// Reads a table's columns into slices of their own, for as many rows as are asked for at most.
 ///
 /// Each cell of a row has a target, or none: then it isn't read, and may hold any bytes but the separator
-/// and a line feed. So it is with cells behind the last target. The number of a cell is put at its row's
-/// place in the target's slice, and all else in the slices is as it was, also after a fault: then the
-/// numbers are those of all cells before the wrong one. Where the text has more rows than are asked for,
+/// and a line feed outside quotes. So it is with cells behind the last target. The number of a cell is put at
+/// its row's place in the target's slice, and all else in the slices is as it was, also after a fault: then
+/// the numbers are those of all cells before the wrong one. Where the text has more rows than are asked for,
 /// `stop` is where the next one starts.
 ///
-/// The formats of the targets have to be valid, and their slices have to have room for so many rows.
+/// The formats of the targets have to be valid, and their slices and their bits have to have room for so
+/// many rows.
 ///
 /// With a comma, three columns and targets of `u64` for the first and of `i8` for the third, `1,a,-2\n`
 /// puts 1 and -2 at place 0, and stops at 7.
 #[inline(never)]
 pub fn read_columns<C: TableColumn>(
     text: &[u8],
-    dialect: &Dialect,
+    dialect: &Dialect<'_>,
     options: &Options,
     rows: usize,
     targets: &mut [C],
@@ -129,16 +169,16 @@ pub fn read_columns<C: TableColumn>(
         text.now }
     ensures targets { map C.target targets.new ≡ columns_put dialect.now rows text.now
         (map C.target targets.old) }
-    ensures goes_on { IfOk result (StopsAt rows text.now) }
+    ensures goes_on { IfOk result (StopsAt dialect.now rows text.now) }
 {
-    let mut rest = text;
+    let mut rest = without_empty_rows(text, dialect);
     let mut count = 0;
     while count < rows && !rest.is_empty() {
-        let (row, behind) = first_row(text.len() - rest.len(), rest, dialect.has_returns);
+        let (row, behind) = first_row(text.len() - rest.len(), rest, dialect);
         if let Some(error) = read_cells(&row, count, dialect, options, targets) {
             return Err(error);
         }
-        rest = behind;
+        rest = without_empty_rows(behind, dialect);
         count += 1;
     }
     Ok(Table {

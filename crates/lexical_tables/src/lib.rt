@@ -9,14 +9,18 @@
 
 mod answers;
 mod by_column;
+mod content;
 mod dialect;
+mod header;
+mod misplaced;
 mod parts;
+mod quotes;
 mod rows;
 mod targets;
 
 pub use answers::{CellFault, Table, TableError};
 pub use by_column::read_columns;
 pub use dialect::Dialect;
+pub use header::after_lines;
 pub use parts::{columns_in_parts, read_columns_part};
-pub use rows::after_lines;
-pub use targets::{Numbers, TableColumn, Target, put_cell};
+pub use targets::{Numbers, TableColumn, Target, put_bit, put_cell, put_zero};

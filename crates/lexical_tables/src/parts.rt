@@ -1,17 +1,36 @@
 //! Tables of a text that comes in parts, as a file that is read in blocks.
 
-ghost use Rattle.std.specs.Prelude.{◌≡◌, ℕ, List, Option, map, IfOk};
-ghost use Rattle.lexical_fields.specs.Parts.{readable};
-ghost use Rattle.lexical_tables.specs.ByColumn.{AreUsable, Kind, StopsAt, columns_answer, columns_put, kinds_of};
-ghost use Rattle.lexical_tables.specs.Parts.{AreValid, ColumnsInParts};
-ghost use Rattle.lexical_tables.specs.Rows.{line_feed};
+ghost use Rattle.std.specs.Prelude.{◌≡◌, ◌≤◌, ℕ, List, Option, length, map, IfOk};
+ghost use Rattle.lexical_tables.specs.ByColumn.{AreUsable, StopsAt, columns_answer, columns_put, kinds_of};
+ghost use Rattle.lexical_tables.specs.Cells.{Kind};
+ghost use Rattle.lexical_tables.specs.Parts.{AreValid, ColumnsInParts, readable, whole_rows};
 
 use crate::answers::{Table, TableError};
 use crate::by_column::read_columns;
 use crate::dialect::Dialect;
+use crate::rows::split;
 use crate::targets::TableColumn;
 use lexical_fields::whole_fields;
 use lexical_parse_integer::Options;
+
+// How many bytes of a part are whole rows: those up to its last line feed outside quotes, that one counted.
+fn whole_rows(text: &[u8], has_quotes: bool) -> usize
+    ensures value { result ≡ whole_rows has_quotes text.now }
+    ensures within { result ≤ length text.now }
+{
+    if !has_quotes {
+        return whole_fields(text, b'\n');
+    }
+    let mut rest = text;
+    while !rest.is_empty() {
+        let (line, behind) = split(rest, b'\n', has_quotes);
+        if line.len() == rest.len() {
+            return text.len() - rest.len();
+        }
+        rest = behind;
+    }
+    text.len()
+}
 
 /// Reads the columns in the whole rows of a part of a text, as [`read_columns`](crate::read_columns) does in a
 /// whole text.
@@ -25,22 +44,23 @@ use lexical_parse_integer::Options;
 pub fn read_columns_part<C: TableColumn>(
     text: &[u8],
     is_last: bool,
-    dialect: &Dialect,
+    dialect: &Dialect<'_>,
     options: &Options,
     rows: usize,
     targets: &mut [C],
 ) -> Result<Table, TableError>
     requires usable { AreUsable rows (map C.target targets.old) }
     ensures answer { result ≡ columns_answer (kinds_of (map C.target targets.old)) dialect.now rows
-        (readable is_last line_feed text.now) }
+        (readable is_last dialect.now.has_quotes text.now) }
     ensures targets { map C.target targets.new ≡ columns_put dialect.now rows
-        (readable is_last line_feed text.now) (map C.target targets.old) }
-    ensures goes_on { IfOk result (StopsAt rows (readable is_last line_feed text.now)) }
+        (readable is_last dialect.now.has_quotes text.now) (map C.target targets.old) }
+    ensures goes_on { IfOk result (StopsAt dialect.now rows
+        (readable is_last dialect.now.has_quotes text.now)) }
 {
     if is_last {
         return read_columns(text, dialect, options, rows, targets);
     }
-    let whole = &text[..whole_fields(text, b'\n')];
+    let whole = &text[..whole_rows(text, dialect.has_quotes)];
     read_columns(whole, dialect, options, rows, targets)
 }
 

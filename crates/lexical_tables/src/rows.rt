@@ -1,11 +1,11 @@
 //! The rows of a text.
 
-ghost use Rattle.std.specs.Prelude.{◌≡◌, ◌+◌, ◌≤◌, ◌<◌, ◌^◌, length, take, drop};
-ghost use Rattle.lexical_fields.specs.Columns.{next_start};
-ghost use Rattle.lexical_fields.specs.Fields.{fields, field_length};
-ghost use Rattle.lexical_tables.specs.Rows.{ends_in, line_feed, row_of, view_of_row};
+ghost use Rattle.std.specs.Prelude.{◌≡◌, ◌+◌, ◌-◌, ◌≤◌, ◌<◌, ◌^◌, ℕ, length, take, drop};
+ghost use Rattle.lexical_tables.specs.Quotes.{length_outside};
+ghost use Rattle.lexical_tables.specs.Rows.{FirstCounts, ends_in, line_feed, row_of, rows_from, view_of_row};
 
-use lexical_fields::field_length;
+use crate::dialect::Dialect;
+use crate::quotes::length_outside;
 
 // A row: the place at which it starts, its bytes without what ends it, and whether that lacks its return.
 #[derive(Debug, Copy, Clone)]
@@ -23,17 +23,18 @@ pub(crate) fn ends_in(text: &[u8], byte: u8) -> bool
     !text.is_empty() && text[text.len() - 1] == byte
 }
 
-// The bytes up to a separator, or all where there is none, and what is behind it.
+// The bytes up to a separator outside quotes, or all where there is none, and what is behind it.
 #[inline(always)]
-pub(crate) fn split(text: &[u8], separator: u8) -> (&[u8], &[u8])
-    ensures front { result.0.now ≡ take (field_length separator text.now) text.now }
-    ensures behind { result.1.now ≡ drop (field_length separator text.now + 1) text.now }
+pub(crate) fn split(text: &[u8], separator: u8, has_quotes: bool) -> (&[u8], &[u8])
+    ensures front { result.0.now ≡ take (length_outside has_quotes separator text.now) text.now }
+    ensures behind { result.1.now
+        ≡ drop (length_outside has_quotes separator text.now + 1) text.now }
     ensures within { length result.0.now ≤ length text.now }
-    ensures size { length result.0.now ≡ field_length separator text.now }
+    ensures size { length result.0.now ≡ length_outside has_quotes separator text.now }
     ensures left { length result.1.now ≤ length text.now }
     ensures shorter { 0 < length text.now → length result.1.now < length text.now }
 {
-    let (front, end) = text.split_at(field_length(text, separator));
+    let (front, end) = text.split_at(length_outside(text, separator, has_quotes));
     if end.is_empty() {
         (front, end)
     } else {
@@ -43,17 +44,23 @@ pub(crate) fn split(text: &[u8], separator: u8) -> (&[u8], &[u8])
 
 // The first row of a text that starts at a place, and what is behind it.
 #[inline(always)]
-pub(crate) fn first_row(start: usize, text: &[u8], has_returns: bool) -> (Row<'_>, &[u8])
+pub(crate) fn first_row<'a>(
+    start: usize,
+    text: &'a [u8],
+    dialect: &Dialect<'_>,
+) -> (Row<'a>, &'a [u8])
     requires some { 0 < length text.now }
-    ensures row { view_of_row result.0 ≡ row_of has_returns (start + length text.now) (record {
-      start = start;
-      text = take (field_length line_feed text.now) text.now;
-    }) }
-    ensures behind { result.1.now ≡ drop (field_length line_feed text.now + 1) text.now }
+    ensures row { view_of_row result.0
+        ≡ row_of dialect.now.has_returns (start + length text.now) (record {
+          start = start;
+          text = take (length_outside dialect.now.has_quotes line_feed text.now) text.now;
+        }) }
+    ensures behind { result.1.now
+        ≡ drop (length_outside dialect.now.has_quotes line_feed text.now + 1) text.now }
     ensures within { length result.0.text.now ≤ length text.now }
     ensures shorter { length result.1.now < length text.now }
 {
-    let (line, behind) = split(text, b'\n');
+    let (line, behind) = split(text, b'\n', dialect.has_quotes);
     if line.len() == text.len() {
         let row = Row {
             start,
@@ -62,7 +69,7 @@ pub(crate) fn first_row(start: usize, text: &[u8], has_returns: bool) -> (Row<'_
         };
         return (row, behind);
     }
-    if has_returns && ends_in(line, b'\r') {
+    if dialect.has_returns && ends_in(line, b'\r') {
         let row = Row {
             start,
             text: &line[..line.len() - 1],
@@ -73,25 +80,28 @@ pub(crate) fn first_row(start: usize, text: &[u8], has_returns: bool) -> (Row<'_
         let row = Row {
             start,
             text: line,
-            lacks_return: has_returns,
+            lacks_return: dialect.has_returns,
         };
         (row, behind)
     }
 }
 
-/// The place behind the first lines of a text, so many, or its end where it has no more.
-///
-/// A table's rows begin there, if a header of so many lines stands in front of it. What stands in the header
-/// isn't judged.
-pub fn after_lines(text: &[u8], count: usize) -> usize
-    ensures value { result ≡ next_start (length text.now) (drop count (fields line_feed text.now)) }
-    ensures within { result ≤ length text.now }
+// What is left of a text behind the empty rows in front of it, where these are skipped.
+#[inline(always)]
+pub(crate) fn without_empty_rows<'a>(text: &'a [u8], dialect: &Dialect<'_>) -> &'a [u8]
+    ensures within { length result.now ≤ length text.now }
+    ensures tail { result.now ≡ drop (length text.now - length result.now) text.now }
+    ensures rows { (place : ℕ) → rows_from dialect.now place text.now
+        ≡ rows_from dialect.now (place + (length text.now - length result.now)) result.now }
+    ensures first { FirstCounts dialect.now result.now }
 {
     let mut rest = text;
-    let mut left = count;
-    while left > 0 && !rest.is_empty() {
-        (_, rest) = first_row(0, rest, false);
-        left -= 1;
+    while dialect.skips_empty_rows && !rest.is_empty() {
+        let (row, behind) = first_row(0, rest, dialect);
+        if !row.text.is_empty() {
+            return rest;
+        }
+        rest = behind;
     }
-    text.len() - rest.len()
+    rest
 }

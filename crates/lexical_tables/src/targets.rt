@@ -1,10 +1,10 @@
 //! Where the numbers of a table's columns go.
 
-ghost use Rattle.std.specs.Prelude.{◌≡◌, ◌+◌, ◌<◌, ◌^◌, Option, length, map, option_map, IsNone};
+ghost use Rattle.std.specs.Prelude.{◌≡◌, ◌+◌, ◌*◌, ◌<◌, ◌≤◌, ◌^◌, Option, None, Some, length, map, set, is_some, option_map, pos, IfSome, IsNone};
 ghost use Rattle.lexical_util.specs.Validity.{fault};
 ghost use Rattle.lexical_fields.specs.ReadFields.{field_answer};
-ghost use Rattle.lexical_tables.specs.ByColumn.{IsUsable, answer_as, fault_in, kind_of, put_number, value_in};
-ghost use Rattle.lexical_tables.specs.Targets.{TargetView, error_in, put_answer, view_of_target, with_number};
+ghost use Rattle.lexical_tables.specs.ByColumn.{IsUsable};
+ghost use Rattle.lexical_tables.specs.Targets.{TargetView, error_in, has_bits, put_text, put_value, text_answer, text_fault, view_of_target, with_number, with_row_bit};
 
 use lexical_fields::error_in_text;
 use lexical_parse_integer::laws::grammar::fault_places;
@@ -39,6 +39,9 @@ pub struct Target<'a> {
     pub format: NumberFormat,
     /// Where its numbers go, each at its row's number.
     pub numbers: Numbers<'a>,
+    /// Where the bits go that are 1 for rows that have a number, and 0 for those where it is missing: for row
+    /// `k` the bit `k & 7` of byte `k >> 3`, the lowest bit being 0. Without it no number may be missing.
+    pub present: Option<&'a mut [u8]>,
 }
 
 /// Puts the number of a cell that starts at a place into a row's place of a slice, or tells the cell's fault.
@@ -72,6 +75,33 @@ pub fn put_cell<T: ParseInteger>(
     }
 }
 
+/// Puts 0 into a row's place of a slice.
+///
+/// It is for a [`TableColumn`] of one's own. The slice has to have that place.
+pub fn put_zero<T: ParseInteger>(values: &mut [T], row: usize)
+    requires room { row < length values.old }
+    ensures { map T.number values.new ≡ set (map T.number values.old) row (pos 0) }
+{
+    values[row] = T::from_u32(0);
+}
+
+/// Sets the bit of a row, or clears it.
+///
+/// It is for a [`TableColumn`] of one's own. The bytes have to have that bit.
+#[inline]
+pub fn put_bit(bytes: &mut [u8], row: usize, is_there: bool)
+    requires room { row < 8 * length bytes.old }
+    ensures { bytes.new ≡ with_row_bit row is_there bytes.old }
+{
+    let place = row / 8;
+    let bit = 1_u8 << (row % 8);
+    if is_there {
+        bytes[place] |= bit;
+    } else {
+        bytes[place] &= !bit;
+    }
+}
+
 /// A column of a table: its cells are read, and their numbers put somewhere, or they aren't read.
 ///
 /// An `Option<Target>` is one. Another type may be one too, if it meets the clauses.
@@ -79,52 +109,151 @@ pub trait TableColumn {
     // The target that the column has, if any.
     ghost target: { Self → Option TargetView };
 
-    /// Puts the number of a cell into a row's place, or tells the cell's fault.
-    fn read(&mut self, row: usize, start: usize, cell: &[u8], options: &Options) -> Option<Error>
+    /// Whether its cells are read.
+    fn is_read(&self) -> bool
+        ensures { result ≡ is_some (target self.now) };
+
+    /// Whether a number may be missing in it.
+    fn may_miss(&self) -> bool
+        ensures { result ≡ has_bits (target self.now) };
+
+    /// Puts 0 into a row's place, and clears the row's bit.
+    fn put_missing(&mut self, row: usize)
         requires usable { IsUsable (row + 1) (target self.old) }
-        requires fits { start + length cell.now < 2 ^ 64 }
-        ensures fault { result ≡ fault_in (answer_as (option_map kind_of (target self.old))
-            (record { start = start; text = cell.now })) }
-        ensures target { target self.new ≡ put_number row (value_in (answer_as
-            (option_map kind_of (target self.old)) (record { start = start; text = cell.now })))
-            (target self.old) };
+        ensures { target self.new ≡ option_map (put_value row None) (target self.old) };
+
+    /// Puts the number that all of a text stands for into a row's place, and sets the row's bit, or tells the
+    /// text's fault.
+    fn read(&mut self, row: usize, start: usize, text: &[u8], options: &Options) -> Option<Error>
+        requires usable { IsUsable (row + 1) (target self.old) }
+        requires fits { start + length text.now < 2 ^ 64 }
+        ensures fault { result ≡ text_fault (target self.old)
+            (record { start = start; text = text.now }) }
+        ensures target { target self.new ≡ option_map (put_text row
+            (record { start = start; text = text.now })) (target self.old) };
 }
 
 impl TableColumn for Option<Target<'_>> {
     ghost target = { option_map view_of_target };
 
     #[inline(always)]
-    fn read(&mut self, row: usize, start: usize, cell: &[u8], options: &Options) -> Option<Error> {
+    fn is_read(&self) -> bool {
+        self.is_some()
+    }
+
+    #[inline(always)]
+    fn may_miss(&self) -> bool {
         match self {
-            Some(target) => target.read(row, start, cell, options),
+            Some(target) => target.present.is_some(),
+            None => false,
+        }
+    }
+
+    fn put_missing(&mut self, row: usize) {
+        match self {
+            Some(target) => target.put_missing(row),
+            None => {}
+        }
+    }
+
+    #[inline(always)]
+    fn read(&mut self, row: usize, start: usize, text: &[u8], options: &Options) -> Option<Error> {
+        match self {
+            Some(target) => target.read(row, start, text, options),
             None => None,
         }
     }
 }
 
 impl Target<'_> {
-    // Puts the number of a cell into a row's place, or tells the cell's fault.
+    // Puts 0 into a row's place, and clears the row's bit.
+    fn put_missing(&mut self, row: usize)
+        requires usable { IsUsable (row + 1) (Some (view_of_target self.old)) }
+        ensures { view_of_target self.new ≡ put_value row None (view_of_target self.old) }
+    {
+        self.put_zero(row);
+        self.put_presence(row, false);
+    }
+
+    // Puts 0 into a row's place.
+    fn put_zero(&mut self, row: usize)
+        requires room { row < length (view_of_target self.old).numbers }
+        ensures { view_of_target self.new ≡ record (view_of_target self.old) {
+          numbers = set (view_of_target self.old).numbers row (pos 0);
+        } }
+    {
+        match &mut self.numbers {
+            Numbers::U8(values) => put_zero::<u8>(values, row),
+            Numbers::U16(values) => put_zero::<u16>(values, row),
+            Numbers::U32(values) => put_zero::<u32>(values, row),
+            Numbers::U64(values) => put_zero::<u64>(values, row),
+            Numbers::I8(values) => put_zero::<i8>(values, row),
+            Numbers::I16(values) => put_zero::<i16>(values, row),
+            Numbers::I32(values) => put_zero::<i32>(values, row),
+            Numbers::I64(values) => put_zero::<i64>(values, row),
+        }
+    }
+
+    // Sets a row's bit, or clears it, if the column has bits.
     #[inline(always)]
-    fn read(&mut self, row: usize, start: usize, cell: &[u8], options: &Options) -> Option<Error>
+    fn put_presence(&mut self, row: usize, is_there: bool)
+        requires room { IfSome (view_of_target self.old).present
+            (λ bytes. row + 1 ≤ 8 * length bytes) }
+        ensures { view_of_target self.new ≡ record (view_of_target self.old) {
+          present = option_map (with_row_bit row is_there) (view_of_target self.old).present;
+        } }
+    {
+        if let Some(bytes) = &mut self.present {
+            put_bit(bytes, row, is_there);
+        }
+    }
+
+    // Puts the number of a text into a row's place, and sets the row's bit, or tells the text's fault.
+    #[inline(always)]
+    fn read(&mut self, row: usize, start: usize, text: &[u8], options: &Options) -> Option<Error>
+        requires usable { IsUsable (row + 1) (Some (view_of_target self.old)) }
+        requires fits { start + length text.now < 2 ^ 64 }
+        ensures fault { result ≡ error_in (text_answer (view_of_target self.old)
+            (record { start = start; text = text.now })) }
+        ensures target { view_of_target self.new ≡ put_text row
+            (record { start = start; text = text.now }) (view_of_target self.old) }
+    {
+        if let Some(error) = self.put_number(row, start, text, options) {
+            return Some(error);
+        }
+        self.put_presence(row, true);
+        None
+    }
+
+    // Puts the number of a text into a row's place, or tells the text's fault.
+    #[inline(always)]
+    fn put_number(
+        &mut self,
+        row: usize,
+        start: usize,
+        text: &[u8],
+        options: &Options,
+    ) -> Option<Error>
         requires valid { IsNone (fault self.old.format) }
         requires room { row < length (view_of_target self.old).numbers }
-        requires fits { start + length cell.now < 2 ^ 64 }
-        ensures fault { result ≡ error_in (field_answer self.old.format
-            (view_of_target self.old).type (record { start = start; text = cell.now })) }
-        ensures target { view_of_target self.new ≡ put_answer row (field_answer self.old.format
-            (view_of_target self.old).type (record { start = start; text = cell.now }))
-            (view_of_target self.old) }
+        requires fits { start + length text.now < 2 ^ 64 }
+        ensures fault { result ≡ error_in (text_answer (view_of_target self.old)
+            (record { start = start; text = text.now })) }
+        ensures target { view_of_target self.new ≡ record (view_of_target self.old) {
+          numbers = with_number row (text_answer (view_of_target self.old)
+              (record { start = start; text = text.now })) (view_of_target self.old).numbers;
+        } }
     {
         let format = &self.format;
         match &mut self.numbers {
-            Numbers::U8(values) => put_cell::<u8>(values, row, start, cell, format, options),
-            Numbers::U16(values) => put_cell::<u16>(values, row, start, cell, format, options),
-            Numbers::U32(values) => put_cell::<u32>(values, row, start, cell, format, options),
-            Numbers::U64(values) => put_cell::<u64>(values, row, start, cell, format, options),
-            Numbers::I8(values) => put_cell::<i8>(values, row, start, cell, format, options),
-            Numbers::I16(values) => put_cell::<i16>(values, row, start, cell, format, options),
-            Numbers::I32(values) => put_cell::<i32>(values, row, start, cell, format, options),
-            Numbers::I64(values) => put_cell::<i64>(values, row, start, cell, format, options),
+            Numbers::U8(values) => put_cell::<u8>(values, row, start, text, format, options),
+            Numbers::U16(values) => put_cell::<u16>(values, row, start, text, format, options),
+            Numbers::U32(values) => put_cell::<u32>(values, row, start, text, format, options),
+            Numbers::U64(values) => put_cell::<u64>(values, row, start, text, format, options),
+            Numbers::I8(values) => put_cell::<i8>(values, row, start, text, format, options),
+            Numbers::I16(values) => put_cell::<i16>(values, row, start, text, format, options),
+            Numbers::I32(values) => put_cell::<i32>(values, row, start, text, format, options),
+            Numbers::I64(values) => put_cell::<i64>(values, row, start, text, format, options),
         }
     }
 }

@@ -56,7 +56,7 @@ def _parse_table(
     text: Text,
     is_last: bool,
     separator: Text,
-    has_returns: bool,
+    flags: tuple[bool, bool, bool, bool],
     rows: int,
     columns: tuple[Optional[tuple[Any, ColumnType, Optional[Format]]], ...],
     row: int,

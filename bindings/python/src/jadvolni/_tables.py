@@ -33,7 +33,7 @@ class _Reader(NamedTuple):
 
     columns: Columns
     separator: Text
-    has_returns: bool
+    flags: tuple[bool, bool, bool, bool]
 
     def room(self, rows: int) -> Table:
         """An array of so many numbers for each column that is read."""
@@ -44,8 +44,8 @@ class _Reader(NamedTuple):
         """Reads so many rows at most into arrays, and answers how many, and where it stopped."""
         columns = tuple(None if kind is None else (arrays[name], *_parts(kind))
                         for name, kind in self.columns.items())
-        return _parse_table(text, part.is_last, self.separator, self.has_returns, rows, columns,
-                            part.row, part.start)
+        return _parse_table(text, part.is_last, self.separator, self.flags, rows, columns, part.row,
+                            part.start)
 
 
 def _parts(kind: Any) -> tuple[Any, Optional[Format]]:
@@ -73,6 +73,9 @@ def parse_table(
     columns: Columns,
     separator: Text = b",",
     has_returns: bool = False,
+    has_quotes: bool = False,
+    allows_blanks: bool = False,
+    skips_empty_rows: bool = False,
     out: Optional[Table] = None,
 ) -> Table:
     """The rows of a text, each column as an array.
@@ -81,9 +84,14 @@ def parse_table(
     None where it isn't read. A row has one cell more than separators. The arrays are NumPy's where
     it is installed, and else of the module array; or those of `out`, up to the last row.
 
+    has_returns: a return stands before each line feed. has_quotes: a cell may stand within '"'.
+    allows_blanks: spaces and tabs may stand around a number. skips_empty_rows: a row without a
+    byte is none.
+
     ParseError has the first wrong cell in reading order, by `row`, `column` and `place`, from 0.
     """
-    reader = _Reader(columns, separator, has_returns)
+    flags = (has_returns, has_quotes, allows_blanks, skips_empty_rows)
+    reader = _Reader(columns, separator, flags)
     rows = _row_count(text)
     if out is not None and any(len(values) < rows for values in out.values()):
         raise ValueError(f"out has to have room for the {rows} rows of the text")
@@ -93,23 +101,19 @@ def parse_table(
 
 
 def read_table(
-    file: Union[str, os.PathLike[str], IO[bytes]],
-    columns: Columns,
-    separator: Text = b",",
-    has_returns: bool = False,
-    out: Optional[Table] = None,
+    file: Union[str, os.PathLike[str], IO[bytes]], columns: Columns, *how: Any, **more: Any
 ) -> Table:
-    """The rows of a file, by its path or opened by "rb", as by parse_table.
+    """The rows of a file, by its path or opened by "rb", with the arguments of parse_table.
 
     A path is mapped to memory: no other program may change the file meanwhile.
     """
     if not isinstance(file, (str, os.PathLike)):
-        return parse_table(_block(file, -1), columns, separator, has_returns, out)
+        return parse_table(_block(file, -1), columns, *how, **more)
     with open(file, "rb") as opened:
-        if not os.fstat(opened.fileno()).st_size:
-            return parse_table(b"", columns, separator, has_returns, out)
+        if not os.fstat(opened.fileno()).st_size:  # (it is empty, or can't be mapped, as a pipe)
+            return parse_table(_block(opened, -1), columns, *how, **more)
         with mmap.mmap(opened.fileno(), 0, access=mmap.ACCESS_READ) as text:
-            return parse_table(text, columns, separator, has_returns, out)
+            return parse_table(text, columns, *how, **more)
 
 
 def iter_table(
@@ -117,6 +121,9 @@ def iter_table(
     columns: Columns,
     separator: Text = b",",
     has_returns: bool = False,
+    has_quotes: bool = False,
+    allows_blanks: bool = False,
+    skips_empty_rows: bool = False,
     rows: int = 100_000,
     size: int = 1 << 20,
 ) -> Iterator[Table]:
@@ -128,7 +135,8 @@ def iter_table(
     """
     if rows < 1 or size < 1:
         raise ValueError(f"rows and size have to be 1 or more, and not {rows} and {size}")
-    reader, left, part = _Reader(columns, separator, has_returns), b"", _Part(False)
+    flags = (has_returns, has_quotes, allows_blanks, skips_empty_rows)
+    reader, left, part = _Reader(columns, separator, flags), b"", _Part(False)
     while not part.is_last:
         block = _block(file, size)
         text, part, done, count = left + block, part._replace(is_last=not block), 0, rows

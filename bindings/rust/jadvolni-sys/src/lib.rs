@@ -59,14 +59,19 @@ pub struct jadvolni_int128 {
 
 /// How a table is written. The reserved bytes have to be 0.
 #[repr(C)]
-#[derive(Debug, Default, Copy, Clone, PartialEq, Eq)]
+#[derive(Debug, Copy, Clone, PartialEq, Eq)]
 pub struct jadvolni_table {
     pub separator: u8,
     pub has_returns: u8,
-    pub reserved: [u8; 30],
+    pub has_quotes: u8,
+    pub allows_blanks: u8,
+    pub skips_empty_rows: u8,
+    pub reserved: [u8; 11],
+    pub missing: *const c_char,
+    pub missing_len: usize,
 }
 
-/// An array of a column, which the header leaves without a name.
+/// An array of a column, or its bytes with bits, which the header leaves without names.
 #[repr(C)]
 #[derive(Debug, Copy, Clone, PartialEq, Eq)]
 pub struct jadvolni_array<T> {
@@ -79,14 +84,15 @@ pub struct jadvolni_array<T> {
 #[derive(Debug, Copy, Clone, PartialEq, Eq)]
 pub struct jadvolni_table_column {
     pub format: jadvolni_format,
-    pub u8: jadvolni_array<u8>,
-    pub u16: jadvolni_array<u16>,
-    pub u32: jadvolni_array<u32>,
-    pub u64: jadvolni_array<u64>,
-    pub i8: jadvolni_array<i8>,
-    pub i16: jadvolni_array<i16>,
-    pub i32: jadvolni_array<i32>,
     pub i64: jadvolni_array<i64>,
+    pub u64: jadvolni_array<u64>,
+    pub i32: jadvolni_array<i32>,
+    pub u32: jadvolni_array<u32>,
+    pub i16: jadvolni_array<i16>,
+    pub u16: jadvolni_array<u16>,
+    pub i8: jadvolni_array<i8>,
+    pub u8: jadvolni_array<u8>,
+    pub present: jadvolni_array<u8>,
 }
 
 /// What is answered of a table.
@@ -111,8 +117,8 @@ const _: () = {
     assert!(
         size_of::<jadvolni_format>() == 32 && offset_of!(jadvolni_format, literal_prefixes) == 16
     );
-    assert!(size_of::<jadvolni_table>() == 32 && size_of::<jadvolni_table_column>() == 160);
-    assert!(offset_of!(jadvolni_table_column, i64) == 144);
+    assert!(size_of::<jadvolni_table>() == 32 && size_of::<jadvolni_table_column>() == 176);
+    assert!(offset_of!(jadvolni_table_column, u8) == 144);
     assert!(
         size_of::<jadvolni_table_result>() == 32 && offset_of!(jadvolni_table_result, column) == 8
     );

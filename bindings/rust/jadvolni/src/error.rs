@@ -45,6 +45,8 @@ pub enum Error {
     MissingReturn(usize),
     /// A table can't be read as it is described. The calls of this crate don't make one.
     InvalidTable,
+    /// A quote of a cell at the place is out of place, or within a number, or is never closed.
+    MisplacedQuote(usize),
     /// A status that only a later library has.
     Unknown(u32),
 }
@@ -72,6 +74,7 @@ impl Error {
             15 => Error::TooManyCells(outcome.place),
             16 => Error::MissingReturn(outcome.place),
             17 => Error::InvalidTable,
+            18 => Error::MisplacedQuote(outcome.place),
             other => Error::Unknown(other),
         })
     }
@@ -88,7 +91,8 @@ impl Error {
             | Error::InvalidLeadingZeros(place)
             | Error::TooFewCells(place)
             | Error::TooManyCells(place)
-            | Error::MissingReturn(place) => Some(place),
+            | Error::MissingReturn(place)
+            | Error::MisplacedQuote(place) => Some(place),
             _ => None,
         }
     }
@@ -107,6 +111,7 @@ impl Error {
             Error::TooFewCells(place) => Error::TooFewCells(place + by),
             Error::TooManyCells(place) => Error::TooManyCells(place + by),
             Error::MissingReturn(place) => Error::MissingReturn(place + by),
+            Error::MisplacedQuote(place) => Error::MisplacedQuote(place + by),
             other => other,
         }
     }
@@ -144,6 +149,7 @@ impl fmt::Display for Error {
             Error::InvalidTable =>
                 "the array of each column has to have room for all rows, and the reserved \
                 bytes of a table have to be 0",
+            Error::MisplacedQuote(_) => "misplaced quote",
             Error::Unknown(_) => "a status that only a later library has",
         })?;
         match self.place() {

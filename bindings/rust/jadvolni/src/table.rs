@@ -3,22 +3,61 @@
 use crate::{ColumnInteger, Error, Format};
 use core::fmt;
 use core::marker::PhantomData;
-use core::ptr::null_mut;
+use core::ptr::{null, null_mut};
 use jadvolni_sys as sys;
 
 /// How a table is written: the byte between two cells, and what else isn't as in plain lines.
 #[derive(Debug, Copy, Clone, PartialEq, Eq)]
-pub struct Dialect(sys::jadvolni_table);
+pub struct Dialect<'a>(sys::jadvolni_table, PhantomData<&'a [u8]>);
 
-impl Dialect {
+// SAFETY: its pointer is that of a slice that it has borrowed, and is read alone.
+unsafe impl Send for Dialect<'_> {}
+unsafe impl Sync for Dialect<'_> {}
+
+impl<'a> Dialect<'a> {
     /// Cells between a byte, in lines that end in a line feed.
-    pub fn separated_by(separator: u8) -> Self {
-        Dialect(sys::jadvolni_table { separator, ..Default::default() })
+    pub const fn separated_by(separator: u8) -> Self {
+        let table = sys::jadvolni_table {
+            separator,
+            has_returns: 0,
+            has_quotes: 0,
+            allows_blanks: 0,
+            skips_empty_rows: 0,
+            reserved: [0; 11],
+            missing: null(),
+            missing_len: 0,
+        };
+        Dialect(table, PhantomData)
     }
 
     /// Whether a carriage return stands before each line feed. Without it a return is a byte of its cell.
-    pub fn has_returns(mut self, flag: bool) -> Self {
-        self.0.has_returns = flag.into();
+    pub const fn has_returns(mut self, flag: bool) -> Self {
+        self.0.has_returns = flag as u8;
+        self
+    }
+
+    /// Whether a cell may stand within quotes, `"`, and then hold separators and line feeds.
+    pub const fn has_quotes(mut self, flag: bool) -> Self {
+        self.0.has_quotes = flag as u8;
+        self
+    }
+
+    /// Whether spaces and tabs may stand around a number.
+    pub const fn allows_blanks(mut self, flag: bool) -> Self {
+        self.0.allows_blanks = flag as u8;
+        self
+    }
+
+    /// Whether a row without a byte is none.
+    pub const fn skips_empty_rows(mut self, flag: bool) -> Self {
+        self.0.skips_empty_rows = flag as u8;
+        self
+    }
+
+    /// What stands for a missing number, byte for byte, in columns that have bits for it: at first an empty cell.
+    pub const fn missing(mut self, mark: &'a [u8]) -> Self {
+        self.0.missing = mark.as_ptr().cast();
+        self.0.missing_len = mark.len();
         self
     }
 }
@@ -44,14 +83,23 @@ impl<'a> TableColumn<'a> {
         TableColumn(column, PhantomData)
     }
 
+    /// The same column, where numbers may be missing: the bit `k & 7` of byte `k >> 3` is then 1 if row `k` has a
+    /// number, and 0 if it is missing, and 0 in the slice. The lowest bit comes first.
+    pub fn with_bits(mut self, present: &'a mut [u8]) -> Self {
+        let capacity = present.len();
+        self.0.present = sys::jadvolni_array { numbers: present.as_mut_ptr(), capacity };
+        self
+    }
+
     /// How many numbers there is room for, if the column is read.
     fn room(&self) -> Option<usize> {
         fn of<T>(array: sys::jadvolni_array<T>) -> Option<usize> {
             (!array.numbers.is_null()).then_some(array.capacity)
         }
         let it = &self.0;
-        let unsigned = of(it.u8).or(of(it.u16)).or(of(it.u32)).or(of(it.u64));
-        unsigned.or(of(it.i8)).or(of(it.i16)).or(of(it.i32)).or(of(it.i64))
+        let wide = of(it.i64).or(of(it.u64)).or(of(it.i32)).or(of(it.u32));
+        let room = wide.or(of(it.i16)).or(of(it.u16)).or(of(it.i8)).or(of(it.u8))?;
+        Some(of(it.present).map_or(room, |bytes| room.min(bytes.saturating_mul(8))))
     }
 }
 
@@ -66,14 +114,15 @@ const fn no_array<T>() -> sys::jadvolni_array<T> {
 
 const UNREAD: sys::jadvolni_table_column = sys::jadvolni_table_column {
     format: Format::STANDARD.0,
-    u8: no_array(),
-    u16: no_array(),
-    u32: no_array(),
-    u64: no_array(),
-    i8: no_array(),
-    i16: no_array(),
-    i32: no_array(),
     i64: no_array(),
+    u64: no_array(),
+    i32: no_array(),
+    u32: no_array(),
+    i16: no_array(),
+    u16: no_array(),
+    i8: no_array(),
+    u8: no_array(),
+    present: no_array(),
 };
 
 /// One of the eight integer types that the columns of a table have: `u8` to `u64`, `i8` to `i64`.
@@ -152,7 +201,7 @@ impl core::error::Error for TableError {}
 /// ```
 pub fn parse_table(
     text: impl AsRef<[u8]>,
-    dialect: &Dialect,
+    dialect: &Dialect<'_>,
     columns: &mut [TableColumn<'_>],
 ) -> Result<Table, TableError> {
     parse_table_part(text, true, dialect, columns)
@@ -174,7 +223,7 @@ pub fn parse_table(
 pub fn parse_table_part(
     text: impl AsRef<[u8]>,
     is_last: bool,
-    dialect: &Dialect,
+    dialect: &Dialect<'_>,
     columns: &mut [TableColumn<'_>],
 ) -> Result<Table, TableError> {
     let text = text.as_ref();

@@ -67,9 +67,9 @@ impl core::error::Error for TableReadError {
 /// assert_eq!(sum, 6);
 /// ```
 #[derive(Debug)]
-pub struct TableReader<R> {
+pub struct TableReader<'a, R> {
     reader: R,
-    dialect: Dialect,
+    dialect: Dialect<'a>,
     /// Bytes that were read, of which those from `parsed` to before `filled` aren't parsed.
     block: Vec<u8>,
     parsed: usize,
@@ -82,14 +82,14 @@ pub struct TableReader<R> {
     has_ended: bool,
 }
 
-impl<R: Read> TableReader<R> {
+impl<'a, R: Read> TableReader<'a, R> {
     /// A reader of rows, by blocks of 64 KiB.
-    pub fn new(reader: R, dialect: Dialect) -> Self {
+    pub fn new(reader: R, dialect: Dialect<'a>) -> Self {
         Self::with_capacity(1 << 16, reader, dialect)
     }
 
     /// A reader of rows, by blocks of so many bytes, and of one at least.
-    pub fn with_capacity(size: usize, reader: R, dialect: Dialect) -> Self {
+    pub fn with_capacity(size: usize, reader: R, dialect: Dialect<'a>) -> Self {
         TableReader {
             reader,
             dialect,

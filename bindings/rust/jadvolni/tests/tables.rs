@@ -43,7 +43,7 @@ impl Read for Device<'_> {
     }
 }
 
-fn comma() -> Dialect {
+fn comma() -> Dialect<'static> {
     Dialect::separated_by(b',')
 }
 
@@ -115,6 +115,25 @@ fn a_row_that_no_block_holds_is_told() {
     assert_eq!(rows, [1]);
     assert!(matches!(told[..], [TableReadError::LongRow(4)]));
     assert_eq!(told[0].to_string(), "the row at byte 4 has more bytes than a block");
+}
+
+#[test]
+fn quotes_blanks_empty_rows_and_bits() {
+    let (mut numbers, mut bits) = ([9i32; 8], [0xAA]);
+    let dialect =
+        comma().has_quotes(true).allows_blanks(true).skips_empty_rows(true).missing(b"NA");
+    let mut columns = [TableColumn::of(&mut numbers).with_bits(&mut bits), TableColumn::UNREAD];
+    let read = parse_table("\" 1 \",\"a,\n\"\n\nNA,b\n-3,c\n", &dialect, &mut columns);
+    assert_eq!(read, Ok(Table { rows: 3, stop: 23 }));
+    let fault = TableError { row: 0, column: 1, error: Error::MisplacedQuote(3) };
+    assert_eq!(parse_table("1,x\"y\n", &dialect, &mut columns), Err(fault));
+    assert_eq!((&numbers[..4], bits), (&[1, 0, -3, 9][..], [0xAD]));
+    let (mut twenty, mut few) = ([0u8; 20], [0u8; 1]);
+    let mut columns = [TableColumn::of(&mut twenty).with_bits(&mut few)];
+    assert_eq!(
+        parse_table("1\n".repeat(9), &comma(), &mut columns),
+        Ok(Table { rows: 8, stop: 16 })
+    );
 }
 
 #[test]

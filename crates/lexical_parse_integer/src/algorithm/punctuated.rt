@@ -5,7 +5,7 @@
 // is left is read from its front.
 ghost use Rattle.std.specs.Prelude.{◌≡◌, ◌<◌, IfSome, IsNone, IsTrue, None, Some, Ok, length};
 ghost use Rattle.lexical_util.specs.Validity.{fault};
-ghost use Rattle.lexical_parse_integer.specs.Affixes.{named_radix, prefix_radix};
+ghost use Rattle.lexical_parse_integer.specs.Affixes.{prefix_radix};
 ghost use Rattle.lexical_parse_integer.specs.Grammar.{complete};
 
 mod threes;
@@ -20,29 +20,23 @@ use lexical_digits::nibbles::value_of_nibbles;
 use lexical_util::format::NumberFormat;
 use lexical_util::num::Integer;
 
-// Whether the effective radix behind a zero and this byte is 16, where the byte is an `x`.
+// Whether a text begins with `0x` and goes on, where the effective radix is then 16.
 #[inline(always)]
-#[tactic(auto, unfolding(crate::specs::Affixes::named_radix, crate::specs::Affixes::is_affix, crate::specs::Affixes::matches, crate::specs::Affixes::literal_radix))]
-fn is_x_hexadecimal(format: &NumberFormat, byte: u8) -> bool
-    ensures { IsTrue result → named_radix format.now (Some byte) ≡ Some 16 }
+#[tactic(auto, unfolding(crate::specs::Affixes::prefix_radix, crate::specs::Affixes::named_radix, crate::specs::Affixes::is_affix, crate::specs::Affixes::matches, crate::specs::Affixes::literal_radix, crate::specs::Runs::are_same))]
+fn is_behind_x(text: &[u8], format: &NumberFormat) -> bool
+    ensures prefix { IsTrue result → Some 16 ≡ prefix_radix format.now text.now 0 }
+    ensures more { IsTrue result → 2 < length text.now }
 {
-    if byte != b'x' && (byte != b'X' || format.case_sensitive_base_prefix()) {
+    if text.len() <= 2 || text[0] != b'0' {
+        return false;
+    }
+    if text[1] != b'x' && (text[1] != b'X' || format.case_sensitive_base_prefix()) {
         return false;
     }
     match format.base_prefix() {
         Some(prefix) => prefix == b'x' && format.mantissa_radix() == 16,
         None => format.literal_prefixes(),
     }
-}
-
-// Whether a text begins with `0x` and goes on, where the effective radix is then 16.
-#[inline(always)]
-#[tactic(auto, unfolding(crate::specs::Affixes::prefix_radix, crate::specs::Runs::are_same))]
-fn is_behind_x(text: &[u8], format: &NumberFormat) -> bool
-    ensures prefix { IsTrue result → Some 16 ≡ prefix_radix format.now text.now 0 }
-    ensures more { IsTrue result → 2 < length text.now }
-{
-    text.len() > 2 && text[0] == b'0' && is_x_hexadecimal(format, text[1])
 }
 
 // The value of the whole text under a format without separator that may be invalid, where digits alone stand behind a

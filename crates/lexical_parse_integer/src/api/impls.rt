@@ -54,6 +54,20 @@ fn complete_if_valid<T: Integer>(call: &Call<'_>) -> Result<T>
     }
 }
 
+/// The integer that the whole text stands for under a format that may be invalid, for a text that `value_if_short` has
+/// left: it isn't read as short decimal digits again. There is a reader for the format's kind, and one call for what
+/// that leaves.
+#[inline(always)]
+pub fn complete_under_if_not_short<T: Integer>(bytes: &[u8], format: &NumberFormat) -> Result<T>
+    ensures { view_of T.number result ≡ complete_if_valid format.now T.TYPE bytes.now }
+{
+    let call = Call { bytes, format };
+    match value_for_format::<T>(bytes, format) {
+        Some(value) => Ok(value),
+        None => complete_if_valid::<T>(&call),
+    }
+}
+
 // The partial answer for every text, in one call.
 #[inline(never)]
 fn partial_if_valid<T: Integer>(bytes: &[u8], format: &NumberFormat) -> Result<(T, usize)>
@@ -86,21 +100,16 @@ impl<T: Integer> FromLexical for T {
 impl<T: Integer> FromLexicalWithOptions for T {
     type Options = Options;
 
-    // A short decimal text is read in place; else there is a reader for the format's kind, and one call for what that
-    // leaves.
+    // A short decimal text is read in place.
     #[inline(always)]
     fn from_lexical_with_options(
         bytes: &[u8],
         format: &NumberFormat,
         options: &Options,
     ) -> Result<T> {
-        if let Some(value) = value_if_short::<T>(bytes, format) {
-            return Ok(value);
-        }
-        let call = Call { bytes, format };
-        match value_for_format::<T>(bytes, format) {
+        match value_if_short::<T>(bytes, format) {
             Some(value) => Ok(value),
-            None => complete_if_valid::<T>(&call),
+            None => complete_under_if_not_short::<T>(bytes, format),
         }
     }
 

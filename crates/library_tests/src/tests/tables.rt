@@ -15,11 +15,15 @@ use std::test::Fail;
 type Answer = Result<Table, TableError>;
 
 // Two columns between commas, with returns or without.
-fn pairs(has_returns: bool) -> Dialect {
+fn pairs(has_returns: bool) -> Dialect<'static> {
     Dialect {
         separator: b',',
         columns: 2,
         has_returns,
+        has_quotes: false,
+        allows_blanks: false,
+        skips_empty_rows: false,
+        missing: b"",
     }
 }
 
@@ -39,6 +43,7 @@ fn read(text: &[u8], has_returns: bool) -> (Answer, [i16; 3]) {
     let mut target = Some(Target {
         format: STANDARD,
         numbers: Numbers::I16(&mut numbers),
+        present: None,
     });
     let targets = slice::from_mut(&mut target);
     let answer = read_columns(text, &pairs(has_returns), &options::STANDARD, 3, targets);
@@ -59,14 +64,39 @@ fn first_wrong_cells(rt: HostRuntime) {
 }
 
 #[test]
+fn cells_with_quotes_blanks_and_marks(rt: HostRuntime) {
+    let mut numbers = [9_i16; 3];
+    let mut bits = [0xfc];
+    let mut target = Some(Target {
+        format: STANDARD,
+        numbers: Numbers::I16(&mut numbers),
+        present: Some(&mut bits),
+    });
+    let dialect = Dialect {
+        has_quotes: true,
+        allows_blanks: true,
+        missing: b"NA",
+        ..pairs(false)
+    };
+    let targets = slice::from_mut(&mut target);
+    let text = b"\" 1 \",\"a\"\"b,c\"\n\tNA,x\n";
+    let answer = read_columns(text, &dialect, &options::STANDARD, 3, targets);
+    answers(&rt, answer, table(2, 21));
+    answers(&rt, (numbers, bits), ([1, 0, 9], [0xfd]));
+}
+
+#[test]
 fn a_header_is_stepped_over(rt: HostRuntime) {
     let text = b"width,\"height\n1,2\n";
-    let start = after_lines(text, 1);
+    let start = after_lines(text, 1, &pairs(false));
     answers(&rt, start, 14);
     answers(&rt, read(&text[start..], false), (table(1, 4), [1, 9, 9]));
     answers(
         &rt,
-        [after_lines(b"a\nb", 2), after_lines(b"a\n\n", 1)],
+        [
+            after_lines(b"a\nb", 2, &pairs(false)),
+            after_lines(b"a\n\n", 1, &pairs(false)),
+        ],
         [3, 2],
     );
 }
@@ -83,16 +113,22 @@ fn read_ledger<'a>(
     targets.push(Some(Target {
         format: STANDARD,
         numbers: Numbers::U16(days),
+        present: None,
     }))?;
     targets.push(None)?;
     targets.push(Some(Target {
         format: STANDARD,
         numbers: Numbers::I64(cents),
+        present: None,
     }))?;
     let dialect = Dialect {
         separator: b';',
         columns: 3,
         has_returns: true,
+        has_quotes: false,
+        allows_blanks: false,
+        skips_empty_rows: false,
+        missing: b"",
     };
     Ok(read_columns(text, &dialect, &options::STANDARD, rows, &mut targets))
 }
@@ -122,6 +158,7 @@ fn a_part_has_whole_rows(rt: HostRuntime) {
     let mut target = Some(Target {
         format: STANDARD,
         numbers: Numbers::U8(&mut column),
+        present: None,
     });
     let targets = slice::from_mut(&mut target);
     let options = &options::STANDARD;

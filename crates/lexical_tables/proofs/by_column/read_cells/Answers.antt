@@ -18,7 +18,7 @@ returns-in-Some g c =
     c.loop-column.ended c.loop-column.rest.now c.loop-column.invariant c.split.result.0.now c.split.result.1.now
     (search rules) (grind (arith, nat_tests)) c.split.ensures.front c.split.ensures.behind c.split.ensures.size
     c.split.ensures.within c.split.ensures.left
-    (map g.C.TableColumn.target c.read_cell.new.targets) c.in-Some.error c.in-Some.ensures.fault c.in-Some.ensures.targets in
+    (map g.C.TableColumn.target c.read_cell.new.targets) c.in-Some.fault c.in-Some.ensures.fault c.in-Some.ensures.targets in
     record { fault = done.fault_is; targets = done.targets_are }
 
 pub loop-column-preserved : goal.loop-column-preserved

@@ -3,6 +3,3 @@ use Rattle.lexical_parse_integer.proofs.api.impls.AnyFromLexicalWithOptions.from
 
 pub returns-in-Some : goal.returns-in-Some
 returns-in-Some g c = answered_if_valid _ _ _ _ c.in-Some.ensures.valid c.in-Some.ensures.answer
-
-pub returns-in-Some-value_for_format : goal.returns-in-Some-value_for_format
-returns-in-Some-value_for_format g c = answered_if_valid _ _ _ _ c.in-Some-value_for_format.ensures.valid c.in-Some-value_for_format.ensures.answer

@@ -1,0 +1,10 @@
+use Rattle.std.proofs.Common.{length}
+use Rattle.lexical_tables.proofs.WholeRows.{IsPassed}
+use Rattle.lexical_tables.proofs.parts.whole_rows.Given as goal
+
+-- so many bytes are whole rows
+abbrev pub invariant-loop-rest : goal.invariant-loop-rest
+invariant-loop-rest l = IsPassed l.has_quotes l.text l.rest
+
+abbrev pub decreases-loop-rest : goal.decreases-loop-rest
+decreases-loop-rest l = length l.rest
