@@ -1,5 +1,6 @@
 """Tests of the examples, as commands: right files, wrong ones, and inputs that are hardly any."""
 
+import importlib.util
 import os
 import pathlib
 import subprocess
@@ -106,6 +107,28 @@ class CsvColumn(Case):
         ):
             with self.subTest(content=content):
                 self.assertEqual(self.answer("csv_column.py", content, "2"), (1, "", f"{told}\n"))
+
+
+class Dask(unittest.TestCase):
+    """A worker of a cluster calls read_lines, as the page says."""
+
+    @unittest.skipUnless(importlib.util.find_spec("dask"), "there is no Dask")
+    def test_partitions(self):
+        code = """
+import sys
+import dask.bag as bag
+sys.path.insert(0, sys.argv[1])
+from big_file import read_lines
+lines = [f"{k}\\n" for k in range(1000)]
+lines[700] = "7x\\n"
+parts = bag.from_sequence(lines, npartitions=4)
+for scheduler in ("threads", "processes"):
+    read = parts.map_partitions(lambda lines: [read_lines("".join(lines))])
+    print([getattr(it, "field", None) or sum(it) for it in read.compute(scheduler=scheduler)])
+"""
+        command = [sys.executable, "-c", code, str(EXAMPLES)]
+        run = subprocess.run(command, text=True, timeout=120, stdout=subprocess.PIPE, check=True)
+        self.assertEqual(run.stdout, "[31125, 93625, 200, 218625]\n" * 2)
 
 
 class BigFile(Case):
