@@ -91,6 +91,12 @@ told() { # NAME
     return "$(cat "$copy/$1.status")"
 }
 
+# Both builds of the program, side by side.
+devices() {
+    python3 tools/devices.py crates/lexint/out/lexint &
+    python3 tools/devices.py crates/lexint/out/lexint.by-rattle && wait $!
+}
+
 # A crate that a user has changed is named, and stays; what was copied is what stands here.
 vendor() {
     user="$copy/a user"
@@ -113,7 +119,8 @@ part documents python3 tools/documents.py --check
 part house python3 tools/house.py
 part vendor vendor
 test "$failed" = 0 || { total; exit 1; }
-cp -a --parents -t "$copy" crates/*/out/rlib 2> /dev/null
+mkdir -p "$copy/build/wasm"
+for to in "$copy" "$copy/build/wasm"; do cp -a --parents -t "$to" crates/*/out/rlib; done 2> /dev/null
 {
     in_copy libraries make -s build/libjadvolni.a
     in_copy javascript make -s test-js
@@ -123,7 +130,7 @@ cp -a --parents -t "$copy" crates/*/out/rlib 2> /dev/null
 } &
 beside=$!
 part proofs proofs 3>&1
-part devices python3 tools/devices.py
+part devices devices
 part answers python3 tools/run_rows.py
 part shells tests/shell_snippet.sh crates/lexint/out/lexint
 part jad tests/jad.sh crates/jad/out/jad

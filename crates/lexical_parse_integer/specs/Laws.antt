@@ -1,5 +1,5 @@
 -- What the definitions of the grammar come to, and the laws of the parsers' answers.
-use Rattle.std.specs.Prelude.{◌≡◌, ◌↔◌, ℕ, suc, ◌+◌, ◌≤◌, ◌<◌, Bool, true, false, ◌||◌, List, ◌∷◌, ◌++◌, length, take, map, replicate, nat_lt, if◌then◌else◌, ℤ, pos, negsuc, Some, IfSome, IsSome, Result, Ok, Err}
+use Rattle.std.specs.Prelude.{◌≡◌, ◌↔◌, ℕ, suc, ◌+◌, ◌≤◌, ◌<◌, Bool, true, false, List, ◌∷◌, ◌++◌, length, take, map, replicate, nat_lt, if◌then◌else◌, ℤ, pos, negsuc, Some, IfSome, IsSome, Result, Ok, Err}
 use Rattle.std.specs.Bool.{⊤}
 use Rattle.lexical_util.specs.Ascii.{digit_zero, minus}
 use Rattle.lexical_util.specs.declared.error.Error.{Error}

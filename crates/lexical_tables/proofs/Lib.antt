@@ -1,6 +1,7 @@
 -- The proofs beside the functions, a file for each idea.
 pub mod CellRows
 pub mod CellSteps
+pub mod CellsAlone
 pub mod ColumnRows
 pub mod ColumnSteps
 pub mod ColumnTables
@@ -10,6 +11,8 @@ pub mod OutsideInParts
 pub mod OutsideSteps
 pub mod PutSteps
 pub mod QuoteSteps
+pub mod QuotesUnread
+pub mod ReadAlone
 pub mod RowSteps
 pub mod RowsInParts
 pub mod SeekSteps

@@ -7,6 +7,7 @@
 //! Nothing is guessed: what the caller doesn't ask for is a fault with its row, its column and its place.
 #![tactic(auto)]
 
+mod alone;
 mod answers;
 mod by_column;
 mod content;
@@ -18,6 +19,7 @@ mod quotes;
 mod rows;
 mod targets;
 
+pub use alone::columns_alone;
 pub use answers::{CellFault, Table, TableError};
 pub use by_column::read_columns;
 pub use dialect::Dialect;

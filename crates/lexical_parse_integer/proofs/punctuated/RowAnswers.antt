@@ -1,6 +1,6 @@
 -- What the parsers answer where digits alone stand behind a minus or none, and behind `0x` or no prefix.
 use Rattle.std.proofs.Common.{◌≡◌, ℕ, ◌-◌, ◌<◌, Bool, true, false, not, ◌&&◌, ◌||◌, cond, List, [], ◌∷◌, length, map, drop, take, refl, sym, ap, ◌∙◌, subst, arith, Option, Some, None, IsNone, Ok}
-use Rattle.std.specs.Prelude.{◌==◌, ◌≢◌, slice_get, slice_range, ℤ}
+use Rattle.std.specs.Prelude.{◌==◌, slice_get, slice_range, ℤ}
 use Rattle.std.proofs.Math.Seq.{take-length}
 use Rattle.std.proofs.lemmas.Bool.{eqb-true, or_parts}
 use Rattle.lexical_util.specs.Digit.{digit}
@@ -22,30 +22,24 @@ use Rattle.lexical_parse_integer.proofs.theorems.ReadBack.{first_digit}
 
 -- ---- no digit of the format's radix is the letter of a prefix
 
-is_digit_no_none : (r c d : ℕ) → digit r c ≡ Some d → digit r c ≢ None
-is_digit_no_none r c d is none = cc
-
-letter_apart : (s : Bool) (m c d : ℕ) → digit 10 m ≡ None → digit 10 c ≡ Some d → matches s m c ≡ false
-letter_apart s m c d none is = by_test (matches s m c) refl
+-- a digit doesn't match what is none
+digit_apart : (s : Bool) (r m c d : ℕ) → digit r m ≡ None → digit r c ≡ Some d → matches s m c ≡ false
+digit_apart s r m c d none is = by_test (matches s m c) refl
   where
     by_test : (b : Bool) → matches s m c ≡ b → b ≡ false
     by_test false e = refl
-    by_test true e = absurd (is_digit_no_none 10 c d is (digit-alike 10 c m (same_lower s m c e) ∙ none))
+    by_test true e = let same : digit r c ≡ digit r m = digit-alike r c m (same_lower s m c e) in cc
 
 no_letter : (s : Bool) (c d : ℕ) → digit 10 c ≡ Some d → literal_radix s (Some c) ≡ None
 unfolding literal_radix is_affix
-no_letter s c d is = rw (letter_apart s 120 c d refl is, letter_apart s 111 c d refl is, letter_apart s 98 c d refl is) refl
+no_letter s c d is = rw (digit_apart s 10 120 c d refl is, digit_apart s 10 111 c d refl is, digit_apart s 10 98 c d refl is) refl
 
 no_own_prefix : (f : Format) (own : Option ℕ) (c d : ℕ) → f.base_prefix ≡ own → IsNone (fault f) → digit f.mantissa_radix c ≡ Some d → is_affix f.case_sensitive_base_prefix own (Some c) ≡ false
 unfolding is_affix
 no_own_prefix f None c d set valid is = refl
-no_own_prefix f (Some m) c d set valid is = by_test (matches f.case_sensitive_base_prefix m c) refl
-  where
-    by_test : (b : Bool) → matches f.case_sensitive_base_prefix m c ≡ b → b ≡ false
-    by_test false e = refl
-    by_test true e =
-        let fit = (passes_rules f (none_from_is_none (fault f) valid)).prefix in
-        absurd (is_digit_no_none f.mantissa_radix c d is (fit_no_digit f.mantissa_radix f.base_prefix m c fit set (same_lower f.case_sensitive_base_prefix m c e)))
+no_own_prefix f (Some m) c d set valid is =
+    let fit = (passes_rules f (none_from_is_none (fault f) valid)).prefix in
+    digit_apart f.case_sensitive_base_prefix f.mantissa_radix m c d (fit_no_digit f.mantissa_radix f.base_prefix m m fit set refl) is
 
 -- literal prefixes stand beside radix 10 alone
 literals_ten : (f : Format) → IsNone (fault f) → f.literal_prefixes ≡ true → f.mantissa_radix ≡ 10
