@@ -141,6 +141,23 @@ typedef enum jadvolni_status {
      * part of "0x", "0o", "0b" or of their digits. */
     JADVOLNI_INVALID_LITERAL_PREFIXES = 13,
 
+    /* A row of a table has fewer cells than the table has columns. The place is where the row ends. */
+    JADVOLNI_TOO_FEW_CELLS = 14,
+
+    /* A row of a table has more cells. The place is where the first one too many starts. */
+    JADVOLNI_TOO_MANY_CELLS = 15,
+
+    /* The line feed at the place has no carriage return before it, and the table has returns. */
+    JADVOLNI_MISSING_RETURN = 16,
+
+    /* A reserved byte of the table isn't 0; or the array or the bits of a column have less room than
+     * rows are asked for, and then that column is told. The place is 0. */
+    JADVOLNI_INVALID_TABLE = 17,
+
+    /* A quote in a cell is neither its first and last byte nor doubled, or there is an odd number of
+     * them, or one stands within a number. The place is that of the quote. */
+    JADVOLNI_MISPLACED_QUOTE = 18,
+
     /* A reserved byte or bit of the format isn't 0: it was written for a later version of the
      * library, or it was never set. It comes before the rules of formats. */
     JADVOLNI_UNKNOWN_FIELD = 64
@@ -578,6 +595,131 @@ JADVOLNI_COLUMN_(i64, int64_t);
 size_t jadvolni_field_start(const char *text, size_t len, uint8_t separator)
     JADVOLNI_PURE_ JADVOLNI_TEXT_;
 
+/* ---- tables ---- */
+
+/* How a table is written. Begin with {0}, and set what differs. */
+typedef struct jadvolni_table {
+    /* The byte between two cells of a row. A line feed ends a row, whatever this is. */
+    uint8_t separator;
+
+    /* Flag: a carriage return stands before each line feed. Without it a return is a byte of its
+     * cell, and so a fault in a number. */
+    uint8_t has_returns;
+
+    /* Flag: a cell may stand within quotes, '"', and then hold separators and line feeds. */
+    uint8_t has_quotes;
+
+    /* Flag: spaces and tabs may stand around a number. */
+    uint8_t allows_blanks;
+
+    /* Flag: a row without a byte is none. Else it is a row of one empty cell. */
+    uint8_t skips_empty_rows;
+
+    /* 0, each of them: they are for fields of later versions. */
+    uint8_t reserved[11];
+
+    /* What stands for a missing number, byte for byte, in columns that have bits for it. With no
+     * byte, which NULL may stand for, an empty cell does. */
+    const char *missing;
+    size_t missing_len;
+} jadvolni_table;
+
+/* An array of a column, and how many numbers it has room for. */
+#define JADVOLNI_ARRAY_(name, type) \
+    struct {                        \
+        type *numbers;              \
+        size_t capacity;            \
+    } name
+
+/*
+ * A column of a table: what its cells look like, and the array that their numbers go to. SET ONE OF THE
+ * ARRAYS, which says the type; of several that have room the first is taken. A column without one, as
+ * {0}, isn't read: its cells may hold any bytes but the separator and a line feed.
+ */
+typedef struct jadvolni_table_column {
+    /* What a cell that is read looks like. It isn't looked at where no array has room. */
+    jadvolni_format format;
+
+    JADVOLNI_ARRAY_(i64, int64_t);
+    JADVOLNI_ARRAY_(u64, uint64_t);
+    JADVOLNI_ARRAY_(i32, int32_t);
+    JADVOLNI_ARRAY_(u32, uint32_t);
+    JADVOLNI_ARRAY_(i16, int16_t);
+    JADVOLNI_ARRAY_(u16, uint16_t);
+    JADVOLNI_ARRAY_(i8, int8_t);
+    JADVOLNI_ARRAY_(u8, uint8_t);
+
+    /* The bits that say where there is a number: for row k the bit k & 7 of byte k >> 3, where bit 0 is
+     * the lowest. It is 1 for a number, and 0 for a missing one, which is 0 in the array. Without bytes
+     * no number may be missing. */
+    struct {
+        uint8_t *bytes;
+        size_t size;
+    } present;
+} jadvolni_table_column;
+
+#undef JADVOLNI_ARRAY_
+
+/* What is answered of a table. */
+typedef struct jadvolni_table_result {
+    uint32_t status; /* a jadvolni_status */
+    size_t column;
+    size_t rows;
+    size_t place;
+} jadvolni_table_result;
+
+/*
+ * The rows of a text, each column read into an array of its own by one call. A row is a line, and its
+ * cells stand between separators: one cell more than separators, and as many as there are columns.
+ *
+ *     uint16_t days[1000];
+ *     int64_t cents[1000];
+ *     jadvolni_table ledger = {.separator = ';', .has_returns = 1};
+ *     jadvolni_table_column columns[] = {
+ *         {.format = JADVOLNI_FORMAT_STANDARD, .u16 = {days, 1000}},
+ *         {.format = {0}}, // what it was paid for, which isn't read
+ *         {.format = JADVOLNI_FORMAT_STANDARD, .i64 = {cents, 1000}},
+ *     };
+ *     jadvolni_table_result r = jadvolni_parse_table(text, len, true, &ledger, 1000, columns, 3);
+ *     if (r.status != JADVOLNI_OK)
+ *         fprintf(stderr, "row %zu, column %zu, byte %zu: %s\n", r.rows + 1, r.column + 1, r.place,
+ *                 jadvolni_status_text(r.status));
+ *
+ *     r.status  JADVOLNI_OK, or what is wrong with the first wrong cell in reading order, row by row,
+ *               and in a row cell by cell, then their number, then the return. What is wrong with the
+ *               table or with a column comes before all text: an array with too little room, then its
+ *               format, column by column.
+ *     r.column  At a fault the column, counted from 0. Where a row has too few cells, it is how many
+ *               it has; where it has too many or lacks its return, how many columns there are. Else 0.
+ *     r.rows    How many rows were read, and so at a fault of the text the number of its row.
+ *     r.place   At JADVOLNI_OK where reading stopped: the end of the text, or the start of the first
+ *               row behind `capacity` rows. A call on the text from there on goes on exactly there. At
+ *               a fault of the text its byte; else 0. Places are counted from the start of the text.
+ *
+ * The number of a cell goes to its row's place in its column's array. Behind a fault all numbers before
+ * the wrong cell are there, those of its own row too, and all else in the arrays is as it was.
+ *
+ * So "365;rent;-80000\r\n" in the table above gives 365 and -80000, one row, and JADVOLNI_OK at 17. With
+ * x for the last 0 it gives no row, and JADVOLNI_INVALID_DIGIT in column 2 at 14.
+ *
+ * A FILE IN BLOCKS. Where `is_last` is false the text is a part of one, and a row that it ends in is
+ * left: put the bytes from `r.place` on in front of the next part. Rows and places are counted from the
+ * start of each part. A part that is as long as the block and gives no row has a row that is longer.
+ * `capacity` bounds the rows of one call: before the next part is read, call again with what is left,
+ * until fewer rows than `capacity` come.
+ *
+ * A header is no row of the table: hand over what follows it.
+ *
+ * Beside what the head of this file says, `columns` points to `column_count` of them, and may be NULL
+ * where that is 0. The array of a column points to as many numbers that may be written, `present.bytes`
+ * to `present.size` bytes and `missing` to `missing_len`, and each may be NULL where its count is 0. None
+ * lies in the text, in a struct or in another. The structs stay as they are.
+ */
+jadvolni_table_result jadvolni_parse_table(const char *text, size_t len, bool is_last,
+                                           const jadvolni_table *table, size_t capacity,
+                                           jadvolni_table_column *columns, size_t column_count)
+    JADVOLNI_CHECKED_(4) JADVOLNI_TEXT_;
+
 #ifdef __clang__
 #pragma clang diagnostic pop
 #endif
@@ -633,6 +775,11 @@ static inline const char *jadvolni_status_name(uint32_t status)
     case JADVOLNI_INVALID_BASE_SUFFIX: return "InvalidBaseSuffix";
     case JADVOLNI_INVALID_PUNCTUATION: return "InvalidPunctuation";
     case JADVOLNI_INVALID_LITERAL_PREFIXES: return "InvalidLiteralPrefixes";
+    case JADVOLNI_TOO_FEW_CELLS: return "TooFewCells";
+    case JADVOLNI_TOO_MANY_CELLS: return "TooManyCells";
+    case JADVOLNI_MISSING_RETURN: return "MissingReturn";
+    case JADVOLNI_INVALID_TABLE: return "InvalidTable";
+    case JADVOLNI_MISPLACED_QUOTE: return "MisplacedQuote";
     case JADVOLNI_UNKNOWN_FIELD: return "UnknownField";
     default: return "Unknown";
     }
@@ -664,6 +811,13 @@ static inline const char *jadvolni_status_text(uint32_t status)
         return "literal prefixes and octal zeros need the radix 10, and literal prefixes no "
                "prefix, and no separator or suffix that may be a part of 0x, 0o, 0b or of "
                "their digits";
+    case JADVOLNI_TOO_FEW_CELLS: return "too few cells";
+    case JADVOLNI_TOO_MANY_CELLS: return "too many cells";
+    case JADVOLNI_MISSING_RETURN: return "missing carriage return";
+    case JADVOLNI_INVALID_TABLE:
+        return "the array of each column has to have room for all rows, and the reserved "
+               "bytes of a table have to be 0";
+    case JADVOLNI_MISPLACED_QUOTE: return "misplaced quote";
     case JADVOLNI_UNKNOWN_FIELD:
         return "the reserved bytes and bits of the format have to be 0";
     default: return "a status that only a later library has";
@@ -712,6 +866,13 @@ JADVOLNI_ASSERT_(format_has_32_bytes, sizeof(jadvolni_format) == 32);
 JADVOLNI_ASSERT_(mantissa_radix_is_at_0, offsetof(jadvolni_format, mantissa_radix) == 0);
 JADVOLNI_ASSERT_(base_suffix_is_at_3, offsetof(jadvolni_format, base_suffix) == 3);
 JADVOLNI_ASSERT_(literal_prefixes_is_at_16, offsetof(jadvolni_format, literal_prefixes) == 16);
+JADVOLNI_ASSERT_(table_has_32_bytes, sizeof(jadvolni_table) == 32);
+JADVOLNI_ASSERT_(table_column_has_176_bytes, sizeof(jadvolni_table_column) == 176);
+JADVOLNI_ASSERT_(missing_is_at_16, offsetof(jadvolni_table, missing) == 16);
+JADVOLNI_ASSERT_(first_array_is_at_32, offsetof(jadvolni_table_column, i64) == 32);
+JADVOLNI_ASSERT_(last_array_is_at_144, offsetof(jadvolni_table_column, u8) == 144);
+JADVOLNI_ASSERT_(table_result_has_32_bytes, sizeof(jadvolni_table_result) == 32);
+JADVOLNI_ASSERT_(column_is_at_8, offsetof(jadvolni_table_result, column) == 8);
 JADVOLNI_ASSERT_(uint128_has_16_bytes, sizeof(jadvolni_uint128) == 16);
 JADVOLNI_ASSERT_(uint128_high_is_at_8, offsetof(jadvolni_uint128, high) == 8);
 JADVOLNI_ASSERT_(int128_has_16_bytes, sizeof(jadvolni_int128) == 16);

@@ -47,6 +47,11 @@ enum class status : std::uint32_t {
     invalid_base_suffix = JADVOLNI_INVALID_BASE_SUFFIX,
     invalid_punctuation = JADVOLNI_INVALID_PUNCTUATION,
     invalid_literal_prefixes = JADVOLNI_INVALID_LITERAL_PREFIXES,
+    too_few_cells = JADVOLNI_TOO_FEW_CELLS,
+    too_many_cells = JADVOLNI_TOO_MANY_CELLS,
+    missing_return = JADVOLNI_MISSING_RETURN,
+    invalid_table = JADVOLNI_INVALID_TABLE,
+    misplaced_quote = JADVOLNI_MISPLACED_QUOTE,
     unknown_field = JADVOLNI_UNKNOWN_FIELD
 };
 
@@ -177,14 +182,15 @@ JADVOLNI_CALLS_OF_(std::int64_t, i64);
 JADVOLNI_CALLS_OF_(jadvolni_int128, i128);
 #undef JADVOLNI_CALLS_OF_
 
-// The call that reads a column into numbers of a Kept.
+// The call that reads a column into numbers of a Kept, and such an array of a table's column.
 template <class Kept>
 struct column_call;
 
-#define JADVOLNI_COLUMN_OF_(kept, name)                               \
-    template <>                                                       \
-    struct column_call<kept> {                                        \
-        static constexpr auto read = &jadvolni_parse_##name##_column; \
+#define JADVOLNI_COLUMN_OF_(kept, name)                                           \
+    template <>                                                                   \
+    struct column_call<kept> {                                                    \
+        static constexpr auto read = &jadvolni_parse_##name##_column;             \
+        static constexpr auto array = &jadvolni_table_column::name;               \
     }
 JADVOLNI_COLUMN_OF_(std::uint8_t, u8);
 JADVOLNI_COLUMN_OF_(std::uint16_t, u16);
@@ -380,6 +386,81 @@ template <class Values>
     -> decltype(parse_column(text, separator, std::data(values), std::size(values), under))
 {
     return parse_column_part(text, is_last, separator, std::data(values), std::size(values), under);
+}
+
+// How a table is written. Begin with table{}, and set what differs.
+using table = jadvolni_table;
+
+// A column of a table: how its cells are read, and where their numbers go. table_column{} isn't read.
+using table_column = jadvolni_table_column;
+
+// A column whose numbers go to an array.
+template <class T>
+[[nodiscard]] table_column column_into(T *numbers, std::size_t capacity,
+                                       const format &under = standard) noexcept
+{
+    using kept = typename detail::kept_as<T>::type;
+    static_assert(sizeof(T) <= 8, "a column has numbers of up to 64 bits");
+    table_column column{};
+    column.format = under;
+    auto &array = column.*detail::column_call<kept>::array;
+    array.numbers = reinterpret_cast<kept *>(numbers);
+    array.capacity = capacity;
+    return column;
+}
+
+// A column into what has its numbers in a row: a std::vector, a std::array, a std::span, an array.
+template <class Values>
+[[nodiscard]] auto column_into(Values &&values, const format &under = standard) noexcept
+    -> decltype(column_into(std::data(values), std::size(values), under))
+{
+    return column_into(std::data(values), std::size(values), under);
+}
+
+// What was read of a table: a count of rows, and where reading stopped or what is wrong there.
+class table_result {
+public:
+    explicit table_result(jadvolni_table_result answer) noexcept : answer_(answer) {}
+
+    // Whether no cell was wrong, as far as rows were asked for.
+    explicit operator bool() const noexcept { return answer_.status == JADVOLNI_OK; }
+
+    // How many rows were read. At a fault of the text that is the number of its row, from 0.
+    std::size_t rows() const noexcept { return answer_.rows; }
+
+    // The column of a fault, from 0: so many cells of the row were read.
+    std::size_t column() const noexcept { return answer_.column; }
+
+    // What is wrong with the cell, the column or the table, its name, and what has to be instead.
+    jadvolni::status status() const noexcept { return static_cast<jadvolni::status>(answer_.status); }
+    const char *name() const noexcept { return jadvolni::name(status()); }
+    const char *message() const noexcept { return jadvolni::message(status()); }
+
+    // Where reading stopped, so that the next call goes on there; or the place of the fault.
+    std::size_t place() const noexcept { return answer_.place; }
+
+private:
+    jadvolni_table_result answer_;
+};
+
+// The rows of a part of a text, as a block of a file: its whole ones, and all where it is the last part;
+// each column into an array of its own. Put the bytes from place() on in front of the next part. Where
+// `capacity` rows were read, go on at place() first.
+template <class Columns>
+[[nodiscard]] table_result parse_table_part(std::string_view text, bool is_last, const table &how,
+                                            std::size_t capacity, Columns &&columns) noexcept
+{
+    return table_result(jadvolni_parse_table(text.data(), text.size(), is_last, &how, capacity,
+                                             std::data(columns), std::size(columns)));
+}
+
+// The rows of a text, `capacity` at most. The numbers of all cells before a wrong one stand, and the
+// rest of the arrays is as it was.
+template <class Columns>
+[[nodiscard]] table_result parse_table(std::string_view text, const table &how, std::size_t capacity,
+                                       Columns &&columns) noexcept
+{
+    return parse_table_part(text, true, how, capacity, columns);
 }
 
 namespace detail {

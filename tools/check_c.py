@@ -39,12 +39,12 @@ BUILT = ["-o", "build/libjadvolni.a", "-o", "build/symbols.map", "-o", "build/li
 FORMS = [what + under for what in ("", "_front", "_partial") for under in ("", "_with_format")]
 # The structs of the header, by their names in the crate. jadvolni-sys has the header's names.
 STRUCTS = {"result": "Outcome", "format": "FormatFields", "uint128": "Unsigned128",
-           "int128": "Signed128"}
+           "int128": "Signed128", "table_result": "TableOutcome"}
 OF_RUST = {"uint8_t": "u8", "uint32_t": "u32", "uint64_t": "u64", "int64_t": "i64",
            "size_t": "usize"}
 COLUMN_TYPES = [f"{sign}{size}" for sign in "ui" for size in (8, 16, 32, 64)]
 CALLS = sorted(["jadvolni_version", "jadvolni_format_error", "jadvolni_field_start",
-                "jadvolni_parse_literal"]
+                "jadvolni_parse_literal", "jadvolni_parse_table"]
                + [f"jadvolni_parse_{name}{form}" for name, form in product(TYPES, FORMS)]
                + [f"jadvolni_parse_{name}_column" for name in COLUMN_TYPES])
 
@@ -62,7 +62,7 @@ def exported(names: Iterable[str]) -> str:
 def out_of_line() -> List[str]:
     """The functions that docs/DECISIONS.md lists, by the command that it gives."""
     command = re.findall(r"`(grep [^`]*)` lists", text_of("docs", "DECISIONS.md"))
-    return re.findall(r"fn (\w+)", run(["sh", "-c", *command], cwd=TOP))
+    return ["parse_complete", *re.findall(r"fn (\w+)", run(["sh", "-c", *command], cwd=TOP))]
 
 
 def static_library(place: Place) -> str:
@@ -133,7 +133,7 @@ def fields_of_rust(text: str, name: str) -> List[str]:
 def layout() -> str:
     """The header, the crate and jadvolni-sys have the same fields in the same order, and calls."""
     crate = "".join(text_of("crates", "jadvolni", "src", f"{name}.rt")
-                    for name in ("outcome", "format", "halves"))
+                    for name in ("outcome", "format", "halves", "tables"))
     bound = text_of("bindings", "rust", "jadvolni-sys", "src", "lib.rs")
     for name, of_crate in STRUCTS.items():
         wanted = fields_of_c(name)
@@ -170,7 +170,7 @@ def messages(place: Place) -> str:
 
 def calls(place: Place) -> Iterator[Step]:
     """Each caller, by each of its compilers, with both libraries and under sanitizers."""
-    c_callers = ("calls.c", "columns.c", "random_columns.c")
+    c_callers = ("calls.c", "columns.c", "random_columns.c", "tables.c")
     for compiler, name in product(C_COMPILERS, c_callers):
         step, name = partial(call, place, f"tests/c/{name}", compiler), f"{name}, {compiler}"
         yield f"C99, {name}", partial(step, ["-std=c99", *OPTIMISED])

@@ -15,6 +15,9 @@ LIST = os.path.join("tools", "fields.txt")
 STATUSES = os.path.join("bindings", "errors.txt")
 # The fields of the standard format that aren't 0.
 STANDARD = {"mantissa_radix": 10, "required_mantissa_digits": True}
+# From which status on Rust's errors have a place (or a number), or have none.
+PLACES = {"InvalidMantissaRadix": "", "TooFewCells": "(_)", "InvalidTable": "",
+          "MisplacedQuote": "(_)"}
 # The bytes of C's struct but that of nul_is_punctuation.
 ROOM = 31
 
@@ -112,10 +115,7 @@ def in_display(statuses: list[Field]) -> str:
     """What Rust's errors say: no fault is none, and a Format has no field that isn't known."""
     lines, value = [], "(_)"
     for status in statuses[1:]:
-        if status.name == "InvalidMantissaRadix":
-            value = ""  # (a fault of a format has no place)
-        if status.name == "Unknown":
-            value = "(_)"
+        value = PLACES.get(status.name, value)
         if status.name != "UnknownField":
             said = quoted(status.about, 72, "\\\n" + " " * 16)
             space = "\n                " if len(said) > 50 else " "

@@ -36,6 +36,11 @@ export const STATUSES = [
   ["InvalidBaseSuffix", "the suffix has to be ASCII, and no sign and no digit of the radix"],
   ["InvalidPunctuation", "separator, prefix and suffix have to be different bytes, and no letter in two cases"],
   ["InvalidLiteralPrefixes", "literal prefixes and octal zeros need the radix 10, and literal prefixes no prefix, and no separator or suffix that may be a part of 0x, 0o, 0b or of their digits"],
+  ["TooFewCells", "too few cells"],
+  ["TooManyCells", "too many cells"],
+  ["MissingReturn", "missing carriage return"],
+  ["InvalidTable", "the array of each column has to have room for all rows, and the reserved bytes of a table have to be 0"],
+  ["MisplacedQuote", "misplaced quote"],
 ];
 
 export const LANGUAGES = [

@@ -299,8 +299,33 @@ static void literals()
     CHECK(jadvolni::parse_literal("0xu", jadvolni::formats::c).status() == status::empty);
 }
 
+static void tables()
+{
+    std::vector<long> cents(2, 77);
+    unsigned short days[2] = {77, 77};
+    jadvolni::table ledger{};
+    ledger.separator = ';';
+    ledger.has_returns = 1;
+    jadvolni::table_column columns[] = {jadvolni::column_into(days), {}, jadvolni::column_into(cents)};
+    auto read = jadvolni::parse_table("1;rent;-80000\r\n365;;7\r\n2;;x", ledger, 2, columns);
+    CHECK(read && read.rows() == 2 && read.place() == 23 && read.column() == 0);
+    CHECK(days[0] == 1 && days[1] == 365 && cents[0] == -80000 && cents[1] == 7);
+    read = jadvolni::parse_table_part("3;;4\r\n5;;", false, ledger, 2, columns);
+    CHECK(read && read.rows() == 1 && read.place() == 6 && days[0] == 3 && days[1] == 365);
+    read = jadvolni::parse_table("6;;5\r\n65536;;4\r\n", ledger, 2, columns);
+    CHECK(!read && read.status() == status::overflow && read.rows() == 1 && read.column() == 0 && read.place() == 10);
+    CHECK(jadvolni::parse_table("1;2", ledger, 2, columns).status() == status::too_few_cells);
+    CHECK(jadvolni::parse_table("1;;2;", ledger, 2, columns).status() == status::too_many_cells);
+    CHECK(jadvolni::parse_table("1;;2\n", ledger, 2, columns).status() == status::missing_return);
+    CHECK(jadvolni::parse_table("", ledger, 3, columns).status() == status::invalid_table);
+    columns[2] = jadvolni::column_into(cents, jadvolni_format_of_radix(1));
+    read = jadvolni::parse_table("", ledger, 2, columns);
+    CHECK(read.status() == status::invalid_mantissa_radix && read.column() == 2);
+}
+
 int main()
 {
+    tables();
     faults_of_texts();
     faults_of_formats();
     texts_of_statuses();

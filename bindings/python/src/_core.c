@@ -119,8 +119,7 @@ static PyObject *parse_literal(PyObject *module, PyObject *const *args, Py_ssize
 
 /* ---- columns ---- */
 
-/* For how many numbers room is made: for one of each field. */
-static size_t field_count(const char *text, size_t len, uint8_t separator)
+size_t field_count(const char *text, size_t len, uint8_t separator)
 {
     size_t separators = 0;
     for (size_t k = 0; k < len; k++)
@@ -280,6 +279,10 @@ static PyMethodDef METHODS[] = {
          "other thread may change the text meanwhile."),
     {"_parse_part", (PyCFunction)(void (*)(void))parse_part, METH_FASTCALL,
      "A column whose fields count on from those of the parts before it."},
+    {"_parse_table", (PyCFunction)(void (*)(void))parse_table, METH_FASTCALL,
+     "The rows of a part of a text, each column into a buffer."},
+    {"_row_count", row_count, METH_O, "How many rows a text has."},
+    {"_array_code", array_code, METH_O, "The code of the arrays of a type."},
     {"_check_format", check_format, METH_O, "Raises FormatError where a format is invalid."},
     {NULL, NULL, 0, NULL},
 };

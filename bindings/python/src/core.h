@@ -2,7 +2,7 @@
  * core.h - what the parts of the extension `jadvolni._core` share.
  *
  * The library reads the texts. `types.c` has the types of numbers, `faults.c` the exceptions,
- * `arguments.c` what the calls are given, and `_core.c` the calls and the module. `Format` is
+ * `arguments.c` what the calls are given, `tables.c` tables, and `_core.c` the other calls and the module. `Format` is
  * Python, and hands its bytes over as the attribute `_fields`.
  */
 #ifndef JADVOLNI_PYTHON_CORE_H
@@ -13,6 +13,7 @@
 #define PY_SSIZE_T_CLEAN
 #include <Python.h>
 
+#include <stddef.h>
 #include <stdint.h>
 #include <string.h>
 
@@ -52,6 +53,8 @@ typedef struct number_type {
     parse_call *partial;
     column_call *column;
     PyObject *(*number)(const number *value);
+    size_t size;  /* the bytes of a number of an array, and where a table's column has that array */
+    size_t array;
 } number_type;
 
 enum { TYPES = 12 };
@@ -81,6 +84,12 @@ typedef struct field_place {
     size_t start;
 } field_place;
 
+/* How many rows and bytes of a text stand before a part of it. */
+typedef struct table_place {
+    size_t row;
+    size_t start;
+} table_place;
+
 /* Makes the module's exceptions. -1 with an exception where that fails. */
 int make_exceptions(PyObject *module, core_state *state);
 
@@ -93,6 +102,25 @@ void raise_format(const core_state *state, uint32_t status);
 /* Raises the fault of a text, or of a field of a column, whose bytes are the `len` at `text`. */
 void raise_fault(const core_state *state, jadvolni_result answer, const char *text, size_t len,
                  const field_place *field);
+
+/* Raises the fault of a table, in a part of a text. */
+void raise_table(const core_state *state, jadvolni_table_result answer, const table_place *first);
+
+/* ---- tables.c ---- */
+
+/* The rows of a part of a text: _parse_table(text, is_last, separator, flags, capacity, columns,
+ * row, start), where flags are has_returns, has_quotes, allows_blanks, skips_empty_rows. A column is None, or its buffer, type and format. It gives how many rows were read, and where
+ * reading stopped. */
+PyObject *parse_table(PyObject *module, PyObject *const *args, Py_ssize_t count);
+
+PyObject *row_count(PyObject *module, PyObject *given);
+
+PyObject *array_code(PyObject *module, PyObject *given);
+
+/* ---- _core.c ---- */
+
+/* How many fields a text has. */
+size_t field_count(const char *text, size_t len, uint8_t separator);
 
 /* ---- arguments.c ---- */
 

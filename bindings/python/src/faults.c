@@ -9,8 +9,9 @@ enum { SHOWN = 64 };
 /* Makes an exception of the module, with the attributes that it has where nothing sets them. */
 static PyObject *exception(PyObject *module, const char *name, const char *path, const char *text)
 {
-    PyObject *attributes = Py_BuildValue("{s:s,s:O,s:O,s:O}", "kind", "", "place", Py_None, "field",
-                                         Py_None, "start", Py_None);
+    PyObject *attributes =
+        Py_BuildValue("{s:s,s:O,s:O,s:O,s:O,s:O}", "kind", "", "place", Py_None, "field", Py_None,
+                      "start", Py_None, "row", Py_None, "column", Py_None);
     PyObject *made = NULL;
     if (attributes)
         made = PyErr_NewExceptionWithDoc(path, text, PyExc_ValueError, attributes);
@@ -26,7 +27,8 @@ int make_exceptions(PyObject *module, core_state *state)
         module, "ParseError", "jadvolni.ParseError",
         "A text is no number of its type, or none under its format.\n\n"
         "kind: what is wrong, as \"Overflow\". place: at which byte of the text.\n"
-        "field, start: in a column the field's index and its first byte.");
+        "field, start: in a column the field's index and its first byte.\n"
+        "row, column: in a table the wrong cell, both from 0.");
     if (!state->parse_error)
         return -1;
     state->format_error = exception(
@@ -56,7 +58,8 @@ static PyObject *error_of(PyObject *type, PyObject *message, uint32_t status)
 
 int is_of_format(uint32_t status)
 {
-    return status >= JADVOLNI_INVALID_MANTISSA_RADIX;
+    return (status >= JADVOLNI_INVALID_MANTISSA_RADIX && status < JADVOLNI_TOO_FEW_CELLS)
+        || status == JADVOLNI_INVALID_TABLE || status > JADVOLNI_MISPLACED_QUOTE;
 }
 
 void raise_format(const core_state *state, uint32_t status)
@@ -97,6 +100,24 @@ void raise_fault(const core_state *state, jadvolni_result answer, const char *te
     if (error && set_attribute(error, "place", PyLong_FromSize_t(answer.place)) == 0
         && (!field || (set_attribute(error, "field", PyLong_FromSize_t(field->index)) == 0
                        && set_attribute(error, "start", PyLong_FromSize_t(field->start)) == 0)))
+        PyErr_SetObject(state->parse_error, error);
+    Py_XDECREF(error);
+}
+
+void raise_table(const core_state *state, jadvolni_table_result answer, const table_place *first)
+{
+    if (is_of_format(answer.status)) {
+        raise_format(state, answer.status);
+        return;
+    }
+    size_t place = first->start + answer.place, row = first->row + answer.rows;
+    PyObject *message = PyUnicode_FromFormat("%s at byte %zu, in row %zu, column %zu",
+                                             jadvolni_status_text(answer.status), place, row,
+                                             answer.column);
+    PyObject *error = error_of(state->parse_error, message, answer.status);
+    if (error && set_attribute(error, "place", PyLong_FromSize_t(place)) == 0
+        && set_attribute(error, "row", PyLong_FromSize_t(row)) == 0
+        && set_attribute(error, "column", PyLong_FromSize_t(answer.column)) == 0)
         PyErr_SetObject(state->parse_error, error);
     Py_XDECREF(error);
 }

@@ -88,22 +88,23 @@ static PyObject *number_i128(const number *value)
     return joined(PyLong_FromLongLong(value->i128.high), value->i128.low);
 }
 
-#define TYPE(name, numpy_name, code) \
-    {#name, numpy_name, code, whole_##name, front_##name, partial_##name, column_##name, number_##name}
+#define TYPE(name, call, numpy_name, code)                                                       \
+    {#name, numpy_name, code, whole_##name, front_##name, partial_##name, column_##name,         \
+     number_##name, sizeof(((number *)0)->call), offsetof(jadvolni_table_column, call)}
 #define WIDE_TYPE(name) \
-    {#name, NULL, NULL, whole_##name, front_##name, partial_##name, NULL, number_##name}
+    {#name, NULL, NULL, whole_##name, front_##name, partial_##name, NULL, number_##name, 0, 0}
 
 const number_type types[TYPES] = {
-    TYPE(i64, "int64", "q"),
-    TYPE(u64, "uint64", "Q"),
-    TYPE(i32, "int32", "i"),
-    TYPE(u32, "uint32", "I"),
-    TYPE(i16, "int16", "h"),
-    TYPE(u16, "uint16", "H"),
-    TYPE(i8, "int8", "b"),
-    TYPE(u8, "uint8", "B"),
-    TYPE(isize, NULL, "q"),
-    TYPE(usize, NULL, "Q"),
+    TYPE(i64, i64, "int64", "q"),
+    TYPE(u64, u64, "uint64", "Q"),
+    TYPE(i32, i32, "int32", "i"),
+    TYPE(u32, u32, "uint32", "I"),
+    TYPE(i16, i16, "int16", "h"),
+    TYPE(u16, u16, "uint16", "H"),
+    TYPE(i8, i8, "int8", "b"),
+    TYPE(u8, u8, "uint8", "B"),
+    TYPE(isize, i64, NULL, "q"),
+    TYPE(usize, u64, NULL, "Q"),
     WIDE_TYPE(i128),
     WIDE_TYPE(u128),
 };

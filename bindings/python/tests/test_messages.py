@@ -32,6 +32,8 @@ OF_FORMATS = {
     "InvalidPunctuation": {"base_prefix": "x", "base_suffix": "X"},
     "InvalidLiteralPrefixes": {"mantissa_radix": 8, "literal_octal_zero": True},
 }
+# The kinds that tables alone have.
+OF_TABLES = {"TooFewCells", "TooManyCells", "MissingReturn", "InvalidTable", "MisplacedQuote"}
 
 
 def listed():
@@ -45,7 +47,7 @@ class Messages(unittest.TestCase):
 
     def test_each_kind_is_tried(self):
         tried = {*OF_TEXTS, *OF_FORMATS, "UnknownField"}
-        self.assertEqual(tried, {*listed()} - {"Ok", "Unknown"})
+        self.assertEqual(tried, {*listed()} - {"Ok", "Unknown"} - OF_TABLES)
 
     def test_faults_of_texts(self):
         for kind, (place, text, format) in OF_TEXTS.items():

@@ -1,10 +1,9 @@
 -- Columns with what reading them does.
 use Rattle.std.specs.Prelude.{◌≡◌, ℕ, codes, List, [], ◌∷◌, pos, ℤ}
 use Rattle.std.proofs.Common.{refl}
-use Rattle.lexical_util.specs.Number.{IntegerType}
 use Rattle.lexical_parse_integer.specs.Computed.{grammar}
 use Rattle.lexical_fields.specs.Columns.{answer_of, numbers_of}
-use Rattle.jadvolni.specs.Columns.{ColumnEffect, column_call}
+use Rattle.jadvolni.specs.Columns.{column_call}
 use Rattle.jadvolni.specs.Effect.{unsigned}
 use Rattle.jadvolni.specs.declared.format.FormatFields.{FormatFields}
 

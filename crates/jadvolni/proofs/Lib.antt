@@ -2,4 +2,6 @@
 pub mod ColumnArrays
 pub mod ColumnRows
 pub mod SureAnswers
+pub mod TableBits
+pub mod TableColumns
 pub mod ZeroBytes

@@ -4,3 +4,4 @@ pub mod Effect
 pub mod FormatFields
 pub mod Halves
 pub mod Literals
+pub mod Tables

@@ -207,6 +207,20 @@ impl FormatFields {
             .base_suffix(punctuation(self.base_suffix, has_bit(nul, 4)))
             .build_unchecked()
     }
+
+    /// What is wrong with the format.
+    #[inline(always)]
+    pub fn status(&self) -> u32
+        ensures { result ≡ format_status self.now }
+    {
+        if !self.are_known() {
+            return UNKNOWN_FIELD;
+        }
+        match self.format().error() {
+            None => 0,
+            Some(error) => status_of(&error),
+        }
+    }
 }
 
 /// 0 where the format is valid, and else the status of the first rule that it breaks.
@@ -216,11 +230,5 @@ impl FormatFields {
 pub extern "C" fn jadvolni_format_error(format: &FormatFields) -> u32
     ensures { result ≡ format_status format.now }
 {
-    if !format.are_known() {
-        return UNKNOWN_FIELD;
-    }
-    match format.format().error() {
-        None => 0,
-        Some(error) => status_of(&error),
-    }
+    format.status()
 }

@@ -10,5 +10,7 @@ pub mod literals;
 pub mod outcome;
 pub mod signed;
 pub mod slot;
+pub mod table_columns;
+pub mod tables;
 pub mod unsigned;
 pub mod version;

@@ -156,6 +156,7 @@ fn read_cells<C: TableColumn>(
 ///
 /// With a comma, three columns and targets of `u64` for the first and of `i8` for the third, `1,a,-2\n`
 /// puts 1 and -2 at place 0, and stops at 7.
+#[inline(never)]
 pub fn read_columns<C: TableColumn>(
     text: &[u8],
     dialect: &Dialect<'_>,

@@ -25,4 +25,4 @@ pub use by_column::read_columns;
 pub use dialect::Dialect;
 pub use header::after_lines;
 pub use parts::{columns_in_parts, read_columns_part};
-pub use targets::{Numbers, TableColumn, Target, put_bit, put_cell};
+pub use targets::{Numbers, TableColumn, Target, put_bit, put_cell, put_zero};

@@ -75,8 +75,10 @@ pub fn put_cell<T: ParseInteger>(
     }
 }
 
-// Puts 0 into a row's place of a slice.
-fn put_zero<T: ParseInteger>(values: &mut [T], row: usize)
+/// Puts 0 into a row's place of a slice.
+///
+/// It is for a [`TableColumn`] of one's own. The slice has to have that place.
+pub fn put_zero<T: ParseInteger>(values: &mut [T], row: usize)
     requires room { row < length values.old }
     ensures { map T.number values.new ≡ set (map T.number values.old) row (pos 0) }
 {

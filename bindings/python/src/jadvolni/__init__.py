@@ -34,6 +34,7 @@ from . import formats
 from ._format import Format
 from ._blocks import iter_column
 from ._numpy import numpy_column
+from ._tables import iter_table, parse_table, read_table
 
 __all__ = [
     "Format",
@@ -42,10 +43,13 @@ __all__ = [
     "__version__",
     "formats",
     "iter_column",
+    "iter_table",
     "numpy_column",
     "parse",
     "parse_column",
     "parse_front",
     "parse_literal",
     "parse_partial",
+    "parse_table",
+    "read_table",
 ]

@@ -1,7 +1,7 @@
 """The calls of the library, by `_core.c`."""
 
 from array import array
-from typing import Literal, Optional, Union
+from typing import Any, Literal, Optional, Union
 
 from _typeshed import ReadableBuffer
 
@@ -23,6 +23,8 @@ class ParseError(ValueError):
     place: Optional[int]
     field: Optional[int]
     start: Optional[int]
+    row: Optional[int]
+    column: Optional[int]
 
 class FormatError(ValueError):
     kind: str
@@ -50,4 +52,16 @@ def _parse_part(
     field: int,
     start: int,
 ) -> array[int]: ...
+def _parse_table(
+    text: Text,
+    is_last: bool,
+    separator: Text,
+    flags: tuple[bool, bool, bool, bool],
+    rows: int,
+    columns: tuple[Optional[tuple[Any, ColumnType, Optional[Format]]], ...],
+    row: int,
+    start: int,
+) -> tuple[int, int]: ...
+def _row_count(text: Text) -> int: ...
+def _array_code(type: ColumnType) -> str: ...
 def _check_format(format: Format) -> None: ...

@@ -57,6 +57,54 @@ pub struct jadvolni_int128 {
     pub high: i64,
 }
 
+/// How a table is written. The reserved bytes have to be 0.
+#[repr(C)]
+#[derive(Debug, Copy, Clone, PartialEq, Eq)]
+pub struct jadvolni_table {
+    pub separator: u8,
+    pub has_returns: u8,
+    pub has_quotes: u8,
+    pub allows_blanks: u8,
+    pub skips_empty_rows: u8,
+    pub reserved: [u8; 11],
+    pub missing: *const c_char,
+    pub missing_len: usize,
+}
+
+/// An array of a column, or its bytes with bits, which the header leaves without names.
+#[repr(C)]
+#[derive(Debug, Copy, Clone, PartialEq, Eq)]
+pub struct jadvolni_array<T> {
+    pub numbers: *mut T,
+    pub capacity: usize,
+}
+
+/// A column of a table. One array has room, or none.
+#[repr(C)]
+#[derive(Debug, Copy, Clone, PartialEq, Eq)]
+pub struct jadvolni_table_column {
+    pub format: jadvolni_format,
+    pub i64: jadvolni_array<i64>,
+    pub u64: jadvolni_array<u64>,
+    pub i32: jadvolni_array<i32>,
+    pub u32: jadvolni_array<u32>,
+    pub i16: jadvolni_array<i16>,
+    pub u16: jadvolni_array<u16>,
+    pub i8: jadvolni_array<i8>,
+    pub u8: jadvolni_array<u8>,
+    pub present: jadvolni_array<u8>,
+}
+
+/// What is answered of a table.
+#[repr(C)]
+#[derive(Debug, Copy, Clone, PartialEq, Eq)]
+pub struct jadvolni_table_result {
+    pub status: u32,
+    pub column: usize,
+    pub rows: usize,
+    pub place: usize,
+}
+
 /// The bits of `nul_is_punctuation`.
 pub const JADVOLNI_NUL_IS_SEPARATOR: u8 = 1;
 pub const JADVOLNI_NUL_IS_PREFIX: u8 = 2;
@@ -68,6 +116,11 @@ const _: () = {
     assert!(size_of::<jadvolni_result>() == 16 && offset_of!(jadvolni_result, place) == 8);
     assert!(
         size_of::<jadvolni_format>() == 32 && offset_of!(jadvolni_format, literal_prefixes) == 16
+    );
+    assert!(size_of::<jadvolni_table>() == 32 && size_of::<jadvolni_table_column>() == 176);
+    assert!(offset_of!(jadvolni_table_column, u8) == 144);
+    assert!(
+        size_of::<jadvolni_table_result>() == 32 && offset_of!(jadvolni_table_result, column) == 8
     );
     assert!(size_of::<jadvolni_uint128>() == 16 && offset_of!(jadvolni_uint128, high) == 8);
     assert!(size_of::<jadvolni_int128>() == 16 && offset_of!(jadvolni_int128, high) == 8);
@@ -171,5 +224,6 @@ extern "C" {
     pub fn jadvolni_parse_i32_column(text: *const c_char, len: usize, separator: u8, format: *const jadvolni_format, values: *mut i32, capacity: usize, count: *mut usize) -> jadvolni_result;
     pub fn jadvolni_parse_i64_column(text: *const c_char, len: usize, separator: u8, format: *const jadvolni_format, values: *mut i64, capacity: usize, count: *mut usize) -> jadvolni_result;
     pub fn jadvolni_parse_literal(text: *const c_char, len: usize, format: *const jadvolni_format, value: *mut jadvolni_uint128, suffix: *mut usize) -> jadvolni_result;
+    pub fn jadvolni_parse_table(text: *const c_char, len: usize, is_last: bool, table: *const jadvolni_table, capacity: usize, columns: *mut jadvolni_table_column, column_count: usize) -> jadvolni_table_result;
     pub fn jadvolni_field_start(text: *const c_char, len: usize, separator: u8) -> usize;
 }

@@ -37,6 +37,16 @@ pub enum Error {
     InvalidPunctuation,
     /// The format can't have literal prefixes beside its radix, prefix, separator or suffix.
     InvalidLiteralPrefixes,
+    /// A row of a table has fewer cells than there are columns. The place is where it ends.
+    TooFewCells(usize),
+    /// A row of a table has more cells. The place is where the first one too many starts.
+    TooManyCells(usize),
+    /// The line feed at the place has no carriage return before it, and the table has returns.
+    MissingReturn(usize),
+    /// A table can't be read as it is described. The calls of this crate don't make one.
+    InvalidTable,
+    /// A quote of a cell at the place is out of place, or within a number, or is never closed.
+    MisplacedQuote(usize),
     /// A status that only a later library has.
     Unknown(u32),
 }
@@ -60,6 +70,11 @@ impl Error {
             11 => Error::InvalidBaseSuffix,
             12 => Error::InvalidPunctuation,
             13 => Error::InvalidLiteralPrefixes,
+            14 => Error::TooFewCells(outcome.place),
+            15 => Error::TooManyCells(outcome.place),
+            16 => Error::MissingReturn(outcome.place),
+            17 => Error::InvalidTable,
+            18 => Error::MisplacedQuote(outcome.place),
             other => Error::Unknown(other),
         })
     }
@@ -73,7 +88,11 @@ impl Error {
             | Error::Empty(place)
             | Error::MissingSign(place)
             | Error::InvalidPositiveSign(place)
-            | Error::InvalidLeadingZeros(place) => Some(place),
+            | Error::InvalidLeadingZeros(place)
+            | Error::TooFewCells(place)
+            | Error::TooManyCells(place)
+            | Error::MissingReturn(place)
+            | Error::MisplacedQuote(place) => Some(place),
             _ => None,
         }
     }
@@ -89,6 +108,10 @@ impl Error {
             Error::MissingSign(place) => Error::MissingSign(place + by),
             Error::InvalidPositiveSign(place) => Error::InvalidPositiveSign(place + by),
             Error::InvalidLeadingZeros(place) => Error::InvalidLeadingZeros(place + by),
+            Error::TooFewCells(place) => Error::TooFewCells(place + by),
+            Error::TooManyCells(place) => Error::TooManyCells(place + by),
+            Error::MissingReturn(place) => Error::MissingReturn(place + by),
+            Error::MisplacedQuote(place) => Error::MisplacedQuote(place + by),
             other => other,
         }
     }
@@ -120,6 +143,13 @@ impl fmt::Display for Error {
                 "literal prefixes and octal zeros need the radix 10, and literal prefixes \
                 no prefix, and no separator or suffix that may be a part of 0x, 0o, 0b \
                 or of their digits",
+            Error::TooFewCells(_) => "too few cells",
+            Error::TooManyCells(_) => "too many cells",
+            Error::MissingReturn(_) => "missing carriage return",
+            Error::InvalidTable =>
+                "the array of each column has to have room for all rows, and the reserved \
+                bytes of a table have to be 0",
+            Error::MisplacedQuote(_) => "misplaced quote",
             Error::Unknown(_) => "a status that only a later library has",
         })?;
         match self.place() {

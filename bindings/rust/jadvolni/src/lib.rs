@@ -9,7 +9,7 @@
 //! assert_eq!(parse_with_format::<u8>("0x1F", &hexadecimal), Ok(31));
 //! ```
 //!
-//! No call panics, and none allocates: `ColumnReader` alone, of the feature `std`, holds a block. The
+//! No call panics, and none allocates: `ColumnReader` and `TableReader` alone, of the feature `std`, hold a block. The
 //! proofs are of the library below these calls: that this crate hands its texts over and its answers
 //! back is tested.
 #![no_std]
@@ -27,6 +27,9 @@ mod languages;
 mod literal;
 #[cfg(feature = "std")]
 mod reader;
+mod table;
+#[cfg(feature = "std")]
+mod table_reader;
 
 pub use column::{
     field_start, parse_column, parse_column_part, parse_column_part_with_format,
@@ -38,6 +41,11 @@ pub use integer::Integer;
 pub use literal::{parse_literal, Literal};
 #[cfg(feature = "std")]
 pub use reader::{ColumnReader, ReadError};
+pub use table::{
+    parse_table, parse_table_part, Dialect, Table, TableColumn, TableError, TableInteger,
+};
+#[cfg(feature = "std")]
+pub use table_reader::{TableReadError, TableReader};
 
 use jadvolni_sys as sys;
 

@@ -1,0 +1,206 @@
+"""Tests of tables: from texts, files and blocks, beside a reading by split, and misused."""
+
+import importlib.util
+import io
+import os
+import pathlib
+import random
+import subprocess
+import sys
+import tempfile
+import unittest
+from array import array
+
+from jadvolni import (Format, FormatError, ParseError, iter_table, parse_table, read_table)
+
+LEDGER = {"day": "u16", "what": None, "cents": "i64"}
+TEXT = b"1;rent;-80000\r\n365;;7\r\n"
+HAS_NUMPY = importlib.util.find_spec("numpy") is not None
+
+
+def lists(table):
+    """The columns of a table as lists."""
+    return {name: values.tolist() for name, values in table.items()}
+
+
+def rows_of(file, **given):
+    """All rows of a file, by its tables."""
+    found = {"day": [], "cents": []}
+    for table in iter_table(file, LEDGER, ";", True, **given):
+        for name, values in table.items():
+            found[name] += values.tolist()
+    return found
+
+
+class Broken(io.BytesIO):
+    """A file that gives few bytes a call, and then fails."""
+
+    def read(self, size=-1):
+        if self.tell() > 20:
+            raise OSError("no disk")
+        return super().read(min(size, 7))
+
+
+class Tables(unittest.TestCase):
+    """Tables of texts, files and blocks."""
+
+    def fails(self, text, kind, row, column, place, columns=None, **given):
+        """A text has this first wrong cell, read at once and in blocks of each size."""
+        columns = columns or LEDGER
+        with self.assertRaises(ParseError) as whole:
+            parse_table(text, columns, ";", **given)
+        told = whole.exception
+        self.assertEqual((told.kind, told.row, told.column), (kind, row, column))
+        self.assertIn(f" at byte {place}, in row {row}, column {column}", str(told))
+        for size in range(1, len(text) + 2):
+            with self.assertRaises(ValueError) as cut:
+                for _ in iter_table(io.BytesIO(text), columns, ";", rows=2, size=size, **given):
+                    pass
+            if isinstance(cut.exception, ParseError):
+                self.assertEqual(str(cut.exception), str(told))
+            else:
+                self.assertRegex(str(cut.exception), f"the row at byte .* more than {size} ")
+
+    def test_the_first_wrong_cell(self):
+        self.fails(b"1;a;2\n70000;;3\n", "Overflow", 1, 0, 10)
+        self.fails(b"1;a;2\n7;;3x\n", "InvalidDigit", 1, 2, 10)
+        self.fails(b"1;a;2\n7;\n", "TooFewCells", 1, 2, 8)
+        self.fails(b"1;a;2\n7;b;8;\n", "TooManyCells", 1, 3, 12)
+        self.fails(b"1;a;2\r\n7;b;8\n", "MissingReturn", 1, 3, 12, has_returns=True)
+        self.fails(b"1;a;2\n\n", "Empty", 1, 0, 6)
+
+    def test_texts_and_files(self):
+        wanted = {"day": [1, 365], "cents": [-80000, 7]}
+        self.assertEqual(lists(parse_table(TEXT.decode(), LEDGER, ";", True)), wanted)
+        self.assertEqual(lists(read_table(io.BytesIO(TEXT), LEDGER, ";", True)), wanted)
+        with tempfile.TemporaryDirectory() as folder:
+            path = pathlib.Path(folder, "ledger.csv")
+            for text, rows in ((TEXT, wanted), (b"", {"day": [], "cents": []})):
+                path.write_bytes(text)
+                self.assertEqual(lists(read_table(path, LEDGER, ";", True)), rows)
+                self.assertEqual(lists(read_table(str(path), LEDGER, ";", True)), rows)
+        for size in range(14, 30):
+            for rows in range(1, 4):
+                self.assertEqual(rows_of(io.BytesIO(TEXT), rows=rows, size=size), wanted)
+
+    def test_options(self):
+        text = b'"1";"a;\n";" 2 "\n\n 3;;\t4\n'
+        given = {"has_quotes": True, "allows_blanks": True, "skips_empty_rows": True}
+        wanted = {"day": [1, 3], "cents": [2, 4]}
+        self.assertEqual(lists(parse_table(text, LEDGER, ";", **given)), wanted)
+        for size in range(15, 30):
+            found = {"day": [], "cents": []}
+            for table in iter_table(io.BytesIO(text), LEDGER, ";", size=size, **given):
+                for name, values in table.items():
+                    found[name] += values.tolist()
+            self.assertEqual(found, wanted)
+        self.fails(b'1;a;2\n7;b"c;8\n', "MisplacedQuote", 1, 1, 9, has_quotes=True)
+
+    def test_a_pipe(self):
+        first, second = os.pipe()
+        os.write(second, TEXT)
+        os.close(second)
+        self.assertEqual(lists(read_table(f"/dev/fd/{first}", LEDGER, ";", True))["day"], [1, 365])
+        os.close(first)
+
+    def test_types_and_formats(self):
+        hexadecimal = Format(mantissa_radix=16)
+        for bits in (8, 16, 32, 64):
+            half = 2**(bits - 1)
+            for letter, least, greatest in (("u", 0, 2 * half - 1), ("i", -half, half - 1)):
+                kind = f"{letter}{bits}"
+                table = parse_table(f"{least},{greatest:x}", {"a": kind, "b": (kind, hexadecimal)})
+                self.assertEqual(lists(table), {"a": [least], "b": [greatest]})
+                self.assertEqual(memoryview(table["a"]).itemsize, bits // 8)
+
+    def test_arrays_of_the_caller(self):
+        out = {"day": array("H", [9] * 3), "cents": array("q", [9] * 3)}
+        wanted = {"day": [1, 365], "cents": [-80000, 7]}
+        self.assertEqual(lists(parse_table(TEXT, LEDGER, ";", True, out=out)), wanted)
+        with self.assertRaises(ParseError):
+            parse_table(b"5;;6\n7;;x\n", LEDGER, ";", out=out)
+        self.assertEqual(lists(out), {"day": [5, 7, 9], "cents": [6, 7, 9]})
+        for code, count in ("H", 1), ("h", 2), ("I", 2), ("B", 4):
+            out["day"] = array(code, [9] * count)
+            self.assertRaises(ValueError, parse_table, TEXT, LEDGER, ";", True, out=out)
+        out["day"] = b"1234"
+        self.assertRaises(BufferError, parse_table, TEXT, LEDGER, ";", True, out=out)
+        del out["day"]
+        self.assertRaises(KeyError, parse_table, TEXT, LEDGER, ";", True, out=out)
+
+    def test_wrong_arguments(self):
+        for columns in ({"a": "u128"}, {"a": "u7"}, {"a": "f64"}):
+            self.assertRaises(ValueError, parse_table, b"1", columns)
+        self.assertRaises(TypeError, parse_table, b"1", {"a": 7})
+        self.assertRaises(TypeError, parse_table, 7, {"a": "u8"})
+        self.assertRaises(TypeError, parse_table, b"1", {"a": ("u8", "hex")})
+        self.assertRaises(ValueError, parse_table, b"1", {"a": "u8"}, b"ab")
+        self.assertRaises(ValueError, next, iter_table(io.BytesIO(b"1"), {"a": "u8"}, rows=0))
+        self.assertRaises(ValueError, next, iter_table(io.BytesIO(b"1"), {"a": "u8"}, size=0))
+        self.assertRaises(TypeError, next, iter_table(io.StringIO("1"), {"a": "u8"}))
+        self.assertRaises(FileNotFoundError, read_table, "no/such/file", LEDGER)
+        self.assertEqual(parse_table(b"a\nb", {"a": None}), {})
+
+    def test_a_file_that_fails(self):
+        seen = []
+        with self.assertRaises(OSError):
+            for table in iter_table(Broken(TEXT * 3), LEDGER, ";", True):
+                seen += table["day"].tolist()
+        self.assertEqual(seen, [1])
+
+    def test_a_format_of_a_later_version(self):
+        class Reserved:
+            _fields = b"\x0a" + bytes(30) + b"\x01"
+
+        with self.assertRaises(FormatError):
+            parse_table(b"1", {"a": ("u8", Reserved())})
+
+    def test_random_tables_beside_split(self):
+        chance = random.Random(1)
+        columns, limits = {"a": "u16", "b": "u8", "c": "i32"}, (65535, 255, 2**31)
+        for _ in range(300):
+            rows = [[chance.randrange(chance.choice((70000, 256, 256))) for _ in range(3)]
+                    for _ in range(chance.randrange(9))]
+            text = "".join(",".join(map(str, row)) + "\n" for row in rows).encode()
+            wrong = [(k, j) for k, row in enumerate(rows) for j in range(3) if row[j] > limits[j]]
+            if not wrong:
+                read = [list(row) for row in zip(*lists(parse_table(text, columns)).values())]
+                self.assertEqual(read, rows)
+                continue
+            with self.assertRaises(ParseError) as caught:
+                parse_table(text, columns)
+            self.assertEqual((caught.exception.row, caught.exception.column), wrong[0])
+
+    def test_memory_is_given_back(self):
+        out = {"day": array("H", [9] * 2), "cents": array("q", [9] * 2)}
+        before = [sys.getrefcount(values) for values in out.values()]
+        for text in [TEXT, b"1;2"] * 200:
+            try:
+                parse_table(text, LEDGER, ";", True, out=out)
+            except ParseError:
+                pass
+        self.assertEqual([sys.getrefcount(values) for values in out.values()], before)
+        out["day"].append(7)  # (no buffer is kept)
+
+    @unittest.skipUnless(HAS_NUMPY, "NumPy isn't installed")
+    def test_arrays_of_numpy(self):
+        import numpy
+
+        table = parse_table(TEXT, LEDGER, ";", True)
+        self.assertEqual((table["day"].dtype, table["cents"].dtype), (numpy.uint16, numpy.int64))
+        out = {"day": numpy.zeros((2, 2), "u2")[:, 0], "cents": numpy.zeros(2, "i8")}
+        self.assertRaises(ValueError, parse_table, TEXT, LEDGER, ";", True, out=out)
+        out["day"] = numpy.zeros(2, "u2")
+        parse_table(TEXT, LEDGER, ";", True, out=out)
+        self.assertEqual(lists(out), {"day": [1, 365], "cents": [-80000, 7]})
+
+    def test_without_numpy(self):
+        said = subprocess.run(
+            [sys.executable, "-c", "import sys; sys.modules['numpy'] = None; import jadvolni; "
+             "print(jadvolni.parse_table('1,2', {'a': 'u8', 'b': 'i16'}))"],
+            stdout=subprocess.PIPE, text=True, check=True).stdout
+        self.assertEqual(said, "{'a': array('B', [1]), 'b': array('h', [2])}\n")
+
+
+if __name__ == "__main__":
+    unittest.main()

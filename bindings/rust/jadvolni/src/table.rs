@@ -1,0 +1,247 @@
+//! Tables: the rows of a text, each column read into a slice of its own by one call.
+
+use crate::{ColumnInteger, Error, Format};
+use core::fmt;
+use core::marker::PhantomData;
+use core::ptr::{null, null_mut};
+use jadvolni_sys as sys;
+
+/// How a table is written: the byte between two cells, and what else isn't as in plain lines.
+#[derive(Debug, Copy, Clone, PartialEq, Eq)]
+pub struct Dialect<'a>(sys::jadvolni_table, PhantomData<&'a [u8]>);
+
+// SAFETY: its pointer is that of a slice that it has borrowed, and is read alone.
+unsafe impl Send for Dialect<'_> {}
+unsafe impl Sync for Dialect<'_> {}
+
+impl<'a> Dialect<'a> {
+    /// Cells between a byte, in lines that end in a line feed.
+    pub const fn separated_by(separator: u8) -> Self {
+        let table = sys::jadvolni_table {
+            separator,
+            has_returns: 0,
+            has_quotes: 0,
+            allows_blanks: 0,
+            skips_empty_rows: 0,
+            reserved: [0; 11],
+            missing: null(),
+            missing_len: 0,
+        };
+        Dialect(table, PhantomData)
+    }
+
+    /// Whether a carriage return stands before each line feed. Without it a return is a byte of its cell.
+    pub const fn has_returns(mut self, flag: bool) -> Self {
+        self.0.has_returns = flag as u8;
+        self
+    }
+
+    /// Whether a cell may stand within quotes, `"`, and then hold separators and line feeds.
+    pub const fn has_quotes(mut self, flag: bool) -> Self {
+        self.0.has_quotes = flag as u8;
+        self
+    }
+
+    /// Whether spaces and tabs may stand around a number.
+    pub const fn allows_blanks(mut self, flag: bool) -> Self {
+        self.0.allows_blanks = flag as u8;
+        self
+    }
+
+    /// Whether a row without a byte is none.
+    pub const fn skips_empty_rows(mut self, flag: bool) -> Self {
+        self.0.skips_empty_rows = flag as u8;
+        self
+    }
+
+    /// What stands for a missing number, byte for byte, in columns that have bits for it: at first an empty cell.
+    pub const fn missing(mut self, mark: &'a [u8]) -> Self {
+        self.0.missing = mark.as_ptr().cast();
+        self.0.missing_len = mark.len();
+        self
+    }
+}
+
+/// A column of a table: it is read into a slice, or its cells aren't looked at.
+#[derive(Debug)]
+#[repr(transparent)]
+pub struct TableColumn<'a>(sys::jadvolni_table_column, PhantomData<&'a mut ()>);
+
+impl<'a> TableColumn<'a> {
+    /// A column that isn't read: its cells may hold any bytes but the separator and a line feed.
+    pub const UNREAD: Self = TableColumn(UNREAD, PhantomData);
+
+    /// A column whose numbers go to a slice, under the standard format.
+    pub fn of<T: TableInteger>(numbers: &'a mut [T]) -> Self {
+        Self::with_format(numbers, &Format::STANDARD)
+    }
+
+    /// A column whose numbers go to a slice, under a format.
+    pub fn with_format<T: TableInteger>(numbers: &'a mut [T], format: &Format) -> Self {
+        let mut column = sys::jadvolni_table_column { format: format.0, ..UNREAD };
+        T::put_into(&mut column, numbers);
+        TableColumn(column, PhantomData)
+    }
+
+    /// The same column, where numbers may be missing: the bit `k & 7` of byte `k >> 3` is then 1 if row `k` has a
+    /// number, and 0 if it is missing, and 0 in the slice. The lowest bit comes first.
+    pub fn with_bits(mut self, present: &'a mut [u8]) -> Self {
+        let capacity = present.len();
+        self.0.present = sys::jadvolni_array { numbers: present.as_mut_ptr(), capacity };
+        self
+    }
+
+    /// How many numbers there is room for, if the column is read.
+    fn room(&self) -> Option<usize> {
+        fn of<T>(array: sys::jadvolni_array<T>) -> Option<usize> {
+            (!array.numbers.is_null()).then_some(array.capacity)
+        }
+        let it = &self.0;
+        let wide = of(it.i64).or(of(it.u64)).or(of(it.i32)).or(of(it.u32));
+        let room = wide.or(of(it.i16)).or(of(it.u16)).or(of(it.i8)).or(of(it.u8))?;
+        Some(of(it.present).map_or(room, |bytes| room.min(bytes.saturating_mul(8))))
+    }
+}
+
+/// How many rows there is room for: there is no bound where no column is read.
+pub(crate) fn capacity(columns: &[TableColumn<'_>]) -> usize {
+    columns.iter().filter_map(TableColumn::room).min().unwrap_or(usize::MAX)
+}
+
+const fn no_array<T>() -> sys::jadvolni_array<T> {
+    sys::jadvolni_array { numbers: null_mut(), capacity: 0 }
+}
+
+const UNREAD: sys::jadvolni_table_column = sys::jadvolni_table_column {
+    format: Format::STANDARD.0,
+    i64: no_array(),
+    u64: no_array(),
+    i32: no_array(),
+    u32: no_array(),
+    i16: no_array(),
+    u16: no_array(),
+    i8: no_array(),
+    u8: no_array(),
+    present: no_array(),
+};
+
+/// One of the eight integer types that the columns of a table have: `u8` to `u64`, `i8` to `i64`.
+pub trait TableInteger: ColumnInteger + TableArray {}
+
+/// The array of the library's column that has numbers of a type.
+pub trait TableArray: Sized {
+    /// Makes a slice that array.
+    fn put_into(column: &mut sys::jadvolni_table_column, numbers: &mut [Self]);
+}
+
+macro_rules! arrays {
+    ($($type:ident)*) => {$(
+        impl TableInteger for $type {}
+
+        impl TableArray for $type {
+            fn put_into(column: &mut sys::jadvolni_table_column, numbers: &mut [$type]) {
+                let capacity = numbers.len();
+                column.$type = sys::jadvolni_array { numbers: numbers.as_mut_ptr(), capacity };
+            }
+        }
+    )*};
+}
+
+arrays! { u8 u16 u32 u64 i8 i16 i32 i64 }
+
+/// How far a table was read.
+#[derive(Debug, Copy, Clone, PartialEq, Eq)]
+pub struct Table {
+    /// How many rows were read.
+    pub rows: usize,
+    /// Where reading stopped: the text's end, or the start of the first row for which a slice had no room.
+    pub stop: usize,
+}
+
+/// Why a table isn't read to its end: the first wrong cell in reading order, or a column that can't be read.
+#[derive(Debug, Copy, Clone, PartialEq, Eq)]
+pub struct TableError {
+    /// The row, counted from 0: so many rows were read.
+    pub row: usize,
+    /// The column, counted from 0: so many cells of the row were read.
+    pub column: usize,
+    /// What is wrong. A fault of a format has no place, and stands before all rows.
+    pub error: Error,
+}
+
+impl fmt::Display for TableError {
+    /// The fault, and where it is: `overflow at byte 5, in row 1, column 0`.
+    fn fmt(&self, f: &mut fmt::Formatter<'_>) -> fmt::Result {
+        let TableError { row, column, error } = self;
+        match error.place() {
+            Some(_) => write!(f, "{error}, in row {row}, column {column}"),
+            None => write!(f, "{error}, in column {column}"),
+        }
+    }
+}
+
+impl core::error::Error for TableError {}
+
+/// Reads the rows of a text, each column into a slice of its own, as far as each of these has room.
+///
+/// A row has one cell more than separators, and as many as there are columns. Behind a fault the numbers of all
+/// cells before the wrong one are in the slices, and all else in these is as it was.
+///
+/// ```
+/// use jadvolni::{parse_table, Dialect, Error, Table, TableColumn, TableError};
+/// let (mut days, mut cents) = ([0u16; 3], [0i64; 3]);
+/// let ledger = Dialect::separated_by(b';').has_returns(true);
+/// let mut columns = [TableColumn::of(&mut days), TableColumn::UNREAD, TableColumn::of(&mut cents)];
+/// let read = parse_table("1;rent;-80000\r\n365;;7\r\n", &ledger, &mut columns);
+/// assert_eq!(read, Ok(Table { rows: 2, stop: 23 }));
+/// let told = parse_table("1;rent;-80000\r\n2;;x\r\n", &ledger, &mut columns).unwrap_err();
+/// assert_eq!(told, TableError { row: 1, column: 2, error: Error::InvalidDigit(18) });
+/// assert_eq!(told.to_string(), "invalid digit at byte 18, in row 1, column 2");
+/// assert_eq!((days, cents), ([1, 2, 0], [-80000, 7, 0]));
+/// ```
+pub fn parse_table(
+    text: impl AsRef<[u8]>,
+    dialect: &Dialect<'_>,
+    columns: &mut [TableColumn<'_>],
+) -> Result<Table, TableError> {
+    parse_table_part(text, true, dialect, columns)
+}
+
+/// Reads the whole rows of a part of a text, as a block of a file, and all of it where it is the last part.
+///
+/// Put the bytes from `stop` on in front of the next part: read so, all parts give the rows of the whole text. Rows
+/// and places count from the part's start.
+///
+/// ```
+/// use jadvolni::{parse_table_part, Dialect, Table, TableColumn};
+/// let mut numbers = [0u8; 3];
+/// let comma = Dialect::separated_by(b',');
+/// let mut columns = [TableColumn::UNREAD, TableColumn::of(&mut numbers)];
+/// let part = parse_table_part("a,1\nb,", false, &comma, &mut columns);
+/// assert_eq!((part, numbers[0]), (Ok(Table { rows: 1, stop: 4 }), 1));
+/// ```
+pub fn parse_table_part(
+    text: impl AsRef<[u8]>,
+    is_last: bool,
+    dialect: &Dialect<'_>,
+    columns: &mut [TableColumn<'_>],
+) -> Result<Table, TableError> {
+    let text = text.as_ref();
+    // SAFETY: the pointers are those of slices with their lengths, and of a borrowed dialect. Each array is a slice
+    // that its column has borrowed alone, and a column is the library's struct.
+    let told = unsafe {
+        sys::jadvolni_parse_table(
+            text.as_ptr().cast(),
+            text.len(),
+            is_last,
+            &dialect.0,
+            capacity(columns),
+            columns.as_mut_ptr().cast(),
+            columns.len(),
+        )
+    };
+    match Error::of(sys::jadvolni_result { status: told.status, place: told.place }) {
+        None => Ok(Table { rows: told.rows, stop: told.place }),
+        Some(error) => Err(TableError { row: told.rows, column: told.column, error }),
+    }
+}

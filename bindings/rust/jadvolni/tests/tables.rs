@@ -1,0 +1,164 @@
+//! Tables from slices, and from readers that give little, fail, are interrupted, or end early.
+#![cfg(feature = "std")]
+
+use jadvolni::{
+    parse_table, parse_table_part, Dialect, Error, Format, Table, TableColumn, TableError,
+    TableReadError, TableReader,
+};
+use std::io::{self, ErrorKind, Read};
+
+const HOSTILE: [&str; 8] = [
+    "",
+    "1,a\n",
+    "1,a\n22,b",
+    "1,a\n\n",
+    "1,a\n22\n3,c",
+    "1,a\n22,b,c\n",
+    "1,a\nx,b\n",
+    "70000,\n",
+];
+
+/// A reader of a text that gives so many bytes at most, and fails once, before the byte at a place.
+struct Device<'a> {
+    text: &'a [u8],
+    most: usize,
+    place: usize,
+    failure: Option<(usize, ErrorKind)>,
+}
+
+impl Read for Device<'_> {
+    fn read(&mut self, block: &mut [u8]) -> io::Result<usize> {
+        let mut end = self.text.len().min(self.place + self.most.min(block.len()));
+        if let Some((at, kind)) = self.failure.filter(|(at, _)| *at <= end) {
+            end = at;
+            if at == self.place {
+                self.failure = None;
+                return Err(kind.into());
+            }
+        }
+        let given = &self.text[self.place..end];
+        block[..given.len()].copy_from_slice(given);
+        self.place = end;
+        Ok(given.len())
+    }
+}
+
+fn comma() -> Dialect<'static> {
+    Dialect::separated_by(b',')
+}
+
+/// All rows of a device, by at most so many a call, and what else it told.
+fn rows_of(device: Device<'_>, size: usize, most: usize) -> (Vec<u16>, Vec<TableReadError>) {
+    let (mut rows, mut told) = (vec![], vec![]);
+    let mut reader = TableReader::with_capacity(size, device, comma());
+    loop {
+        let mut numbers = vec![9; most];
+        let count = reader.read(&mut [TableColumn::of(&mut numbers), TableColumn::UNREAD]);
+        match count {
+            Ok(0) => return (rows, told),
+            Ok(count) => rows.extend_from_slice(&numbers[..count]),
+            Err(error) => {
+                if let TableReadError::Table { rows: count, .. } = error {
+                    rows.extend_from_slice(&numbers[..count]);
+                }
+                told.push(error);
+            }
+        }
+    }
+}
+
+#[test]
+fn every_cut_gives_the_whole_table() {
+    for text in HOSTILE {
+        let mut numbers = [9u16; 8];
+        let whole =
+            parse_table(text, &comma(), &mut [TableColumn::of(&mut numbers), TableColumn::UNREAD]);
+        for (size, most, room) in (7..12).flat_map(|size| {
+            (1..9).flat_map(move |most| (1..4).map(move |room| (size, most, room)))
+        }) {
+            let device = Device { text: text.as_bytes(), most, place: 0, failure: None };
+            let (rows, told) = rows_of(device, size, room);
+            assert!(numbers.starts_with(&rows), "{text} by {most} of {size}");
+            match whole {
+                Ok(table) => assert_eq!((rows.len(), told.len()), (table.rows, 0), "{text}"),
+                Err(fault) => {
+                    assert_eq!(rows.len(), fault.row, "{text}");
+                    assert!(
+                        matches!(told[..], [TableReadError::Table { error, .. }] if error == fault),
+                        "{text} by {most} of {size}: {told:?} and not {fault:?}"
+                    );
+                }
+            }
+        }
+    }
+}
+
+#[test]
+fn a_failed_read_is_told_and_gone_on_from() {
+    let text = b"1,a\n22,b\n3,c";
+    for place in 0..=text.len() {
+        let device = |kind| Device { text, most: 5, place: 0, failure: Some((place, kind)) };
+        let (rows, told) = rows_of(device(ErrorKind::TimedOut), 9, 2);
+        assert_eq!(rows, [1, 22, 3]);
+        assert!(
+            matches!(&told[..], [TableReadError::Io(error)] if error.kind() == ErrorKind::TimedOut)
+        );
+        let (rows, told) = rows_of(device(ErrorKind::Interrupted), 9, 2);
+        assert_eq!((rows, told.len()), (vec![1, 22, 3], 0));
+    }
+}
+
+#[test]
+fn a_row_that_no_block_holds_is_told() {
+    let device = Device { text: b"1,a\n2,bbbbbbb\n", most: 99, place: 0, failure: None };
+    let (rows, told) = rows_of(device, 8, 4);
+    assert_eq!(rows, [1]);
+    assert!(matches!(told[..], [TableReadError::LongRow(4)]));
+    assert_eq!(told[0].to_string(), "the row at byte 4 has more bytes than a block");
+}
+
+#[test]
+fn quotes_blanks_empty_rows_and_bits() {
+    let (mut numbers, mut bits) = ([9i32; 8], [0xAA]);
+    let dialect =
+        comma().has_quotes(true).allows_blanks(true).skips_empty_rows(true).missing(b"NA");
+    let mut columns = [TableColumn::of(&mut numbers).with_bits(&mut bits), TableColumn::UNREAD];
+    let read = parse_table("\" 1 \",\"a,\n\"\n\nNA,b\n-3,c\n", &dialect, &mut columns);
+    assert_eq!(read, Ok(Table { rows: 3, stop: 23 }));
+    let fault = TableError { row: 0, column: 1, error: Error::MisplacedQuote(3) };
+    assert_eq!(parse_table("1,x\"y\n", &dialect, &mut columns), Err(fault));
+    assert_eq!((&numbers[..4], bits), (&[1, 0, -3, 9][..], [0xAD]));
+    let (mut twenty, mut few) = ([0u8; 20], [0u8; 1]);
+    let mut columns = [TableColumn::of(&mut twenty).with_bits(&mut few)];
+    assert_eq!(
+        parse_table("1\n".repeat(9), &comma(), &mut columns),
+        Ok(Table { rows: 8, stop: 16 })
+    );
+}
+
+#[test]
+fn room_formats_and_returns() {
+    let mut bytes = [9u8; 2];
+    let mut empty: [i64; 0] = [];
+    let hexadecimal = Format::STANDARD.mantissa_radix(16);
+    let mut columns = [TableColumn::with_format(&mut bytes, &hexadecimal), TableColumn::UNREAD];
+    let dialect = comma().has_returns(true);
+    let told = parse_table("fF,\r\n0,\r\n1,", &dialect, &mut columns);
+    assert_eq!(told, Ok(Table { rows: 2, stop: 9 }));
+    let lacks = TableError { row: 0, column: 2, error: Error::MissingReturn(2) };
+    assert_eq!(parse_table("1,\n", &dialect, &mut columns), Err(lacks));
+    assert_eq!(lacks.to_string(), "missing carriage return at byte 2, in row 0, column 2");
+    assert_eq!(bytes, [1, 0]);
+    let full = parse_table("x", &comma(), &mut [TableColumn::of(&mut empty)]);
+    assert_eq!(full, Ok(Table { rows: 0, stop: 0 }));
+    let unread = parse_table_part("a\nb\nc", false, &comma(), &mut [TableColumn::UNREAD]);
+    assert_eq!(unread, Ok(Table { rows: 2, stop: 4 }));
+    let mut number = [9u64];
+    let invalid = Format::STANDARD.mantissa_radix(1);
+    let told = parse_table("x", &comma(), &mut [TableColumn::with_format(&mut number, &invalid)]);
+    let error = TableError { row: 0, column: 0, error: Error::InvalidMantissaRadix };
+    assert_eq!(
+        (told, error.to_string()),
+        (Err(error), "the radix has to be 2 to 36, in column 0".into())
+    );
+}

@@ -1,0 +1,144 @@
+-- Columns with bits that say where a number is missing.
+use Rattle.std.proofs.Common.{◌≡◌, ◌+◌, ◌*◌, ◌/◌, ◌≤◌, ◌<◌, ◌∙◌, ℕ, Bool, true, false, cond, List, length, map, nat_eq, Option, Some, None, Result, Ok, Err, refl, ap, sym, subst, arith, length-set}
+use Rattle.std.specs.Prelude.{IfSome, is_some, option_map}
+use Rattle.std.proofs.Math.IntN.{ℤ, pos}
+use Rattle.lexical_util.specs.declared.error.Error.{Error}
+use Rattle.lexical_fields.specs.Fields.{FieldView}
+use Rattle.lexical_tables.specs.ByColumn.{IsUsable}
+use Rattle.lexical_tables.specs.Targets.{TargetView, error_in, has_bits, put_answer, put_text, put_value, text_answer, text_fault, with_number, with_row_bit}
+use Rattle.lexical_util.specs.Number.{IntegerType}
+use Rattle.jadvolni.specs.Effect.{signed, unsigned}
+use Rattle.jadvolni.specs.Tables.{bits_of, number_type, put_number, put_presence, put_zero, target_as, target_of, target_with}
+use Rattle.jadvolni.specs.declared.table_columns.ColumnFields.{ColumnFields}
+use Rattle.jadvolni.specs.declared.table_columns.NumberType.{NumberType}
+use Rattle.jadvolni.specs.declared.table_columns.NumberType.TheVariants.{I16, I32, I64, I8, U16, U32, U64, U8}
+
+-- bytes keep their number, and so bits stay bits
+length_bit : (row : ℕ) (is_there : Bool) (bytes : List ℕ) → length (with_row_bit row is_there bytes) ≡ length bytes
+length_bit row is_there bytes = length-set bytes (row / 8) _
+
+of_some : (is_empty : Bool) (row : ℕ) (is_there : Bool) (bytes : List ℕ)
+    → cond is_empty None (Some (with_row_bit row is_there bytes))
+    ≡ option_map (with_row_bit row is_there) (cond is_empty None (Some bytes))
+of_some true row is_there bytes = refl
+of_some false row is_there bytes = refl
+
+pub bits_put : (row : ℕ) (is_there : Bool) (bytes : List ℕ)
+    → bits_of (with_row_bit row is_there bytes) ≡ option_map (with_row_bit row is_there) (bits_of bytes)
+bits_put row is_there bytes =
+    ap (λ n. cond (nat_eq n 0) None (Some (with_row_bit row is_there bytes))) (length_bit row is_there bytes)
+    ∙ of_some (nat_eq (length bytes) 0) row is_there bytes
+
+-- where no number may be missing, there is no bit to put
+no_bits : (row : ℕ) (is_there : Bool) (bits : Option (List ℕ)) → is_some bits ≡ false
+    → bits ≡ option_map (with_row_bit row is_there) bits
+no_bits row is_there None is = refl
+no_bits row is_there (Some bytes) is = absurd cc
+
+pub no_bit : (row : ℕ) (is_there : Bool) (target : Option TargetView) → has_bits target ≡ false
+    → target ≡ option_map (put_presence row is_there) target
+no_bit row is_there None is = refl
+no_bit row is_there (Some target) is =
+    ap (λ bits. Some (record target { present = bits })) (no_bits row is_there target.present is)
+
+-- where one may, there is room for its bit
+there : (room : ℕ) (is_empty : Bool) (bytes : List ℕ) → is_some (cond is_empty None (Some bytes)) ≡ true
+    → IfSome (cond is_empty None (Some bytes)) (λ some. room ≤ 8 * length some) → room ≤ 8 * length bytes
+there room true bytes is enough = absurd cc
+there room false bytes is enough = enough
+
+module _ (room : ℕ) (column : ColumnFields) where
+  in_target : (type : IntegerType) (numbers : List ℤ) → has_bits (target_with column type numbers) ≡ true
+      → IsUsable room (target_with column type numbers) → room ≤ 8 * length column.present.now
+  in_target type numbers is usable =
+      there room (nat_eq (length column.present.now) 0) column.present.now is usable.2
+
+  room_as : (type : Option NumberType) → has_bits (target_as column type) ≡ true
+      → IsUsable room (target_as column type) → room ≤ 8 * length column.present.now
+  room_as None is usable = absurd cc
+  room_as (Some U8) is usable = in_target (unsigned 8) (map pos column.u8s.now) is usable
+  room_as (Some U16) is usable = in_target (unsigned 16) (map pos column.u16s.now) is usable
+  room_as (Some U32) is usable = in_target (unsigned 32) (map pos column.u32s.now) is usable
+  room_as (Some U64) is usable = in_target (unsigned 64) (map pos column.u64s.now) is usable
+  room_as (Some I8) is usable = in_target (signed 8) column.i8s.now is usable
+  room_as (Some I16) is usable = in_target (signed 16) column.i16s.now is usable
+  room_as (Some I32) is usable = in_target (signed 32) column.i32s.now is usable
+  room_as (Some I64) is usable = in_target (signed 64) column.i64s.now is usable
+
+  pub bits_there : has_bits (target_of column) ≡ true → IsUsable room (target_of column)
+      → room ≤ 8 * length column.present.now
+  bits_there is usable = room_as (number_type column) is usable
+
+-- a column stays usable
+zero_used : (room row : ℕ) (target : Option TargetView) → IsUsable room target
+    → IsUsable room (option_map (put_zero row) target)
+zero_used room row None usable = tt
+zero_used room row (Some target) usable =
+    (usable.0, omega (arith, usable.1, length-set target.numbers row (pos 0)), usable.2)
+
+still : (row : ℕ) (answer : Result ℤ Error) (numbers : List ℤ) (room : ℕ) → room ≤ length numbers
+    → room ≤ length (with_number row answer numbers)
+still row (Ok number) numbers room enough = omega (arith, enough, length-set numbers row number)
+still row (Err error) numbers room enough = enough
+
+number_used : (room row : ℕ) (text : FieldView) (target : Option TargetView) → IsUsable room target
+    → IsUsable room (option_map (put_number row text) target)
+number_used room row text None usable = tt
+number_used room row text (Some target) usable =
+    (usable.0, still row (text_answer target text) target.numbers room usable.1, usable.2)
+
+pub zero_usable : (room row : ℕ) (before between : Option TargetView) → IsUsable room before
+    → between ≡ option_map (put_zero row) before → IsUsable room between
+zero_usable room row before between usable is = subst (IsUsable room) (sym is) (zero_used room row before usable)
+
+pub number_usable : (room row : ℕ) (text : FieldView) (before between : Option TargetView) → IsUsable room before
+    → between ≡ option_map (put_number row text) before → IsUsable room between
+number_usable room row text before between usable is =
+    subst (IsUsable room) (sym is) (number_used room row text before usable)
+
+-- a missing number is 0 without its bit
+zero_missing : (row : ℕ) (target : Option TargetView)
+    → option_map (put_presence row false) (option_map (put_zero row) target) ≡ option_map (put_value row None) target
+zero_missing row None = refl
+zero_missing row (Some target) = refl
+
+pub missing_put : (row : ℕ) (before between after : Option TargetView) → between ≡ option_map (put_zero row) before
+    → after ≡ option_map (put_presence row false) between → after ≡ option_map (put_value row None) before
+missing_put row before between after zeroed told =
+    told ∙ ap (option_map (put_presence row false)) zeroed ∙ zero_missing row before
+
+-- a fault puts nothing
+failed : (row : ℕ) (answer : Result ℤ Error) (target : TargetView) (error : Error) → Some error ≡ error_in answer
+    → record target { numbers = with_number row answer target.numbers } ≡ put_answer row answer target
+failed row (Ok number) target error is = absurd cc
+failed row (Err other) target error is = refl
+
+failed_in : (row : ℕ) (text : FieldView) (target : Option TargetView) (error : Error)
+    → Some error ≡ text_fault target text
+    → option_map (put_number row text) target ≡ option_map (put_text row text) target
+failed_in row text None error is = refl
+failed_in row text (Some target) error is = ap Some (failed row (text_answer target text) target error is)
+
+pub number_failed : (row : ℕ) (text : FieldView) (before after : Option TargetView) (error : Error)
+    → Some error ≡ text_fault before text → after ≡ option_map (put_number row text) before
+    → after ≡ option_map (put_text row text) before
+number_failed row text before after error is told = told ∙ failed_in row text before error is
+
+-- a number is put with its bit
+passed : (row : ℕ) (answer : Result ℤ Error) (target : TargetView) → None ≡ error_in answer
+    → put_presence row true (record target { numbers = with_number row answer target.numbers })
+    ≡ put_answer row answer target
+passed row (Ok number) target is = refl
+passed row (Err other) target is = absurd cc
+
+passed_in : (row : ℕ) (text : FieldView) (target : Option TargetView) → None ≡ text_fault target text
+    → option_map (put_presence row true) (option_map (put_number row text) target)
+    ≡ option_map (put_text row text) target
+passed_in row text None is = refl
+passed_in row text (Some target) is = ap Some (passed row (text_answer target text) target is)
+
+pub number_read : (row : ℕ) (text : FieldView) (before between after : Option TargetView)
+    → None ≡ text_fault before text → between ≡ option_map (put_number row text) before
+    → after ≡ option_map (put_presence row true) between → after ≡ option_map (put_text row text) before
+number_read row text before between after is numbered told =
+    told ∙ ap (option_map (put_presence row true)) numbered ∙ passed_in row text before is

@@ -1,0 +1,178 @@
+-- What reading a table does: what is answered, and what the arrays of its columns then have.
+use Rattle.std.specs.Prelude.{◌==◌, ◌||◌, ◌+◌, ◌*◌, ℕ, ℤ, Bool, false, pos, List, [], ◌∷◌, length, map, set, nat_lt, option_map, Option, Some, None, Result, Ok, Err, if◌then◌else◌}
+use Rattle.lexical_util.specs.Faults.{place_of}
+use Rattle.lexical_util.specs.Number.{IntegerType}
+use Rattle.lexical_fields.specs.Fields.{FieldView}
+use Rattle.lexical_tables.specs.ByColumn.{columns_answer, columns_put, kinds_of}
+use Rattle.lexical_tables.specs.Parts.{readable}
+use Rattle.lexical_tables.specs.Targets.{TargetView, text_answer, with_number, with_row_bit}
+use Rattle.lexical_tables.specs.declared.answers.CellFault.{CellFault}
+use Rattle.lexical_tables.specs.declared.answers.CellFault.TheVariants.{MisplacedQuote, MissingReturn, NotNumber, TooFewCells, TooManyCells}
+use Rattle.lexical_tables.specs.declared.answers.Table.{Table}
+use Rattle.lexical_tables.specs.declared.answers.TableError.{TableError}
+use Rattle.lexical_tables.specs.declared.dialect.Dialect.{Dialect}
+use Rattle.jadvolni.specs.Effect.{fault_place, fault_status, format_status, signed, unsigned}
+use Rattle.jadvolni.specs.FormatFields.{are_zeros, flag, format_of}
+use Rattle.jadvolni.specs.declared.table_columns.ColumnFields.{ColumnFields}
+use Rattle.jadvolni.specs.declared.table_columns.NumberType.{NumberType}
+use Rattle.jadvolni.specs.declared.table_columns.NumberType.TheVariants.{I16, I32, I64, I8, U16, U32, U64, U8}
+use Rattle.jadvolni.specs.declared.tables.TableFields.{TableFields}
+use Rattle.jadvolni.specs.declared.tables.TableOutcome.{TableOutcome}
+
+-- ---- columns
+
+-- one type, if its array has room, or else what the other arrays say
+abbrev pub type_or : ℕ → NumberType → Option NumberType → Option NumberType
+type_or room type others = if room == 0 then others else Some type
+
+-- the type of a column's numbers: that of its first array which has room; without one the column isn't read
+abbrev pub number_type : ColumnFields → Option NumberType
+number_type column =
+    type_or (length column.i64s.now) I64 (type_or (length column.u64s.now) U64
+    (type_or (length column.i32s.now) I32 (type_or (length column.u32s.now) U32
+    (type_or (length column.i16s.now) I16 (type_or (length column.u16s.now) U16
+    (type_or (length column.i8s.now) I8 (type_or (length column.u8s.now) U8 None)))))))
+
+-- the bits of a column, if there is room for any
+abbrev pub bits_of : List ℕ → Option (List ℕ)
+bits_of bytes = if length bytes == 0 then None else Some bytes
+
+-- a column as a target of numbers
+abbrev pub target_with : ColumnFields → IntegerType → List ℤ → Option TargetView
+target_with column type numbers = Some (record {
+  format = format_of column.format;
+  type = type;
+  numbers = numbers;
+  present = bits_of column.present.now;
+})
+
+-- a column as a target, if it is read as numbers of a type
+abbrev pub target_as : ColumnFields → Option NumberType → Option TargetView
+target_as column None = None
+target_as column (Some U8) = target_with column (unsigned 8) (map pos column.u8s.now)
+target_as column (Some U16) = target_with column (unsigned 16) (map pos column.u16s.now)
+target_as column (Some U32) = target_with column (unsigned 32) (map pos column.u32s.now)
+target_as column (Some U64) = target_with column (unsigned 64) (map pos column.u64s.now)
+target_as column (Some I8) = target_with column (signed 8) column.i8s.now
+target_as column (Some I16) = target_with column (signed 16) column.i16s.now
+target_as column (Some I32) = target_with column (signed 32) column.i32s.now
+target_as column (Some I64) = target_with column (signed 64) column.i64s.now
+
+-- a column as a target
+abbrev pub target_of : ColumnFields → Option TargetView
+target_of column = target_as column (number_type column)
+
+-- a target with the number of a text at a row's place
+abbrev pub put_number : ℕ → FieldView → TargetView → TargetView
+put_number row text target = record target {
+  numbers = with_number row (text_answer target text) target.numbers;
+}
+
+-- a target with 0 at a row's place
+abbrev pub put_zero : ℕ → TargetView → TargetView
+put_zero row target = record target { numbers = set target.numbers row (pos 0) }
+
+-- a target with a row's bit
+abbrev pub put_presence : ℕ → Bool → TargetView → TargetView
+put_presence row is_there target =
+    record target { present = option_map (with_row_bit row is_there) target.present }
+
+-- the status of a table that no text can be read by
+abbrev pub invalid_table : ℕ
+invalid_table = 17
+
+-- whether there are bits, and too few for so many rows
+abbrev pub lacks_bits : ℕ → Option (List ℕ) → Bool
+lacks_bits rows None = false
+lacks_bits rows (Some bytes) = nat_lt (8 * length bytes) rows
+
+-- what is wrong with a target for so many rows, if the status of its format is this
+abbrev pub target_status : ℕ → ℕ → Option TargetView → ℕ
+target_status rows format None = 0
+target_status rows format (Some target) =
+    if nat_lt (length target.numbers) rows || lacks_bits rows target.present
+    then invalid_table else format
+
+-- the status of a column for so many rows: 0 if it can be read, or isn't
+abbrev pub column_status : ℕ → ColumnFields → ℕ
+column_status rows column = target_status rows (format_status column.format) (target_of column)
+
+-- ---- what is answered
+
+-- a status without a place, at a column
+abbrev pub refused : ℕ → ℕ → TableOutcome
+refused status column = record { status = status; column = column; rows = 0; place = 0 }
+
+-- what is answered of the first column that can't be read, where columns are counted from a number on
+abbrev pub wrong_column : ℕ → ℕ → List ColumnFields → Option TableOutcome
+wrong_column rows index [] = None
+wrong_column rows index (column ∷ more) =
+    if column_status rows column == 0 then wrong_column rows (index + 1) more
+    else Some (refused (column_status rows column) index)
+
+-- the status of a wrong cell
+abbrev pub cell_status : CellFault → ℕ
+cell_status (NotNumber error) = fault_status error
+cell_status (TooFewCells place) = 14
+cell_status (TooManyCells place) = 15
+cell_status (MissingReturn place) = 16
+cell_status (MisplacedQuote place) = 18
+
+-- its place
+abbrev pub cell_place : CellFault → ℕ
+cell_place (NotNumber error) = fault_place (place_of error)
+cell_place (TooFewCells place) = place
+cell_place (TooManyCells place) = place
+cell_place (MissingReturn place) = place
+cell_place (MisplacedQuote place) = place
+
+-- what C has of an answer
+abbrev pub outcome_of : Result Table TableError → TableOutcome
+outcome_of (Ok table) =
+    record { status = 0; column = 0; rows = table.rows; place = table.stop }
+outcome_of (Err error) = record {
+  status = cell_status error.fault;
+  column = error.column;
+  rows = error.row;
+  place = cell_place error.fault;
+}
+
+-- ---- the call
+
+-- What is answered, and the columns as targets, with the numbers that their arrays then have.
+pub record TableEffect : Type 0 where
+  pub outcome : TableOutcome
+  pub targets : List (Option TargetView)
+
+-- what a call did, by its result and by the columns that C then has
+abbrev pub table_effect : TableOutcome → List ColumnFields → TableEffect
+table_effect outcome columns = record { outcome = outcome; targets = map target_of columns }
+
+-- how a table is written, whose rows have so many cells
+abbrev pub dialect_of : TableFields → ℕ → Dialect
+dialect_of table columns = record {
+  separator = table.separator;
+  columns = columns;
+  has_returns = flag table.has_returns;
+  has_quotes = flag table.has_quotes;
+  allows_blanks = flag table.allows_blanks;
+  skips_empty_rows = flag table.skips_empty_rows;
+  missing = table.missing;
+}
+
+-- reading a text's table, unless a column can't be read
+abbrev pub table_read : Option TableOutcome → Dialect → ℕ → List ℕ → List (Option TargetView)
+    → TableEffect
+table_read (Some wrong) dialect rows text targets = record { outcome = wrong; targets = targets }
+table_read None dialect rows text targets = record {
+  outcome = outcome_of (columns_answer (kinds_of targets) dialect rows text);
+  targets = columns_put dialect rows text targets;
+}
+
+-- reading the table of a text, or of a part of one, into these columns
+abbrev pub table_call : TableFields → Bool → ℕ → List ℕ → List ColumnFields → TableEffect
+table_call table is_last rows text columns =
+    if are_zeros table.reserved
+    then table_read (wrong_column rows 0 columns) (dialect_of table (length columns)) rows
+    (readable is_last (flag table.has_quotes) text) (map target_of columns)
+    else record { outcome = refused invalid_table 0; targets = map target_of columns }

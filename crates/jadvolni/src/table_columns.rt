@@ -1,0 +1,210 @@
+//! The columns of a table, as C writes them.
+
+ghost use Rattle.std.specs.Prelude.{◌≡◌, ◌+◌, ◌<◌, ◌^◌, length, option_map};
+ghost use Rattle.lexical_tables.specs.ByColumn.{IsUsable};
+ghost use Rattle.lexical_tables.specs.Targets.{text_fault};
+ghost use Rattle.jadvolni.specs.FormatFields.{format_of};
+ghost use Rattle.jadvolni.specs.Tables.{bits_of, column_status, lacks_bits, number_type, put_number, put_presence, put_zero, target_of};
+
+use crate::format::FormatFields;
+use lexical_parse_integer::{Error, NumberFormat, Options, format};
+use lexical_tables::{TableColumn, put_bit, put_cell, put_zero};
+
+/// The status of a table that no text can be read by.
+pub const INVALID_TABLE: u32 = 17;
+
+/// A column of a table: `jadvolni_column` in C, where each field is described.
+///
+/// One array has room, and is where the column's numbers go, and says their type. Where none has, the column
+/// isn't read, and its format isn't looked at. Where there is room for bits, a number may be missing.
+#[repr(C)]
+#[derive(Drop)]
+pub struct ColumnFields<'a> {
+    pub format: FormatFields,
+    pub i64s: &'a mut [i64],
+    pub u64s: &'a mut [u64],
+    pub i32s: &'a mut [i32],
+    pub u32s: &'a mut [u32],
+    pub i16s: &'a mut [i16],
+    pub u16s: &'a mut [u16],
+    pub i8s: &'a mut [i8],
+    pub u8s: &'a mut [u8],
+    pub present: &'a mut [u8],
+}
+
+/// A type that the numbers of a column may have.
+#[derive(Debug, Copy, Clone, PartialEq, Eq)]
+pub enum NumberType {
+    U8,
+    U16,
+    U32,
+    U64,
+    I8,
+    I16,
+    I32,
+    I64,
+}
+
+impl ColumnFields<'_> {
+    // The type of the first array that has room, if any.
+    #[inline(always)]
+    fn number_type(&self) -> Option<NumberType>
+        ensures { result ≡ number_type self.now }
+    {
+        if !self.i64s.is_empty() {
+            return Some(NumberType::I64);
+        }
+        if !self.u64s.is_empty() {
+            return Some(NumberType::U64);
+        }
+        if !self.i32s.is_empty() {
+            return Some(NumberType::I32);
+        }
+        if !self.u32s.is_empty() {
+            return Some(NumberType::U32);
+        }
+        if !self.i16s.is_empty() {
+            return Some(NumberType::I16);
+        }
+        if !self.u16s.is_empty() {
+            return Some(NumberType::U16);
+        }
+        if !self.i8s.is_empty() {
+            return Some(NumberType::I8);
+        }
+        if !self.u8s.is_empty() {
+            return Some(NumberType::U8);
+        }
+        None
+    }
+
+    // Whether the column has bits, and too few for so many rows.
+    fn lacks_bits(&self, rows: usize) -> bool
+        ensures { result ≡ lacks_bits rows (bits_of self.now.present.now) }
+    {
+        !self.present.is_empty() && rows > 0 && self.present.len() <= (rows - 1) / 8
+    }
+
+    // The format of the cells: what most columns have is at hand, and any other is made field by field.
+    #[inline(always)]
+    fn format(&self) -> NumberFormat
+        ensures { result ≡ format_of self.now.format }
+    {
+        if self.format.mantissa_radix == 10 && self.format.is_standard_but_radix() {
+            return format::STANDARD;
+        }
+        self.format.format()
+    }
+
+    // Sets the bit of a row, or clears it, if the column is read and has bits.
+    #[inline(always)]
+    #[tactic(auto, using(crate::proofs::TableBits::bits_put, crate::proofs::TableBits::bits_there, crate::proofs::TableBits::no_bit))]
+    fn put_presence(&mut self, row: usize, is_there: bool)
+        requires usable { IsUsable (row + 1) (target_of self.old) }
+        ensures { target_of self.new ≡ option_map (put_presence row is_there) (target_of self.old) }
+    {
+        if self.may_miss() {
+            put_bit(self.present, row, is_there);
+        }
+    }
+
+    // Puts 0 into a row's place.
+    fn put_zero(&mut self, row: usize)
+        requires usable { IsUsable (row + 1) (target_of self.old) }
+        ensures { target_of self.new ≡ option_map (put_zero row) (target_of self.old) }
+    {
+        match self.number_type() {
+            None => {}
+            Some(NumberType::I64) => put_zero(self.i64s, row),
+            Some(NumberType::U64) => put_zero(self.u64s, row),
+            Some(NumberType::I32) => put_zero(self.i32s, row),
+            Some(NumberType::U32) => put_zero(self.u32s, row),
+            Some(NumberType::I16) => put_zero(self.i16s, row),
+            Some(NumberType::U16) => put_zero(self.u16s, row),
+            Some(NumberType::I8) => put_zero(self.i8s, row),
+            Some(NumberType::U8) => put_zero(self.u8s, row),
+        }
+    }
+
+    // Puts the number of a text into a row's place, or tells the text's fault.
+    #[inline(always)]
+    fn put_number(
+        &mut self,
+        row: usize,
+        start: usize,
+        text: &[u8],
+        options: &Options,
+    ) -> Option<Error>
+        requires usable { IsUsable (row + 1) (target_of self.old) }
+        requires fits { start + length text.now < 2 ^ 64 }
+        ensures fault { result ≡ text_fault (target_of self.old)
+            (record { start = start; text = text.now }) }
+        ensures target { target_of self.new ≡ option_map (put_number row
+            (record { start = start; text = text.now })) (target_of self.old) }
+    {
+        let format = self.format();
+        match self.number_type() {
+            None => None,
+            Some(NumberType::I64) => put_cell(self.i64s, row, start, text, &format, options),
+            Some(NumberType::U64) => put_cell(self.u64s, row, start, text, &format, options),
+            Some(NumberType::I32) => put_cell(self.i32s, row, start, text, &format, options),
+            Some(NumberType::U32) => put_cell(self.u32s, row, start, text, &format, options),
+            Some(NumberType::I16) => put_cell(self.i16s, row, start, text, &format, options),
+            Some(NumberType::U16) => put_cell(self.u16s, row, start, text, &format, options),
+            Some(NumberType::I8) => put_cell(self.i8s, row, start, text, &format, options),
+            Some(NumberType::U8) => put_cell(self.u8s, row, start, text, &format, options),
+        }
+    }
+
+    /// What is wrong with the column, if so many rows are asked for.
+    pub fn status(&self, rows: usize) -> u32
+        ensures { result ≡ column_status rows self.now }
+    {
+        let room = match self.number_type() {
+            None => return 0,
+            Some(NumberType::I64) => self.i64s.len(),
+            Some(NumberType::U64) => self.u64s.len(),
+            Some(NumberType::I32) => self.i32s.len(),
+            Some(NumberType::U32) => self.u32s.len(),
+            Some(NumberType::I16) => self.i16s.len(),
+            Some(NumberType::U16) => self.u16s.len(),
+            Some(NumberType::I8) => self.i8s.len(),
+            Some(NumberType::U8) => self.u8s.len(),
+        };
+        if room < rows {
+            return INVALID_TABLE;
+        }
+        if self.lacks_bits(rows) {
+            return INVALID_TABLE;
+        }
+        self.format.status()
+    }
+}
+
+impl TableColumn for ColumnFields<'_> {
+    ghost target = { target_of };
+
+    #[inline(always)]
+    fn is_read(&self) -> bool {
+        self.number_type().is_some()
+    }
+
+    #[inline(always)]
+    fn may_miss(&self) -> bool {
+        !self.present.is_empty() && self.number_type().is_some()
+    }
+
+    fn put_missing(&mut self, row: usize) {
+        self.put_zero(row);
+        self.put_presence(row, false);
+    }
+
+    #[inline(always)]
+    fn read(&mut self, row: usize, start: usize, text: &[u8], options: &Options) -> Option<Error> {
+        if let Some(error) = self.put_number(row, start, text, options) {
+            return Some(error);
+        }
+        self.put_presence(row, true);
+        None
+    }
+}

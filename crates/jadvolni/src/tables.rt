@@ -1,0 +1,136 @@
+//! Tables, as C reads them: each column into an array of its own.
+
+ghost use Rattle.std.specs.Prelude.{◌≡◌, length};
+ghost use Rattle.jadvolni.specs.FormatFields.{are_zeros, flag};
+ghost use Rattle.jadvolni.specs.Tables.{cell_place, cell_status, dialect_of, outcome_of, refused, table_call, table_effect, wrong_column};
+
+use crate::outcome::status_of;
+use crate::table_columns::{ColumnFields, INVALID_TABLE};
+use lexical_parse_integer::options;
+use lexical_tables::{CellFault, Dialect, Table, TableError, read_columns_part};
+
+/// How a table is written: `jadvolni_table` in C, where each field is described.
+#[repr(C)]
+#[derive(Copy, Clone)]
+pub struct TableFields<'a> {
+    pub separator: u8,
+    pub has_returns: u8,
+    pub has_quotes: u8,
+    pub allows_blanks: u8,
+    pub skips_empty_rows: u8,
+    pub reserved: [u8; 11],
+    pub missing: &'a [u8],
+}
+
+// Whether the bytes that are kept for later versions are 0.
+fn are_zeros(bytes: [u8; 11]) -> bool
+    ensures { result ≡ are_zeros bytes }
+{
+    bytes == [0; 11]
+}
+
+/// What is answered of a table: `jadvolni_table_result` in C.
+#[repr(C)]
+#[derive(Copy, Clone)]
+pub struct TableOutcome {
+    pub status: u32,
+    pub column: usize,
+    pub rows: usize,
+    pub place: usize,
+}
+
+// A status without a place, at a column.
+fn refused(status: u32, column: usize) -> TableOutcome
+    ensures { result ≡ refused status column }
+{
+    TableOutcome {
+        status,
+        column,
+        rows: 0,
+        place: 0,
+    }
+}
+
+// The status and the place of a wrong cell.
+fn cell_outcome(fault: CellFault) -> (u32, usize)
+    ensures status { result.0 ≡ cell_status fault }
+    ensures place { result.1 ≡ cell_place fault }
+{
+    match fault {
+        CellFault::NotNumber(error) => (status_of(&error), error.index().unwrap_or(0)),
+        CellFault::TooFewCells(place) => (14, place),
+        CellFault::TooManyCells(place) => (15, place),
+        CellFault::MissingReturn(place) => (16, place),
+        CellFault::MisplacedQuote(place) => (18, place),
+    }
+}
+
+// What C has of an answer.
+fn outcome_of(answer: Result<Table, TableError>) -> TableOutcome
+    ensures { result ≡ outcome_of answer }
+{
+    match answer {
+        Ok(table) => TableOutcome {
+            status: 0,
+            column: 0,
+            rows: table.rows,
+            place: table.stop,
+        },
+        Err(error) => {
+            let (status, place) = cell_outcome(error.fault);
+            TableOutcome {
+                status,
+                column: error.column,
+                rows: error.row,
+                place,
+            }
+        }
+    }
+}
+
+// What is answered of the first column that can't be read, if so many rows are asked for.
+fn wrong_column(columns: &[ColumnFields<'_>], rows: usize) -> Option<TableOutcome>
+    ensures { result ≡ wrong_column rows 0 columns.now }
+{
+    let mut index = 0;
+    while index < columns.len() {
+        let status = columns[index].status(rows);
+        if status != 0 {
+            return Some(refused(status, index));
+        }
+        index += 1;
+    }
+    None
+}
+
+/// Reads the table of a text, or of a part of one, each column into an array of its own.
+///
+/// Where `is_last` is false, a row that the text ends in is left.
+#[unsafe(no_mangle)]
+pub extern "C" fn jadvolni_parse_table(
+    text: &[u8],
+    is_last: bool,
+    table: &TableFields<'_>,
+    rows: usize,
+    columns: &mut [ColumnFields<'_>],
+) -> TableOutcome
+    ensures { table_effect result columns.new
+        ≡ table_call table.now is_last rows text.now columns.old }
+{
+    if !are_zeros(table.reserved) {
+        return refused(INVALID_TABLE, 0);
+    }
+    if let Some(wrong) = wrong_column(columns, rows) {
+        return wrong;
+    }
+    let dialect = Dialect {
+        separator: table.separator,
+        columns: columns.len(),
+        has_returns: table.has_returns != 0,
+        has_quotes: table.has_quotes != 0,
+        allows_blanks: table.allows_blanks != 0,
+        skips_empty_rows: table.skips_empty_rows != 0,
+        missing: table.missing,
+    };
+    outcome_of(read_columns_part(text, is_last, &dialect, &options::STANDARD, rows, columns))
+}

@@ -1,0 +1,215 @@
+/* The call of jadvolni.h that reads tables: each type, each status, each argument wrong, and hostile columns. */
+#include "jadvolni.h"
+#include "check.h"
+
+#define STANDARD JADVOLNI_FORMAT_STANDARD
+
+/* What is answered is this. */
+static int answers(jadvolni_table_result r, uint32_t status, size_t column, size_t rows, size_t place)
+{
+    if (r.status == status && r.column == column && r.rows == rows && r.place == place) return 1;
+    fprintf(stderr, "%s, column %zu, rows %zu, place %zu\n", jadvolni_status_name(r.status), r.column, r.rows, r.place);
+    return 0;
+}
+
+/* A table of one column of a type: its least and greatest number and a cell that is none, in room for four. */
+#define EACH_TYPE(name, type, least, greatest, at)                                                      \
+    do {                                                                                                \
+        static const type before[4] = {77, 77, 77, 77};                                                 \
+        static const char text[] = #least "\n" #greatest "\nx";                                         \
+        char *bytes = exactly(text, sizeof text - 1);                                                   \
+        type *numbers = exactly(before, sizeof before);                                                 \
+        jadvolni_table table = {.separator = ','};                                                      \
+        jadvolni_table_column column = {.format = STANDARD, .name = {numbers, 4}}, same = column;       \
+        jadvolni_table_result r = jadvolni_parse_table(bytes, sizeof text - 1, true, &table, 4, &column, 1); \
+        CHECK(answers(r, JADVOLNI_INVALID_DIGIT, 0, 2, at));                                            \
+        CHECK(numbers[0] == (type)strtoll(#least, NULL, 10));                                           \
+        CHECK(numbers[1] == (type)strtoull(#greatest, NULL, 10));                                       \
+        CHECK(numbers[2] == 77 && numbers[3] == 77);                                                    \
+        r = jadvolni_parse_table(bytes, sizeof text - 1, false, &table, 4, &column, 1);                 \
+        CHECK(answers(r, JADVOLNI_OK, 0, 2, at));                                                       \
+        CHECK(memcmp(&column, &same, sizeof same) == 0);                                                \
+        free(bytes);                                                                                    \
+        free(numbers);                                                                                  \
+    } while (0)
+
+static void each_type(void)
+{
+    EACH_TYPE(u8, uint8_t, 0, 255, 6);
+    EACH_TYPE(u16, uint16_t, 0, 65535, 8);
+    EACH_TYPE(u32, uint32_t, 0, 4294967295, 13);
+    EACH_TYPE(u64, uint64_t, 0, 18446744073709551615, 23);
+    EACH_TYPE(i8, int8_t, -128, 127, 9);
+    EACH_TYPE(i16, int16_t, -32768, 32767, 13);
+    EACH_TYPE(i32, int32_t, -2147483648, 2147483647, 23);
+    EACH_TYPE(i64, int64_t, -9223372036854775808, 9223372036854775807, 41);
+}
+
+/* Checks what a table of an int16_t, a cell that isn't read and a uint8_t answers, in room for three rows. */
+#define EXPECT(text, table, wanted_status, wanted_column, wanted_rows, wanted_place, first, second, third, fourth) \
+    do {                                                                                                           \
+        int16_t left[3] = {77, 77, 77};                                                                            \
+        uint8_t right[3] = {99, 99, 99};                                                                           \
+        jadvolni_table_column columns[] = {{.format = STANDARD, .i16 = {left, 3}}, {.format = {0}},                 \
+                                           {.format = STANDARD, .u8 = {right, 3}}};                                \
+        char *bytes = exactly(text, sizeof(text) - 1);                                                             \
+        jadvolni_table_result r = jadvolni_parse_table(bytes, sizeof(text) - 1, true, &(table), 3, columns, 3);      \
+        free(bytes);                                                                                               \
+        CHECK(answers(r, wanted_status, wanted_column, wanted_rows, wanted_place));                                \
+        CHECK(left[0] == (first) && right[0] == (second) && left[1] == (third) && right[1] == (fourth));           \
+        CHECK(left[2] == 77 && right[2] == 99);                                                                    \
+    } while (0)
+
+static void faults_of_cells(void)
+{
+    jadvolni_table commas = {.separator = ','}, returns = {.separator = ';', .has_returns = 1};
+    EXPECT("1,,2\n-3,\r\"\0,4\n", commas, JADVOLNI_OK, 0, 2, 14, 1, 2, -3, 4);
+    EXPECT("1;a,b;2\r\n-3;;4", returns, JADVOLNI_OK, 0, 2, 14, 1, 2, -3, 4);
+    EXPECT("", commas, JADVOLNI_OK, 0, 0, 0, 77, 99, 77, 99);
+    EXPECT("1,,2\n32768,,x\n", commas, JADVOLNI_OVERFLOW, 0, 1, 9, 1, 2, 77, 99);
+    EXPECT("1,,2\n-3,,256", commas, JADVOLNI_OVERFLOW, 2, 1, 11, 1, 2, -3, 99);
+    EXPECT("1,,2\n-3,,-4", commas, JADVOLNI_INVALID_DIGIT, 2, 1, 9, 1, 2, -3, 99);
+    EXPECT("1,,2\n-32769,,4", commas, JADVOLNI_UNDERFLOW, 0, 1, 10, 1, 2, 77, 99);
+    EXPECT("1,,\n", commas, JADVOLNI_EMPTY, 2, 0, 3, 1, 99, 77, 99);
+    EXPECT("1,,2\n-3,4\n", commas, JADVOLNI_TOO_FEW_CELLS, 2, 1, 9, 1, 2, -3, 99);
+    EXPECT("1,,2\n\n", commas, JADVOLNI_EMPTY, 0, 1, 5, 1, 2, 77, 99);
+    EXPECT("1,,2,\n", commas, JADVOLNI_TOO_MANY_CELLS, 3, 0, 5, 1, 2, 77, 99);
+    EXPECT("1;;2\n", returns, JADVOLNI_MISSING_RETURN, 3, 0, 4, 1, 2, 77, 99);
+    EXPECT("1,,2\r\n", commas, JADVOLNI_INVALID_DIGIT, 2, 0, 4, 1, 99, 77, 99);
+    EXPECT("1;;2\r\r\n", returns, JADVOLNI_INVALID_DIGIT, 2, 0, 4, 1, 99, 77, 99);
+}
+
+/* What is wrong with a table or a column is told before the text, and nothing is written. */
+static void faults_of_tables(void)
+{
+    uint32_t first[2] = {77, 77}, second[2] = {77, 77};
+    jadvolni_table table = {.separator = ','};
+    jadvolni_table_column columns[] = {{.format = STANDARD, .u32 = {first, 2}}, {.format = STANDARD, .u32 = {second, 2}}};
+    for (size_t k = 0; k < sizeof table.reserved; k++) {
+        table.reserved[k] = 1;
+        CHECK(answers(jadvolni_parse_table("1,2", 3, true, &table, 2, columns, 2), JADVOLNI_INVALID_TABLE, 0, 0, 0));
+        table.reserved[k] = 0;
+    }
+    CHECK(answers(jadvolni_parse_table("1,2", 3, true, &table, 3, columns, 2), JADVOLNI_INVALID_TABLE, 0, 0, 0));
+    columns[1].u32.capacity = 1;
+    CHECK(answers(jadvolni_parse_table("1,2", 3, true, &table, 2, columns, 2), JADVOLNI_INVALID_TABLE, 1, 0, 0));
+    columns[1].format.mantissa_radix = 37;
+    CHECK(answers(jadvolni_parse_table("1,2", 3, true, &table, 1, columns, 2), JADVOLNI_INVALID_MANTISSA_RADIX, 1, 0, 0));
+    columns[1].format.reserved[12] = 1;
+    CHECK(answers(jadvolni_parse_table("1,2", 3, true, &table, 1, columns, 2), JADVOLNI_UNKNOWN_FIELD, 1, 0, 0));
+    columns[0].format.digit_separator = '-';
+    CHECK(answers(jadvolni_parse_table("x,2", 3, true, &table, 1, columns, 2), JADVOLNI_INVALID_DIGIT_SEPARATOR, 0, 0, 0));
+    CHECK(first[0] == 77 && second[0] == 77);
+    /* Where no array has room, neither the format nor the cell is looked at. */
+    columns[0].u32.capacity = columns[1].u32.capacity = 0;
+    CHECK(answers(jadvolni_parse_table("x,\n", 3, true, &table, 1, columns, 2), JADVOLNI_OK, 0, 1, 3));
+}
+
+/* Lengths of 0 with NULL, no column, no room, and two arrays in a column. */
+static void ends(void)
+{
+    uint8_t bytes[2] = {77, 77};
+    int64_t wide[2] = {77, 77};
+    jadvolni_table table = {.separator = '\n'};
+    jadvolni_table_column column = {.format = STANDARD, .u8 = {bytes, 2}, .i64 = {wide, 2}};
+    CHECK(answers(jadvolni_parse_table(NULL, 0, true, &table, 2, &column, 1), JADVOLNI_OK, 0, 0, 0));
+    CHECK(answers(jadvolni_parse_table(NULL, 0, false, &table, 2, NULL, 0), JADVOLNI_OK, 0, 0, 0));
+    CHECK(answers(jadvolni_parse_table("1\n", 2, true, &table, 2, NULL, 0), JADVOLNI_TOO_MANY_CELLS, 0, 0, 0));
+    CHECK(answers(jadvolni_parse_table("x", 1, true, &table, 0, &column, 1), JADVOLNI_OK, 0, 0, 0));
+    CHECK(bytes[0] == 77 && wide[0] == 77);
+    CHECK(answers(jadvolni_parse_table("5\n6\n7", 5, true, &table, 2, &column, 1), JADVOLNI_OK, 0, 2, 4));
+    CHECK(wide[0] == 5 && wide[1] == 6 && bytes[0] == 77 && bytes[1] == 77);
+}
+
+/* A text that is cut at each place, and read in two parts, gives what the whole one gives. */
+static void parts(void)
+{
+    static const char text[] = "10,a,1\r\n-20,,2\r\n30,b";
+    jadvolni_table table = {.separator = ',', .has_returns = 1};
+    for (size_t cut = 0; cut < sizeof text; cut++) {
+        int32_t numbers[4] = {77, 77, 77, 77};
+        jadvolni_table_column columns[] = {{.format = STANDARD, .i32 = {numbers, 4}}, {.format = {0}}, {.format = {0}}};
+        char *bytes = exactly(text, cut);
+        jadvolni_table_result front = jadvolni_parse_table(bytes, cut, false, &table, 4, columns, 3);
+        free(bytes);
+        CHECK(front.status == JADVOLNI_OK && front.place <= cut && front.column == 0);
+        columns[0].i32.numbers += front.rows;
+        columns[0].i32.capacity -= front.rows;
+        size_t left = sizeof text - 1 - front.place;
+        jadvolni_table_result rest =
+            jadvolni_parse_table(text + front.place, left, true, &table, 4 - front.rows, columns, 3);
+        CHECK(answers(rest, JADVOLNI_TOO_FEW_CELLS, 2, 2 - front.rows, left));
+        CHECK(numbers[0] == 10 && numbers[1] == -20 && numbers[2] == 30 && numbers[3] == 77);
+    }
+}
+
+/* Each column has its own format, also one that isn't decimal. */
+static void formats(void)
+{
+    uint64_t colours[1] = {77};
+    int8_t levels[1] = {77};
+    jadvolni_format hexadecimal = jadvolni_format_of_radix(16), signs = JADVOLNI_FORMAT_STANDARD;
+    hexadecimal.base_prefix = 'x';
+    signs.required_mantissa_sign = 1;
+    jadvolni_table table = {.separator = '\t'};
+    jadvolni_table_column columns[] = {{.format = hexadecimal, .u64 = {colours, 1}}, {.format = signs, .i8 = {levels, 1}}};
+    CHECK(answers(jadvolni_parse_table("0xFf\t+9\n", 8, true, &table, 1, columns, 2), JADVOLNI_OK, 0, 1, 8));
+    CHECK(colours[0] == 255 && levels[0] == 9);
+    CHECK(answers(jadvolni_parse_table("0x1\t9\n", 6, true, &table, 1, columns, 2), JADVOLNI_MISSING_SIGN, 1, 0, 4));
+    CHECK(colours[0] == 1 && levels[0] == 9);
+}
+
+/* A missing number is 0 without its bit, in columns with bits alone; all other bits stay. */
+static void missing_numbers(void)
+{
+    int16_t numbers[10], others[10];
+    uint8_t bits[2] = {0xA5, 0xA5};
+    jadvolni_table table = {.separator = ',', .allows_blanks = 1, .skips_empty_rows = 1, .missing = "NA", .missing_len = 2};
+    jadvolni_table_column columns[] = {{.format = STANDARD, .i16 = {numbers, 10}, .present = {bits, 2}},
+                                       {.format = STANDARD, .i16 = {others, 10}}};
+    static const char text[] = "1,2\n NA ,3\n\n-4,5\nNA,6\n7,8\n9,1\n1,1\n2,2\nNA,3\nNAN,NA\n";
+    for (size_t k = 0; k < 10; k++) numbers[k] = others[k] = 77;
+    char *bytes = exactly(text, sizeof text - 1);
+    jadvolni_table_result r = jadvolni_parse_table(bytes, sizeof text - 1, true, &table, 10, columns, 2);
+    free(bytes);
+    CHECK(answers(r, JADVOLNI_INVALID_DIGIT, 0, 9, sizeof text - 1 - 7));
+    CHECK(numbers[0] == 1 && numbers[1] == 0 && numbers[2] == -4 && numbers[3] == 0 && numbers[8] == 0 && numbers[9] == 77);
+    CHECK(others[0] == 2 && others[8] == 3 && others[9] == 77);
+    CHECK(bits[0] == 0xF5 && bits[1] == 0xA4);
+    r = jadvolni_parse_table("1,NA", 4, true, &table, 10, columns, 2);
+    CHECK(answers(r, JADVOLNI_INVALID_DIGIT, 1, 0, 2));
+    columns[0].present.size = 1;
+    CHECK(answers(jadvolni_parse_table("1,2", 3, true, &table, 9, columns, 2), JADVOLNI_INVALID_TABLE, 0, 0, 0));
+    CHECK(answers(jadvolni_parse_table("1,2", 3, true, &table, 8, columns, 2), JADVOLNI_OK, 0, 1, 3));
+    table.missing = NULL;
+    table.missing_len = 0;
+    CHECK(answers(jadvolni_parse_table(",2", 2, true, &table, 8, columns, 2), JADVOLNI_OK, 0, 1, 2));
+    CHECK(numbers[0] == 0 && bits[0] == 0xF4);
+    /* Bits of a column that isn't read are left alone. */
+    columns[0].i16.capacity = 0;
+    CHECK(answers(jadvolni_parse_table("x,2", 3, true, &table, 9, columns, 2), JADVOLNI_OK, 0, 1, 3));
+    CHECK(bits[0] == 0xF4 && bits[1] == 0xA4);
+}
+
+/* Cells within quotes hold separators and line feeds, and each quote has its place. */
+static void quotes(void)
+{
+    jadvolni_table table = {.separator = ',', .has_quotes = 1, .allows_blanks = 1}, plain = {.separator = ','};
+    EXPECT("\"1\",\"a,\n\",2\n\" -3 \",\"\"\"\",4\n", table, JADVOLNI_OK, 0, 2, 26, 1, 2, -3, 4);
+    EXPECT("1,x\"y,2\n", table, JADVOLNI_MISPLACED_QUOTE, 1, 0, 3, 1, 99, 77, 99);
+    EXPECT("1,,2\n-3,,\"4\n", table, JADVOLNI_MISPLACED_QUOTE, 2, 1, 9, 1, 2, -3, 99);
+    EXPECT("\"1\",,2\n", plain, JADVOLNI_INVALID_DIGIT, 0, 0, 0, 77, 99, 77, 99);
+}
+
+int main(void)
+{
+    missing_numbers();
+    quotes();
+    each_type();
+    faults_of_cells();
+    faults_of_tables();
+    ends();
+    parts();
+    formats();
+    return checked();
+}
