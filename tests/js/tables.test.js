@@ -112,8 +112,8 @@ test("quotes, blanks, empty rows and missing numbers", () => {
   const present = Uint8Array.of(0, 1);
   const wanted = [null, Uint8Array.of(1, 2), { numbers: Int32Array.of(0, 7), present }];
   assert.deepEqual(parseTable(text, columns, table), wanted);
-  const { missing, ...others } = table;
-  const fault = { kind: "InvalidDigit", place: 10, column: 2, row: 0 };
+  const others = { ...table, missing: "" };
+  const fault = { kind: "Empty", place: 11, column: 2, row: 0 }; // (a sign and no digit)
   assert.deepEqual(readTable(text, columns, others), fault);
   assert.equal(readTable(text, columns, { ...table, has_quotes: false }).kind, "TooFewCells");
   assert.equal(readTable('"1;2;3', ["u8", "u8", "u8"], table).kind, "MisplacedQuote");
