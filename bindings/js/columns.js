@@ -9,12 +9,12 @@ const { ANSWER, COUNT, FORMAT, TEXT } = memory;
 const fieldStart = memory.named("jadvolni_field_start");
 
 // A fifth of the memory is for text, of which two bytes give a number of at most eight.
-const PIECE = Math.floor(memory.LONGEST / 5);
+export const PIECE = Math.floor(memory.LONGEST / 5);
 export const LONGEST_FIELD = PIECE - 1; // and behind it the separator
-const numbersPlace = Math.ceil((memory.textPlace + PIECE) / 16) * 16;
+export const numbersPlace = Math.ceil((memory.textPlace + PIECE) / 16) * 16;
 const NUMBERS = BigInt(numbersPlace);
 
-const ARRAYS = {
+export const ARRAYS = {
   u8: Uint8Array,
   u16: Uint16Array,
   u32: Uint32Array,
@@ -46,7 +46,7 @@ function putFields(bytes, start, separator) {
 }
 
 /** The numbers of all parts, of which the arrays are of one type. */
-function joined(parts, NumberArray) {
+export function joined(parts, NumberArray) {
   if (parts.length === 1) return parts[0];
   const all = new NumberArray(parts.reduce((sum, part) => sum + part.length, 0));
   let place = 0;
@@ -70,7 +70,7 @@ export function parseColumn(text, type, separator = "\n", format = STANDARD) {
     const whole = putFields(bytes, start, separatorByte);
     call(ANSWER, TEXT, whole, separatorByte, FORMAT, NUMBERS, capacity, COUNT);
     const [status, place, count] = [memory.status(), memory.place(), memory.count()];
-    if (status !== 0) throw new ParseError(status, start + place, field + count);
+    if (status !== 0) throw new ParseError(status, start + place, { field: field + count });
     parts.push(numbers.slice(0, count));
     start += place;
     field += count;

@@ -9,12 +9,16 @@ export class JadvolniError extends Error {
 export class ParseError extends JadvolniError {
   name = "ParseError";
 
-  constructor(status, place, field) {
+  constructor(status, place, { field, row, column } = {}) {
     const [kind, text] = STATUSES[status];
-    super(`${text} at byte ${place}${field === undefined ? "" : `, in field ${field}`}`);
+    const inField = field === undefined ? "" : `, in field ${field}`;
+    const inRow = row === undefined ? "" : `, in row ${row}, column ${column}`;
+    super(`${text} at byte ${place}${inField}${inRow}`);
     this.kind = kind;
     this.place = place;
     this.field = field;
+    this.row = row;
+    this.column = column;
   }
 }
 

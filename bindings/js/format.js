@@ -1,6 +1,6 @@
 // Formats: what a text may look like.
 
-import { byteOf, told } from "./arguments.js";
+import { askFields, byteOf, told } from "./arguments.js";
 import { FormatError } from "./errors.js";
 import { FIELDS, LANGUAGES } from "./lists.js";
 import { FORMAT, named, putFormat } from "./memory.js";
@@ -12,6 +12,7 @@ const UNSET = { radix: 10, punctuation: null, flag: false };
 const DEFAULTS = new Map(FIELDS.map(({ name, kind }) => [name, UNSET[kind]]));
 DEFAULTS.set("required_mantissa_digits", true);
 
+const NAMES = [...DEFAULTS.keys()];
 const NUL_PLACE = FIELDS.length;
 const faultOf = named("jadvolni_format_error");
 
@@ -38,18 +39,13 @@ function bytesOfFields(fields) {
   return bytes;
 }
 
-let bytesOfFormat;
+let bytesWithin;
 
 export class Format {
   #bytes;
 
   constructor(given = {}) {
-    if (Object.prototype.toString.call(given) !== "[object Object]") {
-      throw new TypeError(`fields have to be an object, and not ${told(given)}`);
-    }
-    for (const name of Object.keys(given)) {
-      if (!DEFAULTS.has(name)) throw new TypeError(`a format has no field ${told(name)}`);
-    }
+    askFields("a format", given, NAMES);
     for (const [name, value] of DEFAULTS) {
       this[name] = given[name] === undefined ? value : given[name];
     }
@@ -61,17 +57,22 @@ export class Format {
   }
 
   static {
-    bytesOfFormat = (format) => (#bytes in format ? format.#bytes : undefined);
+    bytesWithin = (format) => (#bytes in format ? format.#bytes : undefined);
   }
+}
+
+/** The bytes of a format, as the library has it. */
+export function bytesOfFormat(format) {
+  const bytes = format instanceof Format ? bytesWithin(format) : undefined;
+  if (bytes === undefined) {
+    throw new TypeError(`format has to be a Format, and not ${told(format)}`);
+  }
+  return bytes;
 }
 
 /** Puts a format where calls find it. */
 export function useFormat(format) {
-  const bytes = format instanceof Format ? bytesOfFormat(format) : undefined;
-  if (bytes === undefined) {
-    throw new TypeError(`format has to be a Format, and not ${told(format)}`);
-  }
-  putFormat(bytes);
+  putFormat(bytesOfFormat(format));
 }
 
 export const STANDARD = new Format();

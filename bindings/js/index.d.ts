@@ -99,11 +99,71 @@ export function parseColumn<T extends keyof Columns>(
   format?: Format,
 ): Columns[T];
 
+/** What is read of a column of a table: where it may miss numbers, those are told. */
+export interface ReadColumn {
+  type: keyof Columns;
+  format?: Format;
+  may_miss?: boolean;
+}
+
+/** A column of a table: its type, or its type with more; null where it isn't read. */
+export type TableColumn = keyof Columns | ReadColumn | null;
+
+/** The numbers of a column that may miss some: those are 0, and `present` has 0 for their rows, else 1. */
+export interface Sparse<A> {
+  numbers: A;
+  present: Uint8Array;
+}
+
+/** What is read of a column. */
+export type TableArray<C> = C extends { type: infer T extends keyof Columns }
+  ? C extends { may_miss: true }
+    ? Sparse<Columns[T]>
+    : C extends { may_miss: boolean }
+      ? Columns[T] | Sparse<Columns[T]>
+      : Columns[T]
+  : C extends keyof Columns
+    ? Columns[C]
+    : null;
+
+/** How a table is written. */
+export interface Table {
+  /** The byte between two cells of a row: by default ",". A line feed ends a row, whatever this is. */
+  separator?: Byte;
+  /** A carriage return stands before each line feed. Else it is a byte of its cell. */
+  has_returns?: boolean;
+  /** A cell may stand within quotes, '"', and then hold separators and line feeds. */
+  has_quotes?: boolean;
+  /** Spaces and tabs may stand around a number. */
+  allows_blanks?: boolean;
+  /** A row without a byte is none. Else it is a row of one empty cell. */
+  skips_empty_rows?: boolean;
+  /** What stands for a missing number in columns that may miss some: by default an empty cell. */
+  missing?: Text;
+}
+
+/**
+ * The rows of a text, each column as an array: null for one that isn't read, whose cells may hold any
+ * bytes but the separator and a line feed, or these too within quotes. A row is a line, and has one cell more than separators, as
+ * many as there are columns. The text may be of any length; a row of more than `LONGEST_ROW` bytes is
+ * a `RangeError`. A header is no row: hand over what follows it.
+ *
+ * Throws `ParseError` for the first wrong cell in reading order, with its row and column.
+ */
+export function parseTable<const C extends readonly TableColumn[]>(
+  text: Text,
+  columns: C,
+  table?: Table,
+): { -readonly [K in keyof C]: TableArray<C[K]> };
+
 /** How many bytes a text of one number may have. */
 export const LONGEST: number;
 
 /** How many bytes a field of a column may have. */
 export const LONGEST_FIELD: number;
+
+/** How many bytes a row of a table may have. */
+export const LONGEST_ROW: number;
 
 /** The fields of a format. */
 export interface Fields {
@@ -241,6 +301,10 @@ export type TextFault =
   | "InvalidPositiveSign"
   | "InvalidLeadingZeros";
 
+/** What else may be wrong with a table: the place is where the row ends, where the first cell too many
+ * starts, the line feed without a return, or the quote. */
+export type TableFault = "TooFewCells" | "TooManyCells" | "MissingReturn" | "MisplacedQuote";
+
 /** Which rule a format may break. */
 export type FormatFault =
   | "InvalidMantissaRadix"
@@ -260,7 +324,7 @@ export class JadvolniError extends Error {}
 /** A text is no number of its type, or none under its format. */
 export class ParseError extends JadvolniError {
   /** What is wrong. */
-  readonly kind: TextFault;
+  readonly kind: TextFault | TableFault;
   /**
    * At which byte, from 0; the text's length where something is missing at its end. It is also the
    * index into a string that has ASCII alone before it.
@@ -268,6 +332,9 @@ export class ParseError extends JadvolniError {
   readonly place: number;
   /** In a column the index, from 0, of the first field that is no number; else undefined. */
   readonly field: number | undefined;
+  /** In a table the wrong cell's row and column, both from 0; else undefined. */
+  readonly row: number | undefined;
+  readonly column: number | undefined;
 }
 
 /** A format is invalid. */

@@ -6,3 +6,4 @@ export { FormatError, JadvolniError, ParseError } from "./errors.js";
 export { FIELDS, Format, formats } from "./format.js";
 export { LONGEST } from "./memory.js";
 export { parse, parseFront, parseLiteral, parsePartial } from "./numbers.js";
+export { LONGEST_ROW, parseTable } from "./tables.js";

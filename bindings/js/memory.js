@@ -119,13 +119,13 @@ function hasLostBytes(bytes) {
 }
 
 /** The bytes of a text. An array of bytes may be another frame's or context's. */
-export function bytesOf(text) {
+export function bytesOf(text, name = "text") {
   if (typeof text === "string") return encoder.encode(text);
   if (!ArrayBuffer.isView(text) || text.BYTES_PER_ELEMENT !== 1) {
-    throw new TypeError(`text has to be a string or a Uint8Array, and not ${told(text)}`);
+    throw new TypeError(`${name} has to be a string or a Uint8Array, and not ${told(text)}`);
   }
   if (text.length === 0 && hasLostBytes(text)) {
-    throw new TypeError("text has lost its bytes: its buffer was transferred or cut");
+    throw new TypeError(`${name} has lost its bytes: its buffer was transferred or cut`);
   }
   return text;
 }

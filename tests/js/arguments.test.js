@@ -86,9 +86,9 @@ test("fields of formats", () => {
   for (const [name, [value, message]] of Object.entries(wrong)) {
     refuses(() => new Format({ [name]: value }), message);
   }
-  refuses(() => new Format(16), "fields have to be an object, and not 16");
-  refuses(() => new Format(null), "fields have to be an object, and not null");
-  refuses(() => new Format(new Map([["mantissa_radix", 16]])), /^fields .*, and not Map$/);
+  refuses(() => new Format(16), "the fields of a format have to be an object, and not 16");
+  refuses(() => new Format(null), "the fields of a format have to be an object, and not null");
+  refuses(() => new Format(new Map([["mantissa_radix", 16]])), /^the fields .*, and not Map$/);
 });
 
 test("a format that breaks a rule isn't made", () => {

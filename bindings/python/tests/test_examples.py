@@ -1,16 +1,22 @@
 """Tests of the examples, as commands: right files, wrong ones, and inputs that are hardly any."""
 
+import contextlib
+import importlib.util
 import os
 import pathlib
+import shutil
 import subprocess
 import sys
 import tempfile
 import threading
+import time
 import unittest
 
 EXAMPLES = pathlib.Path(__file__).resolve().parents[3] / "examples" / "columns"
 # Each example with the words after its file.
 COMMANDS = (("ledger.py",), ("csv_column.py", "2"), ("big_file.py", "3"), ("total.py",))
+# What each reads 3 from.
+CONTENTS = ("a 1\nb 2\n", "n,c\na,1\nb,2\n", "1\n2\n", "1\n2\n")
 
 
 def answer_of(name, path, *words, **settings):
@@ -19,6 +25,36 @@ def answer_of(name, path, *words, **settings):
     settings = {"stdout": subprocess.PIPE, "stderr": subprocess.PIPE, **settings}
     run = subprocess.run(command, text=True, timeout=60, **settings)
     return run.returncode, run.stdout, run.stderr.replace(f"{path}: ", "")
+
+
+@contextlib.contextmanager
+def postgres(folder):
+    """A PostgreSQL that listens on a socket in a folder alone: a call for its SQL and input."""
+    # It doesn't run as root.
+    as_user = {"user": "nobody"} if os.geteuid() == 0 else {}
+    data = folder / "postgres"
+    data.mkdir()
+    os.chmod(folder, 0o755)
+    if as_user:
+        shutil.chown(data, "nobody")
+    settings = {"stdout": subprocess.DEVNULL, "stderr": subprocess.DEVNULL, "cwd": "/", **as_user}
+    made = ["initdb", "-D", data / "db", "-A", "trust", "-U", "user", "-N"]
+    subprocess.run(made, check=True, timeout=120, **settings)
+    words = ["-D", data / "db", "-k", data, "-c", "listen_addresses=", "-c", "fsync=off"]
+    server = subprocess.Popen(["postgres", *words], **settings)
+
+    def psql(command, given=b""):
+        return subprocess.run(["psql", "-h", data, "-U", "user", "-qAtc", command, "postgres"],
+                              input=given, timeout=60, check=True, stdout=subprocess.PIPE,
+                              stderr=subprocess.DEVNULL).stdout
+
+    try:
+        while server.poll() is None and not (data / ".s.PGSQL.5432").exists():
+            time.sleep(0.1)
+        yield psql
+    finally:
+        server.terminate()
+        server.wait(60)
 
 
 class Case(unittest.TestCase):
@@ -44,32 +80,30 @@ class Ledger(Case):
             (b"rent -80000\nfood 1200\n", -78800),
             (b"rent -80000\nfood 1200", -78800),
             (b"", 0),
-            (b"two words 7\n", 7),
             (b"a\0b 7\n", 7),
             (b"a 9223372036854775807\nb 1", 2**63),
             (b"x" * 100_000 + b" 7\n", 7),
             (b"zeros " + b"0" * 100_000 + b"7\n", 7),
+            (b"rent 7\n" * 500_000 + b"b 1", 3_500_001),
         ):
             with self.subTest(content=content[:40]):
                 self.assertEqual(self.answer("ledger.py", content), (0, f"{total}\n", ""))
 
     def test_wrong_files(self):
-        wrong, great = b"food 12x", b"a 9223372036854775808"
         for content, told in (
-            (
-                b"rent -80000\n%s\nwine x\n" % wrong,
-                f"line 2, column 8, byte 19: InvalidDigit in {wrong}",
-            ),
-            (b"rent 1\r\nfood 2\r\n", "line 1, column 7, byte 6: InvalidDigit in b'rent 1\\r'"),
-            (b"rent 1\rfood 2", "byte 6: a carriage return without a line feed"),
-            (b"rent 1\0\n", "line 1, column 7, byte 6: InvalidDigit in b'rent 1\\x00'"),
-            (b"rent 1\0002\n", "line 1, column 7, byte 6: InvalidDigit in b'rent 1\\x002'"),
-            (b"\n", "line 1, column 1, byte 0: Empty in b''"),
-            (b"a 1\n\n", "line 2, column 1, byte 4: Empty in b''"),
-            (b"a 1\nb ", "line 2, column 3, byte 6: Empty in b'b '"),
-            (great, f"line 1, column 21, byte 20: Overflow in {great}"),
+            (b"rent -80000\nfood 12x\nwine x\n", "line 2, cell 2, byte 19: InvalidDigit"),
+            (b"rent 1\r\nfood 2\r\n", "line 1, cell 2, byte 6: InvalidDigit"),
+            (b"rent 1\rfood 2", "line 1, cell 2, byte 6: InvalidDigit"),
+            (b"rent 1\0002\n", "line 1, cell 2, byte 6: InvalidDigit"),
+            (b"\n", "line 1, cell 2, byte 0: TooFewCells"),
+            (b"a 1\n\n", "line 2, cell 2, byte 4: TooFewCells"),
+            (b"a 1\nb ", "line 2, cell 2, byte 6: Empty"),
+            (b"two words 7\n", "line 1, cell 2, byte 4: InvalidDigit"),
+            (b"a 9223372036854775808", "line 1, cell 2, byte 20: Overflow"),
+            (b"a 1\n" * 500_000 + b"b x", "line 500001, cell 2, byte 2000002: InvalidDigit"),
+            (b"a 1\n" + b"b" * 3_000_000, "the row at byte 4 has more than 1048576 bytes"),
         ):
-            with self.subTest(content=content):
+            with self.subTest(content=content[:40]):
                 self.assertEqual(self.answer("ledger.py", content), (1, "", f"{told}\n"))
 
 
@@ -80,9 +114,10 @@ class CsvColumn(Case):
         for content, count, total in (
             (b"name,count\na,12\nb,30\n", 2, 42),
             (b"name,count\na,12\nb,30", 2, 42),
-            (b"name,count\r\na,12,x\r\n", 1, 12),
+            (b"name,count,\r\na,12,x\r\n", 1, 12),
             (b"name,count", 0, 0),
-            (b"", 0, 0),
+            (b'name,count\n"a,5,b",7\n"c""\nd","8"\n', 2, 15),
+            (b"name,count\n" + b"a,7\n" * 500_000, 500_000, 3_500_000),
             (b"name,count\n" + b"x" * 100_000 + b",7\n", 1, 7),
         ):
             with self.subTest(content=content[:40]):
@@ -91,21 +126,78 @@ class CsvColumn(Case):
 
     def test_wrong_files(self):
         table = b"name,count\na,12\nb,30\n"
-        quoted = "a quote, or a carriage return without a line feed"
         for content, told in (
-            (table + b"c,\n", "line 4, column 3, byte 23: Empty in b''"),
-            (table + b"c,", "line 4, column 3, byte 23: Empty in b''"),
-            (table + b"c\n", "line 4 has 1 cells, and no column 2"),
-            (b"name\n", "line 1 has 1 cells, and no column 2"),
-            (b"\n", "line 1 has 1 cells, and no column 2"),
-            (table + b"\n", "line 4 has 1 cells, and no column 2"),
-            (b"n,c\r\na,12\r\n", "line 2, column 5, byte 9: InvalidDigit in b'12\\r'"),
-            (b"n,c\ra,12\rb,30\r", f"byte 3: {quoted}"),
-            (b'n,c\n"a,5,b",7\n', f"byte 4: {quoted}"),
-            (b"n,c\na,1\0\n", "line 2, column 4, byte 7: InvalidDigit in b'1\\x00'"),
+            (table + b"c,\n", "row 4, cell 2, byte 23: Empty"),
+            (table + b"c,", "row 4, cell 2, byte 23: Empty"),
+            (table + b"c\n", "row 4, cell 2, byte 22: TooFewCells"),
+            (table + b"\n", "row 4, cell 2, byte 21: TooFewCells"),
+            (table + b"c,1,2\n", "row 4, cell 3, byte 25: TooManyCells"),
+            (table + b'c"d,1\n', "row 4, cell 1, byte 22: MisplacedQuote"),
+            (table + b'"c\nd",1\ne,x', "row 5, cell 2, byte 31: InvalidDigit"),
+            (b"n,c\r\na,12\n", "row 2, cell 3, byte 9: MissingReturn"),
+            (b"n,c\na,12\r\n", "row 2, cell 2, byte 8: InvalidDigit"),
+            (b"n,c\na,1\0\n", "row 2, cell 2, byte 7: InvalidDigit"),
+            (b"name\n", "line 1 has 1 names, and no column 2"),
+            (b"", "line 1 has 1 names, and no column 2"),
+            (b'"n",c\n', "line 1 has a quote"),
         ):
             with self.subTest(content=content):
                 self.assertEqual(self.answer("csv_column.py", content, "2"), (1, "", f"{told}\n"))
+
+
+class CopyBinary(Case):
+    """copy_binary.py."""
+
+    def test_wrong_files(self):
+        for content, told in (
+            (b"1;rent;x\n", "line 1, cell 3, byte 7: InvalidDigit"),
+            (b"1;rent;-1\n65536;a;2\n", "line 2, cell 1, byte 14: Overflow"),
+            (b"1;a;1\n" * 300_000 + b"1;a\n", "line 300001, cell 3, byte 1800003: TooFewCells"),
+        ):
+            with self.subTest(content=content[:40]):
+                path = self.folder / "input"
+                path.write_bytes(content)
+                command = [sys.executable, EXAMPLES / "copy_binary.py", path]
+                run = subprocess.run(command, capture_output=True, timeout=60)
+                self.assertEqual((run.returncode, run.stderr.decode()), (1, f"{path}: {told}\n"))
+
+    @unittest.skipUnless(shutil.which("initdb"), "there is no PostgreSQL on the PATH")
+    def test_postgres(self):
+        """PostgreSQL, started here on a socket of its own, adds up the same."""
+        with postgres(self.folder) as psql:
+            psql("CREATE TABLE ledger (day integer, cents bigint)")
+            rows = [(k % 366, 7919 * k - 4 * 10**9) for k in range(1_000_000)]
+            text = b"".join(b"%d;n%d;%d\n" % (day, day, cents) for day, cents in rows)
+            (self.folder / "input").write_bytes(text)
+            given = [sys.executable, EXAMPLES / "copy_binary.py", self.folder / "input"]
+            copied = subprocess.run(given, stdout=subprocess.PIPE, timeout=60, check=True).stdout
+            psql("COPY ledger (day, cents) FROM STDIN BINARY", copied)
+            told = psql("SELECT count(*), sum(day), sum(cents), min(cents), max(cents) FROM ledger")
+            days, cents = zip(*rows)
+            wanted = (len(rows), sum(days), sum(cents), min(cents), max(cents))
+            self.assertEqual(told.decode().strip(), "|".join(map(str, wanted)))
+
+
+class Dask(unittest.TestCase):
+    """A worker of a cluster calls read_lines, as the page says."""
+
+    @unittest.skipUnless(importlib.util.find_spec("dask"), "there is no Dask")
+    def test_partitions(self):
+        code = """
+import sys
+import dask.bag as bag
+sys.path.insert(0, sys.argv[1])
+from big_file import read_lines
+lines = [f"{k}\\n" for k in range(1000)]
+lines[700] = "7x\\n"
+parts = bag.from_sequence(lines, npartitions=4)
+for scheduler in ("threads", "processes"):
+    read = parts.map_partitions(lambda lines: [read_lines("".join(lines))])
+    print([getattr(it, "field", None) or sum(it) for it in read.compute(scheduler=scheduler)])
+"""
+        command = [sys.executable, "-c", code, str(EXAMPLES)]
+        run = subprocess.run(command, text=True, timeout=120, stdout=subprocess.PIPE, check=True)
+        self.assertEqual(run.stdout, "[31125, 93625, 200, 218625]\n" * 2)
 
 
 class BigFile(Case):
@@ -156,8 +248,7 @@ class Inputs(Case):
     """Inputs and outputs that aren't plain files."""
 
     def test_a_pipe(self):
-        contents = ("a 1\nb 2\n", "n,c\na,1\nb,2\n", "1\n2\n", "1\n2\n")
-        for (name, *words), content in zip(COMMANDS, contents):
+        for (name, *words), content in zip(COMMANDS, CONTENTS):
             with self.subTest(name=name):
                 status, output, errors = answer_of(name, "/dev/stdin", *words, input=content)
                 self.assertEqual((status, errors), (0, ""))
@@ -200,9 +291,11 @@ class Inputs(Case):
                     self.assertEqual(answer_of(name, path, *words), (1, "", f"{told}\n"))
 
     def test_a_full_device(self):
-        for name, *words in COMMANDS:
+        for (name, *words), content in zip(COMMANDS, CONTENTS):
             with self.subTest(name=name), open("/dev/full", "wb") as full:
-                status, _, errors = answer_of(name, os.devnull, *words, stdout=full)
+                path = self.folder / "input"
+                path.write_text(content)
+                status, _, errors = answer_of(name, path, *words, stdout=full)
                 self.assertNotEqual(status, 0)
                 self.assertIn("No space left on device", errors)
 

@@ -74,6 +74,17 @@ class NumpyColumns(unittest.TestCase):
         text = "".join(f"{k}\n" for k in numbers).encode()
         self.assertTrue((numpy_column(text) == numpy.array(numbers)).all())
 
+    @unittest.skipUnless(importlib.util.find_spec("pandas"), "pandas isn't installed")
+    def test_pandas_takes_the_arrays_of_a_table(self):
+        import numpy
+        import pandas
+
+        table = jadvolni.parse_table(b"1;-2\n3;4\n", {"day": "u16", "cents": "i64"}, ";")
+        frame = pandas.DataFrame(table, copy=False)
+        for name, values in table.items():
+            self.assertEqual(frame[name].tolist(), values.tolist())
+            self.assertTrue(numpy.shares_memory(frame[name], values))
+
     def test_faults(self):
         with self.assertRaises(jadvolni.ParseError) as caught:
             numpy_column(b"12,256,x", "u8", separator=b",")

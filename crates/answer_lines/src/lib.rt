@@ -25,4 +25,4 @@ pub use command::TypeName;
 pub use fault::RunError;
 pub use number::Number;
 pub use parse::complete;
-pub use program::{output_in_memory, run, run_from, run_with};
+pub use program::{run, run_from, run_with};

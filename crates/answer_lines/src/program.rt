@@ -1,6 +1,6 @@
 //! Reading all of the input, and writing an answer line for each line of it.
 
-ghost use Rattle.std.specs.Prelude.{◌≡◌, ◌++◌, [], OnOk, IfOk, IfSome, IsOkUnless, IsErrOf};
+ghost use Rattle.std.specs.Prelude.{◌≡◌, ◌++◌, [], OnOk, IfSome, IsOkUnless, IsErrOf};
 ghost use Rattle.std.specs.Io.KnownBytes.{Appends, Keeps, IsAtEnd};
 ghost use Rattle.answer_lines.specs.Gather.{GainsFront, Grows, LosesFront};
 ghost use Rattle.answer_lines.specs.Output.{output};
@@ -134,14 +134,4 @@ pub fn run_from<R: Read, W: Write>(
         → Keeps (W.contents out.old) (W.contents out.new) }
 {
     run_with(Vec::new(alloc), input, out)
-}
-
-/// `run_from` over memory, which tells its bytes.
-pub fn output_in_memory(alloc: Global, input: &[u8]) -> Result<Vec<u8>, RunError>
-    ensures { IfOk result (λ written. written.items ≡ output input.now) }
-{
-    let mut reader: &[u8] = input;
-    let mut written = Vec::new(alloc);
-    run_from(alloc, &mut reader, &mut written)?;
-    Ok(written)
 }

@@ -1,11 +1,9 @@
 -- The lines of a header, stepped over one after another.
-use Rattle.std.proofs.Common.{◌≡◌, ◌∙◌, ℕ, zero, suc, ◌+◌, ◌-◌, ◌<◌, ◌≤◌, List, [], ◌∷◌, length, take, drop, get_or, Bool, true, false, cond, inl, inr, ◌⊎◌, refl, ap, sym, arith}
+use Rattle.std.proofs.Common.{◌≡◌, ◌∙◌, ℕ, zero, suc, ◌+◌, ◌-◌, ◌<◌, ◌≤◌, List, [], ◌∷◌, length, take, drop, get_or, Bool, true, false, inl, inr, ◌⊎◌, refl, ap, sym, arith}
 use Rattle.std.proofs.lemmas.List.{drop_all}
 use Rattle.std.proofs.Math.Seq.{take-length, take-suc}
-use Rattle.lexical_fields.specs.Fields.{field_length}
 use Rattle.lexical_tables.specs.Header.{behind_lines, header_length}
-use Rattle.lexical_tables.specs.Quotes.{has_odd_quotes, length_outside}
-use Rattle.lexical_tables.specs.Rows.{line_feed}
+use Rattle.lexical_tables.specs.Quotes.{has_odd_quotes}
 use Rattle.lexical_tables.proofs.SeenBytes.{odd_behind, turned}
 
 -- a list of no element
@@ -40,17 +38,6 @@ pub count_ends : (text : List ℕ) (place : ℕ) (odd : Bool) → IsCounted text
 count_ends text place odd counted all =
     let end : place ≡ length text = omega (arith, counted.low) in
     counted.odd_is ∙ ap (λ k. has_odd_quotes (take k text)) end ∙ ap has_odd_quotes (take-length text)
-
--- ---- a line
-
--- what is behind a line, by whether its quotes never close
-pub line_is : (q : Bool) (text line behind : List ℕ) (odd : Bool)
-    → line ≡ take (length_outside q line_feed text) text → odd ≡ has_odd_quotes line
-    → behind ≡ drop (cond odd (field_length line_feed text) (length_outside q line_feed text) + 1) text
-    → behind ≡ drop (header_length q text + 1) text
-line_is q text line behind odd front counted back =
-    back ∙ ap (λ b. drop (cond b (field_length line_feed text) (length_outside q line_feed text) + 1) text)
-    (counted ∙ ap has_odd_quotes front)
 
 -- ---- lines
 

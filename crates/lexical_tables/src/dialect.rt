@@ -13,7 +13,7 @@ pub struct Dialect<'a> {
     pub has_quotes: bool,
     /// Whether blanks, spaces and tabs, may stand around a number.
     pub allows_blanks: bool,
-    /// Whether a row without a byte is none.
+    /// Whether a row that has no byte beside its return is none.
     pub skips_empty_rows: bool,
     /// What stands for a missing number, in columns that have bits for it.
     pub missing: &'a [u8],

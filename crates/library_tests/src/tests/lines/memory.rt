@@ -1,9 +1,11 @@
 // Runs in memory, and growths of the input's buffer that are refused.
+ghost use Rattle.std.specs.Prelude.{◌≡◌, IfOk};
+ghost use Rattle.answer_lines.specs.Output.{output};
 
 use super::super::answers;
 use super::devices::{Reader, RefusingBuffer, Writer};
 use super::{ANSWERS, BLOCK, INPUT, OUTPUT, TIMES, repeated};
-use answer_lines::{RunError, output_in_memory, run, run_with};
+use answer_lines::{RunError, run, run_from, run_with};
 use std::alloc::Global;
 use std::process::Abort;
 use std::test::Fail;
@@ -42,6 +44,16 @@ fn each_refused_growth_writes_nothing(rt: HostRuntime) -> Result<(), Fail> {
     refuses_each_growth(&rt, rt.alloc(), INPUT, OUTPUT, 1, 1);
     refuses_each_growth(&rt, rt.alloc(), &long, ANSWERS, TIMES, 6);
     Ok(())
+}
+
+// The bytes that a run from memory writes, by what its contract says alone.
+fn output_in_memory(alloc: Global, input: &[u8]) -> Result<Vec<u8>, RunError>
+    ensures { IfOk result (λ written. written.items ≡ output input.now) }
+{
+    let mut reader: &[u8] = input;
+    let mut written = Vec::new(alloc);
+    run_from(alloc, &mut reader, &mut written)?;
+    Ok(written)
 }
 
 #[test]

@@ -1,0 +1,151 @@
+// Tables: the rows of a text, each column into an array of its own. A text of any length goes through
+// memory piece by piece.
+
+import { askFields, byteOf, ofTable, told } from "./arguments.js";
+import { ARRAYS, joined, numbersPlace, PIECE } from "./columns.js";
+import { ParseError } from "./errors.js";
+import { bytesOfFormat, STANDARD } from "./format.js";
+import * as memory from "./memory.js";
+
+export const LONGEST_ROW = PIECE - 1; // and behind it the line feed
+
+const { TEXT } = memory;
+const call = memory.named("jadvolni_parse_table");
+
+// What a call is given and gives, behind the text: its answer, a table, its columns, the bytes that
+// stand for a missing number, and the columns' arrays. A column is its format; for each type the
+// address of an array and its room; and those of its bits, which say where there is a number.
+const tablePlace = numbersPlace + 32;
+const columnsPlace = tablePlace + 32;
+const WORDS = 22;
+const FIRST_ARRAY = 4;
+const BITS = 20;
+const TYPES = ["i64", "u64", "i32", "u32", "i16", "u16", "i8", "u8"];
+const FLAGS = ["has_returns", "has_quotes", "allows_blanks", "skips_empty_rows"];
+const FIELDS = ["separator", ...FLAGS, "missing"];
+
+const ANSWER = BigInt(numbersPlace);
+const TABLE = BigInt(tablePlace);
+const COLUMNS = BigInt(columnsPlace);
+const answer = new Uint32Array(memory.buffer, numbersPlace, 8);
+const tableBytes = new Uint8Array(memory.buffer, tablePlace, 32);
+const tableWords = new BigUint64Array(memory.buffer, tablePlace, 4);
+const ARRAYS_OF_TYPES = new Map(Object.entries(ARRAYS));
+
+/** A flag that was given. */
+function flagOf(name, value = false) {
+  if (typeof value === "boolean") return value;
+  throw new TypeError(`${name} has to be true or false, and not ${told(value)}`);
+}
+
+/** What is read of a column: the constructor of its array, its format's bytes, and where they go. */
+function readOf(column) {
+  if (column === null) return null;
+  const given = typeof column === "string" ? { type: column } : Object(column);
+  const { type, format = STANDARD, may_miss } = given;
+  return {
+    NumberArray: ofTable(ARRAYS_OF_TYPES, "type", type),
+    format: bytesOfFormat(format),
+    place: FIRST_ARRAY + 2 * TYPES.indexOf(type),
+    mayMiss: flagOf("may_miss", may_miss),
+  };
+}
+
+/** How a table is written, and the bytes that stand for a missing number. */
+function tableOf(given) {
+  askFields("a table", given, FIELDS);
+  const flags = FLAGS.map((name) => Number(flagOf(name, given[name])));
+  const { separator = ",", missing = "" } = given;
+  const bytes = [byteOf("separator", separator), ...flags];
+  return { bytes, missing: memory.bytesOf(missing, "missing") };
+}
+
+/** How many rows there is memory for. An array may begin some bytes behind the end of another. */
+function rowsOf(reads, missing) {
+  const before = columnsPlace + 8 * (WORDS + 2) * reads.length + missing.length + 8;
+  const sizeOf = (read) => (read ? read.NumberArray.BYTES_PER_ELEMENT + Number(read.mayMiss) : 0);
+  const size = reads.reduce((sum, read) => sum + sizeOf(read), 0);
+  const rows = Math.min(PIECE, Math.floor((memory.buffer.byteLength - before) / size));
+  if (rows < 1) throw new RangeError(`${reads.length} columns are more than there is memory for`);
+  return rows;
+}
+
+/** Gives arrays of the memory from a place on, one behind the other. */
+function arraysFrom(place) {
+  let next = place;
+  return (NumberArray, length) => {
+    const array = new NumberArray(memory.buffer, next, length);
+    next += Math.ceil(array.byteLength / 8) * 8;
+    return array;
+  };
+}
+
+/** Puts a column where calls find it, and answers its arrays. */
+function putColumn(words, read, rows, take) {
+  words.fill(0n);
+  if (read === null) return null;
+  new Uint8Array(words.buffer, words.byteOffset, 32).set(read.format);
+  const numbers = take(read.NumberArray, rows);
+  words.set([BigInt(numbers.byteOffset), BigInt(rows)], read.place);
+  if (!read.mayMiss) return { numbers };
+  const bits = take(Uint8Array, Math.ceil(rows / 8));
+  words.set([BigInt(bits.byteOffset), BigInt(bits.length)], BITS);
+  return { numbers, bits };
+}
+
+/** Puts a table and its columns where calls find them: the arrays of each, and their room. */
+function putTable({ bytes, missing }, reads) {
+  const rows = rowsOf(reads, missing);
+  const take = arraysFrom(columnsPlace);
+  const columns = reads.map(() => take(BigUint64Array, WORDS));
+  const mark = take(Uint8Array, missing.length);
+  mark.set(missing);
+  tableWords.set([0n, 0n, BigInt(mark.byteOffset), BigInt(mark.length)]);
+  tableBytes.set(bytes);
+  const arrays = reads.map((read, index) => putColumn(columns[index], read, rows, take));
+  return { arrays, rows };
+}
+
+/** For each of so many rows 1 where there is a number, and else 0. */
+function presentOf(bits, count) {
+  const present = new Uint8Array(count);
+  for (let row = 0; row < count; row++) present[row] = (bits[row >> 3] >> (row & 7)) & 1;
+  return present;
+}
+
+/** The parts of a column as one. */
+function columnOf(parts, column) {
+  if (column === null) return null;
+  const numbers = joined(parts.map((part) => part.numbers), column.numbers.constructor);
+  if (!column.bits) return numbers;
+  return { numbers, present: joined(parts.map((part) => part.present), Uint8Array) };
+}
+
+export function parseTable(text, columns, table = {}) {
+  if (!Array.isArray(columns)) {
+    throw new TypeError(`columns have to be an array, and not ${told(columns)}`);
+  }
+  const reads = Array.from(columns, readOf);
+  const bytes = memory.bytesOf(text);
+  const { arrays, rows } = putTable(tableOf(table), reads);
+  const parts = arrays.map(() => []);
+  let start = 0;
+  let row = 0;
+  while (start < bytes.length) {
+    const size = memory.putBytes(bytes.subarray(start, start + PIECE));
+    const isLast = Number(start + size === bytes.length);
+    call(ANSWER, TEXT, BigInt(size), isLast, TABLE, BigInt(rows), COLUMNS, BigInt(reads.length));
+    const [status, , column, , count, , place] = answer;
+    if (status !== 0) throw new ParseError(status, start + place, { row: row + count, column });
+    if (place === 0) throw new RangeError(`row ${row} has more than ${LONGEST_ROW} bytes`);
+    arrays.forEach((array, index) => {
+      if (array === null) return;
+      const { numbers, bits } = array;
+      const part = { numbers: numbers.slice(0, count), present: bits && presentOf(bits, count) };
+      parts[index].push(part);
+    });
+    start += place;
+    row += count;
+  }
+  return arrays.map((column, index) => columnOf(parts[index], column));
+}

@@ -1,0 +1,50 @@
+"""Writes a checked table of lines `DAY;NAME;CENTS` as PostgreSQL's COPY reads it in binary.
+
+    python3 copy_binary.py FILE > rows
+    psql -c 'COPY ledger (day, cents) FROM STDIN BINARY' < rows
+
+DAY is an integer of 0 to 65535, and CENTS a bigint. The file may be of any size. Its first wrong
+cell is told, and the status is 1. Don't pipe the rows into psql: it would load those before a
+fault, since COPY asks for no end.
+"""
+
+import struct
+import sys
+from itertools import repeat
+
+import jadvolni
+
+CELLS = {"day": "u16", "name": None, "cents": "i64"}
+# A row: two fields, of 4 and 8 bytes, each behind its size.
+ROW = struct.Struct("!hiiiq")
+
+
+def copy(file, out) -> None:
+    """Writes the rows of a file."""
+    out.write(b"PGCOPY\n\xff\r\n\0" + bytes(8))
+    for rows in jadvolni.iter_table(file, CELLS, ";"):
+        days, cents = rows["day"].tolist(), rows["cents"].tolist()
+        out.write(b"".join(map(ROW.pack, repeat(2), repeat(4), days, repeat(8), cents)))
+    out.write(b"\xff\xff")
+
+
+def main() -> None:
+    """The command line."""
+    if len(sys.argv) != 2:
+        print(__doc__.strip(), file=sys.stderr)
+        sys.exit(2)
+    path = sys.argv[1]
+    try:
+        with open(path, "rb") as file:
+            copy(file, sys.stdout.buffer)
+    except jadvolni.ParseError as error:
+        cell = f"line {error.row + 1}, cell {error.column + 1}, byte {error.place}"
+        sys.exit(f"{path}: {cell}: {error.kind}")
+    except OSError as error:
+        sys.exit(f"{path}: {error.strerror}")
+    except ValueError as error:
+        sys.exit(f"{path}: {error}")
+
+
+if __name__ == "__main__":
+    main()
