@@ -114,5 +114,6 @@ BENCH ?=
 bench: | toolchain ## measures the parsers beside others, and writes bench/results.tsv and docs/SPEED.md
 	@RT=$(RT) bench/run.py $(BENCH)
 	@RT=$(RT) bench/columns.py
+	@RT=$(RT) bench/tables.py
 	@RT=$(RT) bench/tokens.py
 	@RT=$(RT) bench/program.py

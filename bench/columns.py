@@ -7,15 +7,16 @@ A column has 1,000,000 numbers of u64, a line feed after each. The C call and a 
 std::from_chars take turns in one run, so that their ratio holds on a busy machine too; the others
 have runs of their own. Of each the least time counts, and of those two that of four links, each of
 which has its code sixteen bytes further on. All have to read the same numbers before their time
-counts. It needs the library of `make lib`, a C++ compiler and Python's headers; rustc
-and NumPy are taken where they are there. It writes bench/columns.tsv and a table of docs/SPEED.md,
-and prints what it sees. The gate runs none of this.
+counts. It needs the library of `make lib`, a C++ compiler and Python's headers; rustc and NumPy are
+taken where they are there. It writes bench/columns.tsv and a table of docs/SPEED.md, and prints
+what it sees. The gate runs none of this.
 """
 from __future__ import annotations
 
 import importlib
 import importlib.util
 import io
+import itertools
 import os
 import random
 import shutil
@@ -34,8 +35,11 @@ TOP = os.path.dirname(HERE)
 PYTHON = os.path.join(TOP, "bindings", "python")
 FLAGS = ["-std=c++17", "-O3", "-march=x86-64-v2", f"-I{os.path.join(TOP, 'include')}"]
 
-
-Reader = Callable[[], Iterable[int]]
+# What draws a number, and what reads a text: it gives blocks, each of which has its columns.
+Number = Callable[[random.Random], int]
+Reader = Callable[[], Iterable[Iterable[Iterable[int]]]]
+Readers = dict[str, Reader]
+Seen = dict[str, dict[str, float]]
 
 
 def digits(random_: random.Random, count: int) -> int:
@@ -50,30 +54,30 @@ def realistic(random_: random.Random) -> int:
     return digits(random_, random_.randint(least, most))
 
 
-SETS: dict[str, Callable[[random.Random], int]] = {
+SETS: dict[str, Number] = {
     "realistic": realistic,
     "1 to 3 digits": lambda random_: digits(random_, random_.randint(1, 3)),
     "7 digits": lambda random_: digits(random_, 7),
     "1 to 9 digits": lambda random_: digits(random_, random_.randint(1, 9)),
     "19 digits": lambda random_: digits(random_, 19) // 2 + 10 ** 18 // 2,
 }
+ABOUT = "The numbers are of `u64`, with a line feed after each."
 
 
-def built(folder: str) -> list[list[str]]:
-    """The drivers in C++ and, where rustc is there, in Rust."""
+def built(folder: str, name: str) -> list[list[str]]:
+    """The drivers of a name in C++ and, where rustc is there, in Rust."""
     subprocess.run(["make", "-s", "lib"], cwd=TOP, check=True, stdout=subprocess.DEVNULL)
     library = os.path.join(TOP, "build", "libjadvolni.a")
-    source = os.path.join(HERE, "driver", "columns.cpp")
+    source = os.path.join(HERE, "driver", name)
     found = []
-    for skipped in range(0, 64, 16):
-        driver = os.path.join(folder, f"columns_cpp_{skipped}")
-        words = [*FLAGS, f'-DSKIPPED="{skipped}"', source, library, "-o", driver]
+    for skipped in range(16, 80, 16):
+        driver = os.path.join(folder, f"cpp_{skipped}")
+        words = [*FLAGS, f'-DSKIPPED="{skipped}"', f"{source}.cpp", library, "-o", driver]
         subprocess.run(["c++", *words], check=True)
         found.append([driver])
     if shutil.which("rustc"):
-        peer = os.path.join(folder, "columns_rs")
-        source = os.path.join(HERE, "driver", "columns.rs")
-        subprocess.run(["rustc", "-O", "-Ctarget-cpu=x86-64-v2", source, "-o", peer], check=True)
+        peer, flags = os.path.join(folder, "rs"), ["-O", "-Ctarget-cpu=x86-64-v2"]
+        subprocess.run(["rustc", *flags, f"{source}.rs", "-o", peer], check=True)
         found.append([peer])
     return found
 
@@ -101,86 +105,100 @@ def least_time(read: Reader, count: int, rounds: int) -> float:
     return least
 
 
-def readers(jadvolni: ModuleType, text: bytes) -> dict[str, Reader]:
+def is_installed(name: str) -> bool:
+    """Whether a package of Python is there."""
+    return importlib.util.find_spec(name.lower()) is not None
+
+
+def readers(jadvolni: ModuleType, text: bytes) -> Readers:
     """Python's readers of a text."""
-    parse_column: Callable[..., list[int]] = jadvolni.parse_column
-    found: dict[str, Reader] = {
-        "Python: parse_column": lambda: parse_column(text, "u64"),
-        "Python: int over split": lambda: [int(one) for one in text.split()],
+    found: Readers = {
+        "Python: parse_column": lambda: [[jadvolni.parse_column(text, "u64")]],
+        "Python: int over split": lambda: [[[int(one) for one in text.split()]]],
     }
-    if importlib.util.find_spec("numpy"):
+    if is_installed("NumPy"):
         numpy = importlib.import_module("numpy")
-        fromstring: Callable[..., Iterable[int]] = numpy.fromstring
-        loadtxt: Callable[..., Iterable[int]] = numpy.loadtxt
-        found["NumPy: fromstring"] = lambda: fromstring(text, dtype="u8", sep="\n")
-        found["NumPy: loadtxt"] = lambda: loadtxt(io.BytesIO(text), dtype="u8")
+        found["NumPy: fromstring"] = lambda: [[numpy.fromstring(text, dtype="u8", sep="\n")]]
+        found["NumPy: loadtxt"] = lambda: [[numpy.loadtxt(io.BytesIO(text), dtype="u8")]]
     return found
 
 
-def measured(drivers: list[list[str]], jadvolni: ModuleType, numbers: list[int],
+def measured(drivers: list[list[str]], peers: Readers, text: bytes, numbers: list[list[int]],
              rounds: int) -> dict[str, float]:
-    """Nanoseconds a number of each reader of a column."""
-    text = "".join(f"{number}\n" for number in numbers).encode()
+    """Nanoseconds a number of each reader of a text, whose columns these are."""
     found: dict[str, float] = {}
     for driver in drivers:
         ran = subprocess.run([*driver, str(rounds)], input=text, capture_output=True, check=True)
         for line in ran.stdout.decode().splitlines():
-            peer, taken = line.split("\t")
+            peer, taken, total = line.split("\t")
+            need_same(peer, int(total), sum(itertools.chain(*numbers)) % 2 ** 64)
             found[peer] = min(float(taken), found.get(peer, float("inf")))
-    for peer, read in readers(jadvolni, text).items():
-        if list(read()) != numbers:
-            sys.exit(f"bench: {peer} reads other numbers")
-        found[peer] = least_time(read, len(numbers), max(rounds // 5, 3))
+    for peer, read in peers.items():
+        need_same(peer, [list(itertools.chain(*one)) for one in zip(*read())], numbers)
+        found[peer] = least_time(read, sum(map(len, numbers)), max(rounds // 5, 3))
     return found
 
 
-Seen = dict[str, dict[str, float]]
+def need_same(peer: str, answer: object, wanted: object) -> None:
+    """Ends the script where a reader answers otherwise."""
+    if answer != wanted:
+        sys.exit(f"bench: {peer} reads other numbers")
 
 
 def lines_of(seen: Seen) -> list[str]:
-    """What was seen, a line for each column and reader."""
+    """What was seen, a line for each text and reader."""
     return ["\t".join((name, peer, f"{taken:.2f}", f"{taken / found['from_chars']:.2f}"))
             for name, found in seen.items() for peer, taken in found.items()]
 
 
-def table(seen: Seen) -> list[str]:
+def table(seen: Seen, unit: str) -> list[str]:
     """The same as a table: what a reader takes where from_chars takes 1."""
     peers = [peer for peer in next(iter(seen.values())) if peer != "from_chars"]
     rows = []
     for name, found in seen.items():
-        unit = found["from_chars"]
-        rows.append([name, f"{unit:.1f}", *(f"{found[peer] / unit:.2f}" for peer in peers)])
-    return page.table(["numbers", "from_chars, ns", *peers], rows)
+        one = found["from_chars"]
+        rows.append([name, f"{one:.1f}", *(f"{found[peer] / one:.2f}" for peer in peers)])
+    return page.table([unit, "from_chars, ns", *peers], rows)
 
 
-def write(seen: Seen, asked: page.Asked) -> None:
-    """Writes bench/columns.tsv and the table of docs/SPEED.md."""
+def write(kind: str, seen: Seen, asked: page.Asked, lacking: list[str], about: str) -> None:
+    """Writes bench/KIND.tsv and a table of docs/SPEED.md."""
     on = asked.measured_on()
-    has_numpy = any("NumPy: loadtxt" in found for found in seen.values())
-    left_out = [] if has_numpy else ["Not measured: NumPy, which is not installed."]
-    head = [f"# Columns, measured by make bench on {on}", *(f"# {one}" for one in left_out),
-            "\t".join(("numbers", "reader", "ns a number", "to from_chars"))]
-    with open(os.path.join(HERE, "columns.tsv"), "w", encoding="utf-8") as file:
+    left_out = [f"Not measured: {name}, which is not installed." for name in lacking]
+    head = [f"# {kind.capitalize()}, measured by make bench on {on}",
+            *(f"# {one}" for one in left_out),
+            "\t".join((asked.unit, "reader", f"ns a {asked.unit[:-1]}", "to from_chars"))]
+    with open(os.path.join(HERE, f"{kind}.tsv"), "w", encoding="utf-8") as file:
         file.write("\n".join([*head, *lines_of(seen)]) + "\n")
-    about = ("The numbers are of `u64`, with a line feed after each. In the table a loop of "
-             "`from_chars` takes 1. [columns.tsv](../bench/columns.tsv) has the nanoseconds.")
-    said = [f"Measured on {on}", *left_out, "", about, "", *table(seen), ""]
-    page.write("bench/columns.py", said)
+    about += (" In the table a loop of `from_chars` takes 1. "
+              f"[{kind}.tsv](../bench/{kind}.tsv) has the nanoseconds.")
+    said = [f"Measured on {on}", *left_out, "", about, "", *table(seen, asked.unit), ""]
+    page.write(f"bench/{kind}.py", said)
+
+
+def measure(kind: str, asked: page.Asked, sets: dict[str, list[Number]],
+            readers_of: Callable[[ModuleType, bytes], Readers], packages: list[str],
+            about: str) -> None:
+    """Measures all readers of texts of such columns, and writes what it sees and which it lacks."""
+    page.need("make", "cc", "c++")
+    seen: Seen = {}
+    with tempfile.TemporaryDirectory() as folder:
+        drivers, jadvolni = built(folder, kind), binding(folder)
+        for name, columns in sets.items():
+            random_, rows = random.Random(asked.seed), range(asked.size // len(columns))
+            numbers = [[number(random_) for _ in rows] for number in columns]
+            text = "".join(",".join(map(str, row)) + "\n" for row in zip(*numbers)).encode()
+            peers = readers_of(jadvolni, text)
+            seen[name] = measured(drivers, peers, text, numbers, asked.rounds)
+            print("\n".join(lines_of({name: seen[name]})), flush=True)
+    write(kind, seen, asked, [name for name in packages if not is_installed(name)], about)
 
 
 def main() -> int:
     """The command line."""
     asked = page.asked(__doc__, "numbers", size=1_000_000, rounds=25)
-    page.need("make", "cc", "c++")
-    seen: Seen = {}
-    with tempfile.TemporaryDirectory() as folder:
-        drivers, jadvolni = built(folder), binding(folder)
-        for name, number in SETS.items():
-            random_ = random.Random(asked.seed)
-            numbers = [number(random_) for _ in range(asked.size)]
-            seen[name] = measured(drivers, jadvolni, numbers, asked.rounds)
-            print("\n".join(lines_of({name: seen[name]})), flush=True)
-    write(seen, asked)
+    sets = {name: [number] for name, number in SETS.items()}
+    measure("columns", asked, sets, readers, ["NumPy"], ABOUT)
     return 0
 
 

@@ -21,10 +21,11 @@ def need(*programs: str) -> None:
         sys.exit(f"bench: it needs {', '.join(lacking)}")
 
 
-def instructions(words: list[str]) -> int:
-    """How many instructions a run has, from the program's start to its end."""
+def instructions(words: list[str], path: str = os.devnull) -> int:
+    """How many instructions a run over a file has, from the program's start to its end."""
     callgrind = ["valgrind", "--tool=callgrind", "--callgrind-out-file=/dev/null"]
-    ran = subprocess.run([*callgrind, *words], capture_output=True, text=True)
+    with open(path, "rb") as file:
+        ran = subprocess.run([*callgrind, *words], stdin=file, capture_output=True, text=True)
     found = re.search(r"Collected : (\d+)", ran.stderr)
     if not found:
         sys.exit(f"bench: callgrind counted nothing: {ran.stderr.strip()[-300:]}")

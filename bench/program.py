@@ -52,16 +52,6 @@ def processor_time(words: list[str], path: str) -> float:
     return after.ru_utime - before.ru_utime + after.ru_stime - before.ru_stime
 
 
-def instructions(words: list[str], path: str, folder: str) -> int:
-    """The instructions of a run over a file."""
-    kept = os.path.join(folder, "callgrind.out")
-    with open(path, "rb") as lines:
-        ran = subprocess.run(
-            ["valgrind", "--tool=callgrind", f"--callgrind-out-file={kept}", *words], stdin=lines,
-            stdout=subprocess.DEVNULL, stderr=subprocess.PIPE, text=True, check=True)
-    return int(ran.stderr.split("Collected : ")[1].split()[0])
-
-
 def write_lines(path: str, name: str, count: int, seed: int) -> None:
     """So many lines of a set."""
     random_ = random.Random(seed)
@@ -93,7 +83,7 @@ def row(found: Programs, name: str, folder: str, asked: page.Asked) -> str:
     cells = [name, f"{least[OURS]:.3f}", *(f"{least[OURS] / least[peer]:.2f}" for peer in peers)]
     if not shutil.which("valgrind"):
         return "\t".join([*cells, *("" for _ in peers)])
-    counts = {peer: instructions(words, few, folder) for peer, words in found.items()}
+    counts = {peer: page.instructions(words, few) for peer, words in found.items()}
     cells += [f"{counts[OURS] / counts[peer]:.2f}" for peer in peers]
     return "\t".join(cells)
 

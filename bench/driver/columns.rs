@@ -1,6 +1,6 @@
 //! A column of u64, a number on each line of standard input, read by Rust's `split` and `parse`.
 //!
-//!     columns ROUNDS    prints the least time, in nanoseconds a number
+//!     columns ROUNDS    prints the least time, in nanoseconds a number, and the numbers' sum
 use std::hint::black_box;
 use std::io::Read;
 use std::time::Instant;
@@ -23,5 +23,6 @@ fn main() {
         read(black_box(&text), &mut values);
         least = least.min(start.elapsed().as_nanos() as f64 / black_box(&values).len() as f64);
     }
-    println!("split and parse\t{least:.3}");
+    let sum = values.iter().fold(0, |sum: u64, value| sum.wrapping_add(*value));
+    println!("split and parse\t{least:.3}\t{sum}");
 }
