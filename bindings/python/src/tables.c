@@ -3,6 +3,8 @@
  */
 #include "core.h"
 
+#include <stdlib.h>
+
 /* An array of a column of the library, whatever its type. */
 typedef struct array {
     void *numbers;
@@ -87,27 +89,53 @@ static int columns_of(const core_state *state, PyObject *given, columns *all)
     return made;
 }
 
-/* Whether the first so many arrays share no byte with other memory. */
-static int are_apart(const Py_buffer *rooms, Py_ssize_t count, const void *other, size_t len)
+/* Where the bytes of an array are. */
+typedef struct span {
+    uintptr_t start;
+    uintptr_t stop;
+} span;
+
+static int by_start(const void *one, const void *other)
 {
-    uintptr_t second = (uintptr_t)other;
+    uintptr_t first = ((const span *)one)->start, second = ((const span *)other)->start;
+    return (first > second) - (first < second);
+}
+
+/* Puts the arrays that have bytes to spans, in the order of memory, and answers how many. */
+static size_t spans_of(const columns *all, span *spans)
+{
+    size_t count = 0;
+    for (const Py_buffer *it = all->rooms; it < all->rooms + 2 * all->count; it++)
+        if (it->len)
+            spans[count++] = (span){(uintptr_t)it->buf, (uintptr_t)it->buf + (size_t)it->len};
+    qsort(spans, count, sizeof *spans, by_start);
+    return count;
+}
+
+/* Whether arrays share no byte with each other, or with two texts. */
+static int are_apart(const span *spans, size_t count, const borrowed_text *text,
+                     const borrowed_text *missing)
+{
+    uintptr_t first = (uintptr_t)text->bytes, second = (uintptr_t)missing->bytes;
     int apart = 1;
-    for (Py_ssize_t k = 0; k < count; k++) {
-        uintptr_t first = (uintptr_t)rooms[k].buf;
-        size_t size = (size_t)rooms[k].len;
-        apart &= !size || !len || first + size <= second || second + len <= first;
+    for (size_t k = 0; k < count; k++) {
+        apart &= k == 0 || spans[k - 1].stop <= spans[k].start;
+        apart &= !text->len || spans[k].stop <= first || first + text->len <= spans[k].start;
+        apart &= !missing->len || spans[k].stop <= second || second + missing->len <= spans[k].start;
     }
     return apart;
 }
 
-/* Asks that no array shares a byte with another, or with what is read. -1 with an exception. */
+/* Asks that the arrays have memory of their own. -1 with an exception. */
 static int ask_apart(const columns *all, const borrowed_text *text, const borrowed_text *missing)
 {
-    Py_ssize_t count = 2 * all->count;
-    int apart = are_apart(all->rooms, count, text->bytes, text->len)
-        && are_apart(all->rooms, count, missing->bytes, missing->len);
-    for (Py_ssize_t k = 0; k < count; k++)
-        apart &= are_apart(all->rooms, k, all->rooms[k].buf, (size_t)all->rooms[k].len);
+    span *spans = PyMem_Calloc((size_t)all->count + 1, 2 * sizeof *spans);
+    if (!spans) {
+        PyErr_NoMemory();
+        return -1;
+    }
+    int apart = are_apart(spans, spans_of(all, spans), text, missing);
+    PyMem_Free(spans);
     if (!apart)
         PyErr_SetString(PyExc_ValueError, "out has to have memory of its own for each array");
     return apart ? 0 : -1;

@@ -55,7 +55,7 @@ def _parse_part(
 def _parse_table(
     text: Text,
     is_last: bool,
-    how: tuple[Text, bool, bool, bool, bool, Text],
+    how: tuple[Any, ...],
     rows: int,
     columns: tuple[Optional[tuple[Any, Any, ColumnType, Optional[Format]]], ...],
     row: int,

@@ -92,7 +92,8 @@ class _Reader:
 
 def _pair(values: Any) -> tuple[Any, Any]:
     """The numbers of a column, and its bits or None."""
-    return values if isinstance(values, tuple) else (values, None)
+    numbers, bits = values if isinstance(values, tuple) else (values, None)
+    return numbers, bits
 
 
 def _room(column: Column, rows: int) -> Any:
