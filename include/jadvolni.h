@@ -179,7 +179,8 @@ typedef struct jadvolni_result {
 #define JADVOLNI_PURE_ __attribute__((warn_unused_result, pure)) /* for the same bytes the same answer */
 #endif
 #if __has_attribute(access)
-#define JADVOLNI_TEXT_ __attribute__((access(read_only, 1, 2)))
+#define JADVOLNI_READS_(...) __attribute__((access(read_only, __VA_ARGS__)))
+#define JADVOLNI_TEXT_ JADVOLNI_READS_(1, 2)
 #define JADVOLNI_WRITES_(...) __attribute__((access(write_only, __VA_ARGS__)))
 #elif __has_attribute(diagnose_if)
 #define JADVOLNI_TEXT_                                                             \
@@ -195,6 +196,7 @@ typedef struct jadvolni_result {
 #define JADVOLNI_TEXT_
 #endif
 #ifndef JADVOLNI_WRITES_
+#define JADVOLNI_READS_(...)
 #define JADVOLNI_WRITES_(...)
 #endif
 
@@ -718,7 +720,7 @@ typedef struct jadvolni_table_result {
 jadvolni_table_result jadvolni_parse_table(const char *text, size_t len, bool is_last,
                                            const jadvolni_table *table, size_t capacity,
                                            jadvolni_table_column *columns, size_t column_count)
-    JADVOLNI_CHECKED_(4) JADVOLNI_TEXT_;
+    JADVOLNI_CHECKED_(4) JADVOLNI_TEXT_ JADVOLNI_READS_(6, 7);
 
 #ifdef __clang__
 #pragma clang diagnostic pop
@@ -726,6 +728,7 @@ jadvolni_table_result jadvolni_parse_table(const char *text, size_t len, bool is
 
 #undef JADVOLNI_CHECKED_
 #undef JADVOLNI_PURE_
+#undef JADVOLNI_READS_
 #undef JADVOLNI_TEXT_
 #undef JADVOLNI_WRITES_
 

@@ -23,11 +23,13 @@
 #include <charconv>
 #include <cstddef>
 #include <cstdint>
+#include <cstring>
 #include <iterator>
 #include <optional>
 #include <string_view>
 #include <system_error>
 #include <type_traits>
+#include <utility>
 
 namespace jadvolni {
 
@@ -462,6 +464,149 @@ template <class Columns>
 {
     return parse_table_part(text, true, how, capacity, columns);
 }
+
+// What was read of a block: rows, or what is wrong.
+class table_block : table_result {
+public:
+    table_block(jadvolni_table_result answer, std::size_t first_row, const char *trouble) noexcept
+        : table_result(answer), first_row_(first_row), trouble_(trouble)
+    {
+    }
+
+    // Whether nothing is wrong: then there are rows.
+    explicit operator bool() const noexcept { return !trouble_ && table_result::operator bool(); }
+
+    // How many rows are in the arrays, and how many came before them. So at a fault the sum is the
+    // number of its row, from 0.
+    using table_result::rows;
+    std::size_t first_row() const noexcept { return first_row_; }
+
+    // What is wrong: a fault with its column and its name, or, at status::ok, that a row has no room
+    // among the bytes or that reading has failed.
+    using table_result::column, table_result::status, table_result::name;
+    const char *message() const noexcept { return trouble_ ? trouble_ : table_result::message(); }
+
+    // Where reading stopped, or the place of the fault, in all that was read.
+    using table_result::place;
+
+private:
+    std::size_t first_row_;
+    const char *trouble_;
+};
+
+// The rows of a file of any size, as a range of blocks of `capacity` rows at most:
+//
+//     std::vector<char> bytes(1 << 20); // a row has to fit, with its line feed
+//     auto read = [&](char *to, std::size_t room) { return ::read(file, to, room); };
+//     jadvolni::table_blocks blocks(read, bytes, ledger, 1000, columns);
+//     for (const jadvolni::table_block &block : blocks)
+//         if (block) use(days, cents, block.rows());
+//         else std::cerr << block.message() << " at byte " << block.place() << '\n';
+//
+// `read` puts bytes to where it is told, and answers how many: 0 at the end, a negative number where it
+// fails. Nothing follows a block that is wrong. Another loop goes on where the last one stopped, and
+// reads again where that failed.
+template <class Read>
+class table_blocks {
+public:
+    class iterator {
+    public:
+        using iterator_category = std::input_iterator_tag;
+        using value_type = table_block;
+        using difference_type = std::ptrdiff_t;
+        using pointer = const table_block *;
+        using reference = const table_block &;
+
+        explicit iterator(table_blocks *of = nullptr) noexcept : of_(of) {}
+        reference operator*() const noexcept { return of_->block_; }
+        pointer operator->() const noexcept { return &of_->block_; }
+        void operator++(int) { ++*this; }
+        iterator &operator++()
+        {
+            if (!of_->next()) of_ = nullptr;
+            return *this;
+        }
+        friend bool operator==(iterator one, iterator other) noexcept { return one.of_ == other.of_; }
+        friend bool operator!=(iterator one, iterator other) noexcept { return one.of_ != other.of_; }
+
+    private:
+        table_blocks *of_;
+    };
+
+    template <class Bytes, class Columns>
+    table_blocks(Read read, Bytes &bytes, const table &how, std::size_t capacity, Columns &columns)
+        : read_(std::move(read)), bytes_(std::data(bytes)), size_(std::size(bytes)), how_(how),
+          capacity_(capacity), columns_(std::data(columns)), column_count_(std::size(columns))
+    {
+    }
+
+    iterator begin()
+    {
+        is_over_ = false;
+        return ++iterator(this);
+    }
+    iterator end() noexcept { return iterator(); }
+
+private:
+    // Reads the next block. False where there is none.
+    bool next()
+    {
+        while (!is_over_) {
+            auto answer = jadvolni_parse_table(bytes_ + first_, stop_ - first_, is_last_, &how_, capacity_,
+                                               columns_, column_count_);
+            is_over_ = answer.status != JADVOLNI_OK;
+            if (is_over_ || answer.rows) return tell(answer, nullptr);
+            first_ += answer.place;
+            const char *trouble = is_last_ ? without_room(stop_ - first_) : fill();
+            is_over_ = trouble || (is_last_ && first_ == stop_);
+            if (trouble) return tell({}, trouble);
+        }
+        return false;
+    }
+
+    // Tells what was read from the first byte on, and goes behind its rows.
+    bool tell(jadvolni_table_result answer, const char *trouble) noexcept
+    {
+        auto place = answer.place;
+        answer.place += before_ + first_;
+        block_ = table_block(answer, row_, trouble);
+        if (!is_over_) {
+            first_ += place;
+            row_ += answer.rows;
+        }
+        return true;
+    }
+
+    static const char *without_room(bool needs) noexcept { return needs ? "a row has no room" : nullptr; }
+
+    // Puts more bytes behind those that are left. Answers what hinders it.
+    const char *fill()
+    {
+        if (first_) std::memmove(bytes_, bytes_ + first_, stop_ - first_);
+        before_ += first_;
+        stop_ -= first_;
+        first_ = 0;
+        if (stop_ == size_) return without_room(true);
+        auto count = static_cast<std::ptrdiff_t>(read_(bytes_ + stop_, size_ - stop_));
+        if (count < 0) return "reading has failed";
+        assert(static_cast<std::size_t>(count) <= size_ - stop_);
+        is_last_ = count == 0;
+        stop_ += static_cast<std::size_t>(count);
+        return nullptr;
+    }
+
+    Read read_;
+    char *bytes_;
+    std::size_t size_;
+    table how_;
+    std::size_t capacity_;
+    table_column *columns_;
+    std::size_t column_count_;
+    // The bytes that are left, how many came before all of them, and how many rows.
+    std::size_t first_ = 0, stop_ = 0, before_ = 0, row_ = 0;
+    bool is_last_ = false, is_over_ = false;
+    table_block block_{{}, 0, nullptr};
+};
 
 namespace detail {
 

@@ -11,14 +11,14 @@ from typing import Dict, Iterator
 
 from callers import OPTIMISED, Failed, Place, Step, needs, source
 
-# The warnings by the number of the misuse, in the words after -W. Room in arrays of numbers is
-# checked by gcc alone.
-OF_BOTH = {**dict.fromkeys((3, 11, 12, 13), "unused-result"),
-           **dict.fromkeys((4, 5, 6, 14), "nonnull")}
+# The warnings by the number of the misuse, in the words after -W. gcc alone checks room in arrays.
+TEXTS = (1, 2, 10, 15, 18)
+OF_BOTH = {**dict.fromkeys((3, 11, 12, 13, 16), "unused-result"),
+           **dict.fromkeys((4, 5, 6, 14, 17), "nonnull")}
 WARNINGS: Dict[str, Dict[int, str]] = {
-    "gcc": {**OF_BOTH, **dict.fromkeys((1, 2, 10, 15), "stringop-overread"), 9: "nonnull",
-            7: "stringop-overflow", 8: "stringop-overflow"},
-    "clang": {**OF_BOTH, **dict.fromkeys((1, 2, 10, 15), "user-defined-warnings")},
+    "gcc": {**OF_BOTH, **dict.fromkeys((*TEXTS, 19), "stringop-overread"), 9: "nonnull",
+            20: "nonnull", 7: "stringop-overflow", 8: "stringop-overflow"},
+    "clang": {**OF_BOTH, **dict.fromkeys(TEXTS, "user-defined-warnings")},
 }
 
 

@@ -41,11 +41,14 @@ async function load() {
 
 const exported = await load();
 
+/** What is thrown where the module isn't that of this package. */
+export function otherVersion(detail) {
+  return new JadvolniError(`${MODULE} is of another version: ${detail}`);
+}
+
 /** What the module exports under a name. */
 export function named(name) {
-  if (exported[name] === undefined) {
-    throw new JadvolniError(`${MODULE} is of another version: it has no ${name}`);
-  }
+  if (exported[name] === undefined) throw otherVersion(`it has no ${name}`);
   return exported[name];
 }
 

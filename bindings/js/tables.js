@@ -149,3 +149,19 @@ export function parseTable(text, columns, table = {}) {
   }
   return arrays.map((column, index) => columnOf(parts[index], column));
 }
+
+/** Whether the module finds a table, its columns of each type and their bits where they are put. */
+function isFound() {
+  const cells = TYPES.map((type, index) => (type.startsWith("i") ? -1 - index : 1 + index));
+  const text = [cells.join(";"), TYPES.map(() => "NA").join(";")].join("\n");
+  const columns = TYPES.map((type) => ({ type, may_miss: true }));
+  try {
+    const read = parseTable(text, columns, { separator: ";", missing: "NA" });
+    return read.every(({ numbers, present }, index) =>
+      `${numbers};${present}` === `${cells[index]},0;1,0`);
+  } catch {
+    return false;
+  }
+}
+
+if (!isFound()) throw memory.otherVersion("its tables have another layout");

@@ -2,59 +2,55 @@
 
     python3 total.py FILE
 
-The first wrong line is told with its line and its byte. On a terminal a bar says how far a file is
-read that takes longer than a second; a pipe has none.
+The first wrong line is told with its line and its byte. Where tqdm is installed, a bar on the
+terminal says how far a file is read that takes longer than a second.
 """
 
+import contextlib
 import os
 import sys
-import time
 
 import jadvolni
 
-WIDTH = 40
+
+@contextlib.contextmanager
+def bar_of(file):
+    """What a bar is told of each block of a file; None where tqdm isn't installed."""
+    try:
+        from tqdm import tqdm
+    except ImportError:
+        yield None
+        return
+    size = os.fstat(file.fileno()).st_size or None
+    with tqdm(total=size, unit="B", unit_scale=True, delay=1, leave=False, disable=None) as bar:
+        yield bar.update
 
 
-def show_bar(share: float) -> None:
-    """Says on the terminal how much is read."""
-    bar = "#" * int(WIDTH * share)
-    print(f"\r[{bar:{WIDTH}}] {share:4.0%}", end="", file=sys.stderr, flush=True)
-
-
-def total(file, size: int):
-    """How many numbers a file has, and their sum. The bar is shown where the size is not 0."""
-    count, found, shown = 0, 0, time.monotonic()
-    for numbers in jadvolni.iter_column(file, "i64"):
-        count, found = count + len(numbers), found + sum(numbers)
-        if size and time.monotonic() - shown > 1:
-            show_bar(min(file.tell() / size, 1))
-            shown = time.monotonic()
+def total(path: str):
+    """How many numbers a file has, and their sum."""
+    count, found = 0, 0
+    with open(path, "rb") as file, bar_of(file) as progress:
+        for numbers in jadvolni.iter_column(file, "i64", progress=progress):
+            count, found = count + len(numbers), found + sum(numbers)
     return count, found
 
 
-def main() -> int:
+def main() -> None:
     """The command line."""
     if len(sys.argv) != 2:
         print(__doc__.strip(), file=sys.stderr)
-        return 2
-    path, clear = sys.argv[1], "\r\033[K" if sys.stderr.isatty() else ""
+        sys.exit(2)
+    path = sys.argv[1]
     try:
-        with open(path, "rb") as file:
-            count, found = total(file, os.fstat(file.fileno()).st_size if clear else 0)
-    except OSError as error:
-        print(f"{clear}{path}: {error.strerror}", file=sys.stderr)
-        return 1
+        count, found = total(path)
     except jadvolni.ParseError as error:
-        print(f"{clear}{path}: line {error.field + 1}, byte {error.place}: {error.kind}",
-              file=sys.stderr)
-        return 1
+        sys.exit(f"{path}: line {error.field + 1}, byte {error.place}: {error.kind}")
+    except OSError as error:
+        sys.exit(f"{path}: {error.strerror}")
     except ValueError as error:
-        print(f"{clear}{path}: {error}", file=sys.stderr)
-        return 1
-    print(clear, end="", file=sys.stderr)
+        sys.exit(f"{path}: {error}")
     print(f"{count} numbers, sum {found}")
-    return 0
 
 
 if __name__ == "__main__":
-    sys.exit(main())
+    main()

@@ -2,7 +2,8 @@
  * A target for libFuzzer: the extension for Python, whose calls are given any format, type and text.
  *
  * The first 32 bytes are a format, the next two a separator and a type, and the rest is the text. A
- * call answers, or raises one of its two exceptions; the sanitizers see what it touches.
+ * call answers, or raises one of its two exceptions; the sanitizers see what it touches. The type's byte
+ * has the flags of a table too.
  */
 #define PY_SSIZE_T_CLEAN
 #include <Python.h>
@@ -12,7 +13,7 @@
 PyMODINIT_FUNC PyInit__core(void);
 
 static const char DRIVER[] =
-    "import _core, types\n"
+    "import _core, array, types\n"
     "TYPES = ['u8', 'u16', 'u32', 'u64', 'usize', 'i8', 'i16', 'i32', 'i64', 'isize']\n"
     "def answer(call, text, *words):\n"
     "    try:\n"
@@ -33,7 +34,13 @@ static const char DRIVER[] =
     "        assert front == (whole, len(text)), (front, whole)\n"
     "    answer(_core.parse_partial, text, kind, format)\n"
     "    column = answer(_core.parse_column, text, kind, data[32:33], format)\n"
-    "    assert column is None or len(column) <= len(text) + 1\n";
+    "    assert column is None or len(column) <= len(text) + 1\n"
+    "    rows, flags = len(text) + 1, (bool(data[33] & bit) for bit in (16, 32, 64, 128))\n"
+    "    numbers = array.array(_core._array_code(kind), [0]) * rows\n"
+    "    columns = ((numbers, bytearray(rows), kind, format), None)[:1 + data[33] % 2]\n"
+    "    how = (data[32:33], *flags, text[:1])\n"
+    "    read = answer(_core._parse_table, text, True, how, rows, columns, 0, 0)\n"
+    "    assert read is None or read[0] < rows and read[1] == len(text), read\n";
 
 static PyObject *one;
 

@@ -11,6 +11,11 @@ static uint64_t used(jadvolni_result r, uint64_t value)
     return r.status + r.place + value;
 }
 
+static uint64_t used_table(jadvolni_table_result r)
+{
+    return r.status + r.column + r.rows + r.place;
+}
+
 uint64_t misuse(void);
 uint64_t misuse(void)
 {
@@ -19,14 +24,18 @@ uint64_t misuse(void)
     uint16_t narrow = 0;
     size_t count = 0;
     jadvolni_uint128 wide = {0, 0};
-    (void)narrow, (void)count, (void)values, (void)text, (void)wide;
+    jadvolni_table table = {.separator = ','};
+    jadvolni_table_column column = {.format = JADVOLNI_FORMAT_STANDARD, .u64 = {values, 2}};
+    (void)narrow, (void)count, (void)values, (void)text, (void)wide, (void)table, (void)column;
 #if MISUSE == 0
     return used(jadvolni_parse_u64(text, 4, &value), value)
         + used(jadvolni_parse_u64_front_with_format(NULL, 0, FORMAT, &value), value)
         + used(jadvolni_parse_u64_column(text, 4, ',', FORMAT, values, 2, &count), values[0])
         + used(jadvolni_parse_u64_column(text, 4, ',', FORMAT, NULL, 0, &count), count)
         + used(jadvolni_parse_literal(text, 4, FORMAT, &wide, &count), wide.low)
-        + jadvolni_field_start(text, 4, ',') + jadvolni_field_start(NULL, 0, ',');
+        + jadvolni_field_start(text, 4, ',') + jadvolni_field_start(NULL, 0, ',')
+        + used_table(jadvolni_parse_table(text, 4, true, &table, 2, &column, 1))
+        + used_table(jadvolni_parse_table(NULL, 0, true, &table, 2, NULL, 0)) + values[1];
 #elif MISUSE == 1
     return used(jadvolni_parse_u64(text, 40, &value), value);
 #elif MISUSE == 2
@@ -61,5 +70,16 @@ uint64_t misuse(void)
     return used(jadvolni_parse_literal(text, 4, FORMAT, &wide, NULL), wide.low);
 #elif MISUSE == 15
     return used(jadvolni_parse_literal(text, 40, FORMAT, &wide, &count), wide.low);
+#elif MISUSE == 16
+    jadvolni_parse_table(text, 4, true, &table, 2, &column, 1);
+    return values[0];
+#elif MISUSE == 17
+    return used_table(jadvolni_parse_table(text, 4, true, NULL, 2, &column, 1));
+#elif MISUSE == 18
+    return used_table(jadvolni_parse_table(text, 40, true, &table, 2, &column, 1));
+#elif MISUSE == 19
+    return used_table(jadvolni_parse_table(text, 4, true, &table, 2, &column, 2));
+#elif MISUSE == 20
+    return used_table(jadvolni_parse_table(text, 4, true, &table, 2, NULL, 1));
 #endif
 }

@@ -1,6 +1,7 @@
 // The header for C++: each status, each kind of call, and from_chars beside that of the standard library.
 #include "jadvolni.hpp"
 
+#include <algorithm>
 #include <array>
 #include <climits>
 #include <cstdio>
@@ -323,9 +324,80 @@ static void tables()
     CHECK(read.status() == status::invalid_mantissa_radix && read.column() == 2);
 }
 
+// What a table of blocks gives: all its rows in a line each, and what is wrong at last. The reader gives
+// so many bytes at once, and fails where it has to.
+struct reader {
+    std::string_view text;
+    std::size_t step, fails_at;
+    std::ptrdiff_t operator()(char *to, std::size_t room)
+    {
+        if (fails_at-- == 0) return -1;
+        auto front = text.substr(0, std::min(step, room));
+        text.remove_prefix(front.size());
+        std::copy(front.begin(), front.end(), to);
+        return std::ptrdiff_t(front.size());
+    }
+};
+
+static std::string in_table_blocks(reader read, std::size_t size, std::size_t capacity, int loops = 1)
+{
+    std::string told, bytes(size, 'x');
+    std::vector<short> days(capacity, 77);
+    std::vector<long> cents(capacity, 77);
+    jadvolni::table ledger{};
+    ledger.separator = ';';
+    ledger.skips_empty_rows = 1;
+    jadvolni::table_column columns[] = {jadvolni::column_into(days), {}, jadvolni::column_into(cents)};
+    jadvolni::table_blocks blocks(read, bytes, ledger, capacity, columns);
+    std::size_t rows = 0;
+    for (; loops > 0; --loops)
+        for (const jadvolni::table_block &block : blocks) {
+            CHECK(block.first_row() == rows && block.rows() <= capacity && (!block || block.rows() > 0));
+            for (std::size_t k = 0; k < block.rows(); ++k, ++rows)
+                told += std::to_string(days[k]) + ' ' + std::to_string(cents[k]) + '\n';
+            if (!block)
+                told += block.message() + (' ' + std::to_string(block.first_row() + block.rows())) + ' '
+                    + std::to_string(block.column()) + ' ' + std::to_string(block.place()) + '\n';
+        }
+    return told;
+}
+
+static void tables_in_blocks()
+{
+    std::string_view rows = "1;rent;-80000\n\n365;;7\n\n\n12;a;0", worse = "1;a;2\n\n3;b;4\n5;;6x\n7;;8\n";
+    std::string all = "1 -80000\n365 7\n12 0\n", fault = "1 2\n3 4\ninvalid digit 2 2 17\n";
+    auto never = std::size_t(-1);
+    for (std::size_t size = 14; size < 40; ++size)
+        for (std::size_t step : {1u, 5u, 13u, 99u})
+            for (std::size_t capacity : {1u, 2u, 9u}) {
+                CHECK(in_table_blocks({rows, step, never}, size, capacity) == all);
+                CHECK(in_table_blocks({worse, step, never}, size, capacity) == fault);
+                CHECK(in_table_blocks({"\n\n", step, never}, size, capacity).empty());
+            }
+    // A row that is longer than the bytes, and no room at all.
+    CHECK(in_table_blocks({rows, 99, never}, 13, 9) == "a row has no room 0 0 0\n");
+    CHECK(in_table_blocks({"1;;2\n\n33;;4\n", 1, never}, 5, 9) == "1 2\na row has no room 1 0 6\n");
+    CHECK(in_table_blocks({rows, 99, never}, 0, 9) == "a row has no room 0 0 0\n");
+    CHECK(in_table_blocks({rows, 99, never}, 40, 0) == "a row has no room 0 0 0\n");
+    // It is a range of the standard library.
+    std::vector<char> bytes(20);
+    std::vector<jadvolni::table_column> unread(3);
+    jadvolni::table ledger{};
+    ledger.separator = ';';
+    jadvolni::table_blocks blocks(reader{"1;2;3\n4;5;6\n7;8;9\n", 99, never}, bytes, ledger, 2, unread);
+    CHECK(std::distance(blocks.begin(), blocks.end()) == 2 && blocks.begin() == blocks.end());
+    // Where reading fails nothing is lost, and no row comes twice.
+    for (std::size_t fails_at = 0; fails_at <= rows.size(); ++fails_at) {
+        auto told = in_table_blocks({rows, 1, fails_at}, 20, 9, 2);
+        auto from = told.find("reading has failed");
+        CHECK(from != told.npos && told.erase(from, told.find('\n', from) + 1 - from) == all);
+    }
+}
+
 int main()
 {
     tables();
+    tables_in_blocks();
     faults_of_texts();
     faults_of_formats();
     texts_of_statuses();

@@ -14,13 +14,14 @@ const MODULE = readFileSync(join(PACKAGE, "jadvolni.wasm"));
 const folder = mkdtempSync(join(tmpdir(), "jadvolni-"));
 after(() => rmSync(folder, { recursive: true }));
 
-/** Loads a copy of the package with other bytes as its module, or without one. */
-function loadWith(name, bytes) {
+/** Loads a copy of the package, changed, with other bytes as its module, or without one. */
+function loadWith(name, bytes, change = () => {}) {
   const copy = join(folder, name);
   cpSync(PACKAGE, copy, { recursive: true });
   const module = join(copy, "jadvolni.wasm");
   if (bytes) writeFileSync(module, bytes);
   else rmSync(module);
+  change(copy);
   return import(pathToFileURL(join(copy, "index.js")));
 }
 
@@ -38,6 +39,24 @@ test("a module that is missing, damaged or another is told", async () => {
   };
   for (const [name, [bytes, message]] of Object.entries(wrong)) {
     await assert.rejects(loadWith(name, bytes), { name: "JadvolniError", message }, name);
+  }
+});
+
+test("a module whose tables have another layout is told", async () => {
+  const others = [
+    ["WORDS = 22", "WORDS = 24"], ["FIRST_ARRAY = 4", "FIRST_ARRAY = 6"], ["BITS = 20", "BITS = 18"],
+    ['"i64", "u64"', '"u64", "i64"'], ['"u32", "i16"', '"i16", "u32"'], ['"i8", "u8"', '"u8", "i8"'],
+    ["[0n, 0n, BigInt(mark", "[0n, BigInt(mark"],
+    ["tablePlace + 32", "tablePlace + 24"], ["[status, , column, , count,", "[status, , count, , column,"],
+  ];
+  const message = /jadvolni\.wasm is of another version: its tables have another layout$/;
+  for (const [index, [ours, theirs]] of others.entries()) {
+    const loading = loadWith(`layout${index}`, MODULE, (copy) => {
+      const tables = readFileSync(join(copy, "tables.js"), "utf8");
+      assert.ok(tables.includes(ours), ours);
+      writeFileSync(join(copy, "tables.js"), tables.replace(ours, theirs));
+    });
+    await assert.rejects(loading, { name: "JadvolniError", message }, theirs);
   }
 });
 

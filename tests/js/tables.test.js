@@ -119,6 +119,17 @@ test("quotes, blanks, empty rows and missing numbers", () => {
   assert.equal(readTable('"1;2;3', ["u8", "u8", "u8"], table).kind, "MisplacedQuote");
 });
 
+test("each flag changes its own cells alone", () => {
+  const texts = { has_returns: "1\r\n", has_quotes: '"1"', allows_blanks: " 1", skips_empty_rows: "\n1" };
+  for (const flag of Object.keys(texts)) {
+    for (const [name, text] of Object.entries(texts)) {
+      const found = readTable(text, ["u8"], { [flag]: true });
+      if (name === flag) assert.deepEqual(found, [Uint8Array.of(1)]);
+      else assert.equal(typeof found.kind, "string", `${flag}, ${name}`);
+    }
+  }
+});
+
 test("missing numbers of several pieces are told", () => {
   const column = { type: "u8", may_miss: true };
   const times = Math.ceil(LONGEST_ROW / 3);

@@ -2,8 +2,8 @@
  * core.h - what the parts of the extension `jadvolni._core` share.
  *
  * The library reads the texts. `types.c` has the types of numbers, `faults.c` the exceptions,
- * `arguments.c` what the calls are given, `tables.c` tables, and `_core.c` the other calls and the module. `Format` is
- * Python, and hands its bytes over as the attribute `_fields`.
+ * `arguments.c` what the calls are given, `tables.c` tables, and `_core.c` the other calls and the
+ * module. `Format` is Python, and hands its bytes over as the attribute `_fields`.
  */
 #ifndef JADVOLNI_PYTHON_CORE_H
 #define JADVOLNI_PYTHON_CORE_H
@@ -108,9 +108,10 @@ void raise_table(const core_state *state, jadvolni_table_result answer, const ta
 
 /* ---- tables.c ---- */
 
-/* The rows of a part of a text: _parse_table(text, is_last, separator, flags, capacity, columns,
- * row, start), where flags are has_returns, has_quotes, allows_blanks, skips_empty_rows. A column is None, or its buffer, type and format. It gives how many rows were read, and where
- * reading stopped. */
+/* The rows of a part of a text: _parse_table(text, is_last, how, capacity, columns, row, start), where
+ * `how` is separator, has_returns, has_quotes, allows_blanks, skips_empty_rows and missing. A column is
+ * None, or its numbers, bits or None, type and format. It gives how many rows were read, and where reading
+ * stopped. */
 PyObject *parse_table(PyObject *module, PyObject *const *args, Py_ssize_t count);
 
 PyObject *row_count(PyObject *module, PyObject *given);

@@ -3,26 +3,29 @@
  */
 #include "core.h"
 
+#include <stdlib.h>
+
 /* An array of a column of the library, whatever its type. */
 typedef struct array {
     void *numbers;
     size_t capacity;
 } array;
 
-/* The columns of a call, and the buffers that they borrow. */
+/* The columns of a call, and the buffers that they borrow: for each its numbers and its bits. */
 typedef struct columns {
     jadvolni_table_column *columns;
     Py_buffer *rooms;
     Py_ssize_t count;
-    Py_ssize_t borrowed;
 } columns;
+
+/* The type of the bytes that have a column's bits. */
+static const number_type BITS = {.name = "u8", .size = 1};
 
 /* Gives back the buffers and the memory. */
 static void let_go(columns *all)
 {
-    for (Py_ssize_t k = 0; k < all->borrowed; k++)
-        if (all->rooms[k].obj)
-            PyBuffer_Release(&all->rooms[k]);
+    for (Py_ssize_t k = 0; all->rooms && k < 2 * all->count; k++)
+        PyBuffer_Release(&all->rooms[k]);
     PyMem_Free(all->columns);
     PyMem_Free(all->rooms);
 }
@@ -35,26 +38,35 @@ static int has_type(const Py_buffer *room, const number_type *type)
         && strlen(room->format) == 1 && strchr(signs, *room->format);
 }
 
-/* A column that is read: its buffer, type and format. */
-static int column_of(const core_state *state, PyObject *given, jadvolni_table_column *column,
-                     Py_buffer *room)
+/* Borrows an array of a type, to be written. -1 with an exception. */
+static int lend(PyObject *values, const number_type *type, Py_buffer *room)
 {
-    PyObject *values, *kind, *format;
-    if (!PyArg_ParseTuple(given, "OOO", &values, &kind, &format))
+    if (PyObject_GetBuffer(values, room, PyBUF_WRITABLE | PyBUF_ND | PyBUF_FORMAT) < 0)
+        return -1;
+    if (has_type(room, type))
+        return 0;
+    PyErr_Format(PyExc_ValueError,
+                 "out has to have arrays of the columns' types, and of u8 for bits: one isn't of %s",
+                 type->name);
+    return -1;
+}
+
+/* A column that is read: its numbers, its bits or None, its type and its format. */
+static int column_of(const core_state *state, PyObject *given, jadvolni_table_column *column,
+                     Py_buffer *rooms)
+{
+    PyObject *values, *bits, *kind, *format;
+    if (!PyArg_ParseTuple(given, "OOOO", &values, &bits, &kind, &format))
         return -1;
     const number_type *type = type_of(kind);
     if (!type || format_of(state, format, &column->format) < 0
-        || PyObject_GetBuffer(values, room, PyBUF_WRITABLE | PyBUF_ND | PyBUF_FORMAT) < 0)
+        || lend(values, type, &rooms[0]) < 0
+        || (bits != Py_None && lend(bits, &BITS, &rooms[1]) < 0))
         return -1;
-    if (!type->array_code || !has_type(room, type)) {
-        PyErr_Format(PyExc_ValueError, "out has to have arrays of the columns' types: one isn't of %s",
-                     type->name);
-        PyBuffer_Release(room);
-        room->obj = NULL;
-        return -1;
-    }
-    array it = {room->buf, (size_t)room->len / type->size};
+    array it = {rooms[0].buf, (size_t)rooms[0].len / type->size};
     memcpy((char *)column + type->array, &it, sizeof it);
+    column->present.bytes = rooms[1].buf;
+    column->present.size = (size_t)rooms[1].len;
     return 0;
 }
 
@@ -65,58 +77,131 @@ static int columns_of(const core_state *state, PyObject *given, columns *all)
     if (count < 0)
         return -1;
     *all = (columns){PyMem_Calloc((size_t)count + 1, sizeof *all->columns),
-                     PyMem_Calloc((size_t)count + 1, sizeof *all->rooms), count, 0};
+                     PyMem_Calloc((size_t)count + 1, 2 * sizeof *all->rooms), count};
     int made = all->columns && all->rooms ? 0 : -1;
     if (made < 0)
         PyErr_NoMemory();
     for (Py_ssize_t k = 0; made == 0 && k < count; k++) {
         PyObject *one = PyTuple_GetItem(given, k);
-        all->borrowed = k + 1;
         if (one != Py_None)
-            made = column_of(state, one, &all->columns[k], &all->rooms[k]);
+            made = column_of(state, one, &all->columns[k], &all->rooms[2 * k]);
     }
-    if (made < 0)
-        let_go(all);
     return made;
+}
+
+/* Where the bytes of an array are. */
+typedef struct span {
+    uintptr_t start;
+    uintptr_t stop;
+} span;
+
+static int by_start(const void *one, const void *other)
+{
+    uintptr_t first = ((const span *)one)->start, second = ((const span *)other)->start;
+    return (first > second) - (first < second);
+}
+
+/* Puts the arrays that have bytes to spans, in the order of memory, and answers how many. */
+static size_t spans_of(const columns *all, span *spans)
+{
+    size_t count = 0;
+    for (const Py_buffer *it = all->rooms; it < all->rooms + 2 * all->count; it++)
+        if (it->len)
+            spans[count++] = (span){(uintptr_t)it->buf, (uintptr_t)it->buf + (size_t)it->len};
+    qsort(spans, count, sizeof *spans, by_start);
+    return count;
+}
+
+/* Whether arrays share no byte with each other, or with two texts. */
+static int are_apart(const span *spans, size_t count, const borrowed_text *text,
+                     const borrowed_text *missing)
+{
+    uintptr_t first = (uintptr_t)text->bytes, second = (uintptr_t)missing->bytes;
+    int apart = 1;
+    for (size_t k = 0; k < count; k++) {
+        apart &= k == 0 || spans[k - 1].stop <= spans[k].start;
+        apart &= !text->len || spans[k].stop <= first || first + text->len <= spans[k].start;
+        apart &= !missing->len || spans[k].stop <= second || second + missing->len <= spans[k].start;
+    }
+    return apart;
+}
+
+/* Asks that the arrays have memory of their own. -1 with an exception. */
+static int ask_apart(const columns *all, const borrowed_text *text, const borrowed_text *missing)
+{
+    span *spans = PyMem_Calloc((size_t)all->count + 1, 2 * sizeof *spans);
+    if (!spans) {
+        PyErr_NoMemory();
+        return -1;
+    }
+    int apart = are_apart(spans, spans_of(all, spans), text, missing);
+    PyMem_Free(spans);
+    if (!apart)
+        PyErr_SetString(PyExc_ValueError, "out has to have memory of its own for each array");
+    return apart ? 0 : -1;
+}
+
+/* How a table is written: its separator, flags, and what stands for a missing number. */
+static int table_of(PyObject *given, jadvolni_table *table, borrowed_text *missing)
+{
+    PyObject *separator, *mark;
+    int flags[4];
+    if (!PyArg_ParseTuple(given, "OppppO", &separator, &flags[0], &flags[1], &flags[2], &flags[3],
+                          &mark))
+        return -1;
+    int byte = separator_of(separator);
+    if (byte < 0 || borrow("missing", mark, missing) < 0)
+        return -1;
+    *table = (jadvolni_table){
+        .separator = (uint8_t)byte,
+        .has_returns = (uint8_t)flags[0],
+        .has_quotes = (uint8_t)flags[1],
+        .allows_blanks = (uint8_t)flags[2],
+        .skips_empty_rows = (uint8_t)flags[3],
+        .missing = missing->bytes,
+        .missing_len = missing->len,
+    };
+    return 0;
+}
+
+/* Reads rows: how many there were, and where reading stopped. */
+static PyObject *rows_of(const core_state *state, const borrowed_text *text, int is_last,
+                         const jadvolni_table *table, size_t capacity, columns *all,
+                         const table_place *first)
+{
+    jadvolni_table_result answer;
+    Py_BEGIN_ALLOW_THREADS
+    answer = jadvolni_parse_table(text->bytes, text->len, is_last, table, capacity, all->columns,
+                                  (size_t)all->count);
+    Py_END_ALLOW_THREADS
+    if (answer.status == JADVOLNI_OK)
+        return Py_BuildValue("(nn)", (Py_ssize_t)answer.rows, (Py_ssize_t)answer.place);
+    raise_table(state, answer, first);
+    return NULL;
 }
 
 PyObject *parse_table(PyObject *module, PyObject *const *args, Py_ssize_t count)
 {
-    if (count != 8) {
-        PyErr_SetString(PyExc_TypeError, "_parse_table takes eight arguments");
+    if (count != 7) {
+        PyErr_SetString(PyExc_TypeError, "_parse_table takes seven arguments");
         return NULL;
     }
     const core_state *state = PyModule_GetState(module);
-    int separator = separator_of(args[2]), is_last = PyObject_IsTrue(args[1]);
-    jadvolni_table table = {.separator = (uint8_t)separator};
-    int flags[4];
-    if (!PyArg_ParseTuple(args[3], "pppp", &flags[0], &flags[1], &flags[2], &flags[3]))
-        return NULL;
-    table.has_returns = (uint8_t)flags[0];
-    table.has_quotes = (uint8_t)flags[1];
-    table.allows_blanks = (uint8_t)flags[2];
-    table.skips_empty_rows = (uint8_t)flags[3];
-    size_t capacity = PyLong_AsSize_t(args[4]);
-    table_place first = {PyLong_AsSize_t(args[6]), PyLong_AsSize_t(args[7])};
-    columns all;
-    borrowed_text text;
-    jadvolni_table_result answer;
-    if (separator < 0 || PyErr_Occurred() || columns_of(state, args[5], &all) < 0)
-        return NULL;
-    if (borrow("text", args[0], &text) < 0) {
-        let_go(&all);
-        return NULL;
-    }
-    Py_BEGIN_ALLOW_THREADS
-    answer = jadvolni_parse_table(text.bytes, text.len, is_last, &table, capacity, all.columns,
-                                  (size_t)all.count);
-    Py_END_ALLOW_THREADS
+    int is_last = PyObject_IsTrue(args[1]);
+    size_t capacity = PyLong_AsSize_t(args[3]);
+    table_place first = {PyLong_AsSize_t(args[5]), PyLong_AsSize_t(args[6])};
+    jadvolni_table table;
+    borrowed_text text = {0}, missing = {0};
+    columns all = {0};
+    PyObject *rows = NULL;
+    if (!PyErr_Occurred() && table_of(args[2], &table, &missing) == 0
+        && columns_of(state, args[4], &all) == 0 && borrow("text", args[0], &text) == 0
+        && ask_apart(&all, &text, &missing) == 0)
+        rows = rows_of(state, &text, is_last, &table, capacity, &all, &first);
     give_back(&text);
+    give_back(&missing);
     let_go(&all);
-    if (answer.status == JADVOLNI_OK)
-        return Py_BuildValue("(nn)", (Py_ssize_t)answer.rows, (Py_ssize_t)answer.place);
-    raise_table(state, answer, &first);
-    return NULL;
+    return rows;
 }
 
 /* How many rows a text has: its lines. */

@@ -77,6 +77,19 @@ class Blocks(unittest.TestCase):
         with self.assertRaises(BlockingIOError):
             list(iter_column(waiting))
 
+    def test_progress(self):
+        for size in range(3, 20):
+            told = []
+            self.numbers(TEXT, "u8", size=size, progress=told.append)
+            self.assertEqual((sum(told), max(told)), (len(TEXT), min(size, len(TEXT))))
+
+        def stop(count):
+            raise InterruptedError(count)
+
+        column = iter_column(io.BytesIO(TEXT), size=3, progress=stop)
+        self.assertEqual(list(next(column)), [12])
+        self.assertRaises(InterruptedError, next, column)
+
     def test_arguments(self):
         self.assertEqual(self.numbers(b"FF 10", "u16", " ", Format(mantissa_radix=16)), [255, 16])
         for size in (0, -1):

@@ -200,6 +200,40 @@ for scheduler in ("threads", "processes"):
         self.assertEqual(run.stdout, "[31125, 93625, 200, 218625]\n" * 2)
 
 
+@unittest.skipUnless(importlib.util.find_spec("pandas"), "there is no pandas")
+class Frame(Case):
+    """frame.py."""
+
+    def test_files(self):
+        for content, answer in (
+            (b"1;rent;-80000\n2;;\n3;a;7", (0, "3 rows, 1 without cents, -80000 to 7\n", "")),
+            (b"1;;%d\n" % -2**63, (0, f"1 rows, 0 without cents, {-2**63} to {-2**63}\n", "")),
+            (b"", (0, "0 rows, 0 without cents, <NA> to <NA>\n", "")),
+            (b"1;;2\n;;3\n", (1, "", "line 2, cell 1, byte 5: Empty\n")),
+            (b"1;;2\n3;;-\n", (1, "", "line 2, cell 3, byte 9: Empty\n")),
+        ):
+            with self.subTest(content=content[:40]):
+                self.assertEqual(self.answer("frame.py", content), answer)
+        self.assertEqual(answer_of("frame.py", "/dev/stdin", input="1;;2"),
+                         (0, "1 rows, 0 without cents, 2 to 2\n", ""))
+        self.assertEqual(answer_of("frame.py", self.folder), (1, "", "Is a directory\n"))
+        self.assertEqual(answer_of("frame.py", os.devnull, "more")[:2], (2, ""))
+
+    def test_no_number_is_copied(self):
+        code = """
+import sys
+sys.path.insert(0, sys.argv[1])
+import frame, jadvolni
+table = jadvolni.parse_table("1;;2\\n3;;\\n", frame.CELLS, ";")
+made = frame.frame_of(table)
+table["day"][0], table["cents"].numbers[0] = 5, 7
+print(made.to_csv(index=False), made.dtypes.tolist())
+"""
+        command = [sys.executable, "-c", code, str(EXAMPLES)]
+        run = subprocess.run(command, text=True, timeout=120, stdout=subprocess.PIPE, check=True)
+        self.assertEqual(run.stdout, "day,cents\n5,7\n3,\n [dtype('uint16'), Int64Dtype()]\n")
+
+
 class BigFile(Case):
     """big_file.py."""
 
@@ -242,6 +276,24 @@ class Total(Case):
                          (1, "", "line 500002, byte 3000003: InvalidDigit\n"))
         self.assertEqual(self.answer("total.py", b"1\n" + b"0" * 3_000_000),
                          (1, "", "the field at byte 2 has more than 1048576 bytes\n"))
+
+    @unittest.skipUnless(importlib.util.find_spec("tqdm"), "there is no tqdm")
+    def test_the_bar_of_a_slow_file(self):
+        """It is drawn on a terminal alone, and gone at the end."""
+        ours, theirs = os.openpty()
+        command = [sys.executable, str(EXAMPLES / "total.py"), "/dev/stdin"]
+        with subprocess.Popen(command, stdin=subprocess.PIPE, stdout=subprocess.PIPE,
+                              stderr=theirs) as run:
+            for pause in 1.5, 0:
+                run.stdin.write(b"1\n" * 2**19)
+                run.stdin.flush()
+                time.sleep(pause)
+            self.assertEqual(run.communicate(timeout=60)[0], b"1048576 numbers, sum 1048576\n")
+        os.close(theirs)
+        drawn = os.read(ours, 9999).decode()
+        os.close(ours)
+        self.assertRegex(drawn, r"2\.\d+MB \[.*/s\]")
+        self.assertEqual(drawn.rpartition("\r")[0].rpartition("\r")[2].strip(), "")
 
 
 class Inputs(Case):

@@ -11,7 +11,8 @@ import tempfile
 import unittest
 from array import array
 
-from jadvolni import (Format, FormatError, ParseError, iter_table, parse_table, read_table)
+from jadvolni import (Column, Format, FormatError, ParseError, Sparse, iter_table, parse_table,
+                      read_table)
 
 LEDGER = {"day": "u16", "what": None, "cents": "i64"}
 TEXT = b"1;rent;-80000\r\n365;;7\r\n"
@@ -19,8 +20,16 @@ HAS_NUMPY = importlib.util.find_spec("numpy") is not None
 
 
 def lists(table):
-    """The columns of a table as lists."""
-    return {name: values.tolist() for name, values in table.items()}
+    """The columns of a table as lists, with None for each missing number."""
+    return {name: sparse_list(values) if isinstance(values, Sparse) else values.tolist()
+            for name, values in table.items()}
+
+
+def sparse_list(values):
+    """The numbers of a Sparse, whose missing ones have to be 0."""
+    pairs = list(zip(values.numbers.tolist(), values.present, strict=True))
+    assert all(present or number == 0 for number, present in pairs)
+    return [number if present else None for number, present in pairs]
 
 
 def rows_of(file, **given):
@@ -103,13 +112,52 @@ class Tables(unittest.TestCase):
         self.assertEqual(lists(read_table(f"/dev/fd/{first}", LEDGER, ";", True))["day"], [1, 365])
         os.close(first)
 
+    def test_a_file_without_a_size(self):
+        path = pathlib.Path("/proc/sys/kernel/pid_max")
+        self.assertEqual(lists(read_table(path, {"a": "u32"})), {"a": [int(path.read_text())]})
+
+    def test_missing_numbers(self):
+        columns = {"a": Column("i16", may_miss=True), "b": None, "c": "u8",
+                   "d": Column("u32", Format(mantissa_radix=16), True)}
+        cells = [(k if k % 3 else None, k, 0xF0 + k if k % 5 else None) for k in range(20)]
+        wanted = dict(zip("acd", map(list, zip(*cells))))
+        for mark in ("", "NA", b"-"):
+            told = mark if isinstance(mark, str) else mark.decode()
+            shown = [(told if a is None else a, c, told if d is None else f"{d:x}")
+                     for a, c, d in cells]
+            text = "".join(f"{a},x,{c},{d}\n" for a, c, d in shown).encode()
+            table = parse_table(text, columns, missing=mark)
+            self.assertEqual(lists(table), wanted)
+            bits = [sum((cells[k][0] is not None) << k % 8 for k in range(n, min(n + 8, 20)))
+                    for n in (0, 8, 16)]
+            self.assertEqual(table["a"].bits.tolist(), bits)
+            for size in 13, 40, 999:
+                parts = [lists(it) for it in iter_table(io.BytesIO(text), columns, missing=mark,
+                                                        rows=3, size=size)]
+                self.assertEqual({name: sum((it[name] for it in parts), []) for name in wanted},
+                                 wanted)
+        self.fails(b"1;NA\nNA;NA\n", "InvalidDigit", 1, 0, 5, missing="NA",
+                   columns={"a": "u8", "b": Column("u8", may_miss=True)})
+        self.fails(b"1;\n;2\n", "Empty", 1, 0, 3, columns={"a": "u8", "b": columns["a"]})
+
+    def test_progress(self):
+        for size in 14, 20, 99:
+            told = []
+            rows_of(io.BytesIO(TEXT), size=size, progress=told.append)
+            self.assertEqual((sum(told), max(told)), (len(TEXT), min(size, len(TEXT))))
+        tables = iter_table(io.BytesIO(TEXT), LEDGER, ";", True, size=15, progress=lambda: None)
+        self.assertEqual(lists(next(tables))["day"], [1])
+        self.assertRaises(TypeError, next, tables)
+        self.assertEqual(list(tables), [])
+
     def test_types_and_formats(self):
         hexadecimal = Format(mantissa_radix=16)
         for bits in (8, 16, 32, 64):
             half = 2**(bits - 1)
             for letter, least, greatest in (("u", 0, 2 * half - 1), ("i", -half, half - 1)):
                 kind = f"{letter}{bits}"
-                table = parse_table(f"{least},{greatest:x}", {"a": kind, "b": (kind, hexadecimal)})
+                columns = {"a": kind, "b": Column(kind, hexadecimal)}
+                table = parse_table(f"{least},{greatest:x}", columns)
                 self.assertEqual(lists(table), {"a": [least], "b": [greatest]})
                 self.assertEqual(memoryview(table["a"]).itemsize, bits // 8)
 
@@ -128,12 +176,43 @@ class Tables(unittest.TestCase):
         del out["day"]
         self.assertRaises(KeyError, parse_table, TEXT, LEDGER, ";", True, out=out)
 
+    def test_bits_of_the_caller(self):
+        columns = {"a": Column("u8", may_miss=True)}
+        numbers, bits = array("B", [9] * 9), bytearray(b"\xff" * 2)
+        table = parse_table(b"1\n\n" * 4, columns, out={"a": (numbers, bits)})
+        self.assertEqual(lists(table), {"a": [1, None] * 4})
+        self.assertEqual((numbers.tolist(), bytes(bits)), ([1, 0] * 4 + [9], b"\x55\xff"))
+        for given in (numbers, (numbers, bits[:0]), (numbers[:1], bits), (numbers, numbers),
+                      (numbers, array("H", [9])), (numbers, b"\0\0"), (numbers, None), (numbers,)):
+            with self.assertRaises((ValueError, TypeError, BufferError)):
+                parse_table(b"1\n2\n", columns, out={"a": given})
+        with self.assertRaisesRegex(ValueError, "out has to have an array for the column 'a'"):
+            parse_table(b"1", {"a": "u8"}, out={"a": (numbers, bits)})
+        self.assertEqual((numbers.tolist(), bytes(bits)), ([1, 0] * 4 + [9], b"\x55\xff"))
+
+    def test_memory_that_is_shared(self):
+        columns, whole = {"a": "u8", "b": "u8"}, bytearray(b"1,2\n3,4\n")
+        with memoryview(whole) as view:
+            for text, missing, first, second in (
+                (b"1,2\n3,4", b"", view[:2], view[:2]),
+                (b"1,2\n3,4", b"", view[1:3], view[2:4]),
+                (b"1,2\n3,4", view[4:5], view[3:5], view[5:]),
+                (view, b"", view[6:], bytearray(2)),
+            ):
+                with self.assertRaisesRegex(ValueError, "memory of its own"):
+                    parse_table(text, columns, missing=missing, out={"a": first, "b": second})
+            parse_table(view[:8], columns, out={"a": bytearray(2), "b": bytearray(2)})
+            parse_table(b"1,2\n3,4", columns, out={"a": view[:2], "b": view[2:4]})
+        self.assertEqual(bytes(whole), b"\1\3\2\4" b"3,4\n")
+
     def test_wrong_arguments(self):
         for columns in ({"a": "u128"}, {"a": "u7"}, {"a": "f64"}):
             self.assertRaises(ValueError, parse_table, b"1", columns)
         self.assertRaises(TypeError, parse_table, b"1", {"a": 7})
         self.assertRaises(TypeError, parse_table, 7, {"a": "u8"})
-        self.assertRaises(TypeError, parse_table, b"1", {"a": ("u8", "hex")})
+        self.assertRaises(TypeError, parse_table, b"1", {"a": ("u8", None)})
+        self.assertRaises(TypeError, parse_table, b"1", {"a": Column("u8", "hex")})
+        self.assertRaises(TypeError, parse_table, b"1", {"a": "u8"}, missing=None)
         self.assertRaises(ValueError, parse_table, b"1", {"a": "u8"}, b"ab")
         self.assertRaises(ValueError, next, iter_table(io.BytesIO(b"1"), {"a": "u8"}, rows=0))
         self.assertRaises(ValueError, next, iter_table(io.BytesIO(b"1"), {"a": "u8"}, size=0))
@@ -153,7 +232,7 @@ class Tables(unittest.TestCase):
             _fields = b"\x0a" + bytes(30) + b"\x01"
 
         with self.assertRaises(FormatError):
-            parse_table(b"1", {"a": ("u8", Reserved())})
+            parse_table(b"1", {"a": Column("u8", Reserved())})
 
     def test_random_tables_beside_split(self):
         chance = random.Random(1)
@@ -172,15 +251,18 @@ class Tables(unittest.TestCase):
             self.assertEqual((caught.exception.row, caught.exception.column), wrong[0])
 
     def test_memory_is_given_back(self):
-        out = {"day": array("H", [9] * 2), "cents": array("q", [9] * 2)}
-        before = [sys.getrefcount(values) for values in out.values()]
-        for text in [TEXT, b"1;2"] * 200:
+        columns = {**LEDGER, "cents": Column("i64", may_miss=True)}
+        day, cents, bits = array("H", [9] * 2), array("q", [9] * 2), bytearray(1)
+        kept = day, cents, bits, TEXT
+        before = [sys.getrefcount(it) for it in kept]
+        for text, given in [(TEXT, bits), (b"1;2", bits), (TEXT, cents), (7, bits)] * 200:
             try:
-                parse_table(text, LEDGER, ";", True, out=out)
-            except ParseError:
+                parse_table(text, columns, ";", True, out={"day": day, "cents": (cents, given)})
+            except (ParseError, TypeError, ValueError):
                 pass
-        self.assertEqual([sys.getrefcount(values) for values in out.values()], before)
-        out["day"].append(7)  # (no buffer is kept)
+        del text, given
+        self.assertEqual([sys.getrefcount(it) for it in kept], before)
+        day.append(7), cents.append(7), bits.append(7)  # (no buffer is kept)
 
     @unittest.skipUnless(HAS_NUMPY, "NumPy isn't installed")
     def test_arrays_of_numpy(self):
@@ -195,11 +277,17 @@ class Tables(unittest.TestCase):
         self.assertEqual(lists(out), {"day": [1, 365], "cents": [-80000, 7]})
 
     def test_without_numpy(self):
-        said = subprocess.run(
-            [sys.executable, "-c", "import sys; sys.modules['numpy'] = None; import jadvolni; "
-             "print(jadvolni.parse_table('1,2', {'a': 'u8', 'b': 'i16'}))"],
-            stdout=subprocess.PIPE, text=True, check=True).stdout
-        self.assertEqual(said, "{'a': array('B', [1]), 'b': array('h', [2])}\n")
+        code = """
+import sys
+sys.modules['numpy'] = None
+from jadvolni import Column, parse_table
+table = parse_table('1,2\\n,3', {'a': Column('u8', may_miss=True), 'b': 'i16'})
+print(table, table['a'].present)
+"""
+        said = subprocess.run([sys.executable, "-c", code], stdout=subprocess.PIPE, text=True,
+                              check=True).stdout
+        sparse = "Sparse(numbers=array('B', [1, 0]), bits=array('B', [1]))"
+        self.assertEqual(said, f"{{'a': {sparse}, 'b': array('h', [2, 3])}} [True, False]\n")
 
 
 if __name__ == "__main__":

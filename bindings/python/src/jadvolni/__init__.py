@@ -34,12 +34,14 @@ from . import formats
 from ._format import Format
 from ._blocks import iter_column
 from ._numpy import numpy_column
-from ._tables import iter_table, parse_table, read_table
+from ._tables import Column, Sparse, iter_table, parse_table, read_table
 
 __all__ = [
+    "Column",
     "Format",
     "FormatError",
     "ParseError",
+    "Sparse",
     "__version__",
     "formats",
     "iter_column",

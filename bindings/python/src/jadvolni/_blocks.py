@@ -2,7 +2,7 @@
 
 from __future__ import annotations
 
-from typing import IO, TYPE_CHECKING, Iterator, Optional, Union
+from typing import IO, TYPE_CHECKING, Callable, Iterator, Optional, Union
 
 from ._core import _parse_part
 from ._format import Format
@@ -23,25 +23,37 @@ def _block(file: IO[bytes], size: int) -> bytes:
     raise TypeError(f"file has to give bytes, and not {type(block).__name__}: open it with \"rb\"")
 
 
+def _blocks(
+    file: IO[bytes], size: int, progress: Optional[Callable[[int], object]]
+) -> Iterator[bytes]:
+    """The blocks of a file, and behind them one without a byte."""
+    while block := _block(file, size):
+        yield block
+        if progress:
+            progress(len(block))
+    yield b""
+
+
 def iter_column(
     file: IO[bytes],
     type: ColumnType = "i64",
     separator: Union[bytes, str] = b"\n",
     format: Optional[Format] = None,
     size: int = 1 << 20,
+    progress: Optional[Callable[[int], object]] = None,
 ) -> Iterator[array[int]]:
     """The numbers of a file's fields, an array for each block of about `size` bytes.
 
     A field that a block cuts is read with the next one. ParseError counts `field`, `start` and
     `place` over the whole file, and the arrays before it stand. A field of more than `size` bytes
-    is a ValueError, so that no more than two blocks are held.
+    is a ValueError, so that no more than two blocks are held. `progress`, as `update` of a bar of
+    tqdm, is called behind each block with how many bytes it had; what it raises ends the reading.
     """
     if size < 1:
         raise ValueError(f"size has to be 1 or more, and not {size}")
     parted = separator.encode() if isinstance(separator, str) else separator
     left, field, start = b"", 0, 0
-    while True:
-        block = _block(file, size)
+    for block in _blocks(file, size, progress):
         text = left + block
         whole = text.rfind(parted) + 1 if block else len(text)
         if block and not whole and len(text) > size:
@@ -49,6 +61,4 @@ def iter_column(
         numbers = _parse_part(text[:whole], type, parted, format, field, start)
         if numbers:
             yield numbers
-        if not block:
-            return
         left, field, start = text[whole:], field + len(numbers), start + whole

@@ -55,10 +55,9 @@ def _parse_part(
 def _parse_table(
     text: Text,
     is_last: bool,
-    separator: Text,
-    flags: tuple[bool, bool, bool, bool],
+    how: tuple[Any, ...],
     rows: int,
-    columns: tuple[Optional[tuple[Any, ColumnType, Optional[Format]]], ...],
+    columns: tuple[Optional[tuple[Any, Any, ColumnType, Optional[Format]]], ...],
     row: int,
     start: int,
 ) -> tuple[int, int]: ...

@@ -5,19 +5,50 @@ from __future__ import annotations
 import mmap
 import os
 from array import array
-from typing import IO, TYPE_CHECKING, Any, Iterator, Mapping, NamedTuple, Optional, Union
+from typing import IO, TYPE_CHECKING, Any, Callable, Iterator, Mapping, NamedTuple, Optional, Union
 
-from ._blocks import _block
+from ._blocks import _block, _blocks
 from ._core import _array_code, _parse_table, _row_count
 from ._format import Format
 
 if TYPE_CHECKING:
     from ._core import ColumnType, Text
 
-    # What is read of a column: nothing, or numbers of a type, under a format.
-    Columns = Mapping[str, Optional[Union[ColumnType, tuple[ColumnType, Format]]]]
-    # The columns that are read, as arrays of NumPy where it is installed, and else of `array`.
+    # What is read of a column: nothing, numbers of a type, or what a Column says.
+    Columns = Mapping[str, Optional[Union[ColumnType, "Column"]]]
+    # The columns that are read: arrays, NumPy's where it is installed and else those of `array`, or
+    # a Sparse of them where numbers may be missing.
     Table = dict[str, Any]
+
+
+class Column(NamedTuple):
+    """What is read of a column: numbers of a type, under a format, of which some may be missing."""
+
+    type: ColumnType
+    format: Optional[Format] = None
+    may_miss: bool = False
+
+
+class Sparse(NamedTuple):
+    """The numbers of a column that may miss some, which are 0, and the bits that say where.
+
+    The bits are Arrow's: the bit k & 7 of byte k >> 3, where bit 0 is the lowest, is 1 if row k has
+    a number.
+    """
+
+    numbers: Any
+    bits: Any
+
+    @property
+    def present(self) -> Any:
+        """Whether each row has a number: an array of NumPy where it is installed, else a list."""
+        count = len(self.numbers)
+        try:
+            import numpy
+        except ImportError:
+            return [bool(self.bits[row >> 3] >> (row & 7) & 1) for row in range(count)]
+        bits = numpy.asarray(self.bits)
+        return numpy.unpackbits(bits, count=count, bitorder="little").view(bool)
 
 
 class _Part(NamedTuple):
@@ -28,29 +59,47 @@ class _Part(NamedTuple):
     start: int = 0
 
 
-class _Reader(NamedTuple):
+class _Reader:
     """How a table is written, and what is read of it."""
 
-    columns: Columns
-    separator: Text
-    flags: tuple[bool, bool, bool, bool]
+    def __init__(self, columns: Columns, *how: Any) -> None:
+        self.columns = {name: it if it is None or isinstance(it, Column) else Column(it)
+                        for name, it in columns.items()}
+        self.read = {name: it for name, it in self.columns.items() if it is not None}
+        self.how = how
 
     def room(self, rows: int) -> Table:
-        """An array of so many numbers for each column that is read."""
-        kinds = {name: kind for name, kind in self.columns.items() if kind is not None}
-        return {name: _zeros(_array_code(_parts(kind)[0]), rows) for name, kind in kinds.items()}
+        """Arrays for so many rows."""
+        return {name: _room(column, rows) for name, column in self.read.items()}
+
+    def room_of(self, out: Table, rows: int) -> Table:
+        """The caller's arrays, which have to be for so many rows."""
+        for name, column in self.read.items():
+            numbers, bits = _pair(out[name])
+            if (bits is not None) != column.may_miss:
+                wanted = "a Sparse" if column.may_miss else "an array"
+                raise ValueError(f"out has to have {wanted} for the column {name!r}")
+            if len(numbers) < rows or (bits is not None and 8 * len(bits) < rows):
+                raise ValueError(f"out has to have room for the {rows} rows of the text")
+        return {name: out[name] for name in self.read}
 
     def parse(self, text: Text, arrays: Table, rows: int, part: _Part) -> tuple[int, int]:
         """Reads so many rows at most into arrays, and answers how many, and where it stopped."""
-        columns = tuple(None if kind is None else (arrays[name], *_parts(kind))
-                        for name, kind in self.columns.items())
-        return _parse_table(text, part.is_last, self.separator, self.flags, rows, columns, part.row,
-                            part.start)
+        columns = tuple(None if it is None else (*_pair(arrays[name]), it.type, it.format)
+                        for name, it in self.columns.items())
+        return _parse_table(text, part.is_last, self.how, rows, columns, part.row, part.start)
 
 
-def _parts(kind: Any) -> tuple[Any, Optional[Format]]:
-    """The type and the format of a column."""
-    return kind if isinstance(kind, tuple) else (kind, None)
+def _pair(values: Any) -> tuple[Any, Any]:
+    """The numbers of a column, and its bits or None."""
+    numbers, bits = values if isinstance(values, tuple) else (values, None)
+    return numbers, bits
+
+
+def _room(column: Column, rows: int) -> Any:
+    """What a column of so many rows is read into."""
+    numbers = _zeros(_array_code(column.type), rows)
+    return Sparse(numbers, _zeros("B", (rows + 7) // 8)) if column.may_miss else numbers
 
 
 def _zeros(code: str, count: int) -> Any:
@@ -62,10 +111,16 @@ def _zeros(code: str, count: int) -> Any:
     return numpy.zeros(count, code)
 
 
-def _front(arrays: Table, count: int) -> Table:
-    """The arrays, cut behind so many numbers."""
-    return {name: values if len(values) == count else values[:count]
-            for name, values in arrays.items()}
+def _front(values: Any, count: int) -> Any:
+    """What a column was read into, cut behind so many rows."""
+    if isinstance(values, tuple):
+        return Sparse(_front(values[0], count), _front(values[1], (count + 7) // 8))
+    return values if len(values) == count else values[:count]
+
+
+def _fronts(arrays: Table, count: int) -> Table:
+    """Each column, cut behind so many rows."""
+    return {name: _front(values, count) for name, values in arrays.items()}
 
 
 def parse_table(
@@ -76,28 +131,27 @@ def parse_table(
     has_quotes: bool = False,
     allows_blanks: bool = False,
     skips_empty_rows: bool = False,
+    missing: Text = b"",
     out: Optional[Table] = None,
 ) -> Table:
     """The rows of a text, each column as an array.
 
-    `columns` names the cells of a row in their order, each with its type, a type and a Format, or
-    None where it isn't read. A row has one cell more than separators. The arrays are NumPy's where
-    it is installed, and else of the module array; or those of `out`, up to the last row.
+    `columns` names the cells of a row in their order, each with its type, a Column, or None where
+    it isn't read. A row has one cell more than separators. The arrays are NumPy's where it is
+    installed, and else of the module array; or those of `out`, up to the last row.
 
     has_returns: a return stands before each line feed. has_quotes: a cell may stand within '"'.
     allows_blanks: spaces and tabs may stand around a number. skips_empty_rows: a row without a
-    byte is none.
+    byte is none. missing: what stands for a missing number where a Column has may_miss, which then
+    is a Sparse: by default an empty cell.
 
     ParseError has the first wrong cell in reading order, by `row`, `column` and `place`, from 0.
     """
-    flags = (has_returns, has_quotes, allows_blanks, skips_empty_rows)
-    reader = _Reader(columns, separator, flags)
-    rows = _row_count(text)
-    if out is not None and any(len(values) < rows for values in out.values()):
-        raise ValueError(f"out has to have room for the {rows} rows of the text")
-    arrays = reader.room(rows) if out is None else out
+    how = (separator, has_returns, has_quotes, allows_blanks, skips_empty_rows, missing)
+    reader, rows = _Reader(columns, *how), _row_count(text)
+    arrays = reader.room(rows) if out is None else reader.room_of(out, rows)
     count, _ = reader.parse(text, arrays, rows, _Part())
-    return _front(arrays, count)
+    return _fronts(arrays, count)
 
 
 def read_table(
@@ -124,28 +178,29 @@ def iter_table(
     has_quotes: bool = False,
     allows_blanks: bool = False,
     skips_empty_rows: bool = False,
+    missing: Text = b"",
     rows: int = 100_000,
     size: int = 1 << 20,
+    progress: Optional[Callable[[int], object]] = None,
 ) -> Iterator[Table]:
     """The rows of a file of any size, by tables of at most so many rows and about `size` bytes.
 
     A row that a block cuts is read with the next one. ParseError counts `row` and `place` over the
     whole file, and the tables before it stand. A row of more than `size` bytes is a ValueError, so
-    that no more than two blocks are held.
+    that no more than two blocks are held. `progress` is called as by iter_column.
     """
     if rows < 1 or size < 1:
         raise ValueError(f"rows and size have to be 1 or more, and not {rows} and {size}")
-    flags = (has_returns, has_quotes, allows_blanks, skips_empty_rows)
-    reader, left, part = _Reader(columns, separator, flags), b"", _Part(False)
-    while not part.is_last:
-        block = _block(file, size)
+    how = (separator, has_returns, has_quotes, allows_blanks, skips_empty_rows, missing)
+    reader, left, part = _Reader(columns, *how), b"", _Part(False)
+    for block in _blocks(file, size, progress):
         text, part, done, count = left + block, part._replace(is_last=not block), 0, rows
         while count == rows:
             arrays = reader.room(rows)
             count, stop = reader.parse(memoryview(text)[done:], arrays, rows, part)
             done, part = done + stop, part._replace(row=part.row + count, start=part.start + stop)
             if count:
-                yield _front(arrays, count)
+                yield _fronts(arrays, count)
         left = text[done:]
         if block and len(left) > size:
             raise ValueError(f"the row at byte {part.start} has more than {size} bytes")

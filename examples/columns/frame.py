@@ -1,0 +1,42 @@
+"""Reads a table of lines `DAY;NAME;CENTS` as a DataFrame of pandas, and copies no number.
+
+    python3 frame.py FILE
+
+CENTS may be empty, and is then missing: NA, and no 0. The first wrong cell is told.
+"""
+
+import sys
+
+import pandas
+
+import jadvolni
+
+CELLS = {"day": "u16", "name": None, "cents": jadvolni.Column("i64", may_miss=True)}
+
+
+def frame_of(table):
+    """A DataFrame over the arrays of a table."""
+    series = {name: pandas.arrays.IntegerArray(values.numbers, ~values.present)
+              if isinstance(values, jadvolni.Sparse) else values for name, values in table.items()}
+    return pandas.DataFrame(series, copy=False)
+
+
+def main() -> None:
+    """The command line."""
+    if len(sys.argv) != 2:
+        print(__doc__.strip(), file=sys.stderr)
+        sys.exit(2)
+    path = sys.argv[1]
+    try:
+        frame = frame_of(jadvolni.read_table(path, CELLS, ";"))
+    except jadvolni.ParseError as error:
+        cell = f"line {error.row + 1}, cell {error.column + 1}, byte {error.place}"
+        sys.exit(f"{path}: {cell}: {error.kind}")
+    except OSError as error:
+        sys.exit(f"{path}: {error.strerror}")
+    cents = frame["cents"]
+    print(f"{len(frame)} rows, {cents.isna().sum()} without cents, {cents.min()} to {cents.max()}")
+
+
+if __name__ == "__main__":
+    main()
