@@ -195,10 +195,13 @@ def iter_table(
     reader, left, part = _Reader(columns, *how), b"", _Part(False)
     for block in _blocks(file, size, progress):
         text, part, done, count = left + block, part._replace(is_last=not block), 0, rows
+        lines = _row_count(text)
         while count == rows:
-            arrays = reader.room(rows)
-            count, stop = reader.parse(memoryview(text)[done:], arrays, rows, part)
-            done, part = done + stop, part._replace(row=part.row + count, start=part.start + stop)
+            room = max(1, min(rows, lines))
+            arrays = reader.room(room)
+            count, stop = reader.parse(memoryview(text)[done:], arrays, room, part)
+            done, lines = done + stop, lines - count
+            part = part._replace(row=part.row + count, start=part.start + stop)
             if count:
                 yield _fronts(arrays, count)
         left = text[done:]
