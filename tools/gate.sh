@@ -123,10 +123,13 @@ mkdir -p "$copy/build/wasm"
 for to in "$copy" "$copy/build/wasm"; do cp -a --parents -t "$to" crates/*/out/rlib; done 2> /dev/null
 {
     in_copy libraries make -s build/libjadvolni.a
-    in_copy javascript make -s test-js
-    in_copy page make -s test-page
+    {
+        in_copy javascript make -s test-js
+        in_copy page make -s test-page
+    } &
     in_copy programs python3 tools/must_not_compile.py
     in_copy callers make -s test-c
+    wait
 } &
 beside=$!
 part proofs proofs 3>&1
