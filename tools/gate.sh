@@ -82,7 +82,7 @@ proofs() {
 in_copy() { # NAME COMMAND..
     name=$1
     shift
-    (cd "$copy" && nice "$@") > "$copy/$name.log" 2>&1
+    (cd "$copy" && "$@") > "$copy/$name.log" 2>&1
     echo $? > "$copy/$name.status"
 }
 told() { # NAME
