@@ -65,6 +65,7 @@ layout() {
 # it took away says nothing of a contract; `rt ci` names most of these, and the rest break off at a
 # record or a module of proofs/.
 proofs() {
+    rm -rf build/wasm # what `make wasm` left: crates that `rt ci` finds in no list
     edits=$(find crates/*/must-fail -name '*.edit' | wc -l)
     wanted=$(($(grep -c '^[a-z]' crates.txt) + edits))
     "$RT" ci 2>&1 | tee build/ci.log | grep --line-buffered '^rt: ' >&3
