@@ -4,11 +4,12 @@
 #     tools/build.sh CRATE    a program, which is run over its args and no input, or the library for C
 #     tools/build.sh          only fails where there is no toolchain, with a sentence
 #
-# What the toolchain says goes to out/build.log; its last lines are shown where a crate isn't proved.
+# Crates of which none stands on another are built side by side. What the toolchain says of a crate goes
+# to out/CRATE.log; its last lines are shown where the crate isn't proved.
 # RT names the toolchain's command, if it isn't `rt`.
 set -eu
 cd "$(dirname "$0")/.."
-rt=${RT:-rt} log=out/build.log
+rt=${RT:-rt}
 exec 1>&2
 command -v "$rt" > /dev/null || {
     echo "there is no \`$rt\` on the PATH: install the Rattle toolchain, or name its command," \
@@ -16,29 +17,48 @@ command -v "$rt" > /dev/null || {
     exit 1
 }
 
-# The crates that one stands on, each behind those below it, and then itself; some come twice.
+# The crates that one stands on.
+below() { sed -n "s/^$1\( [^:]*\)\{0,1\}: *//p" crates.txt; }
+
+# These, each behind those below it, and then itself; some come twice.
 crates_below() {
-    for below in $(sed -n "s/^$1\( [^:]*\)\{0,1\}: *//p" crates.txt); do crates_below "$below"; done
+    for crate_below in $(below "$1"); do crates_below "$crate_below"; done
     echo "$1"
+}
+
+build() { # CRATE NUMBER
+    where="$2 of $count  $1" log=out/$1.log start=$(date +%s) command=lib
+    echo "$where: proving and building .."
+    if [ -f "crates/$1/src/main.rt" ]; then
+        command="run -- $(cat "crates/$1/args" 2> /dev/null || :)"
+    fi
+    # shellcheck disable=SC2086 # (a command and its words)
+    (cd "crates/$1" && "$rt" $command < /dev/null) > "$log" 2>&1 || {
+        tail -n 40 "$log"
+        echo "$where: not built; $log has all that was said"
+        return 1
+    }
+    echo "$where: done in $(($(date +%s) - start)) s"
+}
+
+# Waits for the crates that are being built.
+built() {
+    failed=0
+    for job in $jobs; do wait "$job" || failed=1; done
+    jobs='' beside=''
+    test "$failed" = 0
 }
 
 if [ $# -eq 0 ]; then exit; fi
 mkdir -p out
-: > "$log"
 crates=$(crates_below "$1" | awk '!there[$0]++')
-count=$(echo "$crates" | wc -l) number=0
+count=$(echo "$crates" | wc -l) number=0 jobs='' beside=''
 for crate in $crates; do
-    number=$((number + 1)) start=$(date +%s) command=lib
-    where="$number of $count  $crate"
-    echo "$where: proving and building .."
-    if [ -f "crates/$crate/src/main.rt" ]; then
-        command="run -- $(cat "crates/$crate/args" 2> /dev/null || :)"
-    fi
-    # shellcheck disable=SC2086 # (a command and its words)
-    (cd "crates/$crate" && "$rt" $command < /dev/null) >> "$log" 2>&1 || {
-        tail -n 40 "$log"
-        echo "$where: not built; $log has all that was said"
-        exit 1
-    }
-    echo "$where: done in $(($(date +%s) - start)) s"
+    for crate_below in $(below "$crate"); do
+        case " $beside " in *" $crate_below "*) built ;; esac
+    done
+    number=$((number + 1))
+    build "$crate" "$number" &
+    jobs="$jobs $!" beside="$beside $crate"
 done
+built
