@@ -1,8 +1,9 @@
 -- What is left of a row whose cells have widths.
-use Rattle.std.proofs.Common.{◌≡◌, ◌∙◌, ℕ, ◌+◌, ◌-◌, ◌<◌, ◌≤◌, List, [], ◌∷◌, length, take, drop, get_or, Bool, true, false, not, cond, Option, Some, None, refl, ap, sym, arith, drop-cons, length-drop}
+use Rattle.std.proofs.Common.{◌≡◌, ◌∙◌, ℕ, suc, ◌+◌, ◌-◌, ◌<◌, ◌≤◌, List, [], ◌∷◌, length, take, drop, get_or, Bool, true, false, not, cond, eqb, Option, Some, None, refl, ap, sym, arith, inl, inr, drop-cons, length-drop}
 use Rattle.std.specs.Bool.{then_some}
 use Rattle.std.specs.Prelude.{nat_lt}
 use Rattle.std.proofs.lemmas.Bool.{le-ltb, lt-ltb}
+use Rattle.std.proofs.lemmas.Bool.Decides.{eqb_tells}
 use Rattle.std.proofs.lemmas.List.{drop_all}
 use Rattle.lexical_fields.specs.Fields.{FieldView}
 use Rattle.lexical_tables.specs.ByColumn.{cells_by_width, end_fault, first_start, wrong_cell}
@@ -28,7 +29,9 @@ module _ (widths : List ℕ) (row : RowView) (column : ℕ) (rest : List ℕ) wh
   place = row.start + (length row.text - length rest)
 
   split_widths : column < length widths → drop column widths ≡ width ∷ drop (column + 1) widths
-  split_widths more = drop-cons column widths 0 more
+  split_widths more =
+      let plus : suc column ≡ column + 1 = omega arith in
+      drop-cons widths column 0 more ∙ ap (λ k. width ∷ drop k widths) plus
 
   by_test : (t : Bool) → column < length widths → nat_lt (length rest) width ≡ t
       → left_by_width widths row column rest ≡ cond t [] (record { start = place; text = take width rest }
@@ -57,19 +60,18 @@ module _ (widths : List ℕ) (row : RowView) (column : ℕ) (rest : List ℕ) wh
   pub short_left : column < length widths → length rest < width → left_by_width widths row column rest ≡ []
   short_left more short = by_test true more (lt-ltb (length rest) width short)
 
-  starts : (bytes : List ℕ) → first_start (cells_by_width [] place bytes) ≡ cond (nat_lt 0 (length bytes)) (Some place) None
+  starts : (bytes : List ℕ) → first_start (cells_by_width [] place bytes) ≡ then_some (not (eqb (length bytes) 0)) place
   starts [] = refl
-  starts (byte ∷ bytes) = refl
-
-  as_cond : (t : Bool) → then_some t place ≡ cond t (Some place) None
-  as_cond true = refl
-  as_cond false = refl
+  starts (byte ∷ bytes) = elim (eqb_tells (length (byte ∷ bytes)) 0) [
+    | inl is ↦ absurd (omega (arith, is.1))
+    | inr is ↦ ap (λ t. then_some (not t) place) (sym is.0)
+  ]
 
   -- behind the last width one more cell starts, where there is a byte
-  pub start_by_width : length widths ≤ column
-      → then_some (nat_lt 0 (length rest)) place ≡ first_start (left_by_width widths row column rest)
-  start_by_width all =
-      as_cond (nat_lt 0 (length rest)) ∙ sym (starts rest)
+  pub start_by_width : (is_empty : Bool) (extra : Option ℕ) → length widths ≤ column → is_empty ≡ eqb (length rest) 0
+      → extra ≡ then_some (not is_empty) place → extra ≡ first_start (left_by_width widths row column rest)
+  start_by_width is_empty extra all empty is =
+      is ∙ ap (λ t. then_some (not t) place) empty ∙ sym (starts rest)
       ∙ ap (λ l. first_start (cells_by_width l place rest)) (sym (drop_all column widths all))
 
 -- where cells are too few, nothing else counts

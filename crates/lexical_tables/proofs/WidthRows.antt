@@ -1,7 +1,9 @@
 -- Tables whose cells have widths.
-use Rattle.std.specs.Prelude.{◌≡◌, ◌++◌, ℕ, List, codes, [], ◌∷◌, map, option_map, pos, negsuc, true, false, Option, Some, None, Ok, Err}
+use Rattle.std.specs.Prelude.{◌≡◌, ◌++◌, ℕ, List, codes, [], ◌∷◌, pos, negsuc, true, false, Option, Some, None, Ok, Err}
 use Rattle.std.proofs.Common.{refl}
 use Rattle.lexical_util.specs.declared.error.Error.TheVariants.{Empty, InvalidDigit, Overflow}
+use Rattle.lexical_util.specs.Format.{standard}
+use Rattle.lexical_util.specs.Number.{integer_type}
 use Rattle.lexical_parse_integer.specs.Computed.{grammar}
 use Rattle.lexical_tables.specs.ByColumn.{columns_answer, columns_put, wrong_cell}
 use Rattle.lexical_tables.specs.Cells.{Kind}
@@ -16,7 +18,9 @@ wide widths = record (plain 0 false) { layout = Widths (record { ref_ptr = (0, 0
 
 -- two kinds whose numbers may be missing
 abbrev marked : List (Option Kind)
-marked = map (option_map (λ kind. record kind { may_miss = true })) both
+marked =
+    Some (record { format = standard; type = integer_type 8 false; may_miss = true })
+    ∷ Some (record { format = standard; type = integer_type 8 false; may_miss = true }) ∷ []
 
 -- two of three bytes
 abbrev threes : Dialect

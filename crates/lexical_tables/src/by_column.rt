@@ -2,7 +2,7 @@
 
 ghost use Rattle.std.specs.Prelude.{◌≡◌, ◌+◌, ◌-◌, ◌<◌, ◌≤◌, ◌^◌, length, take, drop, map, is_some, option_map, true, IfOk};
 ghost use Rattle.lexical_fields.specs.Search.{AreMarks};
-ghost use Rattle.lexical_tables.specs.ByColumn.{AreUsable, IsUsable, StopsAt, answer_at, columns_answer, columns_put, end_fault, fault_in, kind_of, kinds_of, put_read, put_read_at, put_row, row_fault, row_values};
+ghost use Rattle.lexical_tables.specs.ByColumn.{AreUsable, IsUsable, StopsAt, answer_at, cells_by_width, cells_of, column_count, columns_answer, columns_put, end_fault, fault_in, kind_of, kinds_of, put_read, put_read_at, put_row, row_fault, row_values};
 ghost use Rattle.lexical_tables.specs.Cells.{answer_as, view_of_cell};
 ghost use Rattle.lexical_tables.specs.Quotes.{length_outside};
 ghost use Rattle.lexical_tables.specs.Rows.{view_of_row};

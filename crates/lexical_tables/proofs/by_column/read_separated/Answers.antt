@@ -1,4 +1,4 @@
-use Rattle.std.proofs.Common.{◌≡◌, ◌∙◌, ◌-◌, inl, inr, arith, rules, refl, ap, sym, length, drop, map, subst}
+use Rattle.std.proofs.Common.{◌∙◌, ◌-◌, inl, inr, arith, rules, refl, ap, length, drop, map, subst}
 use Rattle.std.proofs.lemmas.Bool.Decides.{nat_tests}
 use Rattle.std.proofs.lemmas.List.{take_rest}
 use Rattle.lexical_fields.specs.Search.{AreMarks}
