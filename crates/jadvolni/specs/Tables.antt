@@ -11,6 +11,7 @@ use Rattle.lexical_tables.specs.declared.answers.CellFault.TheVariants.{Misplace
 use Rattle.lexical_tables.specs.declared.answers.Table.{Table}
 use Rattle.lexical_tables.specs.declared.answers.TableError.{TableError}
 use Rattle.lexical_tables.specs.declared.dialect.Dialect.{Dialect}
+use Rattle.lexical_tables.specs.declared.dialect.Layout.TheVariants.{Separated}
 use Rattle.jadvolni.specs.Effect.{fault_place, fault_status, format_status, signed, unsigned}
 use Rattle.jadvolni.specs.FormatFields.{are_zeros, flag, format_of}
 use Rattle.jadvolni.specs.declared.table_columns.ColumnFields.{ColumnFields}
@@ -157,8 +158,7 @@ table_effect outcome columns = record { outcome = outcome; targets = map target_
 -- how a table is written, whose rows have so many cells
 abbrev pub dialect_of : TableFields → ℕ → Dialect
 dialect_of table columns = record {
-  separator = table.separator;
-  columns = columns;
+  layout = Separated table.separator columns;
   has_returns = flag table.has_returns;
   has_quotes = flag table.has_quotes;
   allows_blanks = flag table.allows_blanks;
@@ -180,5 +180,5 @@ abbrev pub table_call : TableFields → Bool → ℕ → List ℕ → List Colum
 table_call table is_last rows text columns =
     if are_zeros table.reserved
     then table_read (wrong_column rows 0 columns) (dialect_of table (length columns)) rows
-    (readable is_last (flag table.has_quotes) text) (map target_of columns)
+    (readable is_last (dialect_of table (length columns)) text) (map target_of columns)
     else record { outcome = refused invalid_table 0; targets = map target_of columns }

@@ -7,7 +7,7 @@ ghost use Rattle.jadvolni.specs.Tables.{cell_place, cell_status, dialect_of, out
 use crate::outcome::status_of;
 use crate::table_columns::{ColumnFields, INVALID_TABLE};
 use lexical_parse_integer::options;
-use lexical_tables::{CellFault, Dialect, Table, TableError, read_columns_part};
+use lexical_tables::{CellFault, Dialect, Layout, Table, TableError, read_columns_part};
 
 /// How a table is written: `jadvolni_table` in C, where each field is described.
 #[repr(C)]
@@ -124,8 +124,10 @@ pub extern "C" fn jadvolni_parse_table(
         return wrong;
     }
     let dialect = Dialect {
-        separator: table.separator,
-        columns: columns.len(),
+        layout: Layout::Separated {
+            separator: table.separator,
+            columns: columns.len(),
+        },
         has_returns: table.has_returns != 0,
         has_quotes: table.has_quotes != 0,
         allows_blanks: table.allows_blanks != 0,
