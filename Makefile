@@ -102,11 +102,11 @@ fuzz: $(PROGRAM) ## runs the program beside a reference implementation of the gr
 fuzz-edges: $(PROGRAM) ## the same over each length, end of a type and place of a separator: 3 million lines
 	@python3 tools/fuzz.py --edges
 
-# What it is asked: make fuzz-tables TABLES="--tables 30000 --seed 1".
+# What it is asked: make fuzz-tables TABLES="--tables 1000000 --seed 1", or TABLES="--all --longest 6".
 TABLES ?=
 
-fuzz-tables: | toolchain ## runs random tables through lexical_tables, beside a slow reading
-	@RT=$(RT) tests/tables/random_tables.py $(TABLES)
+fuzz-tables: $(LIBRARIES) ## runs tables through the C call, beside a slow reading: random ones, or all short texts
+	@CC=$(CC) tests/tables/compare.py $(TABLES)
 
 # What bench/run.py is asked: make bench BENCH="--rounds 50 --no-counts".
 BENCH ?=

@@ -3,28 +3,33 @@
     python3 copy_binary.py FILE > rows
     psql -c 'COPY ledger (day, cents) FROM STDIN BINARY' < rows
 
-DAY is an integer of 0 to 65535, and CENTS a bigint. The file may be of any size. Its first wrong
-cell is told, and the status is 1. Don't pipe the rows into psql: it would load those before a
-fault, since COPY asks for no end.
+DAY is an integer of 0 to 65535, and CENTS a bigint, or nothing for NULL. The file may be of any
+size. Its first wrong cell is told, and the status is 1. Don't pipe the rows into psql: it would
+load those before a fault, since COPY asks for no end.
 """
 
 import struct
 import sys
-from itertools import repeat
 
 import jadvolni
 
-CELLS = {"day": "u16", "name": None, "cents": "i64"}
-# A row: two fields, of 4 and 8 bytes, each behind its size.
+CELLS = {"day": "u16", "name": None, "cents": jadvolni.Column("i64", may_miss=True)}
+# A row: two fields, of 4 and 8 bytes, each behind its size; one that is NULL has the size -1 alone.
 ROW = struct.Struct("!hiiiq")
+ROW_WITH_NULL = struct.Struct("!hiii")
+
+
+def bytes_of(day: int, cents: int, has_cents: bool) -> bytes:
+    """A row."""
+    return ROW.pack(2, 4, day, 8, cents) if has_cents else ROW_WITH_NULL.pack(2, 4, day, -1)
 
 
 def copy(file, out) -> None:
     """Writes the rows of a file."""
     out.write(b"PGCOPY\n\xff\r\n\0" + bytes(8))
     for rows in jadvolni.iter_table(file, CELLS, ";"):
-        days, cents = rows["day"].tolist(), rows["cents"].tolist()
-        out.write(b"".join(map(ROW.pack, repeat(2), repeat(4), days, repeat(8), cents)))
+        days, cents = rows["day"].tolist(), rows["cents"]
+        out.write(b"".join(map(bytes_of, days, cents.numbers.tolist(), cents.present)))
     out.write(b"\xff\xff")
 
 

@@ -6,12 +6,14 @@ it judges the first. A number is read by tools/reference.py.
 """
 from __future__ import annotations
 
+import functools
 import os
 import sys
 from dataclasses import dataclass
 from typing import Dict, Iterator, List, NamedTuple, Optional, Sequence, Tuple, Union
 
-sys.path.insert(0, os.path.join(os.path.dirname(os.path.abspath(__file__)), "..", "..", "tools"))
+TOP = os.path.join(os.path.dirname(os.path.abspath(__file__)), "..", "..")
+sys.path.insert(0, os.path.join(TOP, "tools"))
 
 from reference import TYPES, Fault as NumberFault, Format, Value, parse  # noqa: E402
 
@@ -140,6 +142,12 @@ def content_of(text: bytes, cell: Piece, dialect: Dialect) -> Piece:
 Fault = Tuple[str, int]
 
 
+@functools.lru_cache(maxsize=1 << 16)
+def number_in(target: Target, inner: bytes) -> Union[Value, NumberFault]:
+    """The number of a column that is all of a text, or its fault. Answers are kept: most repeat."""
+    return parse(target.form, TYPES[target.type], inner, False)
+
+
 def number_of(text: bytes, cell: Piece, dialect: Dialect,
               target: Target) -> Union[Fault, Optional[int]]:
     """The number in a cell, whose quotes are well: or its fault, or None where it misses."""
@@ -147,7 +155,7 @@ def number_of(text: bytes, cell: Piece, dialect: Dialect,
     inner = text[content.start:content.stop]
     if target.may_miss and inner == dialect.missing:
         return None
-    answer: Union[Value, NumberFault] = parse(target.form, TYPES[target.type], inner, False)
+    answer = number_in(target, inner)
     if isinstance(answer, Value):
         return answer.value
     return answer.name, content.start + (answer.place or 0)

@@ -116,6 +116,9 @@ PyObject *parse_table(PyObject *module, PyObject *const *args, Py_ssize_t count)
 
 PyObject *row_count(PyObject *module, PyObject *given);
 
+/* Where the parts of a text stop that threads may read: _row_stops(text, count, has_quotes). */
+PyObject *row_stops(PyObject *module, PyObject *args);
+
 PyObject *array_code(PyObject *module, PyObject *given);
 
 /* ---- _core.c ---- */

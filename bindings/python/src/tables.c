@@ -219,6 +219,53 @@ PyObject *row_count(PyObject *module, PyObject *given)
     return PyLong_FromSize_t(rows);
 }
 
+/* Where the row ends that a byte of a text stands in, which starts with a row. */
+static size_t row_end(const char *text, size_t len, size_t place, int has_quotes)
+{
+    size_t quotes = 0;
+    for (size_t k = 0; has_quotes && k < place; k++)
+        quotes += text[k] == '"';
+    for (size_t k = place; k < len; k++) {
+        quotes += has_quotes && text[k] == '"';
+        if (text[k] == '\n' && quotes % 2 == 0)
+            return k + 1;
+    }
+    return len;
+}
+
+/* Where about so many parts of a text stop, which are of one size but that each ends with a row. */
+static PyObject *stops_of(const borrowed_text *text, size_t count, int has_quotes)
+{
+    size_t stop = 0;
+    PyObject *stops = PyList_New(0);
+    for (size_t left = count; stops && stop < text->len; left--) {
+        size_t start = stop, size = text->len - start;
+        Py_BEGIN_ALLOW_THREADS
+        stop += left > 1 ? row_end(text->bytes + start, size, (size - 1) / left, has_quotes) : size;
+        Py_END_ALLOW_THREADS
+        PyObject *one = PyLong_FromSize_t(stop);
+        if (!one || PyList_Append(stops, one) < 0)
+            Py_CLEAR(stops);
+        Py_XDECREF(one);
+    }
+    return stops;
+}
+
+PyObject *row_stops(PyObject *module, PyObject *args)
+{
+    (void)module;
+    PyObject *given;
+    Py_ssize_t count;
+    int has_quotes;
+    borrowed_text text;
+    if (!PyArg_ParseTuple(args, "Onp", &given, &count, &has_quotes)
+        || borrow("text", given, &text) < 0)
+        return NULL;
+    PyObject *stops = stops_of(&text, (size_t)count, has_quotes);
+    give_back(&text);
+    return stops;
+}
+
 /* The code of the arrays of a type. */
 PyObject *array_code(PyObject *module, PyObject *given)
 {

@@ -5,7 +5,7 @@ use Rattle.lexical_util.specs.Number.{IntegerType}
 use Rattle.lexical_fields.specs.Fields.{FieldView}
 use Rattle.lexical_tables.specs.ByColumn.{columns_answer, columns_put, kinds_of}
 use Rattle.lexical_tables.specs.Parts.{readable}
-use Rattle.lexical_tables.specs.Targets.{TargetView, text_answer, with_number, with_row_bit}
+use Rattle.lexical_tables.specs.Targets.{Slice, TargetView, slice_of, text_answer, with_number, with_row_bit}
 use Rattle.lexical_tables.specs.declared.answers.CellFault.{CellFault}
 use Rattle.lexical_tables.specs.declared.answers.CellFault.TheVariants.{MisplacedQuote, MissingReturn, NotNumber, TooFewCells, TooManyCells}
 use Rattle.lexical_tables.specs.declared.answers.Table.{Table}
@@ -39,25 +39,31 @@ abbrev pub bits_of : List ℕ → Option (List ℕ)
 bits_of bytes = if length bytes == 0 then None else Some bytes
 
 -- a column as a target of numbers
-abbrev pub target_with : ColumnFields → IntegerType → List ℤ → Option TargetView
-target_with column type numbers = Some (record {
+abbrev pub target_with : ColumnFields → IntegerType → Slice → List ℤ → Option TargetView
+target_with column type slice numbers = Some (record {
   format = format_of column.format;
   type = type;
+  slice = slice;
   numbers = numbers;
+  bits = option_map (λ bytes. slice_of column.present) (bits_of column.present.now);
   present = bits_of column.present.now;
 })
 
 -- a column as a target, if it is read as numbers of a type
 abbrev pub target_as : ColumnFields → Option NumberType → Option TargetView
 target_as column None = None
-target_as column (Some U8) = target_with column (unsigned 8) (map pos column.u8s.now)
-target_as column (Some U16) = target_with column (unsigned 16) (map pos column.u16s.now)
-target_as column (Some U32) = target_with column (unsigned 32) (map pos column.u32s.now)
-target_as column (Some U64) = target_with column (unsigned 64) (map pos column.u64s.now)
-target_as column (Some I8) = target_with column (signed 8) column.i8s.now
-target_as column (Some I16) = target_with column (signed 16) column.i16s.now
-target_as column (Some I32) = target_with column (signed 32) column.i32s.now
-target_as column (Some I64) = target_with column (signed 64) column.i64s.now
+target_as column (Some U8) =
+    target_with column (unsigned 8) (slice_of column.u8s) (map pos column.u8s.now)
+target_as column (Some U16) =
+    target_with column (unsigned 16) (slice_of column.u16s) (map pos column.u16s.now)
+target_as column (Some U32) =
+    target_with column (unsigned 32) (slice_of column.u32s) (map pos column.u32s.now)
+target_as column (Some U64) =
+    target_with column (unsigned 64) (slice_of column.u64s) (map pos column.u64s.now)
+target_as column (Some I8) = target_with column (signed 8) (slice_of column.i8s) column.i8s.now
+target_as column (Some I16) = target_with column (signed 16) (slice_of column.i16s) column.i16s.now
+target_as column (Some I32) = target_with column (signed 32) (slice_of column.i32s) column.i32s.now
+target_as column (Some I64) = target_with column (signed 64) (slice_of column.i64s) column.i64s.now
 
 -- a column as a target
 abbrev pub target_of : ColumnFields → Option TargetView

@@ -31,11 +31,20 @@ four = plain 4 false
 
 -- the first column is read as `u8`, the third as hexadecimal `i8`, the second and the fourth aren't read
 abbrev pub targets : List ℤ → List ℤ → List (Option TargetView)
-targets first third = Some (record { format = standard; type = integer_type 8 false; numbers = first; present = None })
+targets first third = Some (record {
+  format = standard;
+  type = integer_type 8 false;
+  slice = record { at = (8, 0); name = 1 };
+  numbers = first;
+  bits = None;
+  present = None;
+})
     ∷ None ∷ Some (record {
       format = record standard { mantissa_radix = 16 };
       type = integer_type 8 true;
+      slice = record { at = (9, 0); name = 2 };
       numbers = third;
+      bits = None;
       present = None;
     }) ∷ []
 

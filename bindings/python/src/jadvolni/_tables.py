@@ -5,10 +5,13 @@ from __future__ import annotations
 import mmap
 import os
 from array import array
+from concurrent.futures import ThreadPoolExecutor
+from contextlib import ExitStack
+from itertools import accumulate
 from typing import IO, TYPE_CHECKING, Any, Callable, Iterator, Mapping, NamedTuple, Optional, Union
 
 from ._blocks import _block, _blocks
-from ._core import _array_code, _parse_table, _row_count
+from ._core import ParseError, _array_code, _parse_table, _row_count, _row_stops
 from ._format import Format
 
 if TYPE_CHECKING:
@@ -67,6 +70,7 @@ class _Reader:
                         for name, it in columns.items()}
         self.read = {name: it for name, it in self.columns.items() if it is not None}
         self.how = how
+        self.has_quotes = how[2]
 
     def room(self, rows: int) -> Table:
         """Arrays for so many rows."""
@@ -82,6 +86,15 @@ class _Reader:
             if len(numbers) < rows or (bits is not None and 8 * len(bits) < rows):
                 raise ValueError(f"out has to have room for the {rows} rows of the text")
         return {name: out[name] for name in self.read}
+
+    def room_behind(self, arrays: Table, row: int, rows: int, held: ExitStack) -> Table:
+        """The room of so many rows behind others. A byte of bits may be of both: those are new."""
+        room = {}
+        for name, column in self.read.items():
+            numbers = held.enter_context(memoryview(_pair(arrays[name])[0])[row:row + rows])
+            bits = _zeros("B", (rows + 7) // 8)
+            room[name] = Sparse(numbers, bits) if column.may_miss else numbers
+        return room
 
     def parse(self, text: Text, arrays: Table, rows: int, part: _Part) -> tuple[int, int]:
         """Reads so many rows at most into arrays, and answers how many, and where it stopped."""
@@ -123,6 +136,51 @@ def _fronts(arrays: Table, count: int) -> Table:
     return {name: _front(values, count) for name, values in arrays.items()}
 
 
+def _join(values: Any, parts: list[Any], lines: list[int], counts: list[int]) -> None:
+    """Puts the rows of parts behind each other, whose numbers stand behind room for all lines."""
+    numbers, bits = _pair(values)
+    joined = line = row = 0
+    with memoryview(numbers) as places:
+        for part, room, count in zip(parts, lines, counts):
+            if row != line:
+                places[row:row + count] = places[line:line + count]
+            if bits is not None:
+                joined |= int.from_bytes(part.bits, "little") << row
+            line, row = line + room, row + count
+    if bits is not None:
+        memoryview(bits)[:(row + 7) // 8] = joined.to_bytes((row + 7) // 8, "little")
+
+
+def _parse_in_threads(reader: _Reader, text: Text, arrays: Table, threads: int) -> int:
+    """Reads the rows of a text in parts, side by side, and answers how many there are."""
+    reader.parse(text, arrays, 0, _Part())  # (so that wrong arguments are told as ever)
+    with ExitStack() as held:
+        whole = held.enter_context(memoryview(text.encode() if isinstance(text, str) else text))
+        stops = _row_stops(whole, threads, reader.has_quotes)
+        starts = [0, *stops]
+        texts = [held.enter_context(whole[start:stop]) for start, stop in zip(starts, stops)]
+        pool = held.enter_context(ThreadPoolExecutor(threads))
+        lines = list(pool.map(_row_count, texts))
+        rooms = [reader.room_behind(arrays, row, rows, held)
+                 for row, rows in zip(accumulate(lines, initial=0), lines)]
+
+        def count_of(part: int) -> Optional[int]:
+            """How many rows a part has, or None where a cell is wrong."""
+            try:
+                return reader.parse(texts[part], rooms[part], lines[part], _Part())[0]
+            except ParseError:
+                return None
+
+        counts = list(pool.map(count_of, range(len(texts))))
+        if None in counts:  # (it is read again: only now it is known how many rows stand before it)
+            wrong = counts.index(None)
+            place = _Part(row=sum(counts[:wrong]), start=starts[wrong])
+            reader.parse(texts[wrong], reader.room(lines[wrong]), lines[wrong], place)
+    for name, values in arrays.items():
+        _join(values, [room[name] for room in rooms], lines, counts)
+    return sum(counts)
+
+
 def parse_table(
     text: Text,
     columns: Columns,
@@ -133,6 +191,7 @@ def parse_table(
     skips_empty_rows: bool = False,
     missing: Text = b"",
     out: Optional[Table] = None,
+    threads: int = 1,
 ) -> Table:
     """The rows of a text, each column as an array.
 
@@ -143,13 +202,17 @@ def parse_table(
     has_returns: a return stands before each line feed. has_quotes: a cell may stand within '"'.
     allows_blanks: spaces and tabs may stand around a number. skips_empty_rows: a row without a
     byte is none. missing: what stands for a missing number where a Column has may_miss, which then
-    is a Sparse: by default an empty cell.
+    is a Sparse: by default an empty cell. threads: how many read the text, in parts.
 
     ParseError has the first wrong cell in reading order, by `row`, `column` and `place`, from 0.
     """
     how = (separator, has_returns, has_quotes, allows_blanks, skips_empty_rows, missing)
     reader, rows = _Reader(columns, *how), _row_count(text)
     arrays = reader.room(rows) if out is None else reader.room_of(out, rows)
+    if threads < 1:
+        raise ValueError(f"threads has to be 1 or more, and not {threads}")
+    if threads > 1:
+        return _fronts(arrays, _parse_in_threads(reader, text, arrays, threads))
     count, _ = reader.parse(text, arrays, rows, _Part())
     return _fronts(arrays, count)
 

@@ -1,0 +1,199 @@
+"""Tests of tables that threads read: beside one thread, and misused."""
+
+import mmap
+import pathlib
+import random
+import sys
+import tempfile
+import unittest
+from array import array
+from unittest import mock
+
+from jadvolni import Column, Format, ParseError, Sparse, parse_table, read_table
+
+COLUMNS = {"a": Column("u8", may_miss=True), "b": None, "c": Column("i32", None, True), "d": "i16"}
+PIECES = (b"1", b"-7", b"300", b" ", b",", b",", b"\n", b"\n", b"\r\n", b'"', b'"', b'"a,\n"')
+NAMES = (b"", b"rent", b'"a,b"', b'"c\nd"', b'"\n\n"', b'""', b'"e""\nf"')
+WRONG = (b"1,a,2", b"1,a,2,3,", b"1,a,,70000", b"1,a,,-70000", b'1,a"b,2,3', b"1,a,NA,3",
+         b"1,,2,3\n")
+FLAGS = ("has_returns", "has_quotes", "allows_blanks", "skips_empty_rows")
+
+
+def told(text, columns, **given):
+    """The columns of a text as lists with their bits, or its fault."""
+    try:
+        table = parse_table(text, columns, **given)
+    except ParseError as error:
+        return error.kind, error.row, error.column, error.place, str(error)
+    return {name: [it.tolist() for it in values] if isinstance(values, Sparse) else values.tolist()
+            for name, values in table.items()}
+
+
+def random_row(chance, end):
+    """A row, which mostly is well."""
+    if chance.random() < 0.04:
+        return chance.choice(WRONG) + end
+    cells = (chance.choice((b"1", b"22", b'"3"', b"")), chance.choice(NAMES),
+             chance.choice((b" ", b" -80000 ")), b"7")
+    return b",".join(cells) + end if chance.random() < 0.9 else end
+
+
+def random_text(chance, end):
+    """Rows, or any bytes of those that have a meaning."""
+    if chance.random() < 0.3:
+        return b"".join(chance.choices(PIECES, k=chance.randrange(60)))
+    text = b"".join(random_row(chance, end) for _ in range(chance.randrange(40)))
+    return text if chance.random() < 0.7 else text[:-1]
+
+
+class Threads(unittest.TestCase):
+    """Tables that threads read."""
+
+    def test_random_tables_beside_one_thread(self):
+        chance = random.Random(1)
+        kinds, tables = set(), 0
+        for time in range(2000):
+            given = {flag: chance.random() < 0.9 for flag in FLAGS}
+            given["missing"] = chance.choice((b"", b"", b"", b"NA"))
+            text = random_text(chance, b"\r\n" if given["has_returns"] else b"\n")
+            with mock.patch.dict(sys.modules, {"numpy": None} if time % 2 else {}):
+                wanted = told(text, COLUMNS, **given)
+                for threads in (2, chance.randint(3, 16)):
+                    self.assertEqual(told(text, COLUMNS, threads=threads, **given), wanted,
+                                     (text, given, threads))
+            tables += isinstance(wanted, dict) and len(wanted["d"]) > 4
+            kinds.add(wanted[0] if isinstance(wanted, tuple) else None)
+        self.assertGreater(tables, 200)
+        self.assertEqual(len(kinds), 9)  # none, four of numbers and four of rows
+
+    def test_each_cut(self):
+        row = b'7,"a\n""\n,",-1,5\n'
+        for count in (0, 1, 2, 9, 20):
+            for end in (b"", b"7,b,,6"):
+                text = b"\n" * 3 + row * count + b"\n" + end
+                given = {"has_quotes": True, "skips_empty_rows": True}
+                wanted = told(text, COLUMNS, **given)
+                self.assertEqual(wanted["d"], [5] * count + [6] * bool(end))
+                for threads in (1, 2, 3, 4, 7, 30):
+                    self.assertEqual(told(text, COLUMNS, threads=threads, **given), wanted)
+
+    def test_the_first_of_several_faults(self):
+        rows = [b"1\n"] * 1000
+        for wrong in (0, 1, 499, 999):
+            text = b"".join([*rows[:wrong], b"256\n", *rows[wrong + 1:-1], b"x\n"])
+            for threads in (1, 2, 7, 16):
+                with self.assertRaises(ParseError) as caught:
+                    parse_table(text, {"a": "u8"}, threads=threads)
+                fault = caught.exception
+                self.assertEqual((fault.row, fault.place), (wrong, 2 * wrong + 2))
+
+    def test_an_odd_quote(self):
+        """It leaves the rest of a text within quotes: one row, which one thread reads."""
+        text = b"1,a,2,3\n" * 50 + b'1,"a,2,3\n' + b"1,a,2,3\n" * 50
+        for threads in (1, 2, 16):
+            fault = told(text, COLUMNS, has_quotes=True, threads=threads)
+            self.assertEqual(fault[:4], ("MisplacedQuote", 50, 1, 402))
+
+    def test_texts_of_each_kind(self):
+        text = b"1,x,2,3\n4,y,5,6\n" * 9
+        wanted = told(text, COLUMNS)
+        for threads in (2, 5):
+            for given in (text.decode(), bytearray(text), memoryview(text), array("b", text)):
+                self.assertEqual(told(given, COLUMNS, threads=threads), wanted)
+            self.assertEqual(told("1,ä,2,3\n1,é,2,3\n", COLUMNS, threads=threads)["d"], [3, 3])
+            self.assertEqual(told(b"", COLUMNS, threads=threads), told(b"", COLUMNS))
+            self.assertEqual(told(b"1,x,2,3", COLUMNS, threads=threads)["d"], [3])
+            self.assertEqual(told(b"x\n" * 9, {"a": None}, threads=threads), {})
+
+    def test_files(self):
+        with tempfile.TemporaryDirectory() as folder:
+            path = pathlib.Path(folder, "table")
+            path.write_bytes(b"1\n" * 1000)
+            self.assertEqual(read_table(path, {"a": "u8"}, threads=3)["a"].tolist(), [1] * 1000)
+            path.write_bytes(b"1\n" * 1000 + b"x\n")
+            with self.assertRaises(ParseError) as caught:  # (and not that the map has views)
+                read_table(path, {"a": "u8"}, threads=3)
+            self.assertEqual((caught.exception.row, caught.exception.place), (1000, 2000))
+            with open(path, "rb") as file, mmap.mmap(file.fileno(), 8, prot=mmap.PROT_READ) as text:
+                self.assertEqual(parse_table(text, {"a": "u8"}, threads=2)["a"].tolist(), [1] * 4)
+
+    def test_arrays_of_the_caller(self):
+        columns = {"a": Column("u8", may_miss=True), "b": "i64"}
+        text = b"1,2\n\n,3\n" * 5
+        for threads in (1, 2, 4, 16):
+            numbers, bits, others = array("B", [9] * 16), bytearray(2), array("q", [9] * 16)
+            out = {"a": (numbers, bits), "b": others}
+            table = parse_table(text, columns, skips_empty_rows=True, out=out, threads=threads)
+            self.assertEqual(table["a"].numbers.tolist(), [1, 0] * 5)
+            self.assertEqual(table["b"].tolist(), [2, 3] * 5)
+            self.assertEqual((numbers[:10].tolist(), others[15], bits), ([1, 0] * 5, 9, b"\x55\1"))
+            with self.assertRaises(ParseError) as caught:
+                parse_table(text + b"1,x\n", columns, skips_empty_rows=True, out=out,
+                            threads=threads)
+            numbers.append(7), others.append(7), bits.append(7)  # (no buffer is kept)
+            self.assertEqual(caught.exception.row, 10)
+
+    def test_wrong_arrays_of_the_caller(self):
+        """They are refused as in one thread, also those that only two parts would share."""
+        whole = bytearray(60)
+        with memoryview(whole) as view:
+            for first, second in ((view[:20], view[10:30]), (view[:20], view[19:39]),
+                                  (view[:20], bytes(20)), (view[:20], bytearray(9)),
+                                  (view[:40:2], bytearray(20)), (view[:20], array("H", [0] * 20)),
+                                  (view[:20], None), ((view[:20], view[30:]), view[30:50])):
+                given = {"out": {"a": first, "b": second}}
+                with self.assertRaises(Exception) as wanted:
+                    parse_table(b"1,2\n" * 20, {"a": "u8", "b": "u8"}, **given)
+                with self.assertRaises(type(wanted.exception)) as found:
+                    parse_table(b"1,2\n" * 20, {"a": "u8", "b": "u8"}, threads=4, **given)
+                self.assertEqual(str(found.exception), str(wanted.exception))
+        self.assertEqual(bytes(whole), bytes(60))
+        text = memoryview(bytearray(b"1\n" * 20))
+        with self.assertRaisesRegex(ValueError, "memory of its own"):
+            parse_table(text, {"a": "u8"}, out={"a": text[20:]}, threads=4)
+
+    def test_wrong_arguments(self):
+        for threads in (0, -1):
+            with self.assertRaisesRegex(ValueError, "threads has to be 1 or more, and not"):
+                parse_table(b"1", {"a": "u8"}, threads=threads)
+        for threads in ("2", None, 2.5, [2]):
+            self.assertRaises(TypeError, parse_table, b"1", {"a": "u8"}, threads=threads)
+        for text, columns, given in (
+            (7, {"a": "u8"}, {}), (b"1", {"a": "u7"}, {}), (b"1", {"a": Column("u8", "hex")}, {}),
+            (array("H", [1]), {"a": "u8"}, {}), (b"1", {"a": "u8"}, {"separator": ";;"}),
+            (b"1", {"a": "u8"}, {"missing": None}), ("\ud800", {"a": "u8"}, {}),
+        ):
+            with self.assertRaises((TypeError, ValueError)) as wanted:
+                parse_table(text, columns, **given)
+            with self.assertRaises(type(wanted.exception)) as found:
+                parse_table(text, columns, threads=3, **given)
+            self.assertEqual(str(found.exception), str(wanted.exception))
+
+    def test_a_buffer_that_is_released(self):
+        text = bytearray(b"1\n" * 20)
+        view = memoryview(text)
+        self.assertEqual(parse_table(view, {"a": "u8"}, threads=4)["a"].tolist(), [1] * 20)
+        view.release()
+        self.assertRaises(ValueError, parse_table, view, {"a": "u8"}, threads=4)
+        text[3:3] = b"x"
+        with self.assertRaises(ParseError) as caught:
+            parse_table(text, {"a": "u8"}, threads=4)
+        text.append(7)  # (no buffer is kept)
+        self.assertEqual(caught.exception.place, 3)
+
+    def test_memory_is_given_back(self):
+        text = b"1\n" * 20
+        out, form = array("B", [9] * 20), Format(mantissa_radix=16)
+        kept = text, out, form
+        before = [sys.getrefcount(it) for it in kept]
+        for given in [text, text + b"x", 7] * 50:
+            try:
+                parse_table(given, {"a": Column("u8", form)}, out={"a": out}, threads=4)
+            except (ParseError, TypeError, ValueError):
+                pass
+        del given
+        self.assertEqual([sys.getrefcount(it) for it in kept], before)
+
+
+if __name__ == "__main__":
+    unittest.main()

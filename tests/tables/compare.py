@@ -1,0 +1,163 @@
+#!/usr/bin/env python3
+"""Runs tables through the C call, beside the slow reading of tables: make fuzz-tables.
+
+    tests/tables/compare.py [--tables N] [--seed N]    random tables
+    tests/tables/compare.py --all [--longest N]        all short texts, under each setting
+
+Answers, arrays and bits have to be those of reading.py, and the arrays and bits as before where
+nothing was put. answers.c asks the library, build/libjadvolni.a, in several ways, and all of them
+have to get one answer. It prints what differs, and ends with status 1 then.
+"""
+from __future__ import annotations
+
+import argparse
+import ctypes
+import functools
+import itertools
+import os
+import random
+import struct
+import subprocess
+import sys
+import tempfile
+from typing import List, Optional, Sequence, Tuple
+
+import reading
+from questions import KINDS, Question, random_questions, short_questions
+from reading import TOP, Read, Target
+
+sys.path.insert(0, os.path.join(TOP, "tools"))
+
+from c_calls import NUMBERS, CFormat, c_format  # noqa: E402
+
+MOST_TOLD = 5
+# How many questions one run of the program answers.
+BATCH = 20000
+# What arrays and bits have before.
+NUMBERS_BEFORE, BITS_BEFORE = b"\x77", b"\x5a"
+QUESTION, ANSWER = struct.Struct("=HHHBBBBBB"), struct.Struct("=5Q")
+CODES = dict(zip(KINDS, "BHIQbhiq"))
+# A row and a column.
+Place = Tuple[int, int]
+
+
+# ---- the program
+
+def compiled(folder: str) -> str:
+    """The program that asks the library."""
+    program = os.path.join(folder, "answers")
+    source, library = f"{TOP}/tests/tables/answers.c", f"{TOP}/build/libjadvolni.a"
+    subprocess.run([os.environ.get("CC", "cc"), "-std=c11", "-O2", "-Wall", "-Wextra", "-Werror",
+                    f"-I{TOP}/include", source, library, "-o", program], check=True)
+    return program
+
+
+@functools.lru_cache(maxsize=None)
+def target_written(target: Optional[Target]) -> bytes:
+    """A target, as the program reads it. The format of a column that isn't read is none."""
+    if target is None:
+        return bytes(2) + b"\xff" * ctypes.sizeof(CFormat)
+    return bytes([1 + KINDS.index(target.type), target.may_miss, *bytes(c_format(target.form))])
+
+
+def written(question: Question) -> bytes:
+    """A question, as the program reads it."""
+    text, is_last, dialect, targets, rows, room, cuts = question
+    flags = (dialect.has_returns | dialect.has_quotes << 1 | dialect.allows_blanks << 2
+             | dialect.skips_empty_rows << 3 | is_last << 4)
+    asked = QUESTION.pack(len(text), cuts.start, len(cuts), dialect.separator, flags,
+                          len(dialect.missing), dialect.columns, rows, room)
+    return asked + b"".join(map(target_written, targets)) + dialect.missing + text
+
+
+def answers(program: str, questions: Sequence[Question]) -> bytes:
+    """What the program answers: nothing where it ends early, as at a page that it may not touch."""
+    ran = subprocess.run([program], input=b"".join(map(written, questions)), stdout=subprocess.PIPE)
+    return ran.stdout if ran.returncode == 0 else b""
+
+
+# ---- the two beside each other
+
+def put(said: bytearray, start: int, question: Question, place: Place,
+        number: Optional[int]) -> None:
+    """Puts a number and its bit where a column's array and bits start."""
+    row, column = place
+    target = question.targets[column]
+    assert target is not None
+    code = "=" + CODES[target.type]
+    size = struct.calcsize(code)
+    struct.pack_into(code, said, start + row * size, number or 0)
+    if target.may_miss:
+        byte, mask = start + question.room * size + row // 8, 1 << row % 8
+        said[byte] = said[byte] & ~mask | (0 if number is None else mask)
+
+
+def expected(question: Question) -> bytes:
+    """What the program has to answer."""
+    text, is_last, dialect, targets, rows, room, _ = question
+    answer, numbers = reading.read_part(text, is_last, dialect, targets, rows)
+    if isinstance(answer, Read):
+        said = bytearray(ANSWER.pack(0, NUMBERS["Ok"], 0, answer.rows, answer.stop))
+    else:
+        said = bytearray(ANSWER.pack(0, NUMBERS[answer.fault], answer.column, answer.row,
+                                     answer.place))
+    starts = []
+    for target in targets:
+        starts.append(len(said))
+        if target is not None:
+            said += NUMBERS_BEFORE * (room * struct.calcsize("=" + CODES[target.type]))
+            said += BITS_BEFORE * ((room + 7) // 8 if target.may_miss else 0)
+    for place, number in numbers.items():
+        put(said, starts[place[1]], question, place, number)
+    return bytes(said)
+
+
+def difference(program: str, question: Question) -> str:
+    """What differs at one question; no word where nothing does."""
+    said, wanted = answers(program, [question]), expected(question)
+    if said == wanted:
+        return ""
+    if len(said) != len(wanted):
+        return f"{question}: no answer"
+    both = " and not ".join(f"{ANSWER.unpack_from(one)} {one[ANSWER.size:].hex()}"
+                            for one in (said, wanted))
+    return f"{question}: {both}"
+
+
+def differences(program: str, questions: Sequence[Question], wanted: Sequence[bytes]) -> List[str]:
+    """What differs."""
+    if answers(program, questions) == b"".join(wanted):
+        return []
+    told = filter(None, (difference(program, question) for question in questions))
+    return list(itertools.islice(told, MOST_TOLD)) or ["only together they differ"]
+
+
+def main() -> int:
+    """The command line."""
+    parser = argparse.ArgumentParser(
+        description=__doc__, formatter_class=argparse.RawDescriptionHelpFormatter)
+    parser.add_argument("--all", action="store_true")
+    parser.add_argument("--longest", type=int, default=4)
+    parser.add_argument("--tables", type=int, default=100_000)
+    parser.add_argument("--seed", type=int, default=random.SystemRandom().randrange(10 ** 9))
+    given = parser.parse_args()
+    print(f"compare: all texts of up to {given.longest} bytes" if given.all
+          else f"compare: seed {given.seed}", flush=True)
+    asked = (short_questions(given.longest) if given.all
+             else itertools.islice(random_questions(random.Random(given.seed)), given.tables))
+    count = well = 0
+    told: List[str] = []
+    with tempfile.TemporaryDirectory() as folder:
+        program = compiled(folder)
+        while not told and (questions := list(itertools.islice(asked, BATCH))):
+            wanted = [expected(question) for question in questions]
+            told = differences(program, questions, wanted)
+            count += len(questions)
+            well += sum(ANSWER.unpack_from(one)[1] == NUMBERS["Ok"] for one in wanted)
+    print("".join(f"compare: {line}\n" for line in told), end="")
+    print(f"compare: {count} tables, of which {well} have no fault: {len(told)} differ")
+    return 1 if told else 0
+
+
+if __name__ == "__main__":
+    sys.exit(main())
