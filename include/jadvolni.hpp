@@ -112,18 +112,41 @@ inline constexpr format sql_2023 = JADVOLNI_FORMAT_SQL_2023;
     return static_cast<status>(jadvolni_format_error(&of));
 }
 
-// A number with the count of bytes that were read, or a fault with the place of its byte.
+// What each call answers beside what it has read.
+class outcome {
+public:
+    outcome(std::uint32_t status, std::size_t place) noexcept
+        : place_(place), status_(static_cast<jadvolni::status>(status))
+    {
+    }
+
+    // Whether nothing is wrong.
+    explicit operator bool() const noexcept { return status_ == jadvolni::status::ok; }
+
+    // What is wrong, its name, and what has to be instead.
+    jadvolni::status status() const noexcept { return status_; }
+    const char *name() const noexcept { return jadvolni::name(status_); }
+    const char *message() const noexcept { return jadvolni::message(status_); }
+
+    // Where reading stopped, so that the next call goes on there; or the place of the fault.
+    std::size_t place() const noexcept { return place_; }
+
+private:
+    std::size_t place_;
+    jadvolni::status status_;
+};
+
+// A number, or a fault. Its place() is how many bytes were read, or that of the wrong byte.
 template <class T>
-class result {
+class result : public outcome {
 public:
     result(T number, jadvolni_result answer) noexcept
-        : number_(number), place_(answer.place), status_(static_cast<jadvolni::status>(answer.status))
+        : outcome(answer.status, answer.place), number_(number)
     {
     }
 
     // Whether there is a number.
-    explicit operator bool() const noexcept { return status_ == jadvolni::status::ok; }
-    bool has_value() const noexcept { return status_ == jadvolni::status::ok; }
+    bool has_value() const noexcept { return bool(*this); }
 
     // The number. There has to be one.
     const T &operator*() const noexcept
@@ -142,18 +165,8 @@ public:
         return has_value() ? std::optional<T>(number_) : std::nullopt;
     }
 
-    // What is wrong, its name, and what has to be instead.
-    jadvolni::status status() const noexcept { return status_; }
-    const char *name() const noexcept { return jadvolni::name(status_); }
-    const char *message() const noexcept { return jadvolni::message(status_); }
-
-    // How many bytes were read, or the place of the fault.
-    std::size_t place() const noexcept { return place_; }
-
 private:
     T number_;
-    std::size_t place_;
-    jadvolni::status status_;
 };
 
 namespace detail {
@@ -235,10 +248,6 @@ struct kept_as<jadvolni_native_int128> {
 };
 #endif
 
-} // namespace detail
-
-namespace detail {
-
 // A call on a text, and its number as a T.
 template <class T, class Call, class... Under>
 result<T> called(Call *call, std::string_view text, const Under *...under) noexcept
@@ -316,31 +325,18 @@ struct literal_parts {
 }
 
 // What was read of a column: a count of numbers, and where reading stopped or what is wrong there.
-class column_result {
+class column_result : public outcome {
 public:
     column_result(std::size_t count, jadvolni_result answer) noexcept
-        : count_(count), place_(answer.place), status_(static_cast<jadvolni::status>(answer.status))
+        : outcome(answer.status, answer.place), count_(count)
     {
     }
-
-    // Whether each field was a number, as far as there was room.
-    explicit operator bool() const noexcept { return status_ == jadvolni::status::ok; }
 
     // How many numbers were read. At a fault that is the index of the field that has it, from 0.
     std::size_t count() const noexcept { return count_; }
 
-    // What is wrong with that field or with the format, its name, and what has to be instead.
-    jadvolni::status status() const noexcept { return status_; }
-    const char *name() const noexcept { return jadvolni::name(status_); }
-    const char *message() const noexcept { return jadvolni::message(status_); }
-
-    // Where reading stopped, so that the next call goes on there; or the place of the fault.
-    std::size_t place() const noexcept { return place_; }
-
 private:
     std::size_t count_;
-    std::size_t place_;
-    jadvolni::status status_;
 };
 
 // The numbers of the text's fields between a separator, which may be any byte, read into an array, as
@@ -419,30 +415,30 @@ template <class Values>
     return column_into(std::data(values), std::size(values), under);
 }
 
-// What was read of a table: a count of rows, and where reading stopped or what is wrong there.
-class table_result {
-public:
-    explicit table_result(jadvolni_table_result answer) noexcept : answer_(answer) {}
+// Whether a column has a number in a row, by the bits that its `present` is set to: `present = {data, size}`.
+template <class Bits>
+[[nodiscard]] bool is_present(const Bits &bits, std::size_t row) noexcept
+{
+    assert(row / 8 < std::size(bits));
+    return (std::data(bits)[row / 8] >> (row % 8) & 1) != 0;
+}
 
-    // Whether no cell was wrong, as far as rows were asked for.
-    explicit operator bool() const noexcept { return answer_.status == JADVOLNI_OK; }
+// What was read of a table: a count of rows, and where reading stopped or what is wrong there.
+class table_result : public outcome {
+public:
+    explicit table_result(jadvolni_table_result answer) noexcept
+        : outcome(answer.status, answer.place), rows_(answer.rows), column_(answer.column)
+    {
+    }
 
     // How many rows were read. At a fault of the text that is the number of its row, from 0.
-    std::size_t rows() const noexcept { return answer_.rows; }
+    std::size_t rows() const noexcept { return rows_; }
 
     // The column of a fault, from 0: so many cells of the row were read.
-    std::size_t column() const noexcept { return answer_.column; }
-
-    // What is wrong with the cell, the column or the table, its name, and what has to be instead.
-    jadvolni::status status() const noexcept { return static_cast<jadvolni::status>(answer_.status); }
-    const char *name() const noexcept { return jadvolni::name(status()); }
-    const char *message() const noexcept { return jadvolni::message(status()); }
-
-    // Where reading stopped, so that the next call goes on there; or the place of the fault.
-    std::size_t place() const noexcept { return answer_.place; }
+    std::size_t column() const noexcept { return column_; }
 
 private:
-    jadvolni_table_result answer_;
+    std::size_t rows_, column_;
 };
 
 // The rows of a part of a text, as a block of a file: its whole ones, and all where it is the last part;

@@ -7,7 +7,7 @@ import subprocess
 from typing import Callable, Dict, List, NamedTuple, Optional, Sequence, Tuple
 
 TOP = os.path.dirname(os.path.dirname(os.path.abspath(__file__)))
-STRICT = ["-Wall", "-Wextra", "-pedantic", "-Werror"]
+STRICT = ["-Wall", "-Wextra", "-pedantic", "-Werror", "-pthread"]
 OPTIMISED = [*STRICT, "-O2"]
 SANITIZED = [*STRICT, "-g", "-O1", "-fsanitize=address,undefined", "-fno-sanitize-recover=all"]
 C_COMPILERS, CXX_COMPILERS = ("gcc", "clang"), ("g++", "clang++")

@@ -176,13 +176,14 @@ def calls(place: Place) -> Iterator[Step]:
         yield f"C99, {name}", partial(step, ["-std=c99", *OPTIMISED])
         yield f"C11 and the shared library, {name}", partial(step, ["-std=c11", *OPTIMISED], True)
         yield f"C99 under sanitizers, {name}", partial(step, ["-std=c99", *SANITIZED])
-    for compiler in CXX_COMPILERS:
-        step = partial(call, place, "tests/c/wrapper.cpp", compiler)
-        bare = [CXX17, "-fno-exceptions", "-fno-rtti", *OPTIMISED]
-        yield f"C++17, {compiler}", partial(step, [CXX17, *OPTIMISED])
-        yield f"C++17 and the shared library, {compiler}", partial(step, [CXX17, *OPTIMISED], True)
-        yield f"C++17 without exceptions, {compiler}", partial(step, bare)
-        yield f"C++17 under sanitizers, {compiler}", partial(step, [CXX17, *SANITIZED])
+    bare, racing = ["-fno-exceptions", "-fno-rtti", *OPTIMISED], ["-fsanitize=thread", "-g", "-O1"]
+    for compiler, name in product(CXX_COMPILERS, ("wrapper.cpp", "tables.cpp", "threads.cpp")):
+        step, name = partial(call, place, f"tests/c/{name}", compiler), f"{name}, {compiler}"
+        yield f"C++17, {name}", partial(step, [CXX17, *OPTIMISED])
+        yield f"C++17 and the shared library, {name}", partial(step, [CXX17, *OPTIMISED], True)
+        yield f"C++17 under sanitizers, {name}", partial(step, [CXX17, *SANITIZED])
+        flags = racing if "threads" in name else bare
+        yield f"C++17 with {flags[0]}, {name}", partial(step, [CXX17, *flags])
 
 
 # ---- where users look

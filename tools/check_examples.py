@@ -17,8 +17,6 @@ from callers import (C_COMPILERS, CXX17, CXX_COMPILERS, OPTIMISED, SANITIZED, Fa
 FOLDER, FULL = "< /", "> /dev/full"
 IS_FOLDER = "standard input: Is a directory"
 IS_FULL = "standard output: No space left on device"
-USAGE = "usage: csv_column COLUMN < FILE"
-NO_CELL = "the line has no such cell"
 SUM_LEAVES = "the sum leaves the type"
 GREATEST = b"9223372036854775807"
 Words = Tuple[str, ...]
@@ -67,26 +65,26 @@ SUM_FAULTS = {
     b"-1\n-" + GREATEST + b"\n-1\n-1": f"line 3: {SUM_LEAVES}",
 }
 LEDGER_FAULTS = {
-    b"rent " + GREATEST + b"\nx 1": f"line 2, column 3, byte 27: {SUM_LEAVES}",
-    b"rent " + GREATEST + b"\nx 1\n": f"line 2, column 3, byte 27: {SUM_LEAVES}",
-    b"rent " + GREATEST + b"\n" + b"x 1\n" * 501: f"line 2, column 3, byte 27: {SUM_LEAVES}",
-    b"x 0\n" * 1500 + GREATEST + b"\n1\n": f"line 1502, column 1, byte 6020: {SUM_LEAVES}",
-    b"rent -80000\nfood 12x\nwine x\n": "line 2, column 8, byte 19: invalid digit",
-    b"x 1\n" * 3000 + b"x \n": "line 3001, column 3, byte 12002: missing digit",
-    b"x 1\n\nx 1\n": "line 2, column 1, byte 4: missing digit",
-    b"x 1\0\n": "line 1, column 4, byte 3: invalid digit",
-    b"x 1\r\n": "line 1, column 4, byte 3: invalid digit",
-    b"a" * 70000 + b" 1x": "line 1, column 70003, byte 70002: invalid digit",
+    b"rent " + GREATEST + b"\nx 1": f"row 2: {SUM_LEAVES}",
+    b"x 0\n" * 1500 + b"x " + GREATEST + b"\nx 1\n": f"row 1502: {SUM_LEAVES}",
+    b"rent -80000\nfood 12x\nwine x\n": "row 2, cell 2, byte 19: invalid digit",
+    b"x 1\n" * 3000 + b"x \n": "row 3001, cell 2, byte 12002: missing digit",
+    b"x 1\n\nx 1\n": "row 2, cell 2, byte 4: too few cells",
+    b"x 1\0\n": "row 1, cell 2, byte 3: invalid digit",
+    b"x 1\r\n": "row 1, cell 2, byte 3: invalid digit",
+    b"two words 7": "row 1, cell 2, byte 4: invalid digit",
+    b"a" * 70000 + b" 1x": "row 1, cell 2, byte 70002: invalid digit",
 }
 COLUMN_FAULTS = {
-    b"1," + GREATEST + b"\n1,1": f"line 2, column 3, byte 24: {SUM_LEAVES}",
-    b"a,12,x\nb,9223372036854775808,x\n": "line 2, column 21, byte 27: overflow",
-    b"a,12\nb\n": f"line 2, column 2, byte 6: {NO_CELL}",
-    b"\n": f"line 1, column 1, byte 0: {NO_CELL}",
-    b"a,x\nb\n": "line 1, column 3, byte 2: invalid digit",
-    b"a,\n": "line 1, column 3, byte 2: missing digit",
-    b"a,1\r\n": "line 1, column 4, byte 3: invalid digit",
-    b"a,1\0,2": "line 1, column 4, byte 3: invalid digit",
+    b"1," + GREATEST + b"\n1,1": f"row 2: {SUM_LEAVES}",
+    b"a,12,x\nb,9223372036854775808,x\n": "row 2, cell 2, byte 27: overflow",
+    b"a,12\nb\n": "row 2, cell 2, byte 6: too few cells",
+    b"a,1\nb,2,3\n": "row 2, cell 3, byte 8: too many cells",
+    b"\n": "row 1, cell 2, byte 0: too few cells",
+    b"a,x\nb\n": "row 1, cell 2, byte 2: invalid digit",
+    b"a,\n": "row 1, cell 2, byte 2: missing digit",
+    b"a,1\r\n": "row 1, cell 2, byte 3: invalid digit",
+    b"a,1\0,2": "row 1, cell 2, byte 3: invalid digit",
 }
 COLOUR_FAULTS = {
     "0#": "invalid digit",
@@ -104,15 +102,15 @@ def of_columns() -> Iterator[Case]:
     yield from adds_up("sum")
     yield from faults("sum", SUM_FAULTS)
     yield from adds_up("ledger", b"rent ")
-    yield from adds_up("ledger")
     yield from faults("ledger", LEDGER_FAULTS)
     yield from adds_up("csv_column", b"a,", ("2",))
     yield from adds_up("csv_column", b"", ("1",))
     yield from faults("csv_column", COLUMN_FAULTS, ("2",))
-    beyond = {b"1,2\n": f"line 1, column 4, byte 3: {NO_CELL}"}
+    yield Case("csv_column", b",1" * 70000, "1\n", words=("2",))
+    beyond = {b"1,2\n": "row 1, cell 3, byte 3: too few cells"}
     yield from faults("csv_column", beyond, ("18446744073709551615",))
     for words in ((), ("1", "2"), ("0",), ("",), ("x",), ("-1",), ("18446744073709551616",)):
-        yield Case("csv_column", b"1\n", "", 2, USAGE, words)
+        yield Case("csv_column", b"1\n", "", 2, "usage: csv_column COLUMN < FILE", words)
 
 
 def of_words() -> Iterator[Case]:
@@ -145,7 +143,8 @@ def check(place: Place, case: Case, program: str) -> None:
 
 def check_folder(place: Place, folder: str, compiler: str, flags: List[str]) -> str:
     """Builds the examples of a folder, and runs their cases."""
-    names = [name for name in os.listdir(source("examples", folder)) if not name.endswith(".h")]
+    names = [name for name in os.listdir(source("examples", folder))
+             if name.endswith((".c", ".cpp"))]
     programs = {name.partition(".")[0]: build(place, compiler, f"examples/{folder}/{name}", flags)
                 for name in names}
     cases = [case for case in CASES if case.program in programs]

@@ -1,26 +1,36 @@
 /* Adds up a column of comma-separated values: csv_column COLUMN < FILE. Columns count from 1.
- * The first line is one of numbers too, and cells have no quotes. */
-#include "cells.h"
+ * The first line is one of numbers too, and each has as many cells as it. Quotes have no meaning. */
+#include "column_sum.h"
 
-static uint64_t column;
-
-static int cell(const char *line, size_t len, size_t *start, size_t *stop)
+/* How many cells the first line of standard input has. */
+static size_t cells_of_line(block *input)
 {
-    *start = 0;
-    for (uint64_t left = column;; left--) {
-        const char *end = memchr(line + *start, ',', len - *start);
-        *stop = end ? (size_t)(end - line) : len;
-        if (left == 1) return 1;
-        *start = end ? *stop + 1 : len;
-        if (!end) return 0;
+    size_t cells = 1;
+    for (size_t k = 0; k < input->len || fill(input); k++) {
+        if (input->bytes[k] == '\n') break;
+        cells += input->bytes[k] == ',';
     }
+    return cells;
 }
 
 int main(int count, char **arguments)
 {
+    uint64_t column;
     if (count != 2 || jadvolni_parse_u64(arguments[1], strlen(arguments[1]), &column).status || column == 0) {
         fprintf(stderr, "usage: csv_column COLUMN < FILE\n");
         return 2;
     }
-    return add_up_cells(cell);
+    block input = {.len = 0};
+    column_sum numbers = {.table = {.separator = ','}, .column_count = cells_of_line(&input)};
+    /* Where the first line has no such cell, it has one too few. */
+    if (column > numbers.column_count) column = ++numbers.column_count;
+    numbers.columns = calloc(numbers.column_count, sizeof *numbers.columns);
+    if (!numbers.columns) err(2, "memory for the columns");
+    jadvolni_table_column *read = &numbers.columns[column - 1];
+    read->format = jadvolni_format_of_radix(10);
+    read->i64.numbers = numbers.values;
+    read->i64.capacity = ROWS;
+    int status = print_sum(&numbers, &input);
+    free(numbers.columns);
+    return status;
 }

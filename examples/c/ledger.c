@@ -1,14 +1,14 @@
-/* Adds up a ledger, a line `NAME AMOUNT` for each entry: ledger < FILE. An amount comes after the last space. */
-#include "cells.h"
-
-static int amount(const char *line, size_t len, size_t *start, size_t *stop)
-{
-    *stop = len;
-    for (*start = len; *start > 0 && line[*start - 1] != ' ';) --*start;
-    return 1;
-}
+/* Adds up a ledger, a line `NAME AMOUNT` for each entry: ledger < FILE. */
+#include "column_sum.h"
 
 int main(void)
 {
-    return add_up_cells(amount);
+    column_sum amounts = {.table = {.separator = ' '}, .column_count = 2};
+    jadvolni_table_column columns[] = {
+        {.format = {0}}, // the name, which isn't read
+        {.format = JADVOLNI_FORMAT_STANDARD, .i64 = {amounts.values, ROWS}},
+    };
+    block input = {.len = 0};
+    amounts.columns = columns;
+    return print_sum(&amounts, &input);
 }

@@ -14,10 +14,10 @@ static void check(const char *file, int line, int holds, const char *what)
     }
 }
 
-#define CHECK(condition) check(__FILE__, __LINE__, condition, #condition)
+#define CHECK(...) check(__FILE__, __LINE__, !!(__VA_ARGS__), #__VA_ARGS__)
 
 /* Memory on the heap of just these bytes: so a sanitizer sees each read and each write outside of it. */
-static void *exactly(const void *bytes, size_t len)
+static inline void *exactly(const void *bytes, size_t len)
 {
     void *copy = malloc(len ? len : 1);
     if (!copy) abort();

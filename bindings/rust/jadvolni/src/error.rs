@@ -79,9 +79,14 @@ impl Error {
         })
     }
 
-    /// The place of a fault of the text, and `None` for a fault of the format.
+    /// The place of a fault of the text, and `None` for a fault of the format or of the table.
     pub fn place(&self) -> Option<usize> {
-        match *self {
+        let mut same = *self;
+        same.place_mut().copied()
+    }
+
+    fn place_mut(&mut self) -> Option<&mut usize> {
+        match self {
             Error::Overflow(place)
             | Error::Underflow(place)
             | Error::InvalidDigit(place)
@@ -98,22 +103,11 @@ impl Error {
     }
 
     /// This fault of a text, where the text stands so many bytes further on.
-    #[cfg(feature = "std")]
-    pub(crate) fn moved(self, by: usize) -> Error {
-        match self {
-            Error::Overflow(place) => Error::Overflow(place + by),
-            Error::Underflow(place) => Error::Underflow(place + by),
-            Error::InvalidDigit(place) => Error::InvalidDigit(place + by),
-            Error::Empty(place) => Error::Empty(place + by),
-            Error::MissingSign(place) => Error::MissingSign(place + by),
-            Error::InvalidPositiveSign(place) => Error::InvalidPositiveSign(place + by),
-            Error::InvalidLeadingZeros(place) => Error::InvalidLeadingZeros(place + by),
-            Error::TooFewCells(place) => Error::TooFewCells(place + by),
-            Error::TooManyCells(place) => Error::TooManyCells(place + by),
-            Error::MissingReturn(place) => Error::MissingReturn(place + by),
-            Error::MisplacedQuote(place) => Error::MisplacedQuote(place + by),
-            other => other,
+    pub(crate) fn moved(mut self, by: usize) -> Error {
+        if let Some(place) = self.place_mut() {
+            *place = place.saturating_add(by);
         }
+        self
     }
 }
 

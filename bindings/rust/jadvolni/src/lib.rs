@@ -42,7 +42,8 @@ pub use literal::{parse_literal, Literal};
 #[cfg(feature = "std")]
 pub use reader::{ColumnReader, ReadError};
 pub use table::{
-    parse_table, parse_table_part, Dialect, Table, TableColumn, TableError, TableInteger,
+    is_present, parse_table, parse_table_part, Dialect, Table, TableColumn, TableError,
+    TableInteger,
 };
 #[cfg(feature = "std")]
 pub use table_reader::{TableReadError, TableReader};

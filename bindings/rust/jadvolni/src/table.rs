@@ -87,7 +87,7 @@ impl<'a> TableColumn<'a> {
     }
 
     /// The same column, where numbers may be missing: the bit `k & 7` of byte `k >> 3` is then 1 if row `k` has a
-    /// number, and 0 if it is missing, and 0 in the slice. The lowest bit comes first.
+    /// number, and 0 if it is missing, and 0 in the slice. The lowest bit comes first, and [`is_present`] asks for one.
     pub fn with_bits(mut self, present: &'a mut [u8]) -> Self {
         let capacity = present.len();
         self.0.present = sys::jadvolni_array { numbers: present.as_mut_ptr(), capacity };
@@ -104,6 +104,19 @@ impl<'a> TableColumn<'a> {
         let room = wide.or(of(it.i16)).or(of(it.u16)).or(of(it.i8)).or(of(it.u8))?;
         Some(of(it.present).map_or(room, |bytes| room.min(bytes.saturating_mul(8))))
     }
+}
+
+/// Whether a row has a number, by the bits of its column. A row that they have no bit for has none.
+///
+/// ```
+/// use jadvolni::{is_present, parse_table, Dialect, TableColumn};
+/// let (mut numbers, mut bits) = ([0i32; 3], [0u8]);
+/// let mut columns = [TableColumn::of(&mut numbers).with_bits(&mut bits)];
+/// parse_table("7\n\n0\n", &Dialect::separated_by(b','), &mut columns).unwrap();
+/// assert_eq!([0, 1, 2, 8].map(|row| is_present(&bits, row)), [true, false, true, false]);
+/// ```
+pub fn is_present(bits: &[u8], row: usize) -> bool {
+    bits.get(row >> 3).is_some_and(|byte| byte >> (row & 7) & 1 == 1)
 }
 
 /// How many rows there is room for: there is no bound where no column is read.
@@ -180,6 +193,20 @@ impl fmt::Display for TableError {
             Some(_) => write!(f, "{error}, in row {row}, column {column}"),
             None => write!(f, "{error}, in column {column}"),
         }
+    }
+}
+
+impl TableError {
+    /// This wrong cell of a part of a text as one of the text, in which so many rows and bytes stand before the part.
+    ///
+    /// ```
+    /// use jadvolni::{Error, TableError};
+    /// let in_part = TableError { row: 1, column: 2, error: Error::InvalidDigit(18) };
+    /// let in_text = TableError { row: 11, column: 2, error: Error::InvalidDigit(118) };
+    /// assert_eq!(in_part.behind(10, 100), in_text);
+    /// ```
+    pub fn behind(self, rows: usize, bytes: usize) -> Self {
+        TableError { row: self.row.saturating_add(rows), error: self.error.moved(bytes), ..self }
     }
 }
 

@@ -119,7 +119,8 @@ impl<'a, R: Read> TableReader<'a, R> {
                 Ok(_) => self.fill()?,
                 Err(error) => {
                     self.has_ended = true;
-                    return Err(self.told(error));
+                    let in_text = error.behind(self.row, self.start + self.parsed);
+                    return Err(TableReadError::Table { rows: error.row, error: in_text });
                 }
             }
         }
@@ -143,17 +144,5 @@ impl<'a, R: Read> TableReader<'a, R> {
             Err(error) => return Err(TableReadError::Io(error)),
         }
         Ok(())
-    }
-
-    /// A fault in the block, as one in the whole text.
-    fn told(&self, error: TableError) -> TableReadError {
-        TableReadError::Table {
-            rows: error.row,
-            error: TableError {
-                row: self.row + error.row,
-                column: error.column,
-                error: error.error.moved(self.start + self.parsed),
-            },
-        }
     }
 }

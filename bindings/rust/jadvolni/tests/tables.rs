@@ -48,9 +48,14 @@ fn comma() -> Dialect<'static> {
 }
 
 /// All rows of a device, by at most so many a call, and what else it told.
-fn rows_of(device: Device<'_>, size: usize, most: usize) -> (Vec<u16>, Vec<TableReadError>) {
+fn rows_of(
+    device: Device<'_>,
+    dialect: Dialect<'_>,
+    size: usize,
+    most: usize,
+) -> (Vec<u16>, Vec<TableReadError>) {
     let (mut rows, mut told) = (vec![], vec![]);
-    let mut reader = TableReader::with_capacity(size, device, comma());
+    let mut reader = TableReader::with_capacity(size, device, dialect);
     loop {
         let mut numbers = vec![9; most];
         let count = reader.read(&mut [TableColumn::of(&mut numbers), TableColumn::UNREAD]);
@@ -77,7 +82,7 @@ fn every_cut_gives_the_whole_table() {
             (1..9).flat_map(move |most| (1..4).map(move |room| (size, most, room)))
         }) {
             let device = Device { text: text.as_bytes(), most, place: 0, failure: None };
-            let (rows, told) = rows_of(device, size, room);
+            let (rows, told) = rows_of(device, comma(), size, room);
             assert!(numbers.starts_with(&rows), "{text} by {most} of {size}");
             match whole {
                 Ok(table) => assert_eq!((rows.len(), told.len()), (table.rows, 0), "{text}"),
@@ -98,12 +103,12 @@ fn a_failed_read_is_told_and_gone_on_from() {
     let text = b"1,a\n22,b\n3,c";
     for place in 0..=text.len() {
         let device = |kind| Device { text, most: 5, place: 0, failure: Some((place, kind)) };
-        let (rows, told) = rows_of(device(ErrorKind::TimedOut), 9, 2);
+        let (rows, told) = rows_of(device(ErrorKind::TimedOut), comma(), 9, 2);
         assert_eq!(rows, [1, 22, 3]);
         assert!(
             matches!(&told[..], [TableReadError::Io(error)] if error.kind() == ErrorKind::TimedOut)
         );
-        let (rows, told) = rows_of(device(ErrorKind::Interrupted), 9, 2);
+        let (rows, told) = rows_of(device(ErrorKind::Interrupted), comma(), 9, 2);
         assert_eq!((rows, told.len()), (vec![1, 22, 3], 0));
     }
 }
@@ -111,7 +116,7 @@ fn a_failed_read_is_told_and_gone_on_from() {
 #[test]
 fn a_row_that_no_block_holds_is_told() {
     let device = Device { text: b"1,a\n2,bbbbbbb\n", most: 99, place: 0, failure: None };
-    let (rows, told) = rows_of(device, 8, 4);
+    let (rows, told) = rows_of(device, comma(), 8, 4);
     assert_eq!(rows, [1]);
     assert!(matches!(told[..], [TableReadError::LongRow(4)]));
     assert_eq!(told[0].to_string(), "the row at byte 4 has more bytes than a block");

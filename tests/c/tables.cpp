@@ -1,0 +1,133 @@
+// Tables in C++: whole, in blocks from a reader that gives little or fails, and with missing numbers.
+#include "jadvolni.hpp"
+#include "check.h"
+
+#include <algorithm>
+#include <string>
+#include <vector>
+
+using jadvolni::status;
+
+static void tables()
+{
+    std::vector<long> cents(2, 77);
+    unsigned short days[2] = {77, 77};
+    jadvolni::table ledger{};
+    ledger.separator = ';';
+    ledger.has_returns = 1;
+    jadvolni::table_column columns[] = {jadvolni::column_into(days), {}, jadvolni::column_into(cents)};
+    auto read = jadvolni::parse_table("1;rent;-80000\r\n365;;7\r\n2;;x", ledger, 2, columns);
+    CHECK(read && read.rows() == 2 && read.place() == 23 && read.column() == 0);
+    CHECK(days[0] == 1 && days[1] == 365 && cents[0] == -80000 && cents[1] == 7);
+    read = jadvolni::parse_table_part("3;;4\r\n5;;", false, ledger, 2, columns);
+    CHECK(read && read.rows() == 1 && read.place() == 6 && days[0] == 3 && days[1] == 365);
+    read = jadvolni::parse_table("6;;5\r\n65536;;4\r\n", ledger, 2, columns);
+    CHECK(!read && read.status() == status::overflow && read.rows() == 1 && read.column() == 0 && read.place() == 10);
+    CHECK(jadvolni::parse_table("1;2", ledger, 2, columns).status() == status::too_few_cells);
+    CHECK(jadvolni::parse_table("1;;2;", ledger, 2, columns).status() == status::too_many_cells);
+    CHECK(jadvolni::parse_table("1;;2\n", ledger, 2, columns).status() == status::missing_return);
+    CHECK(jadvolni::parse_table("", ledger, 3, columns).status() == status::invalid_table);
+    columns[2] = jadvolni::column_into(cents, jadvolni_format_of_radix(1));
+    read = jadvolni::parse_table("", ledger, 2, columns);
+    CHECK(read.status() == status::invalid_mantissa_radix && read.column() == 2);
+}
+
+static jadvolni::table ledger_of_lines()
+{
+    jadvolni::table ledger{};
+    ledger.separator = ';';
+    ledger.skips_empty_rows = 1;
+    return ledger;
+}
+
+// What a table of blocks gives: all its rows in a line each, and what is wrong at last. The reader gives
+// so many bytes at once, and fails where it has to.
+struct reader {
+    std::string_view text;
+    std::size_t step, fails_at;
+    std::ptrdiff_t operator()(char *to, std::size_t room)
+    {
+        if (fails_at-- == 0) return -1;
+        auto front = text.substr(0, std::min(step, room));
+        text.remove_prefix(front.size());
+        std::copy(front.begin(), front.end(), to);
+        return std::ptrdiff_t(front.size());
+    }
+};
+
+static std::string in_table_blocks(reader read, std::size_t size, std::size_t capacity, int loops = 1,
+                                   const jadvolni::table &how = ledger_of_lines())
+{
+    std::string told, bytes(size, 'x');
+    std::vector<short> days(capacity, 77);
+    std::vector<long> cents(capacity, 77);
+    jadvolni::table_column columns[] = {jadvolni::column_into(days), {}, jadvolni::column_into(cents)};
+    jadvolni::table_blocks blocks(read, bytes, how, capacity, columns);
+    std::size_t rows = 0;
+    for (; loops > 0; --loops)
+        for (const jadvolni::table_block &block : blocks) {
+            CHECK(block.first_row() == rows && block.rows() <= capacity && (!block || block.rows() > 0));
+            for (std::size_t k = 0; k < block.rows(); ++k, ++rows)
+                told += std::to_string(days[k]) + ' ' + std::to_string(cents[k]) + '\n';
+            if (!block)
+                told += block.message() + (' ' + std::to_string(block.first_row() + block.rows())) + ' '
+                    + std::to_string(block.column()) + ' ' + std::to_string(block.place()) + '\n';
+        }
+    return told;
+}
+
+static void tables_in_blocks()
+{
+    std::string_view rows = "1;rent;-80000\n\n365;;7\n\n\n12;a;0", worse = "1;a;2\n\n3;b;4\n5;;6x\n7;;8\n";
+    std::string all = "1 -80000\n365 7\n12 0\n", fault = "1 2\n3 4\ninvalid digit 2 2 17\n";
+    auto never = std::size_t(-1);
+    for (std::size_t size = 14; size < 40; ++size)
+        for (std::size_t step : {1u, 5u, 13u, 99u})
+            for (std::size_t capacity : {1u, 2u, 9u}) {
+                CHECK(in_table_blocks({rows, step, never}, size, capacity) == all);
+                CHECK(in_table_blocks({worse, step, never}, size, capacity) == fault);
+                CHECK(in_table_blocks({"\n\n", step, never}, size, capacity).empty());
+            }
+    // A row that is longer than the bytes, and no room at all.
+    CHECK(in_table_blocks({rows, 99, never}, 13, 9) == "a row has no room 0 0 0\n");
+    CHECK(in_table_blocks({"1;;2\n\n33;;4\n", 1, never}, 5, 9) == "1 2\na row has no room 1 0 6\n");
+    CHECK(in_table_blocks({rows, 99, never}, 0, 9) == "a row has no room 0 0 0\n");
+    CHECK(in_table_blocks({rows, 99, never}, 40, 0) == "a row has no room 0 0 0\n");
+    // It is a range of the standard library.
+    std::vector<char> bytes(20);
+    std::vector<jadvolni::table_column> unread(3);
+    jadvolni::table_blocks blocks(reader{"1;2;3\n4;5;6\n7;8;9\n", 99, never}, bytes, ledger_of_lines(), 2, unread);
+    CHECK(std::distance(blocks.begin(), blocks.end()) == 2 && blocks.begin() == blocks.end());
+    // Where reading fails nothing is lost, and no row comes twice.
+    for (std::size_t fails_at = 0; fails_at <= rows.size(); ++fails_at) {
+        auto told = in_table_blocks({rows, 1, fails_at}, 20, 9, 2);
+        auto from = told.find("reading has failed");
+        CHECK(from != told.npos && told.erase(from, told.find('\n', from) + 1 - from) == all);
+    }
+}
+
+// Bits of a column, and those of rows that no number was read for, which stay.
+static void bits()
+{
+    std::vector<std::uint8_t> present(2, 0xFF);
+    signed char numbers[9] = {77, 77, 77, 77, 77, 77, 77, 77, 77};
+    jadvolni::table lines{};
+    jadvolni::table_column columns[] = {jadvolni::column_into(numbers)};
+    columns[0].present = {present.data(), present.size()};
+    CHECK(jadvolni::parse_table("-1\n\n3\n\n\n6\n7\n8\n", lines, 9, columns).rows() == 8);
+    CHECK(numbers[0] == -1 && numbers[1] == 0 && numbers[4] == 0 && numbers[7] == 8 && numbers[8] == 77);
+    std::string told;
+    for (std::size_t row = 0; row < 16; ++row) told += jadvolni::is_present(present, row) ? '1' : '0';
+    CHECK(told == "1010011111111111");
+    const std::uint8_t two[] = {0x80, 0x01};
+    CHECK(jadvolni::is_present(two, 7) && jadvolni::is_present(two, 8));
+    CHECK(!jadvolni::is_present(two, 6) && !jadvolni::is_present(two, 15));
+}
+
+int main()
+{
+    tables();
+    tables_in_blocks();
+    bits();
+    return checked();
+}
