@@ -30,7 +30,7 @@ HERE = Path(__file__).resolve().parent
 TOP = HERE.parent.parent
 PROJECT = tomllib.loads((HERE / "pyproject.toml").read_text(encoding="utf-8"))["project"]
 NAME, VERSION = PROJECT["name"], PROJECT["version"]
-FLAGS = ["-std=c11", "-O2", "-Wall", "-Wextra", "-fPIC", "-fno-plt", "-shared",
+FLAGS = ["-std=c11", "-O3", "-Wall", "-Wextra", "-fPIC", "-fno-plt", "-shared",
          "-fvisibility=hidden"]
 # The extension exports nothing of the library: else the calls of another one of that name, loaded
 # before, would take the place of those that it was linked with. The loader refuses it on a
