@@ -11,7 +11,8 @@ use Rattle.lexical_tables.specs.declared.answers.CellFault.TheVariants.{Misplace
 use Rattle.lexical_tables.specs.declared.answers.Table.{Table}
 use Rattle.lexical_tables.specs.declared.answers.TableError.{TableError}
 use Rattle.lexical_tables.specs.declared.dialect.Dialect.{Dialect}
-use Rattle.lexical_tables.specs.declared.dialect.Layout.TheVariants.{Separated}
+use Rattle.lexical_tables.specs.declared.dialect.Layout.{Layout}
+use Rattle.lexical_tables.specs.declared.dialect.Layout.TheVariants.{Records, Separated, Widths}
 use Rattle.jadvolni.specs.Effect.{fault_place, fault_status, format_status, signed, unsigned}
 use Rattle.jadvolni.specs.FormatFields.{are_zeros, flag, format_of}
 use Rattle.jadvolni.specs.declared.table_columns.ColumnFields.{ColumnFields}
@@ -155,10 +156,19 @@ pub record TableEffect : Type 0 where
 abbrev pub table_effect : TableOutcome → List ColumnFields → TableEffect
 table_effect outcome columns = record { outcome = outcome; targets = map target_of columns }
 
--- how a table is written, whose rows have so many cells
-abbrev pub dialect_of : TableFields → ℕ → Dialect
-dialect_of table columns = record {
-  layout = Separated table.separator columns;
+-- How the cells of a row are found, where a table has so many columns: there are as many widths, or none; records have some.
+abbrev pub layout_of : TableFields → ℕ → Option Layout
+layout_of table columns =
+    if length table.widths.now == 0
+    then (if flag table.is_records then None else Some (Separated table.separator columns))
+    else if length table.widths.now == columns
+    then Some (if flag table.is_records then Records table.widths else Widths table.widths)
+    else None
+
+-- how a table is written whose cells are found so
+abbrev pub dialect_with : TableFields → Layout → Dialect
+dialect_with table layout = record {
+  layout = layout;
   has_returns = flag table.has_returns;
   has_quotes = flag table.has_quotes;
   allows_blanks = flag table.allows_blanks;
@@ -166,19 +176,26 @@ dialect_of table columns = record {
   missing = table.missing;
 }
 
--- reading a text's table, unless a column can't be read
-abbrev pub table_read : Option TableOutcome → Dialect → ℕ → List ℕ → List (Option TargetView)
-    → TableEffect
-table_read (Some wrong) dialect rows text targets = record { outcome = wrong; targets = targets }
-table_read None dialect rows text targets = record {
-  outcome = outcome_of (columns_answer (kinds_of targets) dialect rows text);
-  targets = columns_put dialect rows text targets;
-}
+-- how a table of so many columns is written, if what is kept for later versions is 0, and cells can be found
+abbrev pub dialect_of : TableFields → ℕ → Option Dialect
+dialect_of table columns =
+    if are_zeros table.reserved then option_map (dialect_with table) (layout_of table columns)
+    else None
 
--- reading the table of a text, or of a part of one, into these columns
+-- reading the table of a text, or of a part of one, unless it or a column can't be read
+abbrev pub table_read : Option Dialect → Option TableOutcome → Bool → ℕ → List ℕ
+    → List (Option TargetView) → TableEffect
+table_read None wrong is_last rows text targets =
+    record { outcome = refused invalid_table 0; targets = targets }
+table_read (Some dialect) (Some wrong) is_last rows text targets =
+    record { outcome = wrong; targets = targets }
+table_read (Some dialect) None is_last rows text targets =
+    let part = readable is_last dialect text in record {
+      outcome = outcome_of (columns_answer (kinds_of targets) dialect rows part);
+      targets = columns_put dialect rows part targets;
+    }
+
+-- reading it into these columns
 abbrev pub table_call : TableFields → Bool → ℕ → List ℕ → List ColumnFields → TableEffect
-table_call table is_last rows text columns =
-    if are_zeros table.reserved
-    then table_read (wrong_column rows 0 columns) (dialect_of table (length columns)) rows
-    (readable is_last (dialect_of table (length columns)) text) (map target_of columns)
-    else record { outcome = refused invalid_table 0; targets = map target_of columns }
+table_call table is_last rows text columns = table_read (dialect_of table (length columns))
+    (wrong_column rows 0 columns) is_last rows text (map target_of columns)
