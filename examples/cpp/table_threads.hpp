@@ -1,4 +1,4 @@
-// A table in memory, read in threads, with the answer of one thread. Copy this file:
+// A table in memory, read in threads, with the answer of one thread. Copy this file, and compile with -pthread:
 //
 //     auto parts = table_parts(text, ledger, threads);
 //     auto blocks = in_threads(parts, read_part); // a struct each, with its arrays and its `answer`

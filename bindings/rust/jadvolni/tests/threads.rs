@@ -6,6 +6,9 @@ mod program;
 
 use jadvolni::{is_present, parse_table, Dialect, Error, Table, TableColumn, TableError};
 use program::threads::read_in_threads;
+use std::ffi::{OsStr, OsString};
+use std::io::Write;
+use std::os::unix::ffi::OsStrExt;
 
 /// Each number of a row that was read, and whether it is there.
 type Rows = Vec<(i16, bool, u8)>;
@@ -98,17 +101,32 @@ fn random_tables() {
 #[test]
 fn the_program() {
     let path = std::env::temp_dir().join(format!("jadvolni-{}", std::process::id()));
+    let run = |words: [&OsStr; 2], output: &mut dyn Write| {
+        program::run(&words.map(OsString::from), output)
+    };
     let answer = |text: &str| {
         std::fs::write(&path, text).unwrap();
-        program::answer(path.to_str().unwrap(), 3)
-            .map_err(|told| told.rsplit(": ").next().unwrap().into())
+        let mut said = vec![];
+        let told = run([path.as_ref(), "3".as_ref()], &mut said);
+        told.map_err(|told| told.replace(path.to_str().unwrap(), "FILE"))
+            .map(|()| String::from_utf8(said).unwrap())
     };
     let right = answer("1;rent;-80000\n2;\"a;\n\";\n3;;7\n4;;-5");
-    let none = answer("1;;\n");
-    let wrong: Result<String, String> = answer("1;;2\n3;;x");
+    assert_eq!(right, Ok("4 rows, the greatest amount is 7\n".into()));
+    assert_eq!(answer("1;;\n"), Ok("1 rows, the greatest amount is none\n".into()));
+    let wrong = "FILE: invalid digit at byte 8, in row 1, column 2";
+    assert_eq!(answer("1;;2\n3;;x"), Err(wrong.into()));
+    let full = &mut std::fs::File::create("/dev/full").unwrap();
+    let told = run(["/dev/null".as_ref(), "1".as_ref()], full).unwrap_err();
+    assert_eq!(told, "standard output: No space left on device (os error 28)");
+    let told = run([path.as_ref(), "256".as_ref()], full).unwrap_err();
+    assert_eq!(told, "THREADS: overflow at byte 2");
     std::fs::remove_file(&path).unwrap();
-    assert_eq!(right.as_deref(), Ok("4 rows, the greatest amount is 7"));
-    assert_eq!(none.as_deref(), Ok("1 rows, the greatest amount is none"));
-    assert_eq!(wrong.as_deref(), Err(&"invalid digit at byte 8, in row 1, column 2".to_string()));
-    assert!(program::answer("/", 1).is_err() && program::answer("", 255).is_err());
+    let told = run([OsStr::from_bytes(b"/\xFF"), "1".as_ref()], full).unwrap_err();
+    assert_eq!(told, "/\u{FFFD}: No such file or directory (os error 2)");
+    assert_eq!(
+        run(["/".as_ref(), "1".as_ref()], full).unwrap_err(),
+        "/: Is a directory (os error 21)"
+    );
+    assert_eq!(program::run(&[], full).unwrap_err(), "usage: table_threads FILE THREADS");
 }

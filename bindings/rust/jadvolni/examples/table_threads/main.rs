@@ -2,7 +2,10 @@
 pub mod threads;
 
 use jadvolni::{is_present, parse, parse_table, Dialect, Table, TableColumn, TableError};
-use std::{env, fs, process};
+use std::ffi::OsString;
+use std::io::{self, Write};
+use std::process::ExitCode;
+use std::{env, fs};
 use threads::read_in_threads;
 
 const LEDGER: Dialect<'static> = Dialect::separated_by(b';').has_quotes(true);
@@ -17,31 +20,30 @@ fn read_ledger(part: &[u8]) -> ((Vec<i64>, Vec<u8>), Result<Table, TableError>) 
     ((cents, present), answer)
 }
 
-/// What is told of a file, or what is wrong with it.
-pub fn answer(path: &str, threads: u8) -> Result<String, String> {
-    let text = fs::read(path).map_err(|error| format!("{path}: {error}"))?;
+/// Answers the words of a command line, or tells what is wrong.
+pub fn run(words: &[OsString], mut output: impl Write) -> Result<(), String> {
+    let [path, threads] = words else { return Err("usage: table_threads FILE THREADS".into()) };
+    let threads: u8 =
+        parse(threads.as_encoded_bytes()).map_err(|error| format!("THREADS: {error}"))?;
+    let told = |why: &dyn ToString| format!("{}: {}", path.to_string_lossy(), why.to_string());
+    let text = fs::read(path).map_err(|error| told(&error))?;
     let (blocks, whole) = read_in_threads(&text, true, threads.into(), read_ledger);
-    let rows = whole.map_err(|fault| format!("{path}: {fault}"))?.rows;
+    let rows = whole.map_err(|fault| told(&fault))?.rows;
     let amounts = blocks.iter().flat_map(|(cents, bits)| {
         (0..cents.len()).filter(|&row| is_present(bits, row)).map(|row| cents[row])
     });
     let greatest = amounts.max().map_or("none".to_string(), |cents| cents.to_string());
-    Ok(format!("{rows} rows, the greatest amount is {greatest}"))
+    writeln!(output, "{rows} rows, the greatest amount is {greatest}")
+        .map_err(|error| format!("standard output: {error}"))
 }
 
-fn main() {
-    let words: Vec<String> = env::args().skip(1).collect();
-    let told = match &words[..] {
-        [path, threads] => parse(threads)
-            .map_err(|error| format!("THREADS: {error}"))
-            .and_then(|threads| answer(path, threads)),
-        _ => Err("usage: table_threads FILE THREADS".to_string()),
-    };
-    match told {
-        Ok(said) => println!("{said}"),
+fn main() -> ExitCode {
+    let words: Vec<OsString> = env::args_os().skip(1).collect();
+    match run(&words, io::stdout()) {
+        Ok(()) => ExitCode::SUCCESS,
         Err(told) => {
             eprintln!("{told}");
-            process::exit(1);
+            ExitCode::FAILURE
         }
     }
 }
