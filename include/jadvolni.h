@@ -150,8 +150,9 @@ typedef enum jadvolni_status {
     /* The line feed at the place has no carriage return before it, and the table has returns. */
     JADVOLNI_MISSING_RETURN = 16,
 
-    /* A reserved byte of the table isn't 0; or the array or the bits of a column have less room than
-     * rows are asked for, and then that column is told. The place is 0. */
+    /* A reserved byte of the table isn't 0, it has widths, and not one for each column, or its rows are
+     * records, and it has none; or the array or the bits of a column have less room than rows are
+     * asked for, and then that column is told. The place is 0. */
     JADVOLNI_INVALID_TABLE = 17,
 
     /* A quote in a cell is neither its first and last byte nor doubled, or there is an odd number of
@@ -617,13 +618,22 @@ typedef struct jadvolni_table {
     /* Flag: a row without a byte is none. Else it is a row of one empty cell. */
     uint8_t skips_empty_rows;
 
+    /* Flag: a row is a record, of as many bytes as the widths say together, and nothing stands between
+     * two rows. A line feed is then a byte as any other. It needs widths. */
+    uint8_t is_records;
+
     /* 0, each of them: they are for fields of later versions. */
-    uint8_t reserved[11];
+    uint8_t reserved[10];
 
     /* What stands for a missing number, byte for byte, in columns that have bits for it. With no
      * byte, which NULL may stand for, an empty cell does. */
     const char *missing;
     size_t missing_len;
+
+    /* How many bytes the cell of each column has: then none is a separator. Without widths, cells
+     * stand between separators. */
+    const size_t *widths;
+    size_t width_count;
 } jadvolni_table;
 
 /* An array of a column, and how many numbers it has room for. */
@@ -672,7 +682,8 @@ typedef struct jadvolni_table_result {
 
 /*
  * The rows of a text, each column read into an array of its own by one call. A row is a line, and its
- * cells stand between separators: one cell more than separators, and as many as there are columns.
+ * cells stand between separators: one cell more than separators, and as many as there are columns. Or
+ * cells have widths, and rows may be records.
  *
  *     uint16_t days[1000];
  *     int64_t cents[1000];
@@ -704,6 +715,15 @@ typedef struct jadvolni_table_result {
  * So "365;rent;-80000\r\n" in the table above gives 365 and -80000, one row, and JADVOLNI_OK at 17. With
  * x for the last 0 it gives no row, and JADVOLNI_INVALID_DIGIT in column 2 at 14.
  *
+ * CELLS OF GIVEN WIDTHS. Each column has so many bytes of a row. A row that ends within a cell or before
+ * it has too few, and the first byte behind the last cell is one cell too many.
+ *
+ *     static const size_t widths[] = {3, 4, 6};
+ *     jadvolni_table fixed = {.allows_blanks = 1, .widths = widths, .width_count = 3};
+ *
+ * So with the columns above "365rent-80000\n 36bank  1250\n" has two rows, and so has the text without
+ * its line feeds where `is_records` is set.
+ *
  * A FILE IN BLOCKS. Where `is_last` is false the text is a part of one, and a row that it ends in is
  * left: put the bytes from `r.place` on in front of the next part. Rows and places are counted from the
  * start of each part. A part that is as long as the block and gives no row has a row that is longer.
@@ -714,8 +734,9 @@ typedef struct jadvolni_table_result {
  *
  * Beside what the head of this file says, `columns` points to `column_count` of them, and may be NULL
  * where that is 0. The array of a column points to as many numbers that may be written, `present.bytes`
- * to `present.size` bytes and `missing` to `missing_len`, and each may be NULL where its count is 0. None
- * lies in the text, in a struct or in another. The structs stay as they are.
+ * to `present.size` bytes, `missing` to `missing_len` and `widths` to `width_count` widths, and each may
+ * be NULL where its count is 0. None that is written lies in the text, in a struct or in another. The
+ * structs stay as they are.
  */
 jadvolni_table_result jadvolni_parse_table(const char *text, size_t len, bool is_last,
                                            const jadvolni_table *table, size_t capacity,
@@ -818,8 +839,9 @@ static inline const char *jadvolni_status_text(uint32_t status)
     case JADVOLNI_TOO_MANY_CELLS: return "too many cells";
     case JADVOLNI_MISSING_RETURN: return "missing carriage return";
     case JADVOLNI_INVALID_TABLE:
-        return "the array of each column has to have room for all rows, and the reserved "
-               "bytes of a table have to be 0";
+        return "each array of a table has to have room for all rows, widths have to be as "
+               "many as columns, records need widths, and the reserved bytes of a table have "
+               "to be 0";
     case JADVOLNI_MISPLACED_QUOTE: return "misplaced quote";
     case JADVOLNI_UNKNOWN_FIELD:
         return "the reserved bytes and bits of the format have to be 0";
@@ -869,9 +891,10 @@ JADVOLNI_ASSERT_(format_has_32_bytes, sizeof(jadvolni_format) == 32);
 JADVOLNI_ASSERT_(mantissa_radix_is_at_0, offsetof(jadvolni_format, mantissa_radix) == 0);
 JADVOLNI_ASSERT_(base_suffix_is_at_3, offsetof(jadvolni_format, base_suffix) == 3);
 JADVOLNI_ASSERT_(literal_prefixes_is_at_16, offsetof(jadvolni_format, literal_prefixes) == 16);
-JADVOLNI_ASSERT_(table_has_32_bytes, sizeof(jadvolni_table) == 32);
+JADVOLNI_ASSERT_(table_has_48_bytes, sizeof(jadvolni_table) == 48);
 JADVOLNI_ASSERT_(table_column_has_176_bytes, sizeof(jadvolni_table_column) == 176);
 JADVOLNI_ASSERT_(missing_is_at_16, offsetof(jadvolni_table, missing) == 16);
+JADVOLNI_ASSERT_(widths_are_at_32, offsetof(jadvolni_table, widths) == 32);
 JADVOLNI_ASSERT_(first_array_is_at_32, offsetof(jadvolni_table_column, i64) == 32);
 JADVOLNI_ASSERT_(last_array_is_at_144, offsetof(jadvolni_table_column, u8) == 144);
 JADVOLNI_ASSERT_(table_result_has_32_bytes, sizeof(jadvolni_table_result) == 32);

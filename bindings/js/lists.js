@@ -39,7 +39,7 @@ export const STATUSES = [
   ["TooFewCells", "too few cells"],
   ["TooManyCells", "too many cells"],
   ["MissingReturn", "missing carriage return"],
-  ["InvalidTable", "the array of each column has to have room for all rows, and the reserved bytes of a table have to be 0"],
+  ["InvalidTable", "each array of a table has to have room for all rows, widths have to be as many as columns, records need widths, and the reserved bytes of a table have to be 0"],
   ["MisplacedQuote", "misplaced quote"],
 ];
 

@@ -16,7 +16,7 @@ const call = memory.named("jadvolni_parse_table");
 // stand for a missing number, and the columns' arrays. A column is its format; for each type the
 // address of an array and its room; and those of its bits, which say where there is a number.
 const tablePlace = numbersPlace + 32;
-const columnsPlace = tablePlace + 32;
+const columnsPlace = tablePlace + 48;
 const WORDS = 22;
 const FIRST_ARRAY = 4;
 const BITS = 20;
@@ -28,8 +28,8 @@ const ANSWER = BigInt(numbersPlace);
 const TABLE = BigInt(tablePlace);
 const COLUMNS = BigInt(columnsPlace);
 const answer = new Uint32Array(memory.buffer, numbersPlace, 8);
-const tableBytes = new Uint8Array(memory.buffer, tablePlace, 32);
-const tableWords = new BigUint64Array(memory.buffer, tablePlace, 4);
+const tableBytes = new Uint8Array(memory.buffer, tablePlace, 48);
+const tableWords = new BigUint64Array(memory.buffer, tablePlace, 6);
 const ARRAYS_OF_TYPES = new Map(Object.entries(ARRAYS));
 
 /** A flag that was given. */
@@ -100,7 +100,7 @@ function putTable({ bytes, missing }, reads) {
   const columns = reads.map(() => take(BigUint64Array, WORDS));
   const mark = take(Uint8Array, missing.length);
   mark.set(missing);
-  tableWords.set([0n, 0n, BigInt(mark.byteOffset), BigInt(mark.length)]);
+  tableWords.set([0n, 0n, BigInt(mark.byteOffset), BigInt(mark.length), 0n, 0n]);
   tableBytes.set(bytes);
   const arrays = reads.map((read, index) => putColumn(columns[index], read, rows, take));
   return { arrays, rows };

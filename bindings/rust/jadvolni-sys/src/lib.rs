@@ -66,9 +66,12 @@ pub struct jadvolni_table {
     pub has_quotes: u8,
     pub allows_blanks: u8,
     pub skips_empty_rows: u8,
-    pub reserved: [u8; 11],
+    pub is_records: u8,
+    pub reserved: [u8; 10],
     pub missing: *const c_char,
     pub missing_len: usize,
+    pub widths: *const usize,
+    pub width_count: usize,
 }
 
 /// An array of a column, or its bytes with bits, which the header leaves without names.
@@ -117,8 +120,10 @@ const _: () = {
     assert!(
         size_of::<jadvolni_format>() == 32 && offset_of!(jadvolni_format, literal_prefixes) == 16
     );
-    assert!(size_of::<jadvolni_table>() == 32 && size_of::<jadvolni_table_column>() == 176);
-    assert!(offset_of!(jadvolni_table_column, u8) == 144);
+    assert!(size_of::<jadvolni_table>() == 48 && offset_of!(jadvolni_table, widths) == 32);
+    assert!(
+        size_of::<jadvolni_table_column>() == 176 && offset_of!(jadvolni_table_column, u8) == 144
+    );
     assert!(
         size_of::<jadvolni_table_result>() == 32 && offset_of!(jadvolni_table_result, column) == 8
     );

@@ -147,8 +147,9 @@ impl fmt::Display for Error {
             Error::TooManyCells(_) => "too many cells",
             Error::MissingReturn(_) => "missing carriage return",
             Error::InvalidTable =>
-                "the array of each column has to have room for all rows, and the reserved \
-                bytes of a table have to be 0",
+                "each array of a table has to have room for all rows, widths have to be \
+                as many as columns, records need widths, and the reserved bytes of a \
+                table have to be 0",
             Error::MisplacedQuote(_) => "misplaced quote",
             Error::Unknown(_) => "a status that only a later library has",
         })?;

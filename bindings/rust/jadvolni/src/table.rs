@@ -23,9 +23,12 @@ impl<'a> Dialect<'a> {
             has_quotes: 0,
             allows_blanks: 0,
             skips_empty_rows: 0,
-            reserved: [0; 11],
+            is_records: 0,
+            reserved: [0; 10],
             missing: null(),
             missing_len: 0,
+            widths: null(),
+            width_count: 0,
         };
         Dialect(table, PhantomData)
     }
