@@ -55,7 +55,7 @@ def with_widths(chance: random.Random, dialect: Dialect) -> Dialect:
     columns = chance.choice((1, 2, 2, 3, 4))
     widths = [chance.choice(HUGE_WIDTHS if chance.random() < 0.01 else WIDTHS)
               for _ in range(columns)]
-    return dialect._replace(columns=columns, widths=widths)
+    return dialect._replace(columns=columns, widths=widths, is_records=chance.random() < 0.5)
 
 
 def random_dialect(chance: random.Random) -> Dialect:
@@ -185,10 +185,16 @@ def settings_by_widths() -> Iterator[Question]:
     """How the short texts are read, where cells have widths."""
     for dialect in FLAGS:
         yield setting(dialect._replace(widths=(1, 2)), BYTE, SMALL)
-    yield setting(ALL_FLAGS._replace(widths=(2, 0)), SMALL, BYTE)
-    yield setting(ALL_FLAGS._replace(widths=(3, 2 ** 64 - 1)), BYTE, SMALL)
-    yield setting(ALL_FLAGS._replace(widths=(1, 1)), None, SMALL, is_last=False)
-    yield setting(ALL_FLAGS._replace(columns=1, widths=(0,)), BYTE, rows=1, room=3)
+        yield setting(dialect._replace(widths=(2, 1), is_records=True), BYTE, SMALL)
+    lines, records = ALL_FLAGS, ALL_FLAGS._replace(is_records=True)
+    yield setting(lines._replace(widths=(2, 0)), SMALL, BYTE)
+    yield setting(lines._replace(widths=(3, 2 ** 64 - 1)), BYTE, SMALL)
+    yield setting(lines._replace(widths=(1, 1)), None, SMALL, is_last=False)
+    yield setting(records._replace(widths=(0, 1)), BYTE, SMALL)
+    yield setting(records._replace(columns=1, widths=(0,)), BYTE)
+    yield setting(records._replace(widths=(1, 2 ** 64 - 1)), SMALL, BYTE)
+    yield setting(records._replace(widths=(1, 1)), None, SMALL, is_last=False)
+    yield setting(records._replace(columns=1, widths=(3,)), None, rows=1, room=3)
 
 
 def short_questions(longest: int) -> Iterator[Question]:
