@@ -14,7 +14,7 @@ from callers import OPTIMISED, Failed, Place, Step, needs, source
 # The warnings by the number of the misuse, in the words after -W. gcc alone checks room in arrays.
 TEXTS = (1, 2, 10, 15, 18)
 OF_BOTH = {**dict.fromkeys((3, 11, 12, 13, 16), "unused-result"),
-           **dict.fromkeys((4, 5, 6, 14, 17), "nonnull")}
+           **dict.fromkeys((4, 5, 6, 14, 17), "nonnull"), 21: "incompatible-pointer-types"}
 WARNINGS: Dict[str, Dict[int, str]] = {
     "gcc": {**OF_BOTH, **dict.fromkeys((*TEXTS, 19), "stringop-overread"), 9: "nonnull",
             20: "nonnull", 7: "stringop-overflow", 8: "stringop-overflow"},

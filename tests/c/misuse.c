@@ -81,5 +81,8 @@ uint64_t misuse(void)
     return used_table(jadvolni_parse_table(text, 4, true, &table, 2, &column, 2));
 #elif MISUSE == 20
     return used_table(jadvolni_parse_table(text, 4, true, &table, 2, NULL, 1));
+#elif MISUSE == 21
+    table.widths = &narrow, table.width_count = 1;
+    return used_table(jadvolni_parse_table(text, 4, true, &table, 2, &column, 1));
 #endif
 }

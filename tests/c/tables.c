@@ -100,6 +100,22 @@ static void faults_of_tables(void)
     columns[0].format.digit_separator = '-';
     CHECK(answers(jadvolni_parse_table("x,2", 3, true, &table, 1, columns, 2), JADVOLNI_INVALID_DIGIT_SEPARATOR, 0, 0, 0));
     CHECK(first[0] == 77 && second[0] == 77);
+    /* Widths are as many as columns or none, and records have some: the table is told before its columns. */
+    static const size_t widths[3] = {1, 1, 1};
+    for (unsigned flag = 0; flag < 256; flag += 255) {
+        for (size_t count = 0; count <= 3; count++) {
+            jadvolni_table fixed = {.separator = ',', .is_records = (uint8_t)flag, .widths = widths, .width_count = count};
+            uint32_t fits = flag == 0 && count % 2 == 0;
+            uint32_t wanted = fits ? JADVOLNI_INVALID_DIGIT_SEPARATOR : JADVOLNI_INVALID_TABLE;
+            CHECK(answers(jadvolni_parse_table("12", 2, true, &fixed, 1, columns, 2), wanted, 0, 0, 0));
+        }
+        jadvolni_table fixed = {.is_records = (uint8_t)flag, .widths = widths, .width_count = 1};
+        CHECK(answers(jadvolni_parse_table("", 0, true, &fixed, 0, NULL, 0), JADVOLNI_INVALID_TABLE, 0, 0, 0));
+    }
+    table.is_records = 1;
+    CHECK(answers(jadvolni_parse_table("", 0, true, &table, 0, NULL, 0), JADVOLNI_INVALID_TABLE, 0, 0, 0));
+    table.is_records = 0;
+    CHECK(first[0] == 77 && second[0] == 77);
     /* Where no array has room, neither the format nor the cell is looked at. */
     columns[0].u32.capacity = columns[1].u32.capacity = 0;
     CHECK(answers(jadvolni_parse_table("x,\n", 3, true, &table, 1, columns, 2), JADVOLNI_OK, 0, 1, 3));
@@ -121,26 +137,34 @@ static void ends(void)
     CHECK(wide[0] == 5 && wide[1] == 6 && bytes[0] == 77 && bytes[1] == 77);
 }
 
-/* A text that is cut at each place, and read in two parts, gives what the whole one gives. */
-static void parts(void)
+/* A text of 10, -20 and 30, whose third row lacks its last cell, gives in two parts what the whole one gives. */
+static void parts_of(const jadvolni_table *table, const char *text)
 {
-    static const char text[] = "10,a,1\r\n-20,,2\r\n30,b";
-    jadvolni_table table = {.separator = ',', .has_returns = 1};
-    for (size_t cut = 0; cut < sizeof text; cut++) {
+    size_t size = strlen(text);
+    for (size_t cut = 0; cut <= size; cut++) {
         int32_t numbers[4] = {77, 77, 77, 77};
         jadvolni_table_column columns[] = {{.format = STANDARD, .i32 = {numbers, 4}}, {.format = {0}}, {.format = {0}}};
         char *bytes = exactly(text, cut);
-        jadvolni_table_result front = jadvolni_parse_table(bytes, cut, false, &table, 4, columns, 3);
+        jadvolni_table_result front = jadvolni_parse_table(bytes, cut, false, table, 4, columns, 3);
         free(bytes);
         CHECK(front.status == JADVOLNI_OK && front.place <= cut && front.column == 0);
         columns[0].i32.numbers += front.rows;
         columns[0].i32.capacity -= front.rows;
-        size_t left = sizeof text - 1 - front.place;
+        size_t left = size - front.place;
         jadvolni_table_result rest =
-            jadvolni_parse_table(text + front.place, left, true, &table, 4 - front.rows, columns, 3);
+            jadvolni_parse_table(text + front.place, left, true, table, 4 - front.rows, columns, 3);
         CHECK(answers(rest, JADVOLNI_TOO_FEW_CELLS, 2, 2 - front.rows, left));
         CHECK(numbers[0] == 10 && numbers[1] == -20 && numbers[2] == 30 && numbers[3] == 77);
     }
+}
+
+static void parts(void)
+{
+    static const size_t widths[] = {3, 1, 2};
+    jadvolni_table cells = {.separator = ',', .has_returns = 1};
+    jadvolni_table table = {.allows_blanks = 1, .has_quotes = 1, .widths = widths, .width_count = 3};
+    parts_of(&cells, "10,a,1\r\n-20,,2\r\n30,b");
+    parts_of(&table, "10 a 1\n-20 \"\"\n 30b");
 }
 
 /* Each column has its own format, also one that isn't decimal. */
@@ -201,8 +225,35 @@ static void quotes(void)
     EXPECT("\"1\",,2\n", plain, JADVOLNI_INVALID_DIGIT, 0, 0, 0, 77, 99, 77, 99);
 }
 
+/* Cells of given widths, in lines. */
+static void widths_in_lines(void)
+{
+    static const size_t three[] = {3, 2, 3}, around[] = {2, 3, 1}, with_none[] = {2, 0, 1}, huge[] = {SIZE_MAX, SIZE_MAX, 3};
+    jadvolni_table table = {.separator = ',', .allows_blanks = 1, .widths = three, .width_count = 3};
+    jadvolni_table quoted = {.has_quotes = 1, .widths = around, .width_count = 3};
+    jadvolni_table none = {.widths = with_none, .width_count = 3}, endless = {.widths = huge, .width_count = 3};
+    EXPECT(" -1ab  2\n 30,\"  4\n", table, JADVOLNI_OK, 0, 2, 18, -1, 2, 30, 4);
+    EXPECT(" -1ab  2\n 30,\"  4", table, JADVOLNI_OK, 0, 2, 17, -1, 2, 30, 4);
+    EXPECT("", table, JADVOLNI_OK, 0, 0, 0, 77, 99, 77, 99);
+    EXPECT(" -1ab  2\n30", table, JADVOLNI_TOO_FEW_CELLS, 0, 1, 11, -1, 2, 77, 99);
+    EXPECT(" -1ab  2\n 30ab\n", table, JADVOLNI_TOO_FEW_CELLS, 2, 1, 14, -1, 2, 30, 99);
+    EXPECT("\n", table, JADVOLNI_TOO_FEW_CELLS, 0, 0, 0, 77, 99, 77, 99);
+    EXPECT(" -1ab  2x\n", table, JADVOLNI_TOO_MANY_CELLS, 3, 0, 8, -1, 2, 77, 99);
+    EXPECT(" -1ab 2x\n", table, JADVOLNI_INVALID_DIGIT, 2, 0, 7, -1, 99, 77, 99);
+    EXPECT(" 1,ab  2\n", table, JADVOLNI_INVALID_DIGIT, 0, 0, 2, 77, 99, 77, 99);
+    EXPECT("   ab  2\n", table, JADVOLNI_EMPTY, 0, 0, 3, 77, 99, 77, 99);
+    EXPECT("123\n-45\n", none, JADVOLNI_OK, 0, 2, 8, 12, 3, -4, 5);
+    EXPECT("1\n", endless, JADVOLNI_TOO_FEW_CELLS, 0, 0, 1, 77, 99, 77, 99);
+    EXPECT(" -1ab  2\r\n", table, JADVOLNI_TOO_MANY_CELLS, 3, 0, 8, -1, 2, 77, 99);
+    table.has_returns = table.skips_empty_rows = 1;
+    EXPECT("\r\n -1ab  2\r\n", table, JADVOLNI_OK, 0, 1, 12, -1, 2, 77, 99);
+    EXPECT(" -1ab  2\n", table, JADVOLNI_MISSING_RETURN, 3, 0, 8, -1, 2, 77, 99);
+    EXPECT("12\"\n\"3\n", quoted, JADVOLNI_OK, 0, 1, 7, 12, 3, 77, 99);
+}
+
 int main(void)
 {
+    widths_in_lines();
     missing_numbers();
     quotes();
     each_type();

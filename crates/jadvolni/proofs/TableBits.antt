@@ -5,7 +5,7 @@ use Rattle.std.proofs.Math.IntN.{ℤ, pos}
 use Rattle.lexical_util.specs.declared.error.Error.{Error}
 use Rattle.lexical_fields.specs.Fields.{FieldView}
 use Rattle.lexical_tables.specs.ByColumn.{IsUsable}
-use Rattle.lexical_tables.specs.Targets.{TargetView, error_in, has_bits, put_answer, put_text, put_value, text_answer, text_fault, with_number, with_row_bit}
+use Rattle.lexical_tables.specs.Targets.{Slice, TargetView, slice_of, error_in, has_bits, put_answer, put_text, put_value, text_answer, text_fault, with_number, with_row_bit}
 use Rattle.lexical_util.specs.Number.{IntegerType}
 use Rattle.jadvolni.specs.Effect.{signed, unsigned}
 use Rattle.jadvolni.specs.Tables.{bits_of, number_type, put_number, put_presence, put_zero, target_as, target_of, target_with}
@@ -29,6 +29,17 @@ bits_put row is_there bytes =
     ap (λ n. cond (nat_eq n 0) None (Some (with_row_bit row is_there bytes))) (length_bit row is_there bytes)
     ∙ of_some (nat_eq (length bytes) 0) row is_there bytes
 
+same_slice : (f : List ℕ → List ℕ) (slice : Slice) (bits : Option (List ℕ))
+    → option_map (λ bytes. slice) (option_map f bits) ≡ option_map (λ bytes. slice) bits
+same_slice f slice None = refl
+same_slice f slice (Some bytes) = refl
+
+pub slice_stays : (row : ℕ) (is_there : Bool) (bytes : List ℕ) (slice : Slice)
+    → option_map (λ bits. slice) (bits_of (with_row_bit row is_there bytes)) ≡ option_map (λ bits. slice) (bits_of bytes)
+slice_stays row is_there bytes slice =
+    ap (option_map (λ bits. slice)) (bits_put row is_there bytes)
+    ∙ same_slice (with_row_bit row is_there) slice (bits_of bytes)
+
 -- where no number may be missing, there is no bit to put
 no_bits : (row : ℕ) (is_there : Bool) (bits : Option (List ℕ)) → is_some bits ≡ false
     → bits ≡ option_map (with_row_bit row is_there) bits
@@ -48,22 +59,22 @@ there room true bytes is enough = absurd cc
 there room false bytes is enough = enough
 
 module _ (room : ℕ) (column : ColumnFields) where
-  in_target : (type : IntegerType) (numbers : List ℤ) → has_bits (target_with column type numbers) ≡ true
-      → IsUsable room (target_with column type numbers) → room ≤ 8 * length column.present.now
-  in_target type numbers is usable =
+  in_target : (type : IntegerType) (slice : Slice) (numbers : List ℤ) → has_bits (target_with column type slice numbers) ≡ true
+      → IsUsable room (target_with column type slice numbers) → room ≤ 8 * length column.present.now
+  in_target type slice numbers is usable =
       there room (nat_eq (length column.present.now) 0) column.present.now is usable.2
 
   room_as : (type : Option NumberType) → has_bits (target_as column type) ≡ true
       → IsUsable room (target_as column type) → room ≤ 8 * length column.present.now
   room_as None is usable = absurd cc
-  room_as (Some U8) is usable = in_target (unsigned 8) (map pos column.u8s.now) is usable
-  room_as (Some U16) is usable = in_target (unsigned 16) (map pos column.u16s.now) is usable
-  room_as (Some U32) is usable = in_target (unsigned 32) (map pos column.u32s.now) is usable
-  room_as (Some U64) is usable = in_target (unsigned 64) (map pos column.u64s.now) is usable
-  room_as (Some I8) is usable = in_target (signed 8) column.i8s.now is usable
-  room_as (Some I16) is usable = in_target (signed 16) column.i16s.now is usable
-  room_as (Some I32) is usable = in_target (signed 32) column.i32s.now is usable
-  room_as (Some I64) is usable = in_target (signed 64) column.i64s.now is usable
+  room_as (Some U8) is usable = in_target (unsigned 8) (slice_of column.u8s) (map pos column.u8s.now) is usable
+  room_as (Some U16) is usable = in_target (unsigned 16) (slice_of column.u16s) (map pos column.u16s.now) is usable
+  room_as (Some U32) is usable = in_target (unsigned 32) (slice_of column.u32s) (map pos column.u32s.now) is usable
+  room_as (Some U64) is usable = in_target (unsigned 64) (slice_of column.u64s) (map pos column.u64s.now) is usable
+  room_as (Some I8) is usable = in_target (signed 8) (slice_of column.i8s) column.i8s.now is usable
+  room_as (Some I16) is usable = in_target (signed 16) (slice_of column.i16s) column.i16s.now is usable
+  room_as (Some I32) is usable = in_target (signed 32) (slice_of column.i32s) column.i32s.now is usable
+  room_as (Some I64) is usable = in_target (signed 64) (slice_of column.i64s) column.i64s.now is usable
 
   pub bits_there : has_bits (target_of column) ≡ true → IsUsable room (target_of column)
       → room ≤ 8 * length column.present.now

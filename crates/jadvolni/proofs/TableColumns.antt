@@ -7,6 +7,7 @@ use Rattle.lexical_util.specs.Validity.{fault}
 use Rattle.lexical_util.specs.declared.error.Error.{Error}
 use Rattle.lexical_util.specs.declared.error.Error.TheVariants.{Overflow, Underflow, InvalidDigit, Empty, MissingSign, InvalidPositiveSign, InvalidLeadingZeros, InvalidMantissaRadix, InvalidDigitSeparator, InvalidBasePrefix, InvalidBaseSuffix, InvalidPunctuation, InvalidLiteralPrefixes}
 use Rattle.lexical_tables.specs.ByColumn.{AreUsable, IsUsable}
+use Rattle.lexical_tables.specs.Targets.{Slice, slice_of}
 use Rattle.jadvolni.specs.Effect.{format_status, rule_status, signed, unsigned}
 use Rattle.jadvolni.specs.FormatFields.{are_known, format_of}
 use Rattle.jadvolni.specs.Tables.{bits_of, column_status, lacks_bits, number_type, refused, target_as, target_of, target_status, target_with, wrong_column}
@@ -60,10 +61,10 @@ bits_roomy rows None is = tt
 bits_roomy rows (Some bytes) is = grind (arith, nat_tests)
 
 module _ (rows : ℕ) (column : ColumnFields) where
-  with_usable : (type : IntegerType) (numbers : List ℤ)
-      → target_status rows (format_status column.format) (target_with column type numbers) ≡ 0
-      → IsUsable rows (target_with column type numbers)
-  with_usable type numbers is =
+  with_usable : (type : IntegerType) (slice : Slice) (numbers : List ℤ)
+      → target_status rows (format_status column.format) (target_with column type slice numbers) ≡ 0
+      → IsUsable rows (target_with column type slice numbers)
+  with_usable type slice numbers is =
       let less = nat_lt (length numbers) rows in
       let bits = bits_of column.present.now in
       let lacks = lacks_bits rows bits in
@@ -77,14 +78,14 @@ module _ (rows : ℕ) (column : ColumnFields) where
       → target_status rows (format_status column.format) (target_as column type) ≡ 0
       → IsUsable rows (target_as column type)
   as_usable None is = tt
-  as_usable (Some U8) is = with_usable (unsigned 8) (map pos column.u8s.now) is
-  as_usable (Some U16) is = with_usable (unsigned 16) (map pos column.u16s.now) is
-  as_usable (Some U32) is = with_usable (unsigned 32) (map pos column.u32s.now) is
-  as_usable (Some U64) is = with_usable (unsigned 64) (map pos column.u64s.now) is
-  as_usable (Some I8) is = with_usable (signed 8) column.i8s.now is
-  as_usable (Some I16) is = with_usable (signed 16) column.i16s.now is
-  as_usable (Some I32) is = with_usable (signed 32) column.i32s.now is
-  as_usable (Some I64) is = with_usable (signed 64) column.i64s.now is
+  as_usable (Some U8) is = with_usable (unsigned 8) (slice_of column.u8s) (map pos column.u8s.now) is
+  as_usable (Some U16) is = with_usable (unsigned 16) (slice_of column.u16s) (map pos column.u16s.now) is
+  as_usable (Some U32) is = with_usable (unsigned 32) (slice_of column.u32s) (map pos column.u32s.now) is
+  as_usable (Some U64) is = with_usable (unsigned 64) (slice_of column.u64s) (map pos column.u64s.now) is
+  as_usable (Some I8) is = with_usable (signed 8) (slice_of column.i8s) column.i8s.now is
+  as_usable (Some I16) is = with_usable (signed 16) (slice_of column.i16s) column.i16s.now is
+  as_usable (Some I32) is = with_usable (signed 32) (slice_of column.i32s) column.i32s.now is
+  as_usable (Some I64) is = with_usable (signed 64) (slice_of column.i64s) column.i64s.now is
 
   column_usable : column_status rows column ≡ 0 → IsUsable rows (target_of column)
   column_usable is = as_usable (number_type column) is

@@ -125,9 +125,9 @@ all_zeros : (bytes : List ℕ) → pointwise nat_eq bytes (zeros (length bytes))
 all_zeros [] = refl
 all_zeros (byte ∷ bytes) = ap (λ b. nat_eq byte 0 && b) (all_zeros bytes)
 
-pub eleven_zeros : (bytes : List ℕ) → length bytes ≡ 11
-    → pointwise nat_eq bytes (0 ∷ 0 ∷ 0 ∷ 0 ∷ 0 ∷ 0 ∷ 0 ∷ 0 ∷ 0 ∷ 0 ∷ 0 ∷ []) ≡ are_zeros bytes
-eleven_zeros bytes size =
+pub ten_zeros : (bytes : List ℕ) → length bytes ≡ 10
+    → pointwise nat_eq bytes (0 ∷ 0 ∷ 0 ∷ 0 ∷ 0 ∷ 0 ∷ 0 ∷ 0 ∷ 0 ∷ 0 ∷ []) ≡ are_zeros bytes
+ten_zeros bytes size =
     subst (λ n. pointwise nat_eq bytes (zeros n) ≡ are_zeros bytes) size (all_zeros bytes)
 
 -- a byte below 8 that has none of three bits is 0

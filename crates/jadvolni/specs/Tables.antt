@@ -5,12 +5,14 @@ use Rattle.lexical_util.specs.Number.{IntegerType}
 use Rattle.lexical_fields.specs.Fields.{FieldView}
 use Rattle.lexical_tables.specs.ByColumn.{columns_answer, columns_put, kinds_of}
 use Rattle.lexical_tables.specs.Parts.{readable}
-use Rattle.lexical_tables.specs.Targets.{TargetView, text_answer, with_number, with_row_bit}
+use Rattle.lexical_tables.specs.Targets.{Slice, TargetView, slice_of, text_answer, with_number, with_row_bit}
 use Rattle.lexical_tables.specs.declared.answers.CellFault.{CellFault}
 use Rattle.lexical_tables.specs.declared.answers.CellFault.TheVariants.{MisplacedQuote, MissingReturn, NotNumber, TooFewCells, TooManyCells}
 use Rattle.lexical_tables.specs.declared.answers.Table.{Table}
 use Rattle.lexical_tables.specs.declared.answers.TableError.{TableError}
 use Rattle.lexical_tables.specs.declared.dialect.Dialect.{Dialect}
+use Rattle.lexical_tables.specs.declared.dialect.Layout.{Layout}
+use Rattle.lexical_tables.specs.declared.dialect.Layout.TheVariants.{Separated, Widths}
 use Rattle.jadvolni.specs.Effect.{fault_place, fault_status, format_status, signed, unsigned}
 use Rattle.jadvolni.specs.FormatFields.{are_zeros, flag, format_of}
 use Rattle.jadvolni.specs.declared.table_columns.ColumnFields.{ColumnFields}
@@ -38,25 +40,31 @@ abbrev pub bits_of : List ℕ → Option (List ℕ)
 bits_of bytes = if length bytes == 0 then None else Some bytes
 
 -- a column as a target of numbers
-abbrev pub target_with : ColumnFields → IntegerType → List ℤ → Option TargetView
-target_with column type numbers = Some (record {
+abbrev pub target_with : ColumnFields → IntegerType → Slice → List ℤ → Option TargetView
+target_with column type slice numbers = Some (record {
   format = format_of column.format;
   type = type;
+  slice = slice;
   numbers = numbers;
+  bits = option_map (λ bytes. slice_of column.present) (bits_of column.present.now);
   present = bits_of column.present.now;
 })
 
 -- a column as a target, if it is read as numbers of a type
 abbrev pub target_as : ColumnFields → Option NumberType → Option TargetView
 target_as column None = None
-target_as column (Some U8) = target_with column (unsigned 8) (map pos column.u8s.now)
-target_as column (Some U16) = target_with column (unsigned 16) (map pos column.u16s.now)
-target_as column (Some U32) = target_with column (unsigned 32) (map pos column.u32s.now)
-target_as column (Some U64) = target_with column (unsigned 64) (map pos column.u64s.now)
-target_as column (Some I8) = target_with column (signed 8) column.i8s.now
-target_as column (Some I16) = target_with column (signed 16) column.i16s.now
-target_as column (Some I32) = target_with column (signed 32) column.i32s.now
-target_as column (Some I64) = target_with column (signed 64) column.i64s.now
+target_as column (Some U8) =
+    target_with column (unsigned 8) (slice_of column.u8s) (map pos column.u8s.now)
+target_as column (Some U16) =
+    target_with column (unsigned 16) (slice_of column.u16s) (map pos column.u16s.now)
+target_as column (Some U32) =
+    target_with column (unsigned 32) (slice_of column.u32s) (map pos column.u32s.now)
+target_as column (Some U64) =
+    target_with column (unsigned 64) (slice_of column.u64s) (map pos column.u64s.now)
+target_as column (Some I8) = target_with column (signed 8) (slice_of column.i8s) column.i8s.now
+target_as column (Some I16) = target_with column (signed 16) (slice_of column.i16s) column.i16s.now
+target_as column (Some I32) = target_with column (signed 32) (slice_of column.i32s) column.i32s.now
+target_as column (Some I64) = target_with column (signed 64) (slice_of column.i64s) column.i64s.now
 
 -- a column as a target
 abbrev pub target_of : ColumnFields → Option TargetView
@@ -148,11 +156,19 @@ pub record TableEffect : Type 0 where
 abbrev pub table_effect : TableOutcome → List ColumnFields → TableEffect
 table_effect outcome columns = record { outcome = outcome; targets = map target_of columns }
 
--- how a table is written, whose rows have so many cells
-abbrev pub dialect_of : TableFields → ℕ → Dialect
-dialect_of table columns = record {
-  separator = table.separator;
-  columns = columns;
+-- How the cells of a row are found, where a table has so many columns: there are as many widths, or none; records have some.
+abbrev pub layout_of : TableFields → ℕ → Option Layout
+layout_of table columns =
+    if length table.widths.now == 0
+    then (if flag table.is_records then None else Some (Separated table.separator columns))
+    else if length table.widths.now == columns
+    then (if flag table.is_records then None else Some (Widths table.widths))
+    else None
+
+-- how a table is written whose cells are found so
+abbrev pub dialect_with : TableFields → Layout → Dialect
+dialect_with table layout = record {
+  layout = layout;
   has_returns = flag table.has_returns;
   has_quotes = flag table.has_quotes;
   allows_blanks = flag table.allows_blanks;
@@ -160,19 +176,26 @@ dialect_of table columns = record {
   missing = table.missing;
 }
 
--- reading a text's table, unless a column can't be read
-abbrev pub table_read : Option TableOutcome → Dialect → ℕ → List ℕ → List (Option TargetView)
-    → TableEffect
-table_read (Some wrong) dialect rows text targets = record { outcome = wrong; targets = targets }
-table_read None dialect rows text targets = record {
-  outcome = outcome_of (columns_answer (kinds_of targets) dialect rows text);
-  targets = columns_put dialect rows text targets;
-}
+-- how a table of so many columns is written, if what is kept for later versions is 0, and cells can be found
+abbrev pub dialect_of : TableFields → ℕ → Option Dialect
+dialect_of table columns =
+    if are_zeros table.reserved then option_map (dialect_with table) (layout_of table columns)
+    else None
 
--- reading the table of a text, or of a part of one, into these columns
+-- reading the table of a text, or of a part of one, unless it or a column can't be read
+abbrev pub table_read : Option Dialect → Option TableOutcome → Bool → ℕ → List ℕ
+    → List (Option TargetView) → TableEffect
+table_read None wrong is_last rows text targets =
+    record { outcome = refused invalid_table 0; targets = targets }
+table_read (Some dialect) (Some wrong) is_last rows text targets =
+    record { outcome = wrong; targets = targets }
+table_read (Some dialect) None is_last rows text targets =
+    let part = readable is_last dialect text in record {
+      outcome = outcome_of (columns_answer (kinds_of targets) dialect rows part);
+      targets = columns_put dialect rows part targets;
+    }
+
+-- reading it into these columns
 abbrev pub table_call : TableFields → Bool → ℕ → List ℕ → List ColumnFields → TableEffect
-table_call table is_last rows text columns =
-    if are_zeros table.reserved
-    then table_read (wrong_column rows 0 columns) (dialect_of table (length columns)) rows
-    (readable is_last (flag table.has_quotes) text) (map target_of columns)
-    else record { outcome = refused invalid_table 0; targets = map target_of columns }
+table_call table is_last rows text columns = table_read (dialect_of table (length columns))
+    (wrong_column rows 0 columns) is_last rows text (map target_of columns)

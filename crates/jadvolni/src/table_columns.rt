@@ -98,7 +98,7 @@ impl ColumnFields<'_> {
 
     // Sets the bit of a row, or clears it, if the column is read and has bits.
     #[inline(always)]
-    #[tactic(auto, using(crate::proofs::TableBits::bits_put, crate::proofs::TableBits::bits_there, crate::proofs::TableBits::no_bit))]
+    #[tactic(auto, using(crate::proofs::TableBits::bits_put, crate::proofs::TableBits::bits_there, crate::proofs::TableBits::no_bit, crate::proofs::TableBits::slice_stays))]
     fn put_presence(&mut self, row: usize, is_there: bool)
         requires usable { IsUsable (row + 1) (target_of self.old) }
         ensures { target_of self.new ≡ option_map (put_presence row is_there) (target_of self.old) }

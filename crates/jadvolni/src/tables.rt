@@ -2,12 +2,12 @@
 
 ghost use Rattle.std.specs.Prelude.{◌≡◌, length};
 ghost use Rattle.jadvolni.specs.FormatFields.{are_zeros, flag};
-ghost use Rattle.jadvolni.specs.Tables.{cell_place, cell_status, dialect_of, outcome_of, refused, table_call, table_effect, wrong_column};
+ghost use Rattle.jadvolni.specs.Tables.{cell_place, cell_status, dialect_of, layout_of, outcome_of, refused, table_call, table_effect, wrong_column};
 
 use crate::outcome::status_of;
 use crate::table_columns::{ColumnFields, INVALID_TABLE};
 use lexical_parse_integer::options;
-use lexical_tables::{CellFault, Dialect, Table, TableError, read_columns_part};
+use lexical_tables::{CellFault, Dialect, Layout, Table, TableError, read_columns_part};
 
 /// How a table is written: `jadvolni_table` in C, where each field is described.
 #[repr(C)]
@@ -18,15 +18,56 @@ pub struct TableFields<'a> {
     pub has_quotes: u8,
     pub allows_blanks: u8,
     pub skips_empty_rows: u8,
-    pub reserved: [u8; 11],
+    pub is_records: u8,
+    pub reserved: [u8; 10],
     pub missing: &'a [u8],
+    pub widths: &'a [usize],
 }
 
 // Whether the bytes that are kept for later versions are 0.
-fn are_zeros(bytes: [u8; 11]) -> bool
+fn are_zeros(bytes: [u8; 10]) -> bool
     ensures { result ≡ are_zeros bytes }
 {
-    bytes == [0; 11]
+    bytes == [0; 10]
+}
+
+// How the cells of a row are found, where a table has so many columns, if there is a way.
+fn layout_of<'a>(table: &TableFields<'a>, columns: usize) -> Option<Layout<'a>>
+    ensures { result ≡ layout_of table.now columns }
+{
+    if table.widths.is_empty() {
+        if table.is_records != 0 {
+            return None;
+        }
+        return Some(Layout::Separated {
+            separator: table.separator,
+            columns,
+        });
+    }
+    if table.widths.len() != columns || table.is_records != 0 {
+        return None;
+    }
+    Some(Layout::Widths {
+        widths: table.widths,
+    })
+}
+
+// How a table of so many columns is written, if it can be read.
+fn dialect_of<'a>(table: &TableFields<'a>, columns: usize) -> Option<Dialect<'a>>
+    ensures { result ≡ dialect_of table.now columns }
+{
+    if !are_zeros(table.reserved) {
+        return None;
+    }
+    let layout = layout_of(table, columns)?;
+    Some(Dialect {
+        layout,
+        has_returns: table.has_returns != 0,
+        has_quotes: table.has_quotes != 0,
+        allows_blanks: table.allows_blanks != 0,
+        skips_empty_rows: table.skips_empty_rows != 0,
+        missing: table.missing,
+    })
 }
 
 /// What is answered of a table: `jadvolni_table_result` in C.
@@ -117,20 +158,11 @@ pub extern "C" fn jadvolni_parse_table(
     ensures { table_effect result columns.new
         ≡ table_call table.now is_last rows text.now columns.old }
 {
-    if !are_zeros(table.reserved) {
+    let Some(dialect) = dialect_of(table, columns.len()) else {
         return refused(INVALID_TABLE, 0);
-    }
+    };
     if let Some(wrong) = wrong_column(columns, rows) {
         return wrong;
     }
-    let dialect = Dialect {
-        separator: table.separator,
-        columns: columns.len(),
-        has_returns: table.has_returns != 0,
-        has_quotes: table.has_quotes != 0,
-        allows_blanks: table.allows_blanks != 0,
-        skips_empty_rows: table.skips_empty_rows != 0,
-        missing: table.missing,
-    };
     outcome_of(read_columns_part(text, is_last, &dialect, &options::STANDARD, rows, columns))
 }

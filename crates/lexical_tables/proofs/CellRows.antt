@@ -182,7 +182,9 @@ abbrev half_read : TargetView
 half_read = record {
   format = standard;
   type = integer_type 8 false;
+  slice = record { at = (8, 0); name = 1 };
   numbers = pos 77 ∷ pos 77 ∷ [];
+  bits = Some (record { at = (9, 0); name = 2 });
   present = Some (255 ∷ []);
 }
 

@@ -12,12 +12,12 @@ use Rattle.lexical_tables.specs.Parts.{readable}
 use Rattle.lexical_tables.specs.Targets.{TargetView}
 use Rattle.lexical_tables.specs.declared.answers.CellFault.TheVariants.{MissingReturn, NotNumber, TooFewCells, TooManyCells}
 use Rattle.lexical_tables.specs.declared.dialect.Dialect.{Dialect}
+use Rattle.lexical_tables.specs.declared.dialect.Layout.TheVariants.{Separated}
 
 -- so many columns between commas, with returns or without, and nothing else
 abbrev pub plain : ℕ → Bool → Dialect
 plain columns has_returns = record {
-  separator = 44;
-  columns = columns;
+  layout = Separated 44 columns;
   has_returns = has_returns;
   has_quotes = false;
   allows_blanks = false;
@@ -30,17 +30,26 @@ abbrev four : Dialect
 four = plain 4 false
 
 -- the first column is read as `u8`, the third as hexadecimal `i8`, the second and the fourth aren't read
-abbrev targets : List ℤ → List ℤ → List (Option TargetView)
-targets first third = Some (record { format = standard; type = integer_type 8 false; numbers = first; present = None })
+abbrev pub targets : List ℤ → List ℤ → List (Option TargetView)
+targets first third = Some (record {
+  format = standard;
+  type = integer_type 8 false;
+  slice = record { at = (8, 0); name = 1 };
+  numbers = first;
+  bits = None;
+  present = None;
+})
     ∷ None ∷ Some (record {
       format = record standard { mantissa_radix = 16 };
       type = integer_type 8 true;
+      slice = record { at = (9, 0); name = 2 };
       numbers = third;
+      bits = None;
       present = None;
     }) ∷ []
 
 -- three places in each slice
-abbrev before : List (Option TargetView)
+abbrev pub before : List (Option TargetView)
 before = targets (pos 77 ∷ pos 77 ∷ pos 77 ∷ []) (pos 77 ∷ pos 77 ∷ pos 77 ∷ [])
 
 -- each number goes to its row's place, and what isn't read may be anything
@@ -78,7 +87,7 @@ empty_last = refl
 
 -- ---- two columns of `u8`
 
-abbrev both : List (Option Kind)
+abbrev pub both : List (Option Kind)
 both =
     Some (record { format = standard; type = integer_type 8 false; may_miss = false })
     ∷ Some (record { format = standard; type = integer_type 8 false; may_miss = false }) ∷ []
@@ -87,10 +96,10 @@ abbrev pairs : Bool → Dialect
 pairs has_returns = plain 2 has_returns
 
 -- lines with a line feed, and with a return in front of it
-abbrev line : List ℕ → List ℕ
+abbrev pub line : List ℕ → List ℕ
 line text = text ++ 10 ∷ []
 
-abbrev returned : List ℕ → List ℕ
+abbrev pub returned : List ℕ → List ℕ
 returned text = text ++ 13 ∷ 10 ∷ []
 
 -- the last row needs no line feed
@@ -196,7 +205,7 @@ unfolding grammar columns_answer
 no_return = refl
 
 -- a digit parts cells as any byte does
-digit_separator : columns_answer both (record (pairs false) { separator = 48 }) 4 (line (codes "102"))
+digit_separator : columns_answer both (record (pairs false) { layout = Separated 48 2 }) 4 (line (codes "102"))
     ≡ Ok (record { rows = 1; stop = 4 })
 unfolding grammar columns_answer
 digit_separator = refl
@@ -257,7 +266,7 @@ unfolding grammar columns_answer
 behind_quotes = refl
 
 -- a row whose quotes are closed is whole, whatever stands within them
-whole_quoted : readable false true (line (codes "1,\"" ++ 10 ∷ codes "\"") ++ codes "2,\"" ++ 10 ∷ [])
+whole_quoted : readable false quoted (line (codes "1,\"" ++ 10 ∷ codes "\"") ++ codes "2,\"" ++ 10 ∷ [])
     ≡ line (codes "1,\"" ++ 10 ∷ codes "\"")
 whole_quoted = refl
 

@@ -11,7 +11,7 @@ use Rattle.lexical_fields.specs.Fields.{FieldView, fields_from}
 use Rattle.lexical_fields.specs.Places.{in_text}
 use Rattle.lexical_fields.specs.ReadFields.{field_answer}
 use Rattle.lexical_fields.proofs.MovedFields.{answer_moved, fields_moved, moved}
-use Rattle.lexical_tables.specs.ByColumn.{cell_answers, cells_of, end_fault, fault_of, first_fault, first_of, first_start, row_answers, row_fault, row_values, values_to_fault, wrong_cell}
+use Rattle.lexical_tables.specs.ByColumn.{cell_answers, cells_by, cells_by_width, cells_of, end_fault, fault_of, first_fault, first_of, first_start, row_answers, row_fault, row_values, values_to_fault, wrong_cell}
 use Rattle.lexical_tables.specs.Cells.{Kind, answer_as, begins_with_quote, content, is_blank, misplaced_quote, number_at, quote_fault, some_number, unless, within_quotes, without_blanks, without_quotes}
 use Rattle.lexical_tables.specs.Parts.{AreValid, ColumnsInParts, fault_behind, fault_in, error_behind, values_in, whole_rows}
 use Rattle.lexical_tables.specs.Quotes.{as_long_as, seen}
@@ -20,6 +20,9 @@ use Rattle.lexical_tables.specs.declared.answers.CellFault.{CellFault}
 use Rattle.lexical_tables.specs.declared.answers.CellFault.TheVariants.{MisplacedQuote, MissingReturn, TooFewCells, TooManyCells}
 use Rattle.lexical_tables.specs.declared.answers.TableError.{TableError}
 use Rattle.lexical_tables.specs.declared.dialect.Dialect.{Dialect}
+use Rattle.lexical_tables.specs.declared.dialect.Layout.{Layout}
+use Rattle.lexical_tables.specs.declared.dialect.Layout.TheVariants.{Separated, Widths}
+use Rattle.lexical_tables.proofs.ColumnSteps.{count_in}
 use Rattle.lexical_tables.proofs.RowsInParts.{long_moved, row_behind, rows_split, whole_within}
 
 take_map : {X Y : Type 0} (f : X → Y) (n : ℕ) (xs : List X) → take n (map f xs) ≡ map f (take n xs)
@@ -184,6 +187,25 @@ first_moved bytes [] = refl
 first_moved bytes (Ok value ∷ more) = first_moved bytes more
 first_moved bytes (Err fault ∷ more) = refl
 
+-- cells by their widths, further behind
+widths_moved : (bytes : ℕ) (widths : List ℕ) (place : ℕ) (text : List ℕ)
+    → cells_by_width widths (bytes + place) text ≡ map (moved bytes) (cells_by_width widths place text)
+widths_moved bytes [] place [] = refl
+widths_moved bytes [] place (byte ∷ rest) = refl
+widths_moved bytes (width ∷ more) place text =
+    let at : bytes + place + width ≡ bytes + (place + width) = omega arith in
+    by_test (nat_lt (length text) width)
+    (ap (λ p. cells_by_width more p (drop width text)) at ∙ widths_moved bytes more (place + width) (drop width text))
+  where
+    by_test : (t : Bool) → cells_by_width more (bytes + place + width) (drop width text)
+        ≡ map (moved bytes) (cells_by_width more (place + width) (drop width text))
+        → cond t [] (record { start = bytes + place; text = take width text }
+        ∷ cells_by_width more (bytes + place + width) (drop width text))
+        ≡ map (moved bytes) (cond t [] (record { start = place; text = take width text }
+        ∷ cells_by_width more (place + width) (drop width text)))
+    by_test true there = refl
+    by_test false there = ap (λ l. record { start = bytes + place; text = take width text } ∷ l) there
+
 -- one fault behind another
 first_assoc : (a b c : Option TableError) → first_of a (first_of b c) ≡ first_of (first_of a b) c
 first_assoc None b c = refl
@@ -227,17 +249,22 @@ module _ (kinds : List (Option Kind)) (d : Dialect) where
 
   module _ (valid : AreValid kinds) where
     cells_moved : (bytes : ℕ) (row : RowView) → cells_of d (row_behind bytes row) ≡ map (moved bytes) (cells_of d row)
-    cells_moved bytes row =
-        let bytes_seen = seen d.has_quotes d.separator row.text ++ d.separator ∷ [] in
-        ap (λ l. as_long_as l row.text) (sym (fields_moved d.separator bytes row.start bytes_seen))
-        ∙ long_moved bytes (fields_from d.separator row.start bytes_seen) row.text
+    cells_moved bytes row = by_layout d.layout
+      where
+        by_layout : (layout : Layout) → cells_by layout d.has_quotes (row_behind bytes row)
+            ≡ map (moved bytes) (cells_by layout d.has_quotes row)
+        by_layout (Separated s columns) =
+            let bytes_seen = seen d.has_quotes s row.text ++ s ∷ [] in
+            ap (λ l. as_long_as l row.text) (sym (fields_moved s bytes row.start bytes_seen))
+            ∙ long_moved bytes (fields_from s row.start bytes_seen) row.text
+        by_layout (Widths widths) = widths_moved bytes widths.now row.start row.text
 
     row_moved : (bytes : ℕ) (row : RowView)
         → row_answers kinds d (row_behind bytes row) ≡ map (answer_behind bytes) (row_answers kinds d row)
     row_moved bytes row =
-        ap (λ l. cell_answers d kinds (take d.columns l)) (cells_moved bytes row)
-        ∙ ap (cell_answers d kinds) (take_map (moved bytes) d.columns (cells_of d row))
-        ∙ answers_moved bytes d kinds (take d.columns (cells_of d row)) valid
+        ap (λ l. cell_answers d kinds (take (count_in d) l)) (cells_moved bytes row)
+        ∙ ap (cell_answers d kinds) (take_map (moved bytes) (count_in d) (cells_of d row))
+        ∙ answers_moved bytes d kinds (take (count_in d) (cells_of d row)) valid
 
     row_values_moved : (bytes : ℕ) (row : RowView) → row_values kinds d (row_behind bytes row) ≡ row_values kinds d row
     row_values_moved bytes row =
@@ -256,12 +283,12 @@ module _ (kinds : List (Option Kind)) (d : Dialect) where
             ≡ option_map (error_behind before bytes) (fault_of d index row n e)
         by_error n None =
             let cells = cells_of d row in
-            ap (λ l. end_fault d.columns (before + index) (row_behind bytes row) (length (take d.columns l))
-            (first_start (drop d.columns l))) (cells_moved bytes row)
-            ∙ ap₂ (λ c e. end_fault d.columns (before + index) (row_behind bytes row) c e)
-            (ap length (take_map (moved bytes) d.columns cells) ∙ length-map (take d.columns cells) (moved bytes))
-            (ap first_start (drop_map (moved bytes) d.columns cells) ∙ start_moved bytes (drop d.columns cells))
-            ∙ end_moved before bytes d.columns index row (length (take d.columns cells)) (first_start (drop d.columns cells))
+            ap (λ l. end_fault (count_in d) (before + index) (row_behind bytes row) (length (take (count_in d) l))
+            (first_start (drop (count_in d) l))) (cells_moved bytes row)
+            ∙ ap₂ (λ c e. end_fault (count_in d) (before + index) (row_behind bytes row) c e)
+            (ap length (take_map (moved bytes) (count_in d) cells) ∙ length-map (take (count_in d) cells) (moved bytes))
+            (ap first_start (drop_map (moved bytes) (count_in d) cells) ∙ start_moved bytes (drop (count_in d) cells))
+            ∙ end_moved before bytes (count_in d) index row (length (take (count_in d) cells)) (first_start (drop (count_in d) cells))
         by_error n (Some fault) = refl
 
     rows_first_moved : (before bytes index : ℕ) (lines : List RowView)
@@ -304,11 +331,11 @@ module _ (kinds : List (Option Kind)) (d : Dialect) where
 pub columns_in_parts : (kinds : List (Option Kind)) (d : Dialect) (part more : List ℕ) → AreValid kinds
     → ColumnsInParts kinds d part more
 columns_in_parts kinds d part more valid =
-    let size = whole_rows d.has_quotes part in
+    let size = whole_rows d part in
     let front = take size part in
     let left = drop size part ++ more in
     let count = length (rows d front) in
-    let within = whole_within d.has_quotes part in
+    let within = whole_within d part in
     let cut = rows_split d part more size refl within in
     let long = sym (length-take-le size part within) in
     let none : 0 + count ≡ count + 0 = omega arith in

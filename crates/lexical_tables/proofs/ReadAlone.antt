@@ -16,12 +16,13 @@ use Rattle.lexical_tables.specs.declared.answers.Table.{Table}
 use Rattle.lexical_tables.specs.declared.answers.TableError.{TableError}
 use Rattle.lexical_tables.specs.declared.dialect.Dialect.{Dialect}
 use Rattle.lexical_tables.proofs.CellsAlone.{alone_fine, alone_value, answers_long, end_at, told_at, values_all}
+use Rattle.lexical_tables.proofs.ColumnSteps.{count_in}
 
 -- ---- rows
 
 module _ (d : Dialect) (column : ℕ) (kinds : List (Option Kind)) where
   abbrev cells_in : RowView → List FieldView
-  cells_in row = take d.columns (cells_of d row)
+  cells_in row = take (count_in d) (cells_of d row)
 
   -- a wrong row: its wrong cell is behind those that were read
   fault_at : (index : ℕ) (row : RowView) (error : TableError) → row_fault kinds d index row ≡ Some error
@@ -37,8 +38,8 @@ module _ (d : Dialect) (column : ℕ) (kinds : List (Option Kind)) where
       by_fault None fine is =
           let count : length (cells_in row) ≡ length (row_values kinds d row) =
           sym (answers_long d kinds (cells_in row)) ∙ sym (values_all (row_answers kinds d row) fine) in
-          let told = end_at d.columns index row (length (cells_in row)) (first_start (drop d.columns (cells_of d row)))
-          error (take_low d.columns (cells_of d row)) is in
+          let told = end_at (count_in d) index row (length (cells_in row)) (first_start (drop (count_in d) (cells_of d row)))
+          error (take_low (count_in d) (cells_of d row)) is in
           (told.0, told.1 ∙ count)
         where
           take_low : (n : ℕ) (cells : List FieldView) → length (take n cells) ≤ n

@@ -9,7 +9,7 @@ use Rattle.lexical_fields.specs.Fields.{FieldView, fields_from, onto_field}
 use Rattle.lexical_fields.specs.Parts.{whole_fields}
 use Rattle.lexical_fields.proofs.FieldsInParts.{either, here, on, whole_here, whole_none, whole_on}
 use Rattle.lexical_fields.proofs.MovedFields.{fields_moved, moved}
-use Rattle.lexical_tables.specs.Parts.{whole_rows}
+use Rattle.lexical_tables.specs.Parts.{whole_lines, whole_rows}
 use Rattle.lexical_tables.specs.Quotes.{as_long_as, fields_outside, seen}
 use Rattle.lexical_tables.specs.Rows.{RowView, carriage_return, counts, ends_in, line_feed, row_of, rows}
 use Rattle.lexical_tables.specs.declared.dialect.Dialect.{Dialect}
@@ -140,7 +140,7 @@ outside_moved q s size place text =
     ∙ ap (λ l. as_long_as l text) (fields_moved s size place (seen q s text))
 
 -- the lines of a text that is cut
-lines_split : (q r : Bool) (part more : List ℕ) (size : ℕ) → size ≡ whole_rows q part → size ≤ length part
+lines_split : (q r : Bool) (part more : List ℕ) (size : ℕ) → size ≡ whole_lines q part → size ≤ length part
     → lines q r (part ++ more) ≡ lines q r (take size part) ++ map (row_behind size) (lines q r (drop size part ++ more))
 lines_split q r part more size is within =
     let front = fields_outside q line_feed 0 (take size part) in
@@ -192,7 +192,7 @@ rows_are d text =
     zero_add : (n : ℕ) → 0 + n ≡ n
     zero_add n = omega arith
 
-pub rows_split : (d : Dialect) (part more : List ℕ) (size : ℕ) → size ≡ whole_rows d.has_quotes part → size ≤ length part
+pub rows_split : (d : Dialect) (part more : List ℕ) (size : ℕ) → size ≡ whole_rows d part → size ≤ length part
     → rows d (part ++ more) ≡ rows d (take size part) ++ map (row_behind size) (rows d (drop size part ++ more))
 rows_split d part more size is within =
     let front = lines d.has_quotes d.has_returns (take size part) in
@@ -212,6 +212,6 @@ fields_within s (byte ∷ rest) = by_test (list_any (λ b. b == s) (byte ∷ res
     by_test true low = omega arith
     by_test false low = omega arith
 
-pub whole_within : (q : Bool) (text : List ℕ) → whole_rows q text ≤ length text
-whole_within q text =
-    omega (arith, fields_within line_feed (seen q line_feed text), seen_long q line_feed text)
+pub whole_within : (d : Dialect) (text : List ℕ) → whole_rows d text ≤ length text
+whole_within d text =
+    omega (arith, fields_within line_feed (seen d.has_quotes line_feed text), seen_long d.has_quotes line_feed text)

@@ -1,10 +1,10 @@
--- The whole rows of a text, one after another.
+-- The whole lines of a text, one after another.
 use Rattle.std.proofs.Common.{◌≡◌, ◌∙◌, ℕ, suc, ◌+◌, ◌-◌, ◌<◌, ◌≤◌, ◌==◌, ◌||◌, not, List, [], ◌∷◌, length, drop, Bool, true, false, cond, refl, ap, sym, arith, inl, inr, length-drop}
 use Rattle.std.specs.List.{list_any}
 use Rattle.std.proofs.lemmas.Bool.{cases_lt}
 use Rattle.lexical_fields.specs.Fields.{field_length}
 use Rattle.lexical_fields.specs.Parts.{whole_fields}
-use Rattle.lexical_tables.specs.Parts.{whole_rows}
+use Rattle.lexical_tables.specs.Parts.{whole_lines}
 use Rattle.lexical_tables.specs.Quotes.{length_outside, seen}
 use Rattle.lexical_tables.specs.Rows.{line_feed}
 use Rattle.lexical_tables.proofs.LineSteps.{none_of}
@@ -60,10 +60,10 @@ whole_zero s (b ∷ bs) is = ap (λ t. cond t (suc (whole_fields s bs)) 0) (any_
 
 -- ---- of what is left
 
--- So many bytes are whole rows, and those of what is left are the others.
+-- So many bytes are whole lines, and those of what is left are the others.
 pub record IsPassed (q : Bool) (text rest : List ℕ) : Type 0 where
   pub within : length rest ≤ length text
-  pub whole_is : whole_rows q text ≡ length text - length rest + whole_rows q rest
+  pub whole_is : whole_lines q text ≡ length text - length rest + whole_lines q rest
 
 pub whole_starts : (q : Bool) (text : List ℕ) → IsPassed q text text
 whole_starts q text = record { within = omega arith; whole_is = omega arith }
@@ -79,7 +79,7 @@ module _ (q : Bool) (text rest : List ℕ) (reading : IsPassed q text rest) wher
         | inr ge ↦ absurd (more (omega (arith, ge, size, within)))
       ] in
       let left : length behind ≡ length rest - (n + 1) = ap length back ∙ length-drop (n + 1) rest in
-      let there : whole_rows q rest ≡ suc n + whole_rows q behind =
+      let there : whole_lines q rest ≡ suc n + whole_lines q behind =
       whole_first line_feed (seen q line_feed rest) (omega (arith, low, seen_long q line_feed rest))
       ∙ ap (λ l. suc n + whole_fields line_feed l) (seen_behind q line_feed rest ∙ ap (seen q line_feed) (sym back)) in
       record {
@@ -88,17 +88,17 @@ module _ (q : Bool) (text rest : List ℕ) (reading : IsPassed q text rest) wher
       }
 
   pub whole_stops : (line : List ℕ) → length line ≡ length_outside q line_feed rest → length line ≡ length rest
-      → length text - length rest ≡ whole_rows q text
+      → length text - length rest ≡ whole_lines q text
   whole_stops line size all =
-      let none : whole_rows q rest ≡ 0 =
+      let none : whole_lines q rest ≡ 0 =
       whole_zero line_feed (seen q line_feed rest) (sym size ∙ all ∙ sym (seen_long q line_feed rest)) in
       omega (arith, reading.whole_is, none)
 
-  pub whole_ends : length rest ≡ 0 → length text ≡ whole_rows q text
+  pub whole_ends : length rest ≡ 0 → length text ≡ whole_lines q text
   whole_ends ended =
-      let none : whole_rows q rest ≡ 0 = ap (whole_rows q) (none_of rest ended) ∙ of_none q in
+      let none : whole_lines q rest ≡ 0 = ap (whole_lines q) (none_of rest ended) ∙ of_none q in
       omega (arith, reading.whole_is, none, ended)
     where
-      of_none : (q : Bool) → whole_rows q [] ≡ 0
+      of_none : (q : Bool) → whole_lines q [] ≡ 0
       of_none true = refl
       of_none false = refl

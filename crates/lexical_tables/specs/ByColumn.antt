@@ -1,5 +1,5 @@
 -- What is read of a table whose columns go into slices of their own.
-use Rattle.std.specs.Prelude.{◌≡◌, ◌+◌, ◌*◌, ◌≤◌, ℕ, zero, suc, ℤ, if◌then◌else◌, List, [], ◌∷◌, length, take, drop, map, is_none, is_some, nat_lt, option_map, Option, Some, None, Result, Ok, Err, IfSome}
+use Rattle.std.specs.Prelude.{◌≡◌, ◌+◌, ◌*◌, ◌≤◌, ℕ, zero, suc, ℤ, Bool, if◌then◌else◌, List, [], ◌∷◌, length, take, drop, map, is_none, is_some, nat_lt, option_map, Option, Some, None, Result, Ok, Err, IfSome}
 use Rattle.lexical_util.specs.Validity.{fault}
 use Rattle.lexical_fields.specs.Columns as columns
 use Rattle.lexical_fields.specs.Fields.{FieldView}
@@ -12,6 +12,8 @@ use Rattle.lexical_tables.specs.declared.answers.CellFault.TheVariants.{MissingR
 use Rattle.lexical_tables.specs.declared.answers.Table.{Table}
 use Rattle.lexical_tables.specs.declared.answers.TableError.{TableError}
 use Rattle.lexical_tables.specs.declared.dialect.Dialect.{Dialect}
+use Rattle.lexical_tables.specs.declared.dialect.Layout.{Layout}
+use Rattle.lexical_tables.specs.declared.dialect.Layout.TheVariants.{Separated, Widths}
 
 -- what the column of a target is read as
 abbrev pub kind_of : TargetView → Kind
@@ -35,15 +37,35 @@ cell_answers dialect [] (cell ∷ cells) = answer_as dialect None cell ∷ cell_
 cell_answers dialect (kind ∷ kinds) (cell ∷ cells) =
     answer_as dialect kind cell ∷ cell_answers dialect kinds cells
 
--- the cells of a row, at their places in the text: one more than it has separators outside quotes
+-- the cells by widths of a text that stands at a place: those that are wholly there, and one more where bytes are left
+abbrev pub cells_by_width : List ℕ → ℕ → List ℕ → List FieldView
+cells_by_width [] place [] = []
+cells_by_width [] place (byte ∷ rest) = record { start = place; text = byte ∷ rest } ∷ []
+cells_by_width (width ∷ more) place text =
+    if nat_lt (length text) width then []
+    else record { start = place; text = take width text }
+    ∷ cells_by_width more (place + width) (drop width text)
+
+-- the cells of a row, at their places in the text: one more than it has separators outside quotes, or those by widths
+abbrev pub cells_by : Layout → Bool → RowView → List FieldView
+cells_by (Separated separator columns) has_quotes row =
+    pieces_outside has_quotes separator row.start row.text
+cells_by (Widths widths) has_quotes row = cells_by_width widths.now row.start row.text
+
+-- the cells of a row of a table
 abbrev pub cells_of : Dialect → RowView → List FieldView
-cells_of dialect row = pieces_outside dialect.has_quotes dialect.separator row.start row.text
+cells_of dialect row = cells_by dialect.layout dialect.has_quotes row
+
+-- how many columns a table has
+abbrev pub column_count : Layout → ℕ
+column_count (Separated separator columns) = columns
+column_count (Widths widths) = length widths.now
 
 -- what the cells of a row stand for that have a column
 abbrev pub row_answers : List (Option Kind) → Dialect → RowView
     → List (Result (Option ℤ) CellFault)
 row_answers kinds dialect row =
-    cell_answers dialect kinds (take dialect.columns (cells_of dialect row))
+    cell_answers dialect kinds (take (column_count dialect.layout) (cells_of dialect row))
 
 -- what is read of a row: a number or nothing for each cell, up to one that is no number
 abbrev pub row_values : List (Option Kind) → Dialect → RowView → List (Option ℤ)
@@ -76,8 +98,8 @@ end_fault columns index row count None =
 abbrev pub fault_of : Dialect → ℕ → RowView → ℕ → Option CellFault → Option TableError
 fault_of dialect index row count None =
     let cells = cells_of dialect row in
-    end_fault dialect.columns index row (length (take dialect.columns cells))
-    (first_start (drop dialect.columns cells))
+    let columns = column_count dialect.layout in
+    end_fault columns index row (length (take columns cells)) (first_start (drop columns cells))
 fault_of dialect index row count (Some fault) = Some (wrong_cell index count fault)
 
 -- the fault of a row

@@ -11,13 +11,17 @@ use Rattle.lexical_tables.specs.declared.answers.CellFault.TheVariants.{Misplace
 use Rattle.lexical_tables.specs.declared.answers.TableError.{TableError}
 use Rattle.lexical_tables.specs.declared.dialect.Dialect.{Dialect}
 
--- how many bytes of a text are whole rows: those up to its last line feed outside quotes, that one counted
-abbrev pub whole_rows : Bool → List ℕ → ℕ
-whole_rows has_quotes text = whole_outside has_quotes line_feed text
+-- how many bytes of a text are whole lines: those up to its last line feed outside quotes, that one counted
+abbrev pub whole_lines : Bool → List ℕ → ℕ
+whole_lines has_quotes text = whole_outside has_quotes line_feed text
+
+-- how many bytes of a text are whole rows
+abbrev pub whole_rows : Dialect → List ℕ → ℕ
+whole_rows dialect text = whole_lines dialect.has_quotes text
 
 -- what is read of a part: its whole rows, and all of the last part
-abbrev pub readable : Bool → Bool → List ℕ → List ℕ
-readable is_last has_quotes text = if is_last then text else take (whole_rows has_quotes text) text
+abbrev pub readable : Bool → Dialect → List ℕ → List ℕ
+readable is_last dialect text = if is_last then text else take (whole_rows dialect text) text
 
 -- what is wrong with a cell that stands so many bytes further behind
 abbrev pub fault_behind : ℕ → CellFault → CellFault
@@ -51,13 +55,13 @@ fault_in kinds dialect text =
 -- read of the text: the rows and bytes in front are counted on.
 pub record ColumnsInParts (kinds : List (Option Kind)) (dialect : Dialect)
     (part more : List ℕ) : Type 0 where
-  pub values : let front = readable false dialect.has_quotes part in
-      let left = drop (whole_rows dialect.has_quotes part) part ++ more in
+  pub values : let front = readable false dialect part in
+      let left = drop (whole_rows dialect part) part ++ more in
       values_in kinds dialect (part ++ more) ≡ values_in kinds dialect front
       ++ (if is_none (fault_in kinds dialect front)
       then values_in kinds dialect left else [])
-  pub fault : let front = readable false dialect.has_quotes part in
-      let left = drop (whole_rows dialect.has_quotes part) part ++ more in
+  pub fault : let front = readable false dialect part in
+      let left = drop (whole_rows dialect part) part ++ more in
       fault_in kinds dialect (part ++ more) ≡ first_of (fault_in kinds dialect front)
       (option_map (error_behind (length (rows dialect front)) (length front))
       (fault_in kinds dialect left))

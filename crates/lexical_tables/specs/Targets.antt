@@ -1,6 +1,7 @@
 -- Where the numbers of a table's columns go.
 use Rattle.std.specs.Prelude.{◌/◌, ◌%◌, ◌^◌, ℕ, ℤ, pos, Bool, true, false, List, map, set, slice_index, is_some, option_map, unwrap_or, Option, Some, None, Result, Ok, Err}
 use Rattle.std.specs.Int.{bit_not, w8}
+use Rattle.std.specs.Borrow.{GName, MutBor}
 use Rattle.std.specs.Int.Bits.{bit_and, bit_or}
 use Rattle.lexical_util.specs.declared.error.Error.{Error}
 use Rattle.lexical_util.specs.Format.{Format}
@@ -11,12 +12,22 @@ use Rattle.lexical_tables.specs.declared.targets.Numbers.{Numbers}
 use Rattle.lexical_tables.specs.declared.targets.Numbers.TheVariants.{I16, I32, I64, I8, U16, U32, U64, U8}
 use Rattle.lexical_tables.specs.declared.targets.Target.{Target}
 
--- A column's target: the format and the type of its numbers, what its slice has, and the bytes with the bits that say
--- where there is a number, if it has any.
+-- Which slice a borrow is of: where that lies, and by which name proofs follow it to the one who lent it.
+pub record Slice : Type 0 where
+  pub at : ℕ × ℕ
+  pub name : GName
+
+abbrev pub slice_of : {Item : Type 0} → MutBor (List Item) → Slice
+slice_of borrow = record { at = borrow.ref_ptr; name = borrow.ghost_name }
+
+-- A column's target: the format and the type of its numbers, its slice and what that has, and the bytes with the bits that
+-- say where there is a number, if it has any: which they are, and what they have.
 pub record TargetView : Type 0 where
   pub format : Format
   pub type : IntegerType
+  pub slice : Slice
   pub numbers : List ℤ
+  pub bits : Option Slice
   pub present : Option (List ℕ)
 
 -- the type of a slice's numbers
@@ -29,6 +40,17 @@ type_of (I8 values) = integer_type 8 true
 type_of (I16 values) = integer_type 16 true
 type_of (I32 values) = integer_type 32 true
 type_of (I64 values) = integer_type 64 true
+
+-- which slice it is
+abbrev pub slice_in : Numbers → Slice
+slice_in (U8 values) = slice_of values
+slice_in (U16 values) = slice_of values
+slice_in (U32 values) = slice_of values
+slice_in (U64 values) = slice_of values
+slice_in (I8 values) = slice_of values
+slice_in (I16 values) = slice_of values
+slice_in (I32 values) = slice_of values
+slice_in (I64 values) = slice_of values
 
 -- what a slice has
 abbrev pub numbers_in : Numbers → List ℤ
@@ -46,7 +68,9 @@ abbrev pub view_of_target : Target → TargetView
 view_of_target target = record {
   format = target.format;
   type = type_of target.numbers;
+  slice = slice_in target.numbers;
   numbers = numbers_in target.numbers;
+  bits = option_map slice_of target.present;
   present = option_map (λ bytes. bytes.now) target.present;
 }
 

@@ -2,14 +2,15 @@
 
 ghost use Rattle.std.specs.Prelude.{◌≡◌, ◌+◌, ◌-◌, ◌<◌, ◌≤◌, ◌^◌, length, take, drop, map, is_some, option_map, true, IfOk};
 ghost use Rattle.lexical_fields.specs.Search.{AreMarks};
-ghost use Rattle.lexical_tables.specs.ByColumn.{AreUsable, IsUsable, StopsAt, answer_at, columns_answer, columns_put, end_fault, fault_in, kind_of, kinds_of, put_read, put_read_at, put_row, row_fault, row_values};
+ghost use Rattle.lexical_tables.specs.ByColumn.{AreUsable, IsUsable, StopsAt, answer_at, cells_by_width, cells_of, column_count, columns_answer, columns_put, end_fault, fault_in, kind_of, kinds_of, put_read, put_read_at, put_row, row_fault, row_values};
 ghost use Rattle.lexical_tables.specs.Cells.{answer_as, view_of_cell};
 ghost use Rattle.lexical_tables.specs.Quotes.{length_outside};
 ghost use Rattle.lexical_tables.specs.Rows.{view_of_row};
+ghost use Rattle.lexical_tables.specs.declared.dialect.Layout.TheVariants.{Separated, Widths};
 
 use crate::answers::{CellFault, Table, TableError};
 use crate::content::{Cell, content};
-use crate::dialect::Dialect;
+use crate::dialect::{Dialect, Layout};
 use crate::misplaced::quote_fault;
 use crate::rows::{Row, first_row, split, without_empty_rows};
 use crate::targets::TableColumn;
@@ -145,16 +146,20 @@ fn split_cell<'a>(
     (&rest[..size], &rest[size + 1..], more)
 }
 
-// The numbers of a row go to its place in the targets, up to the row's fault. What is ahead begins with the row.
+// The numbers of a row whose cells stand between separators go to its place in the targets, up to the row's fault. What
+// is ahead begins with the row.
 #[inline(always)]
-fn read_cells<C: TableColumn>(
+fn read_separated<C: TableColumn>(
     row: &Row<'_>,
     ahead: &[u8],
+    separator: u8,
+    columns: usize,
     index: usize,
     dialect: &Dialect<'_>,
     options: &Options,
     targets: &mut [C],
 ) -> Option<TableError>
+    requires layout { dialect.now.layout ≡ Separated separator columns }
     requires usable { AreUsable (index + 1) (map C.target targets.old) }
     requires front { row.now.text.now ≡ take (length row.now.text.now) ahead.now }
     requires fits { row.now.start + length row.now.text.now < 2 ^ 64 }
@@ -168,16 +173,10 @@ fn read_cells<C: TableColumn>(
     let mut ended = false;
     let mut column = 0;
     let mut marks = 0;
-    while column < dialect.columns && !ended {
+    while column < columns && !ended {
         let place = row.text.len() - rest.len();
         let left = &ahead[place..];
-        let (text, behind, more) = split_cell(
-            rest,
-            left,
-            marks,
-            dialect.separator,
-            dialect.has_quotes,
-        );
+        let (text, behind, more) = split_cell(rest, left, marks, separator, dialect.has_quotes);
         let cell = Cell {
             start: row.start + place,
             text,
@@ -197,7 +196,80 @@ fn read_cells<C: TableColumn>(
     }
     let next = row.start + (row.text.len() - rest.len());
     let extra = (!ended).then_some(next);
-    end_fault(row, index, dialect.columns, column, extra)
+    end_fault(row, index, columns, column, extra)
+}
+
+// The numbers of a row whose cells have these widths go to its place in the targets, up to the row's fault.
+fn read_by_width<C: TableColumn>(
+    row: &Row<'_>,
+    widths: &[usize],
+    index: usize,
+    dialect: &Dialect<'_>,
+    options: &Options,
+    targets: &mut [C],
+) -> Option<TableError>
+    requires layout { column_count dialect.now.layout ≡ length widths.now }
+    requires cells { cells_of dialect.now (view_of_row row.now)
+        ≡ cells_by_width widths.now row.now.start row.now.text.now }
+    requires usable { AreUsable (index + 1) (map C.target targets.old) }
+    requires fits { row.now.start + length row.now.text.now < 2 ^ 64 }
+    ensures fault { result ≡ row_fault (kinds_of (map C.target targets.old)) dialect.now index
+        (view_of_row row.now) }
+    ensures targets { map C.target targets.new ≡ put_row index (row_values
+        (kinds_of (map C.target targets.old)) dialect.now (view_of_row row.now))
+        (map C.target targets.old) }
+{
+    let mut rest = row.text;
+    let mut column = 0;
+    while column < widths.len() && widths[column] <= rest.len() {
+        let (text, behind) = rest.split_at(widths[column]);
+        let cell = Cell {
+            start: row.start + (row.text.len() - rest.len()),
+            text,
+            ahead: rest,
+        };
+        if let Some(fault) = read_cell(targets, column, index, cell, dialect, options) {
+            return Some(TableError {
+                row: index,
+                column,
+                fault,
+            });
+        }
+        rest = behind;
+        column += 1;
+    }
+    let next = row.start + (row.text.len() - rest.len());
+    let extra = (!rest.is_empty()).then_some(next);
+    end_fault(row, index, widths.len(), column, extra)
+}
+
+// The numbers of a row go to its place in the targets, up to the row's fault. What is ahead begins with the row.
+#[inline(always)]
+fn read_cells<C: TableColumn>(
+    row: &Row<'_>,
+    ahead: &[u8],
+    index: usize,
+    dialect: &Dialect<'_>,
+    options: &Options,
+    targets: &mut [C],
+) -> Option<TableError>
+    requires usable { AreUsable (index + 1) (map C.target targets.old) }
+    requires front { row.now.text.now ≡ take (length row.now.text.now) ahead.now }
+    requires fits { row.now.start + length row.now.text.now < 2 ^ 64 }
+    ensures fault { result ≡ row_fault (kinds_of (map C.target targets.old)) dialect.now index
+        (view_of_row row.now) }
+    ensures targets { map C.target targets.new ≡ put_row index (row_values
+        (kinds_of (map C.target targets.old)) dialect.now (view_of_row row.now))
+        (map C.target targets.old) }
+{
+    match dialect.layout {
+        Layout::Separated { separator, columns } => {
+            read_separated(
+                row, ahead, separator, columns, index, dialect, options, targets,
+            )
+        }
+        Layout::Widths { widths } => read_by_width(row, widths, index, dialect, options, targets),
+    }
 }
 
 /// Reads a table's columns into slices of their own, for as many rows as are asked for at most.

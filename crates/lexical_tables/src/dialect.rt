@@ -1,12 +1,27 @@
 //! How a table is written.
 
+/// How the cells of a row are found.
+#[derive(Debug, Copy, Clone, PartialEq, Eq)]
+pub enum Layout<'a> {
+    /// A byte stands between two cells, and each row has so many.
+    Separated {
+        /// The byte. It may be any, but within a row no line feed is left.
+        separator: u8,
+        /// How many cells each row has. An empty row has one, which is empty: so with 0 each row has one too many.
+        columns: usize,
+    },
+    /// Each cell has as many bytes as its width says, and nothing stands between two.
+    Widths {
+        /// The widths of a row's cells, in bytes.
+        widths: &'a [usize],
+    },
+}
+
 /// How a table is written.
 #[derive(Debug, Copy, Clone, PartialEq, Eq)]
 pub struct Dialect<'a> {
-    /// The byte between two cells of a row. It may be any byte, but within a row no line feed is left.
-    pub separator: u8,
-    /// How many cells each row has. An empty row has one, which is empty: so with 0 each row has one too many.
-    pub columns: usize,
+    /// How the cells of a row are found.
+    pub layout: Layout<'a>,
     /// Whether a carriage return stands before each line feed. Without it a return is a byte of its cell.
     pub has_returns: bool,
     /// Whether cells may stand within quotes, `"`, as RFC 4180 says. A quote that is the separator parts cells.

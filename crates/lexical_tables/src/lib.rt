@@ -1,8 +1,8 @@
 //! Tables: the rows of a text are read by one call, and the first wrong cell is told.
 //!
-//! A row is a line, and its cells stand between separators, one byte that the caller names. Each row has
-//! as many cells as the caller says: one more than it has separators. Each column is read into a slice of its
-//! own, of its own type and format, or isn't read.
+//! A row is a line, and its cells stand between separators, one byte that the caller names, or each has as
+//! many bytes as its width says. Each row has as many cells as the caller says. Each column is read into a
+//! slice of its own, of its own type and format, or isn't read.
 //!
 //! Nothing is guessed: what the caller doesn't ask for is a fault with its row, its column and its place.
 #![tactic(auto)]
@@ -22,7 +22,7 @@ mod targets;
 pub use alone::columns_alone;
 pub use answers::{CellFault, Table, TableError};
 pub use by_column::read_columns;
-pub use dialect::Dialect;
+pub use dialect::{Dialect, Layout};
 pub use header::after_lines;
 pub use parts::{columns_in_parts, read_columns_part};
 pub use targets::{Numbers, TableColumn, Target, put_bit, put_cell, put_zero};

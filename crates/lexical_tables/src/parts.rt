@@ -3,7 +3,7 @@
 ghost use Rattle.std.specs.Prelude.{◌≡◌, ◌≤◌, ℕ, List, Option, length, map, IfOk};
 ghost use Rattle.lexical_tables.specs.ByColumn.{AreUsable, StopsAt, columns_answer, columns_put, kinds_of};
 ghost use Rattle.lexical_tables.specs.Cells.{Kind};
-ghost use Rattle.lexical_tables.specs.Parts.{AreValid, ColumnsInParts, readable, whole_rows};
+ghost use Rattle.lexical_tables.specs.Parts.{AreValid, ColumnsInParts, readable, whole_lines};
 
 use crate::answers::{Table, TableError};
 use crate::by_column::read_columns;
@@ -13,9 +13,9 @@ use crate::targets::TableColumn;
 use lexical_fields::whole_fields;
 use lexical_parse_integer::Options;
 
-// How many bytes of a part are whole rows: those up to its last line feed outside quotes, that one counted.
-fn whole_rows(text: &[u8], has_quotes: bool) -> usize
-    ensures value { result ≡ whole_rows has_quotes text.now }
+// How many bytes of a part are whole lines: those up to its last line feed outside quotes, that one counted.
+fn whole_lines(text: &[u8], has_quotes: bool) -> usize
+    ensures value { result ≡ whole_lines has_quotes text.now }
     ensures within { result ≤ length text.now }
 {
     if !has_quotes {
@@ -51,16 +51,16 @@ pub fn read_columns_part<C: TableColumn>(
 ) -> Result<Table, TableError>
     requires usable { AreUsable rows (map C.target targets.old) }
     ensures answer { result ≡ columns_answer (kinds_of (map C.target targets.old)) dialect.now rows
-        (readable is_last dialect.now.has_quotes text.now) }
+        (readable is_last dialect.now text.now) }
     ensures targets { map C.target targets.new ≡ columns_put dialect.now rows
-        (readable is_last dialect.now.has_quotes text.now) (map C.target targets.old) }
+        (readable is_last dialect.now text.now) (map C.target targets.old) }
     ensures goes_on { IfOk result (StopsAt dialect.now rows
-        (readable is_last dialect.now.has_quotes text.now)) }
+        (readable is_last dialect.now text.now)) }
 {
     if is_last {
         return read_columns(text, dialect, options, rows, targets);
     }
-    let whole = &text[..whole_rows(text, dialect.has_quotes)];
+    let whole = &text[..whole_lines(text, dialect.has_quotes)];
     read_columns(whole, dialect, options, rows, targets)
 }
 

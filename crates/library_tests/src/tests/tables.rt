@@ -4,7 +4,7 @@ use crate::tests::answers;
 use lexical_parse_integer::format::STANDARD;
 use lexical_parse_integer::{Error, options};
 use lexical_tables::{
-    CellFault, Dialect, Numbers, Table, TableError, Target, after_lines, read_columns,
+    CellFault, Dialect, Layout, Numbers, Table, TableError, Target, after_lines, read_columns,
     read_columns_part,
 };
 use std::alloc::{AllocError, Global};
@@ -17,8 +17,10 @@ type Answer = Result<Table, TableError>;
 // Two columns between commas, with returns or without.
 fn pairs(has_returns: bool) -> Dialect<'static> {
     Dialect {
-        separator: b',',
-        columns: 2,
+        layout: Layout::Separated {
+            separator: b',',
+            columns: 2,
+        },
         has_returns,
         has_quotes: false,
         allows_blanks: false,
@@ -122,8 +124,10 @@ fn read_ledger<'a>(
         present: None,
     }))?;
     let dialect = Dialect {
-        separator: b';',
-        columns: 3,
+        layout: Layout::Separated {
+            separator: b';',
+            columns: 3,
+        },
         has_returns: true,
         has_quotes: false,
         allows_blanks: false,

@@ -1,4 +1,4 @@
-use Rattle.std.proofs.Common.{◌≡◌, ◌∙◌, ◌+◌, ◌-◌, ◌<◌, ◌≤◌, length, take, drop, length-take-le, ap, sym, arith}
+use Rattle.std.proofs.Common.{◌≡◌, ◌∙◌, ◌+◌, length, take, drop, length-take-le, ap, sym, arith}
 use Rattle.std.proofs.lemmas.List.{drop_all, take_all, take_rest}
 use Rattle.lexical_fields.specs.Fields.{field_length}
 use Rattle.lexical_tables.specs.Quotes.{length_outside}

@@ -1,7 +1,7 @@
 use Rattle.std.proofs.Common.{arith}
 use Rattle.std.proofs.lemmas.Bool.Decides.{nat_tests}
 use Rattle.lexical_tables.proofs.WholeRows.{whole_goes, whole_stops}
-use Rattle.lexical_tables.proofs.parts.whole_rows.Goals as goal
+use Rattle.lexical_tables.proofs.parts.whole_lines.Goals as goal
 
 pub returns-then-line-rest-clause-value : goal.returns-then-line-rest-clause-value
 returns-then-line-rest-clause-value c =
