@@ -109,9 +109,9 @@ void raise_table(const core_state *state, jadvolni_table_result answer, const ta
 /* ---- tables.c ---- */
 
 /* The rows of a part of a text: _parse_table(text, is_last, how, capacity, columns, row, start), where
- * `how` is separator, has_returns, has_quotes, allows_blanks, skips_empty_rows and missing. A column is
- * None, or its numbers, bits or None, type and format. It gives how many rows were read, and where reading
- * stopped. */
+ * `how` is separator, has_returns, has_quotes, allows_blanks, skips_empty_rows, missing and widths, which
+ * are an array of size_t. A column is None, or its numbers, bits or None, type and format. It gives how many
+ * rows were read, and where reading stopped. */
 PyObject *parse_table(PyObject *module, PyObject *const *args, Py_ssize_t count);
 
 PyObject *row_count(PyObject *module, PyObject *given);

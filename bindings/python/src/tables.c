@@ -141,16 +141,18 @@ static int ask_apart(const columns *all, const borrowed_text *text, const borrow
     return apart ? 0 : -1;
 }
 
-/* How a table is written: its separator, flags, and what stands for a missing number. */
-static int table_of(PyObject *given, jadvolni_table *table, borrowed_text *missing)
+/* How a table is written: its separator, flags, what stands for a missing number, and widths. */
+static int table_of(PyObject *given, jadvolni_table *table, borrowed_text *missing,
+                    Py_buffer *widths)
 {
-    PyObject *separator, *mark;
+    PyObject *separator, *mark, *sizes;
     int flags[4];
-    if (!PyArg_ParseTuple(given, "OppppO", &separator, &flags[0], &flags[1], &flags[2], &flags[3],
-                          &mark))
+    if (!PyArg_ParseTuple(given, "OppppOO", &separator, &flags[0], &flags[1], &flags[2], &flags[3],
+                          &mark, &sizes))
         return -1;
     int byte = separator_of(separator);
-    if (byte < 0 || borrow("missing", mark, missing) < 0)
+    if (byte < 0 || borrow("missing", mark, missing) < 0
+        || PyObject_GetBuffer(sizes, widths, PyBUF_SIMPLE) < 0)
         return -1;
     *table = (jadvolni_table){
         .separator = (uint8_t)byte,
@@ -160,6 +162,8 @@ static int table_of(PyObject *given, jadvolni_table *table, borrowed_text *missi
         .skips_empty_rows = (uint8_t)flags[3],
         .missing = missing->bytes,
         .missing_len = missing->len,
+        .widths = widths->buf,
+        .width_count = (size_t)widths->len / sizeof(size_t),
     };
     return 0;
 }
@@ -192,14 +196,16 @@ PyObject *parse_table(PyObject *module, PyObject *const *args, Py_ssize_t count)
     table_place first = {PyLong_AsSize_t(args[5]), PyLong_AsSize_t(args[6])};
     jadvolni_table table;
     borrowed_text text = {0}, missing = {0};
+    Py_buffer widths = {0};
     columns all = {0};
     PyObject *rows = NULL;
-    if (!PyErr_Occurred() && table_of(args[2], &table, &missing) == 0
+    if (!PyErr_Occurred() && table_of(args[2], &table, &missing, &widths) == 0
         && columns_of(state, args[4], &all) == 0 && borrow("text", args[0], &text) == 0
         && ask_apart(&all, &text, &missing) == 0)
         rows = rows_of(state, &text, is_last, &table, capacity, &all, &first);
     give_back(&text);
     give_back(&missing);
+    PyBuffer_Release(&widths);
     let_go(&all);
     return rows;
 }
