@@ -618,8 +618,8 @@ typedef struct jadvolni_table {
     /* Flag: a row without a byte is none. Else it is a row of one empty cell. */
     uint8_t skips_empty_rows;
 
-    /* Flag: a row is a record, of as many bytes as the widths say together, and nothing stands between
-     * two rows. A line feed is then a byte as any other. It needs widths. */
+    /* Flag: a row is a record, of as many bytes as the widths say together, but at least one. Nothing
+     * stands between two rows, and a line feed is a byte as any other. It needs widths. */
     uint8_t is_records;
 
     /* 0, each of them: they are for fields of later versions. */

@@ -105,7 +105,7 @@ static void faults_of_tables(void)
     for (unsigned flag = 0; flag < 256; flag += 255) {
         for (size_t count = 0; count <= 3; count++) {
             jadvolni_table fixed = {.separator = ',', .is_records = (uint8_t)flag, .widths = widths, .width_count = count};
-            uint32_t fits = flag == 0 && count % 2 == 0;
+            uint32_t fits = count == 2 || (count == 0 && flag == 0);
             uint32_t wanted = fits ? JADVOLNI_INVALID_DIGIT_SEPARATOR : JADVOLNI_INVALID_TABLE;
             CHECK(answers(jadvolni_parse_table("12", 2, true, &fixed, 1, columns, 2), wanted, 0, 0, 0));
         }
@@ -165,6 +165,8 @@ static void parts(void)
     jadvolni_table table = {.allows_blanks = 1, .has_quotes = 1, .widths = widths, .width_count = 3};
     parts_of(&cells, "10,a,1\r\n-20,,2\r\n30,b");
     parts_of(&table, "10 a 1\n-20 \"\"\n 30b");
+    table.is_records = 1;
+    parts_of(&table, "10 a 1-20\n\"\" 30b");
 }
 
 /* Each column has its own format, also one that isn't decimal. */
@@ -251,9 +253,26 @@ static void widths_in_lines(void)
     EXPECT("12\"\n\"3\n", quoted, JADVOLNI_OK, 0, 1, 7, 12, 3, 77, 99);
 }
 
+/* Records: rows of as many bytes, with nothing between. */
+static void records(void)
+{
+    static const size_t three[] = {3, 2, 3};
+    jadvolni_table table = {.separator = ',', .has_returns = 1, .allows_blanks = 1, .is_records = 1, .widths = three,
+                            .width_count = 3};
+    EXPECT(" -1ab  2 30,\n  4", table, JADVOLNI_OK, 0, 2, 16, -1, 2, 30, 4);
+    EXPECT("", table, JADVOLNI_OK, 0, 0, 0, 77, 99, 77, 99);
+    EXPECT(" -1ab  2 30,", table, JADVOLNI_TOO_FEW_CELLS, 1, 1, 12, -1, 2, 30, 99);
+    EXPECT(" -1ab  2\n", table, JADVOLNI_TOO_FEW_CELLS, 0, 1, 9, -1, 2, 77, 99);
+    EXPECT(" -1ab  2\n30ab  4", table, JADVOLNI_INVALID_DIGIT, 0, 1, 8, -1, 2, 77, 99);
+    EXPECT(" -1ab  2 30ab256", table, JADVOLNI_OVERFLOW, 2, 1, 15, -1, 2, 30, 99);
+    table.has_quotes = 1;
+    EXPECT("\"1\"\"\n\"4\"", table, JADVOLNI_MISPLACED_QUOTE, 1, 0, 3, 1, 99, 77, 99);
+}
+
 int main(void)
 {
     widths_in_lines();
+    records();
     missing_numbers();
     quotes();
     each_type();

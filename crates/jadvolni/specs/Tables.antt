@@ -12,7 +12,7 @@ use Rattle.lexical_tables.specs.declared.answers.Table.{Table}
 use Rattle.lexical_tables.specs.declared.answers.TableError.{TableError}
 use Rattle.lexical_tables.specs.declared.dialect.Dialect.{Dialect}
 use Rattle.lexical_tables.specs.declared.dialect.Layout.{Layout}
-use Rattle.lexical_tables.specs.declared.dialect.Layout.TheVariants.{Separated, Widths}
+use Rattle.lexical_tables.specs.declared.dialect.Layout.TheVariants.{Records, Separated, Widths}
 use Rattle.jadvolni.specs.Effect.{fault_place, fault_status, format_status, signed, unsigned}
 use Rattle.jadvolni.specs.FormatFields.{are_zeros, flag, format_of}
 use Rattle.jadvolni.specs.declared.table_columns.ColumnFields.{ColumnFields}
@@ -162,7 +162,7 @@ layout_of table columns =
     if length table.widths.now == 0
     then (if flag table.is_records then None else Some (Separated table.separator columns))
     else if length table.widths.now == columns
-    then (if flag table.is_records then None else Some (Widths table.widths))
+    then Some (if flag table.is_records then Records table.widths else Widths table.widths)
     else None
 
 -- how a table is written whose cells are found so

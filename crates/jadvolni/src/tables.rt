@@ -44,8 +44,13 @@ fn layout_of<'a>(table: &TableFields<'a>, columns: usize) -> Option<Layout<'a>>
             columns,
         });
     }
-    if table.widths.len() != columns || table.is_records != 0 {
+    if table.widths.len() != columns {
         return None;
+    }
+    if table.is_records != 0 {
+        return Some(Layout::Records {
+            widths: table.widths,
+        });
     }
     Some(Layout::Widths {
         widths: table.widths,

@@ -268,7 +268,9 @@ fn read_cells<C: TableColumn>(
                 row, ahead, separator, columns, index, dialect, options, targets,
             )
         }
-        Layout::Widths { widths } => read_by_width(row, widths, index, dialect, options, targets),
+        Layout::Widths { widths } | Layout::Records { widths } => {
+            read_by_width(row, widths, index, dialect, options, targets)
+        }
     }
 }
 

@@ -1,6 +1,6 @@
 //! How a table is written.
 
-/// How the cells of a row are found.
+/// How rows and their cells are found.
 #[derive(Debug, Copy, Clone, PartialEq, Eq)]
 pub enum Layout<'a> {
     /// A byte stands between two cells, and each row has so many.
@@ -12,6 +12,12 @@ pub enum Layout<'a> {
     },
     /// Each cell has as many bytes as its width says, and nothing stands between two.
     Widths {
+        /// The widths of a row's cells, in bytes.
+        widths: &'a [usize],
+    },
+    /// So it is, and rows are no lines: each has as many bytes as its widths together, but at least one, and nothing
+    /// stands between two.
+    Records {
         /// The widths of a row's cells, in bytes.
         widths: &'a [usize],
     },

@@ -157,6 +157,30 @@ fn columns_go_into_slices_of_their_own(rt: HostRuntime) -> Result<(), Fail> {
 }
 
 #[test]
+fn cells_have_widths(rt: HostRuntime) {
+    let dialect = Dialect {
+        layout: Layout::Widths { widths: &[3, 2] },
+        ..pairs(false)
+    };
+    let mut numbers = [9_i16; 3];
+    let mut target = Some(Target {
+        format: STANDARD,
+        numbers: Numbers::I16(&mut numbers),
+        present: None,
+    });
+    let targets = slice::from_mut(&mut target);
+    let answer = read_columns(
+        b"007ab\n-30,,\n1234",
+        &dialect,
+        &options::STANDARD,
+        3,
+        targets,
+    );
+    answers(&rt, answer, fault_in(2, 1, CellFault::TooFewCells(16)));
+    answers(&rt, numbers, [7, -30, 123]);
+}
+
+#[test]
 fn a_part_has_whole_rows(rt: HostRuntime) {
     let mut column = [9_u8; 3];
     let mut target = Some(Target {
