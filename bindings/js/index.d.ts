@@ -143,6 +143,9 @@ export interface Table {
   /** How many bytes a cell of each column has: then no separator is given, and none stands between
    * cells. */
   widths?: readonly number[];
+  /** A row is a record, of as many bytes as the widths say together, and nothing stands between two
+   * rows. Else it is a line. */
+  is_records?: boolean;
 }
 
 /**

@@ -22,7 +22,7 @@ const WORDS = 22;
 const FIRST_ARRAY = 4;
 const BITS = 20;
 const TYPES = ["i64", "u64", "i32", "u32", "i16", "u16", "i8", "u8"];
-const FLAGS = ["has_returns", "has_quotes", "allows_blanks", "skips_empty_rows"];
+const FLAGS = ["has_returns", "has_quotes", "allows_blanks", "skips_empty_rows", "is_records"];
 const FIELDS = ["separator", ...FLAGS, "missing", "widths"];
 
 const ANSWER = BigInt(numbersPlace);
@@ -59,8 +59,11 @@ function widthOf(width) {
 }
 
 /** The width of each column's cells; none where these stand between separators. */
-function widthsOf({ separator, widths }, count) {
-  if (widths === undefined) return [];
+function widthsOf({ separator, is_records, widths }, count) {
+  if (widths === undefined) {
+    if (is_records) throw new TypeError("a table that is_records has to have widths");
+    return [];
+  }
   if (separator !== undefined) throw new TypeError("a table with widths has no separator");
   if (!Array.isArray(widths)) {
     throw new TypeError(`widths have to be an array, and not ${told(widths)}`);
@@ -179,8 +182,8 @@ function isFound() {
   const text = [cells.join(";"), TYPES.map(() => "NA").join(";")].join("\n");
   const columns = TYPES.map((type) => ({ type, may_miss: true }));
   try {
-    const byWidths = parseTable("12", ["u8", "u8"], { widths: [1, 1] });
-    if (byWidths.join() !== "1,2") return false;
+    const records = parseTable("1234", ["u8", "u8"], { widths: [1, 1], is_records: true });
+    if (records.join() !== "1,3,2,4") return false;
     const read = parseTable(text, columns, { separator: ";", missing: "NA" });
     return read.every(({ numbers, present }, index) =>
       `${numbers};${present}` === `${cells[index]},0;1,0`);

@@ -146,9 +146,9 @@ static int table_of(PyObject *given, jadvolni_table *table, borrowed_text *missi
                     Py_buffer *widths)
 {
     PyObject *separator, *mark, *sizes;
-    int flags[4];
-    if (!PyArg_ParseTuple(given, "OppppOO", &separator, &flags[0], &flags[1], &flags[2], &flags[3],
-                          &mark, &sizes))
+    int flags[5];
+    if (!PyArg_ParseTuple(given, "OppppOOp", &separator, &flags[0], &flags[1], &flags[2], &flags[3],
+                          &mark, &sizes, &flags[4]))
         return -1;
     int byte = separator_of(separator);
     if (byte < 0 || borrow("missing", mark, missing) < 0
@@ -160,6 +160,7 @@ static int table_of(PyObject *given, jadvolni_table *table, borrowed_text *missi
         .has_quotes = (uint8_t)flags[1],
         .allows_blanks = (uint8_t)flags[2],
         .skips_empty_rows = (uint8_t)flags[3],
+        .is_records = (uint8_t)flags[4],
         .missing = missing->bytes,
         .missing_len = missing->len,
         .widths = widths->buf,
@@ -210,23 +211,31 @@ PyObject *parse_table(PyObject *module, PyObject *const *args, Py_ssize_t count)
     return rows;
 }
 
-/* How many rows a text has: its lines. */
-PyObject *row_count(PyObject *module, PyObject *given)
+/* How many rows a text has: its lines, or its records of so many bytes. */
+static size_t rows_in(const borrowed_text *text, size_t record)
+{
+    return record ? text->len / record + (text->len % record > 0)
+                  : field_count(text->bytes, text->len, '\n');
+}
+
+PyObject *row_count(PyObject *module, PyObject *args)
 {
     (void)module;
+    PyObject *given;
+    Py_ssize_t record;
     borrowed_text text;
     size_t rows;
-    if (borrow("text", given, &text) < 0)
+    if (!PyArg_ParseTuple(args, "On", &given, &record) || borrow("text", given, &text) < 0)
         return NULL;
     Py_BEGIN_ALLOW_THREADS
-    rows = field_count(text.bytes, text.len, '\n');
+    rows = rows_in(&text, (size_t)record);
     Py_END_ALLOW_THREADS
     give_back(&text);
     return PyLong_FromSize_t(rows);
 }
 
-/* Where the row ends that a byte of a text stands in, which starts with a row. */
-static size_t row_end(const char *text, size_t len, size_t place, int has_quotes)
+/* Where the line ends that a byte of a text stands in, which starts with a line. */
+static size_t line_end(const char *text, size_t len, size_t place, int has_quotes)
 {
     size_t quotes = 0;
     for (size_t k = 0; has_quotes && k < place; k++)
@@ -239,15 +248,23 @@ static size_t row_end(const char *text, size_t len, size_t place, int has_quotes
     return len;
 }
 
+/* Where the record ends that a byte of a text stands in, which starts with a record. */
+static size_t record_end(size_t len, size_t place, size_t record)
+{
+    size_t start = place / record * record;
+    return record < len - start ? start + record : len;
+}
+
 /* Where about so many parts of a text stop, which are of one size but that each ends with a row. */
-static PyObject *stops_of(const borrowed_text *text, size_t count, int has_quotes)
+static PyObject *stops_of(const borrowed_text *text, size_t count, int has_quotes, size_t record)
 {
     size_t stop = 0;
     PyObject *stops = PyList_New(0);
     for (size_t left = count; stops && stop < text->len; left--) {
-        size_t start = stop, size = text->len - start;
+        const char *part = text->bytes + stop;
+        size_t len = text->len - stop, place = left > 1 ? (len - 1) / left : len - 1;
         Py_BEGIN_ALLOW_THREADS
-        stop += left > 1 ? row_end(text->bytes + start, size, (size - 1) / left, has_quotes) : size;
+        stop += record ? record_end(len, place, record) : line_end(part, len, place, has_quotes);
         Py_END_ALLOW_THREADS
         PyObject *one = PyLong_FromSize_t(stop);
         if (!one || PyList_Append(stops, one) < 0)
@@ -261,13 +278,13 @@ PyObject *row_stops(PyObject *module, PyObject *args)
 {
     (void)module;
     PyObject *given;
-    Py_ssize_t count;
+    Py_ssize_t count, record;
     int has_quotes;
     borrowed_text text;
-    if (!PyArg_ParseTuple(args, "Onp", &given, &count, &has_quotes)
+    if (!PyArg_ParseTuple(args, "Onpn", &given, &count, &has_quotes, &record)
         || borrow("text", given, &text) < 0)
         return NULL;
-    PyObject *stops = stops_of(&text, (size_t)count, has_quotes);
+    PyObject *stops = stops_of(&text, (size_t)count, has_quotes, (size_t)record);
     give_back(&text);
     return stops;
 }

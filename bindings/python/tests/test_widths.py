@@ -1,4 +1,4 @@
-"""Tests of tables by widths: worked rows, and misuse."""
+"""Tests of tables by widths, whose rows are lines or records: worked rows, and misuse."""
 
 import io
 import random
@@ -57,10 +57,11 @@ class Widths(unittest.TestCase):
                     found = error.kind, error.row, error.column, error.place
                 self.assertEqual(found, wanted)
 
-    def test_lines(self):
+    def test_lines_and_records(self):
         wanted = {"day": [365, 36, 7], "cents": [-80000, 1250, None]}
         rows = [b"365rent-80000", b" 36\t;,\r  1250", b"7            "]
-        for end, given in ((b"\n", {}), (b"\r\n", {"has_returns": True})):
+        for end, given in ((b"\n", {}), (b"\r\n", {"has_returns": True}),
+                           (b"", {"is_records": True})):
             text = end.join(rows)
             for content in (text, text + end):
                 self.answers(content, wanted, LEDGER, WIDTHS, allows_blanks=True, **given)
@@ -72,6 +73,8 @@ class Widths(unittest.TestCase):
         self.answers(text, {"c": [None, 7, 1]}, columns, [4, 0, 2], **given)
         self.answers(text[:13] + b"\n\n", {"c": [None, 7]}, columns, [4, 0, 2],
                      skips_empty_rows=True, **given)
+        self.answers(text.replace(b"\n", b""), ("MisplacedQuote", 1, 0, 8), columns, [4, 0, 2],
+                     is_records=True, **given)
         self.answers(b'"7"8\n', {"a": [7], "c": [8]}, BYTES, [3, 0, 1], has_quotes=True)
         self.answers(b'7"88\n', ("MisplacedQuote", 0, 1, 1), BYTES, [1, 1, 2], has_quotes=True)
 
@@ -83,43 +86,58 @@ class Widths(unittest.TestCase):
             (b"12x345\n12x3456\n", ("TooManyCells", 1, 3, 13), {}),
             (b"12x345\n12x3,5\n", ("InvalidDigit", 1, 2, 11), {}),
             (b"12x345\r\n12x345\n", ("MissingReturn", 1, 3, 14), {"has_returns": True}),
+            (b"12x34512x34", ("TooFewCells", 1, 2, 11), {"is_records": True}),
+            (b"12x3451", ("TooFewCells", 1, 0, 7), {"is_records": True}),
+            (b"12x345\n2x345", ("InvalidDigit", 1, 0, 6), {"is_records": True}),
+            (b"12x34599x999x9x999", ("InvalidDigit", 2, 0, 12), {"is_records": True}),
         ):
             with self.subTest(text=text):
                 self.answers(text, wanted, BYTES, [2, 1, 3], **given)
         self.answers(b"12x345", ("InvalidDigit", 0, 2, 2), BYTES, [2, 0, 4])
         self.answers(b"12x345", ("Empty", 0, 0, 0), BYTES, [0, 3, 3])
+        self.answers(b"12", ("TooManyCells", 0, 2, 0), {"a": None, "b": None}, [0, 0],
+                     is_records=True)
 
     def test_widths_that_are_huge(self):
         for widths in ([2, 1, sys.maxsize], [2, sys.maxsize, sys.maxsize], [2, 1, 2**32]):
             column = 1 if widths[1] == sys.maxsize else 2
-            for threads in (1, 4):
-                with self.assertRaises(ParseError) as caught:
-                    parse_table(b"12x345", BYTES, widths=widths, threads=threads)
-                fault = caught.exception
-                self.assertEqual((fault.kind, fault.row, fault.column, fault.place),
-                                 ("TooFewCells", 0, column, 6))
+            for is_records in (False, True):
+                for threads in (1, 4):
+                    with self.assertRaises(ParseError) as caught:
+                        parse_table(b"12x345", BYTES, widths=widths, is_records=is_records,
+                                    threads=threads)
+                    fault = caught.exception
+                    self.assertEqual((fault.kind, fault.row, fault.column, fault.place),
+                                     ("TooFewCells", 0, column, 6))
 
     def test_no_text(self):
-        self.answers(b"", {"a": [], "c": []}, BYTES, [2, 1, 3])
+        for is_records in (False, True):
+            self.answers(b"", {"a": [], "c": []}, BYTES, [2, 1, 3], is_records=is_records)
+
+    def test_a_record_that_a_block_has_no_room_for(self):
+        tables = iter_table(io.BytesIO(b"12x345" * 3), BYTES, widths=[2, 1, 12], is_records=True,
+                            size=5)
+        with self.assertRaisesRegex(ValueError, "the row at byte 0 has more than 5 bytes"):
+            next(tables)
 
     def test_arrays_of_the_caller(self):
         out = {"a": array("B", [9] * 3), "c": array("h", [9] * 3)}
-        given = {"widths": (2, 1, 3), "out": out}
-        self.assertEqual(lists(parse_table(b"12x345\n67y-12", BYTES, **given)),
+        given = {"widths": (2, 1, 3), "is_records": True, "out": out}
+        self.assertEqual(lists(parse_table(b"12x34567y-12", BYTES, **given)),
                          {"a": [12, 67], "c": [345, -12]})
         with self.assertRaisesRegex(ValueError, "room for the 4 rows"):
-            parse_table(b"12x345\n" * 3 + b"1", BYTES, **given)
+            parse_table(b"12x345" * 3 + b"1", BYTES, **given)
         self.assertEqual(lists(out), {"a": [12, 67, 9], "c": [345, -12, 9]})
 
-    def test_random_rows(self):
+    def test_random_records(self):
         chance = random.Random(1)
         for _ in range(200):
             widths = [chance.randrange(1, 4), chance.randrange(3), chance.randrange(1, 5)]
             rows = [(chance.randrange(min(256, 10**widths[0])), chance.randrange(10**widths[2]))
                     for _ in range(chance.randrange(30))]
-            text = "".join(f"{a:{widths[0]}}{'x' * widths[1]}{c:0{widths[2]}}\n" for a, c in rows)
+            text = "".join(f"{a:{widths[0]}}{'x' * widths[1]}{c:0{widths[2]}}" for a, c in rows)
             wanted = {"a": [a for a, _ in rows], "c": [c for _, c in rows]}
-            given = {"widths": widths, "allows_blanks": True}
+            given = {"widths": widths, "is_records": True, "allows_blanks": True}
             for threads in (1, chance.randint(2, 9)):
                 found = lists(parse_table(text, BYTES, threads=threads, **given))
                 self.assertEqual(found, wanted)
@@ -130,6 +148,7 @@ class Widths(unittest.TestCase):
         for given, error, message in (
             ({"widths": [2, 1, 3], "separator": ","}, ValueError, "separator has to be None"),
             ({"widths": [2, 1, 3], "separator": ""}, ValueError, "separator has to be None"),
+            ({"is_records": True}, ValueError, "widths have to be there where is_records is true"),
             ({"widths": []}, ValueError, "widths have to be one for each of 3 columns, and not 0"),
             ({"widths": [2, 1]}, ValueError, "widths have to be one for each of 3 columns"),
             ({"widths": [2, 1, 3, 4]}, ValueError, "widths have to be one for each of 3 columns"),
@@ -153,12 +172,12 @@ class Widths(unittest.TestCase):
             parse_table(b"", {}, widths=[])
 
     def test_memory_is_given_back(self):
-        text, widths = b"12x345\n" * 9, [2, 1, 3]
+        text, widths = b"12x345" * 9, [2, 1, 3]
         kept = text, widths
         before = [sys.getrefcount(it) for it in kept]
         for given in [text, text + b"x", 7] * 200:
             try:
-                parse_table(given, BYTES, widths=widths)
+                parse_table(given, BYTES, widths=widths, is_records=True)
             except (ParseError, TypeError):
                 pass
         del given

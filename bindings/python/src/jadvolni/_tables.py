@@ -82,12 +82,19 @@ class _Reader:
         self.columns = {name: it if it is None or isinstance(it, Column) else Column(it)
                         for name, it in columns.items()}
         self.read = {name: it for name, it in self.columns.items() if it is not None}
-        *others, widths = how
+        *others, widths, is_records = how
         sizes = array("Q") if widths is None else _sizes(widths, len(columns))
         if sizes and separator is not None:
             raise ValueError("separator has to be None where there are widths")
-        self.how = (b"," if separator is None else separator, *others, sizes)
+        if is_records and not sizes:
+            raise ValueError("widths have to be there where is_records is true")
+        self.how = (b"," if separator is None else separator, *others, sizes, is_records)
         self.has_quotes = how[1]
+        self.record = min(max(sum(sizes), 1), sys.maxsize) if is_records else 0
+
+    def row_count(self, text: Text) -> int:
+        """How many rows a text has at most."""
+        return _row_count(text, self.record)
 
     def room(self, rows: int) -> Table:
         """Arrays for so many rows."""
@@ -173,11 +180,11 @@ def _parse_in_threads(reader: _Reader, text: Text, arrays: Table, threads: int) 
     reader.parse(text, arrays, 0, _Part())  # (so that wrong arguments are told as ever)
     with ExitStack() as held:
         whole = held.enter_context(memoryview(text.encode() if isinstance(text, str) else text))
-        stops = _row_stops(whole, threads, reader.has_quotes)
+        stops = _row_stops(whole, threads, reader.has_quotes, reader.record)
         starts = [0, *stops]
         texts = [held.enter_context(whole[start:stop]) for start, stop in zip(starts, stops)]
         pool = held.enter_context(ThreadPoolExecutor(threads))
-        lines = list(pool.map(_row_count, texts))
+        lines = list(pool.map(reader.row_count, texts))
         rooms = [reader.room_behind(arrays, row, rows, held)
                  for row, rows in zip(accumulate(lines, initial=0), lines)]
 
@@ -208,6 +215,7 @@ def parse_table(
     skips_empty_rows: bool = False,
     missing: Text = b"",
     widths: Optional[Sequence[int]] = None,
+    is_records: bool = False,
     out: Optional[Table] = None,
     threads: int = 1,
 ) -> Table:
@@ -222,13 +230,14 @@ def parse_table(
     allows_blanks: spaces and tabs may stand around a number. skips_empty_rows: a row without a
     byte is none. missing: what stands for a missing number where a Column has may_miss, which then
     is a Sparse: by default an empty cell. widths: how many bytes each column's cells have, in the
-    place of separators. threads: how many read the text, in parts.
+    place of separators. is_records: rows have as many bytes as the widths together, at least one,
+    and no line feed behind them. threads: how many read the text, in parts.
 
     ParseError has the first wrong cell in reading order, by `row`, `column` and `place`, from 0.
     """
     reader = _Reader(columns, separator, has_returns, has_quotes, allows_blanks, skips_empty_rows,
-                     missing, widths)
-    rows = _row_count(text)
+                     missing, widths, is_records)
+    rows = reader.row_count(text)
     arrays = reader.room(rows) if out is None else reader.room_of(out, rows)
     if threads < 1:
         raise ValueError(f"threads has to be 1 or more, and not {threads}")
@@ -264,6 +273,7 @@ def iter_table(
     skips_empty_rows: bool = False,
     missing: Text = b"",
     widths: Optional[Sequence[int]] = None,
+    is_records: bool = False,
     rows: int = 100_000,
     size: int = 1 << 20,
     progress: Optional[Callable[[int], object]] = None,
@@ -277,11 +287,11 @@ def iter_table(
     if rows < 1 or size < 1:
         raise ValueError(f"rows and size have to be 1 or more, and not {rows} and {size}")
     reader = _Reader(columns, separator, has_returns, has_quotes, allows_blanks, skips_empty_rows,
-                     missing, widths)
+                     missing, widths, is_records)
     left, part = b"", _Part(False)
     for block in _blocks(file, size, progress):
         text, part, done, count = left + block, part._replace(is_last=not block), 0, rows
-        lines = _row_count(text)
+        lines = reader.row_count(text)
         while count == rows:
             room = max(1, min(rows, lines))
             arrays = reader.room(room)
