@@ -67,7 +67,7 @@ LEDGER_FAULTS = {
     b"rent " + GREATEST + b"\nx 1": f"row 2: {SUM_LEAVES}",
     b"x 0\n" * 1500 + b"x " + GREATEST + b"\nx 1\n": f"row 1502: {SUM_LEAVES}",
     b"rent -80000\nfood 12x\nwine x\n": "row 2, cell 2, byte 19: invalid digit",
-    b"x 1\n" * 3000 + b"x \n": "row 3001, cell 2, byte 12002: missing digit",
+    b"x 1\n" * 30000 + b"x \n": "row 30001, cell 2, byte 120002: missing digit",
     b"x 1\n\nx 1\n": "row 2, cell 2, byte 4: too few cells",
     b"x 1\0\n": "row 1, cell 2, byte 3: invalid digit",
     b"x 1\r\n": "row 1, cell 2, byte 3: invalid digit",
