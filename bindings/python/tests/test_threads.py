@@ -157,7 +157,8 @@ class Threads(unittest.TestCase):
             with self.assertRaisesRegex(ValueError, "threads has to be 1 or more, and not"):
                 parse_table(b"1", {"a": "u8"}, threads=threads)
         for threads in ("2", None, 2.5, [2]):
-            self.assertRaises(TypeError, parse_table, b"1", {"a": "u8"}, threads=threads)
+            with self.assertRaisesRegex(TypeError, "threads has to be an integer, and not"):
+                parse_table(b"1", {"a": "u8"}, threads=threads)
         for text, columns, given in (
             (7, {"a": "u8"}, {}), (b"1", {"a": "u7"}, {}), (b"1", {"a": Column("u8", "hex")}, {}),
             (array("H", [1]), {"a": "u8"}, {}), (b"1", {"a": "u8"}, {"separator": ";;"}),
