@@ -103,6 +103,7 @@ class Threads(unittest.TestCase):
             self.assertEqual(told("1,ä,2,3\n1,é,2,3\n", COLUMNS, threads=threads)["d"], [3, 3])
             self.assertEqual(told(b"", COLUMNS, threads=threads), told(b"", COLUMNS))
             self.assertEqual(told(b"1,x,2,3", COLUMNS, threads=threads)["d"], [3])
+            self.assertEqual(told(b"1,x,2,3", COLUMNS, threads=10**30)["d"], [3])
             self.assertEqual(told(b"x\n" * 9, {"a": None}, threads=threads), {})
 
     def test_files(self):

@@ -189,7 +189,8 @@ def _parse_in_threads(reader: _Reader, text: Text, arrays: Table, threads: int) 
     reader.parse(text, arrays, 0, _Part())  # (so that wrong arguments are told as ever)
     with ExitStack() as held:
         whole = held.enter_context(memoryview(text.encode() if isinstance(text, str) else text))
-        stops = _row_stops(whole, threads, reader.has_quotes, reader.record)
+        parts = min(threads, len(whole))
+        stops = _row_stops(whole, parts, reader.has_quotes, reader.record)
         starts = [0, *stops]
         texts = [held.enter_context(whole[start:stop]) for start, stop in zip(starts, stops)]
         pool = held.enter_context(ThreadPoolExecutor(threads))
