@@ -95,6 +95,11 @@ class Blocks(unittest.TestCase):
         for size in (0, -1):
             with self.assertRaisesRegex(ValueError, "size has to be 1 or more"):
                 self.numbers(b"1", size=size)
+        for size in ("5", None, 5.0):
+            with self.assertRaisesRegex(TypeError, "size has to be an integer, and not"):
+                self.numbers(b"1", size=size)
+        with self.assertRaisesRegex(TypeError, 'file has to be one opened by "rb", and not str'):
+            next(iter_column("numbers.txt"))
         for separator in (b"", b"ab"):
             with self.assertRaises(ValueError):
                 self.numbers(b"1ab2", "u8", separator)

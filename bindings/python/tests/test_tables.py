@@ -214,8 +214,23 @@ class Tables(unittest.TestCase):
         self.assertRaises(TypeError, parse_table, b"1", {"a": Column("u8", "hex")})
         self.assertRaises(TypeError, parse_table, b"1", {"a": "u8"}, missing=None)
         self.assertRaises(ValueError, parse_table, b"1", {"a": "u8"}, b"ab")
-        self.assertRaises(ValueError, next, iter_table(io.BytesIO(b"1"), {"a": "u8"}, rows=0))
-        self.assertRaises(ValueError, next, iter_table(io.BytesIO(b"1"), {"a": "u8"}, size=0))
+        for given, message in (
+            ({"rows": 0}, "rows has to be 1 or more, and not 0"),
+            ({"size": -1}, "size has to be 1 or more, and not -1"),
+            ({"rows": "1"}, "rows has to be an integer, and not str"),
+            ({"size": None}, "size has to be an integer, and not NoneType"),
+        ):
+            with self.assertRaisesRegex((ValueError, TypeError), message):
+                next(iter_table(io.BytesIO(b"1"), {"a": "u8"}, **given))
+        for call in (parse_table, lambda text, *it: next(iter_table(io.BytesIO(text), *it))):
+            for columns in (["a", "b"], "ab", None):
+                with self.assertRaisesRegex(TypeError, "columns has to be a dict, and not "):
+                    call(b"1,2", columns)
+        with self.assertRaisesRegex(TypeError, "out has to be a dict or None, and not list"):
+            parse_table(b"1", {"a": "u8"}, out=[array("B", [0])])
+        for file in ("table.csv", pathlib.Path("table.csv"), 7):
+            with self.assertRaisesRegex(TypeError, 'file has to be one opened by "rb", and not '):
+                next(iter_table(file, {"a": "u8"}))
         self.assertRaises(TypeError, next, iter_table(io.StringIO("1"), {"a": "u8"}))
         self.assertRaises(FileNotFoundError, read_table, "no/such/file", LEDGER)
         self.assertEqual(parse_table(b"a\nb", {"a": None}), {})

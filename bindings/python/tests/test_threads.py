@@ -103,6 +103,7 @@ class Threads(unittest.TestCase):
             self.assertEqual(told("1,ä,2,3\n1,é,2,3\n", COLUMNS, threads=threads)["d"], [3, 3])
             self.assertEqual(told(b"", COLUMNS, threads=threads), told(b"", COLUMNS))
             self.assertEqual(told(b"1,x,2,3", COLUMNS, threads=threads)["d"], [3])
+            self.assertEqual(told(b"1,x,2,3", COLUMNS, threads=10**30)["d"], [3])
             self.assertEqual(told(b"x\n" * 9, {"a": None}, threads=threads), {})
 
     def test_files(self):
@@ -157,7 +158,8 @@ class Threads(unittest.TestCase):
             with self.assertRaisesRegex(ValueError, "threads has to be 1 or more, and not"):
                 parse_table(b"1", {"a": "u8"}, threads=threads)
         for threads in ("2", None, 2.5, [2]):
-            self.assertRaises(TypeError, parse_table, b"1", {"a": "u8"}, threads=threads)
+            with self.assertRaisesRegex(TypeError, "threads has to be an integer, and not"):
+                parse_table(b"1", {"a": "u8"}, threads=threads)
         for text, columns, given in (
             (7, {"a": "u8"}, {}), (b"1", {"a": "u7"}, {}), (b"1", {"a": Column("u8", "hex")}, {}),
             (array("H", [1]), {"a": "u8"}, {}), (b"1", {"a": "u8"}, {"separator": ";;"}),

@@ -159,7 +159,7 @@ class Widths(unittest.TestCase):
             ({"widths": [2, 1.0, 3]}, TypeError, "a width has to be an integer, and not float"),
             ({"widths": [2, None, 3]}, TypeError, "a width has to be an integer, and not None"),
             ({"widths": "213"}, TypeError, "a width has to be an integer, and not str"),
-            ({"widths": 213}, TypeError, ""),
+            ({"widths": 213}, TypeError, "widths has to be a list or None, and not int"),
         ):
             with self.subTest(given=given):
                 with self.assertRaisesRegex(error, message):

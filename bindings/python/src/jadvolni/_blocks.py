@@ -5,7 +5,7 @@ from __future__ import annotations
 from typing import IO, TYPE_CHECKING, Callable, Iterator, Optional, Union
 
 from ._core import _parse_part
-from ._format import Format
+from ._format import Format, _integer
 
 if TYPE_CHECKING:
     from array import array
@@ -13,8 +13,18 @@ if TYPE_CHECKING:
     from ._core import ColumnType
 
 
+def _one_or_more(name: str, value: object) -> int:
+    """A number of things, of which there has to be one."""
+    number = _integer(name, value)
+    if number < 1:
+        raise ValueError(f"{name} has to be 1 or more, and not {number}")
+    return number
+
+
 def _block(file: IO[bytes], size: int) -> bytes:
     """The next bytes of a file, none at its end."""
+    if not hasattr(file, "read"):
+        raise TypeError(f"file has to be one opened by \"rb\", and not {type(file).__name__}")
     block = file.read(size)
     if isinstance(block, bytes):
         return block
@@ -49,8 +59,7 @@ def iter_column(
     is a ValueError, so that no more than two blocks are held. `progress`, as `update` of a bar of
     tqdm, is called behind each block with how many bytes it had; what it raises ends the reading.
     """
-    if size < 1:
-        raise ValueError(f"size has to be 1 or more, and not {size}")
+    size = _one_or_more("size", size)
     parted = separator.encode() if isinstance(separator, str) else separator
     left, field, start = b"", 0, 0
     for block in _blocks(file, size, progress):

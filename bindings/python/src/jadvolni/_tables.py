@@ -9,10 +9,10 @@ from array import array
 from concurrent.futures import ThreadPoolExecutor
 from contextlib import ExitStack
 from itertools import accumulate
-from typing import (IO, TYPE_CHECKING, Any, Callable, Iterator, Mapping, NamedTuple, Optional,
-                    Sequence, Union)
+from typing import (IO, TYPE_CHECKING, Any, Callable, Iterable, Iterator, Mapping, NamedTuple,
+                    Optional, Union)
 
-from ._blocks import _block, _blocks
+from ._blocks import _block, _blocks, _one_or_more
 from ._core import ParseError, _array_code, _parse_table, _row_count, _row_stops
 from ._format import Format, _integer
 
@@ -64,8 +64,15 @@ class _Part(NamedTuple):
     start: int = 0
 
 
-def _sizes(widths: Sequence[int], count: int) -> array[int]:
+def _ask_type(name: str, value: object, kind: Any, wanted: str) -> None:
+    """Asks that an argument is of a type."""
+    if not isinstance(value, kind):
+        raise TypeError(f"{name} has to be {wanted}, and not {type(value).__name__}")
+
+
+def _sizes(widths: Iterable[int], count: int) -> array[int]:
     """The widths of so many columns."""
+    _ask_type("widths", widths, Iterable, "a list or None")
     sizes = [_integer("a width", it) for it in widths]
     if len(sizes) != count or count == 0:
         raise ValueError(f"widths have to be one for each of {count} columns, and not {len(sizes)}")
@@ -79,6 +86,7 @@ class _Reader:
     """How a table is written, and what is read of it."""
 
     def __init__(self, columns: Columns, separator: Optional[Text], *how: Any) -> None:
+        _ask_type("columns", columns, Mapping, "a dict")
         self.columns = {name: it if it is None or isinstance(it, Column) else Column(it)
                         for name, it in columns.items()}
         self.read = {name: it for name, it in self.columns.items() if it is not None}
@@ -102,6 +110,7 @@ class _Reader:
 
     def room_of(self, out: Table, rows: int) -> Table:
         """The caller's arrays, which have to be for so many rows."""
+        _ask_type("out", out, Mapping, "a dict or None")
         for name, column in self.read.items():
             numbers, bits = _pair(out[name])
             if (bits is not None) != column.may_miss:
@@ -180,7 +189,8 @@ def _parse_in_threads(reader: _Reader, text: Text, arrays: Table, threads: int) 
     reader.parse(text, arrays, 0, _Part())  # (so that wrong arguments are told as ever)
     with ExitStack() as held:
         whole = held.enter_context(memoryview(text.encode() if isinstance(text, str) else text))
-        stops = _row_stops(whole, threads, reader.has_quotes, reader.record)
+        parts = min(threads, len(whole))
+        stops = _row_stops(whole, parts, reader.has_quotes, reader.record)
         starts = [0, *stops]
         texts = [held.enter_context(whole[start:stop]) for start, stop in zip(starts, stops)]
         pool = held.enter_context(ThreadPoolExecutor(threads))
@@ -214,7 +224,7 @@ def parse_table(
     allows_blanks: bool = False,
     skips_empty_rows: bool = False,
     missing: Text = b"",
-    widths: Optional[Sequence[int]] = None,
+    widths: Optional[Iterable[int]] = None,
     is_records: bool = False,
     out: Optional[Table] = None,
     threads: int = 1,
@@ -239,9 +249,7 @@ def parse_table(
                      missing, widths, is_records)
     rows = reader.row_count(text)
     arrays = reader.room(rows) if out is None else reader.room_of(out, rows)
-    if threads < 1:
-        raise ValueError(f"threads has to be 1 or more, and not {threads}")
-    if threads > 1:
+    if _one_or_more("threads", threads) > 1:
         return _fronts(arrays, _parse_in_threads(reader, text, arrays, threads))
     count, _ = reader.parse(text, arrays, rows, _Part())
     return _fronts(arrays, count)
@@ -272,7 +280,7 @@ def iter_table(
     allows_blanks: bool = False,
     skips_empty_rows: bool = False,
     missing: Text = b"",
-    widths: Optional[Sequence[int]] = None,
+    widths: Optional[Iterable[int]] = None,
     is_records: bool = False,
     rows: int = 100_000,
     size: int = 1 << 20,
@@ -284,8 +292,7 @@ def iter_table(
     whole file, and the tables before it stand. A row of more than `size` bytes is a ValueError, so
     that no more than two blocks are held. `progress` is called as by iter_column.
     """
-    if rows < 1 or size < 1:
-        raise ValueError(f"rows and size have to be 1 or more, and not {rows} and {size}")
+    rows, size = _one_or_more("rows", rows), _one_or_more("size", size)
     reader = _Reader(columns, separator, has_returns, has_quotes, allows_blanks, skips_empty_rows,
                      missing, widths, is_records)
     left, part = b"", _Part(False)
