@@ -726,7 +726,7 @@ typedef struct jadvolni_table_result {
  *
  * A FILE IN BLOCKS. Where `is_last` is false the text is a part of one, and a row that it ends in is
  * left: put the bytes from `r.place` on in front of the next part. Rows and places are counted from the
- * start of each part. A part that is as long as the block and gives no row has a row that is longer.
+ * start of each part. Where `r.place` is 0 in a part as long as the block, a row is longer than that.
  * `capacity` bounds the rows of one call: before the next part is read, call again with what is left,
  * until fewer rows than `capacity` come.
  *
