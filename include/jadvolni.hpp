@@ -386,7 +386,7 @@ template <class Values>
     return parse_column_part(text, is_last, separator, std::data(values), std::size(values), under);
 }
 
-// How a table is written. Begin with table{}, and set what differs.
+// How a table is written. Begin with table{}, and set what differs. Its widths have to outlive it.
 using table = jadvolni_table;
 
 // A column of a table: how its cells are read, and where their numbers go. table_column{} isn't read.

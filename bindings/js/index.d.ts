@@ -140,13 +140,20 @@ export interface Table {
   skips_empty_rows?: boolean;
   /** What stands for a missing number in columns that may miss some: by default an empty cell. */
   missing?: Text;
+  /** How many bytes a cell of each column has: then no separator is given, and none stands between
+   * cells. */
+  widths?: readonly number[];
+  /** A row is a record, of as many bytes as the widths say together, and nothing stands between two
+   * rows. Else it is a line. */
+  is_records?: boolean;
 }
 
 /**
  * The rows of a text, each column as an array: null for one that isn't read, whose cells may hold any
- * bytes but the separator and a line feed, or these too within quotes. A row is a line, and has one cell more than separators, as
- * many as there are columns. The text may be of any length; a row of more than `LONGEST_ROW` bytes is
- * a `RangeError`. A header is no row: hand over what follows it.
+ * bytes but the separator and a line feed, or these too within quotes. A row is a line, and has one
+ * cell more than separators, as many as there are columns, unless the table has widths. The text may
+ * be of any length; a row of more than `LONGEST_ROW` bytes is a `RangeError`. A header is no row: hand
+ * over what follows it.
  *
  * Throws `ParseError` for the first wrong cell in reading order, with its row and column.
  */

@@ -13,16 +13,17 @@ const { TEXT } = memory;
 const call = memory.named("jadvolni_parse_table");
 
 // What a call is given and gives, behind the text: its answer, a table, its columns, the bytes that
-// stand for a missing number, and the columns' arrays. A column is its format; for each type the
-// address of an array and its room; and those of its bits, which say where there is a number.
+// stand for a missing number, the widths of cells, and the columns' arrays. A column is its format; for
+// each type the address of an array and its room; and those of its bits, which say where there is a
+// number.
 const tablePlace = numbersPlace + 32;
 const columnsPlace = tablePlace + 48;
 const WORDS = 22;
 const FIRST_ARRAY = 4;
 const BITS = 20;
 const TYPES = ["i64", "u64", "i32", "u32", "i16", "u16", "i8", "u8"];
-const FLAGS = ["has_returns", "has_quotes", "allows_blanks", "skips_empty_rows"];
-const FIELDS = ["separator", ...FLAGS, "missing"];
+const FLAGS = ["has_returns", "has_quotes", "allows_blanks", "skips_empty_rows", "is_records"];
+const FIELDS = ["separator", ...FLAGS, "missing", "widths"];
 
 const ANSWER = BigInt(numbersPlace);
 const TABLE = BigInt(tablePlace);
@@ -51,18 +52,40 @@ function readOf(column) {
   };
 }
 
-/** How a table is written, and the bytes that stand for a missing number. */
-function tableOf(given) {
+/** How many bytes a cell has. */
+function widthOf(width) {
+  if (Number.isSafeInteger(width) && width >= 0) return BigInt(width);
+  throw new TypeError(`a width has to be a safe integer of 0 or more, and not ${told(width)}`);
+}
+
+/** The width of each column's cells; none where these stand between separators. */
+function widthsOf({ separator, is_records, widths }, count) {
+  if (widths === undefined) {
+    if (is_records) throw new TypeError("a table that is_records has to have widths");
+    return [];
+  }
+  if (separator !== undefined) throw new TypeError("a table with widths has no separator");
+  if (!Array.isArray(widths)) {
+    throw new TypeError(`widths have to be an array, and not ${told(widths)}`);
+  }
+  if (widths.length !== count || count === 0) {
+    throw new TypeError(`widths have to be one for each of ${count} columns, and not ${widths.length}`);
+  }
+  return Array.from(widths, widthOf);
+}
+
+/** How a table of so many columns is written, and the bytes that stand for a missing number. */
+function tableOf(given, count) {
   askFields("a table", given, FIELDS);
   const flags = FLAGS.map((name) => Number(flagOf(name, given[name])));
   const { separator = ",", missing = "" } = given;
   const bytes = [byteOf("separator", separator), ...flags];
-  return { bytes, missing: memory.bytesOf(missing, "missing") };
+  return { bytes, missing: memory.bytesOf(missing, "missing"), widths: widthsOf(given, count) };
 }
 
 /** How many rows there is memory for. An array may begin some bytes behind the end of another. */
 function rowsOf(reads, missing) {
-  const before = columnsPlace + 8 * (WORDS + 2) * reads.length + missing.length + 8;
+  const before = columnsPlace + 8 * (WORDS + 3) * reads.length + missing.length + 8;
   const sizeOf = (read) => (read ? read.NumberArray.BYTES_PER_ELEMENT + Number(read.mayMiss) : 0);
   const size = reads.reduce((sum, read) => sum + sizeOf(read), 0);
   const rows = Math.min(PIECE, Math.floor((memory.buffer.byteLength - before) / size));
@@ -94,13 +117,16 @@ function putColumn(words, read, rows, take) {
 }
 
 /** Puts a table and its columns where calls find them: the arrays of each, and their room. */
-function putTable({ bytes, missing }, reads) {
+function putTable({ bytes, missing, widths }, reads) {
   const rows = rowsOf(reads, missing);
   const take = arraysFrom(columnsPlace);
   const columns = reads.map(() => take(BigUint64Array, WORDS));
   const mark = take(Uint8Array, missing.length);
   mark.set(missing);
-  tableWords.set([0n, 0n, BigInt(mark.byteOffset), BigInt(mark.length), 0n, 0n]);
+  const sizes = take(BigUint64Array, widths.length);
+  sizes.set(widths);
+  const spans = [mark, sizes].flatMap((it) => [BigInt(it.byteOffset), BigInt(it.length)]);
+  tableWords.set([0n, 0n, ...spans]);
   tableBytes.set(bytes);
   const arrays = reads.map((read, index) => putColumn(columns[index], read, rows, take));
   return { arrays, rows };
@@ -127,7 +153,7 @@ export function parseTable(text, columns, table = {}) {
   }
   const reads = Array.from(columns, readOf);
   const bytes = memory.bytesOf(text);
-  const { arrays, rows } = putTable(tableOf(table), reads);
+  const { arrays, rows } = putTable(tableOf(table, reads.length), reads);
   const parts = arrays.map(() => []);
   let start = 0;
   let row = 0;
@@ -156,6 +182,8 @@ function isFound() {
   const text = [cells.join(";"), TYPES.map(() => "NA").join(";")].join("\n");
   const columns = TYPES.map((type) => ({ type, may_miss: true }));
   try {
+    const records = parseTable("1234", ["u8", "u8"], { widths: [1, 1], is_records: true });
+    if (records.join() !== "1,3,2,4") return false;
     const read = parseTable(text, columns, { separator: ";", missing: "NA" });
     return read.every(({ numbers, present }, index) =>
       `${numbers};${present}` === `${cells[index]},0;1,0`);

@@ -1,6 +1,6 @@
 /*
- * Adds up a column of a table on standard input, which may be of any size, block by block: ledger.c and
- * csv_column.c say how the table is written.
+ * Adds up a column of a table on standard input, which may be of any size, block by block: ledger.c,
+ * csv_column.c and records.c say how the table is written.
  *
  * The first wrong cell is told by its row and its place in this, counted from 1, and by its byte, counted
  * from 0.

@@ -11,6 +11,7 @@
 #include <jadvolni.hpp>
 
 #include <algorithm>
+#include <cassert>
 #include <future>
 #include <vector>
 
@@ -43,10 +44,13 @@ inline std::size_t row_start(std::string_view piece, bool has_quotes, bool is_wi
 inline std::vector<std::string_view> table_parts(std::string_view text, const jadvolni::table &how,
                                                  std::size_t threads)
 {
+    assert(!how.is_records); // these are cut at multiples of their size
     std::size_t size = text.size() / std::max<std::size_t>(threads, 1) + 1, start = 0;
     std::vector<std::string_view> pieces, parts;
     for (std::size_t at = 0; at < text.size(); at += size) pieces.push_back(text.substr(at, size));
-    auto quotes = in_threads(pieces, [](auto piece) { return std::count(piece.begin(), piece.end(), '"'); });
+    auto quotes = in_threads(pieces, [&how](std::string_view piece) {
+        return how.has_quotes ? std::count(piece.begin(), piece.end(), '"') : 0;
+    });
     bool is_within = false;
     for (std::size_t k = 1; k < pieces.size(); ++k) {
         is_within ^= quotes[k - 1] % 2;

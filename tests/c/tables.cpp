@@ -1,4 +1,4 @@
-// Tables in C++: whole, in blocks from a reader that gives little or fails, and with missing numbers.
+// Tables in C++: whole, in blocks from a reader that gives little or fails, by widths, and with missing numbers.
 #include "jadvolni.hpp"
 #include "check.h"
 
@@ -124,10 +124,60 @@ static void bits()
     CHECK(!jadvolni::is_present(two, 6) && !jadvolni::is_present(two, 15));
 }
 
+// Cells of given widths, in lines and in records, and what is wrong with them.
+static const std::size_t widths[] = {3, 4, 6};
+
+static jadvolni::table fixed(bool is_records)
+{
+    jadvolni::table fixed{};
+    fixed.allows_blanks = 1;
+    fixed.is_records = is_records;
+    fixed.widths = widths;
+    fixed.width_count = std::size(widths);
+    return fixed;
+}
+
+static void tables_by_widths()
+{
+    unsigned short days[2] = {77, 77};
+    int cents[2] = {77, 77};
+    jadvolni::table_column columns[] = {jadvolni::column_into(days), {}, jadvolni::column_into(cents)};
+    auto is = [](const jadvolni::table_result &read, status wanted, std::size_t column, std::size_t rows, std::size_t place) {
+        return read.status() == wanted && read.column() == column && read.rows() == rows && read.place() == place;
+    };
+    auto read = [&](std::string_view text, const jadvolni::table &how) { return jadvolni::parse_table(text, how, 2, columns); };
+    CHECK(is(read("365rent-80000\n 36bank  1250\n", fixed(false)), status::ok, 0, 2, 28));
+    CHECK(days[0] == 365 && days[1] == 36 && cents[0] == -80000 && cents[1] == 1250);
+    CHECK(is(read("  1rent    -5  2bank     7", fixed(true)), status::ok, 0, 2, 26));
+    CHECK(days[0] == 1 && days[1] == 2 && cents[0] == -5 && cents[1] == 7);
+    CHECK(is(read("365rent-80000x\n", fixed(false)), status::too_many_cells, 3, 0, 13));
+    CHECK(is(read("365rent\n", fixed(false)), status::too_few_cells, 2, 0, 7));
+    CHECK(is(read("\n", fixed(false)), status::too_few_cells, 0, 0, 0));
+    CHECK(is(read("365rent-8000x\n", fixed(false)), status::invalid_digit, 2, 0, 12));
+    CHECK(is(read("  8rent-80000  9ba", fixed(true)), status::too_few_cells, 1, 1, 18));
+    CHECK(days[0] == 8 && days[1] == 9 && cents[0] == -80000 && cents[1] == 7);
+    CHECK(is(jadvolni::parse_table_part("  8rent-80000  9ba", false, fixed(true), 2, columns), status::ok, 0, 1, 13));
+    auto none = fixed(true), two = fixed(false);
+    none.width_count = 0;
+    two.width_count = 2;
+    CHECK(is(read("", none), status::invalid_table, 0, 0, 0) && is(read("", two), status::invalid_table, 0, 0, 0));
+    // In blocks of each size that holds a row.
+    std::string_view rows = "  1rent    -5  2bank     7  3food     0", all = "1 -5\n2 7\n3 0\n";
+    for (std::size_t size = 13; size < 40; ++size)
+        for (std::size_t step : {1u, 12u, 99u})
+            for (std::size_t capacity : {1u, 2u, 9u}) {
+                CHECK(in_table_blocks({rows, step, 99}, size, capacity, 1, fixed(true)) == all);
+                CHECK(in_table_blocks({rows.substr(0, 38), step, 99}, size, capacity, 1, fixed(true))
+                      == "1 -5\n2 7\ntoo few cells 2 2 38\n");
+            }
+    CHECK(in_table_blocks({rows, 99, 99}, 12, 9, 1, fixed(true)) == "a row has no room 0 0 0\n");
+}
+
 int main()
 {
     tables();
     tables_in_blocks();
     bits();
+    tables_by_widths();
     return checked();
 }

@@ -66,6 +66,13 @@ static void worked_tables()
         CHECK(in_so_many(threads, "", how) == "Ok 0 0 0");
         CHECK(in_so_many(threads, "\n\n\n", how) == "0?99 TooFewCells 1 0 0");
     }
+    // Where quotes have no meaning they keep no text in one part.
+    std::string quoted;
+    while (quoted.size() < 1000) quoted += "1,\",2\n";
+    auto plain = how;
+    plain.has_quotes = 0;
+    CHECK(table_parts(quoted, plain, 4).size() == 4 && table_parts(quoted + "1,\",2\n", how, 4).size() == 4);
+    CHECK(table_parts("1,\",2\n", how, 4).size() == 1 && table_parts(std::string_view(), how, 4).size() == 1);
     // What is wrong with a table comes before its text.
     how.reserved[0] = 1;
     for (std::size_t threads : {1u, 3u, 64u}) CHECK(in_so_many(threads, right, how) == "77?99 InvalidTable 0 0 0");

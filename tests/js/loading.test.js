@@ -46,8 +46,9 @@ test("a module whose tables have another layout is told", async () => {
   const others = [
     ["WORDS = 22", "WORDS = 24"], ["FIRST_ARRAY = 4", "FIRST_ARRAY = 6"], ["BITS = 20", "BITS = 18"],
     ['"i64", "u64"', '"u64", "i64"'], ['"u32", "i16"', '"i16", "u32"'], ['"i8", "u8"', '"u8", "i8"'],
-    ["[0n, 0n, BigInt(mark", "[0n, BigInt(mark"],
-    ["tablePlace + 32", "tablePlace + 24"], ["[status, , column, , count,", "[status, , count, , column,"],
+    ["[0n, 0n, ...spans]", "[0n, ...spans]"], ["[mark, sizes]", "[sizes, mark]"],
+    ['"skips_empty_rows", "is_records"', '"is_records", "skips_empty_rows"'],
+    ["tablePlace + 48", "tablePlace + 40"], ["[status, , column, , count,", "[status, , count, , column,"],
   ];
   const message = /jadvolni\.wasm is of another version: its tables have another layout$/;
   for (const [index, [ours, theirs]] of others.entries()) {

@@ -139,6 +139,62 @@ test("missing numbers of several pieces are told", () => {
   assert.ok(present.every((it, row) => it === Number(row % 3 !== 1)));
 });
 
+test("cells of given widths, in lines and in records", () => {
+  const columns = ["u16", null, { type: "i64", may_miss: true }];
+  const lines = { widths: [3, 4, 6], allows_blanks: true };
+  const records = { ...lines, is_records: true };
+  const numbers = BigInt64Array.of(-80000n, 1250n, 0n);
+  const wanted = [Uint16Array.of(365, 36, 7), null, { numbers, present: Uint8Array.of(1, 1, 0) }];
+  const text = "365rent-80000\n 36b;nk  1250\n7  \t\t\t\t      \n";
+  const returned = { ...lines, has_returns: true };
+  assert.deepEqual(parseTable(text, columns, lines), wanted);
+  assert.deepEqual(parseTable(text.trimEnd() + " ".repeat(12), columns, lines), wanted);
+  assert.deepEqual(parseTable(text.replaceAll("\n", "\r\n"), columns, returned), wanted);
+  assert.deepEqual(parseTable(text.replaceAll("\n", ""), columns, records), wanted);
+  assert.deepEqual(parseTable("12xx     7", ["u16", null, "u8"], { ...records, widths: [2, 2, 6] }),
+    [Uint16Array.of(12), null, Uint8Array.of(7)]);
+  const odd = { widths: [4, 0, 2], has_quotes: true, missing: "NA", skips_empty_rows: true };
+  assert.deepEqual(parseTable('"12"NA\n\n"\n,"07', [null, null, { type: "i8", may_miss: true }], odd),
+    [null, null, { numbers: Int8Array.of(0, 7), present: Uint8Array.of(0, 1) }]);
+  assert.deepEqual(parseTable("", columns, records),
+    [new Uint16Array(), null, { numbers: new BigInt64Array(), present: new Uint8Array() }]);
+});
+
+test("the first wrong cell by widths", () => {
+  const columns = ["u8", null, "i16"];
+  const fault = (text, more) => {
+    const { kind, row, column, place } = readTable(text, columns, { widths: [2, 1, 3], ...more });
+    return `${kind} ${row} ${column} ${place}`;
+  };
+  assert.equal(fault("12x345\n12x34\n"), "TooFewCells 1 2 12");
+  assert.equal(fault("12x345\n1\n"), "TooFewCells 1 0 8");
+  assert.equal(fault("12x345\n\n"), "TooFewCells 1 0 7");
+  assert.equal(fault("12x345\n12x3456\n"), "TooManyCells 1 3 13");
+  assert.equal(fault("12x345\n12x3,5\n"), "InvalidDigit 1 2 11");
+  assert.equal(fault("12x345\r\n12x345\n", { has_returns: true }), "MissingReturn 1 3 14");
+  const is_records = { is_records: true };
+  assert.equal(fault("12x34512x34", is_records), "TooFewCells 1 2 11");
+  assert.equal(fault("12x3451", is_records), "TooFewCells 1 0 7");
+  assert.equal(fault("12x345\n2x345", is_records), "InvalidDigit 1 0 6");
+  assert.equal(fault("12x34599x999x9x999", is_records), "InvalidDigit 2 0 12");
+  const nothing = { widths: [0, 0], is_records: true };
+  assert.equal(readTable("12", [null, null], nothing).kind, "TooManyCells");
+  assert.equal(fault("12x345", { widths: [2, 0, 4] }), "InvalidDigit 0 2 2");
+  assert.equal(fault("12x345", { widths: [0, 3, 3] }), "Empty 0 0 0");
+  assert.equal(fault("12x345", { widths: [2, 1, Number.MAX_SAFE_INTEGER] }), "TooFewCells 0 2 6");
+});
+
+test("records of several pieces", () => {
+  const part = Array.from({ length: 1000 }, (_, index) => String(index).padStart(7, "0") + "\n").join("");
+  const times = Math.ceil((2 * LONGEST_ROW) / part.length);
+  const table = { widths: [2, 5, 1], is_records: true };
+  const [second] = parseTable(part.repeat(times), ["u8", "u16", null], table).slice(1);
+  assert.equal(second.length, 1000 * times);
+  assert.ok(second.every((it, index) => it === index % 1000));
+  const fault = { kind: "TooFewCells", place: part.length * times + 6, column: 1, row: 1000 * times };
+  assert.deepEqual(readTable(`${part.repeat(times)}012345`, ["u8", "u16", null], table), fault);
+});
+
 test("random tables are read as their cells are", () => {
   const pieces = ["1", "-7", "300", "x", "", ",", ",", ",", "\n", "\n", "\r\n", "\r", "\0", ";", "é"];
   const settings = [
@@ -208,6 +264,18 @@ test("wrong arguments", () => {
   refuses(() => parseTable("1", [{ type: "u8", may_miss: 1 }]), /^may_miss has to be true or false/);
   refuses(() => parseTable("1", ["u8"], { missing: null }), /^missing has to be a string or a Uint8/);
   refuses(() => parseTable("1", ["u8"], { seperator: ";" }), 'a table has no field "seperator"');
+  refuses(() => parseTable("1", ["u8"], { is_records: 1 }), /^is_records has to be true or false/);
+  refuses(() => parseTable("1", ["u8"], { is_records: true }), "a table that is_records has to have widths");
+  refuses(() => parseTable("1", ["u8"], { widths: [1], separator: "," }), "a table with widths has no separator");
+  refuses(() => parseTable("1", ["u8"], { widths: 1 }), "widths have to be an array, and not 1");
+  refuses(() => parseTable("1", ["u8"], { widths: null }), "widths have to be an array, and not null");
+  for (const [columns, widths] of [[["u8"], []], [["u8"], [1, 1]], [[], [1]], [[], []]]) {
+    refuses(() => parseTable("1", columns, { widths }), /^widths have to be one for each of [01] columns/);
+  }
+  for (const width of [-1, 1.5, 2 ** 53, NaN, Infinity, "1", 1n, null, undefined]) {
+    refuses(() => parseTable("1", ["u8"], { widths: [width] }), /^a width has to be a safe integer of 0/);
+  }
+  refuses(() => parseTable("1", ["u8"], { widths: Array(1) }), /^a width has to be .*, and not undefined$/);
   refuses(() => parseTable("1", ["u8"], null), "the fields of a table have to be an object, and not null");
   const many = Array(1e6).fill("u64");
   assert.throws(() => parseTable("1", many), { name: "RangeError", message: /^1000000 columns are/ });

@@ -1,7 +1,7 @@
 /* Answers questions about tables by jadvolni_parse_table, for tests/tables/compare.py.
  *
- * Standard input has questions: a struct question, a struct target for each column, the mark and the text. Each is asked
- * with all that the call is handed right in front of a page that can't be touched, and with all right behind one; of the
+ * Standard input has questions: a struct question, a struct target and a width for each column, the mark and the text.
+ * Each is asked with all that the call is handed right in front of a page that can't be touched, and with all right behind one; of the
  * whole text, and of its two parts for each cut. All ways have to get one answer. Standard output has 0 or the number of
  * the first that got another one, which then follows, as uint64_t; so status, column, rows and place; and, for each
  * column that is read, its numbers and its bits. */
@@ -14,7 +14,7 @@
 #include <sys/mman.h>
 
 enum { GUARD = 1 << 14, REGION = 1 << 16, MOST_COLUMNS = 8, MOST_ROWS = 255, NUMBERS_BEFORE = 119, BITS_BEFORE = 90 };
-enum { RETURNS = 1, QUOTES = 2, BLANKS = 4, SKIPS = 8, IS_LAST = 16, STRUCTS_CHANGED = 1000 };
+enum { RETURNS = 1, QUOTES = 2, BLANKS = 4, SKIPS = 8, IS_LAST = 16, BY_WIDTHS = 32, RECORDS = 64, STRUCTS_CHANGED = 1000 };
 
 typedef struct question {
     uint16_t len, first_cut, cuts;
@@ -29,12 +29,13 @@ typedef struct target {
 
 static question asked;
 static target targets[MOST_COLUMNS];
+static size_t widths[MOST_COLUMNS];
 static char missing[UINT8_MAX], text[UINT16_MAX];
 /* The bits of all rows: a part gets a copy of its own, since its first row has bit 0. */
 static uint8_t bits[MOST_COLUMNS][(MOST_ROWS + 7) / 8];
 
 /* Where lies what the call is handed: each in a region of its own, at one of its ends. */
-enum { TEXT, MISSING, TABLE, COLUMNS, NUMBERS, BITS = NUMBERS + MOST_COLUMNS, REGIONS = BITS + MOST_COLUMNS };
+enum { TEXT, MISSING, TABLE, WIDTHS, COLUMNS, NUMBERS, BITS = NUMBERS + MOST_COLUMNS, REGIONS = BITS + MOST_COLUMNS };
 static char *regions[REGIONS];
 static bool at_end;
 
@@ -124,8 +125,13 @@ static jadvolni_table_result read_rows(size_t start, size_t stop, bool is_last, 
                               .has_quotes = asked.flags & QUOTES,
                               .allows_blanks = asked.flags & BLANKS,
                               .skips_empty_rows = asked.flags & SKIPS,
+                              .is_records = asked.flags & RECORDS,
                               .missing = memcpy(within(MISSING, asked.missing_len), missing, asked.missing_len),
                               .missing_len = asked.missing_len};
+    if (asked.flags & BY_WIDTHS) {
+        table->widths = memcpy(within(WIDTHS, count * sizeof *widths), widths, count * sizeof *widths);
+        table->width_count = count;
+    }
     for (int k = 0; k < asked.columns; k++) set_column(&columns[k], k, row);
     memcpy(&same, table, sizeof same);
     memcpy(before, columns, size);
@@ -199,6 +205,7 @@ int main(void)
     while (fread(&asked, sizeof asked, 1, stdin) == 1) {
         if (asked.columns > MOST_COLUMNS || asked.rows > asked.room) return 2;
         must_read(targets, asked.columns * sizeof *targets);
+        must_read(widths, asked.columns * sizeof *widths);
         must_read(missing, asked.missing_len);
         must_read(text, asked.len);
         answer_question();

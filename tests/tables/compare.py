@@ -64,10 +64,12 @@ def written(question: Question) -> bytes:
     """A question, as the program reads it."""
     text, is_last, dialect, targets, rows, room, cuts = question
     flags = (dialect.has_returns | dialect.has_quotes << 1 | dialect.allows_blanks << 2
-             | dialect.skips_empty_rows << 3 | is_last << 4)
+             | dialect.skips_empty_rows << 3 | is_last << 4 | (dialect.widths is not None) << 5
+             | dialect.is_records << 6)
     asked = QUESTION.pack(len(text), cuts.start, len(cuts), dialect.separator, flags,
                           len(dialect.missing), dialect.columns, rows, room)
-    return asked + b"".join(map(target_written, targets)) + dialect.missing + text
+    widths = struct.pack(f"={dialect.columns}Q", *(dialect.widths or dialect.columns * [0]))
+    return asked + b"".join(map(target_written, targets)) + widths + dialect.missing + text
 
 
 def answers(program: str, questions: Sequence[Question]) -> bytes:

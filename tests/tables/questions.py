@@ -46,6 +46,16 @@ CELLS = (b"", b"0", b"7", b"12", b"-1", b"+1", b"-0", b"007", b"1_0", b"0xff", b
          b"18446744073709551615", b"18446744073709551616", b"-9223372036854775808",
          b"9223372036854775808", b"1,000", b"00000000000000000000000000001", b"9" * 40)
 MOST_BYTES = 1000
+WIDTHS = (0, 1, 1, 1, 2, 2, 3, 3, 4, 5, 8, 13, 20)
+HUGE_WIDTHS = (1000, 2 ** 63, 2 ** 64 - 1)
+
+
+def with_widths(chance: random.Random, dialect: Dialect) -> Dialect:
+    """The same with widths in the place of separators."""
+    columns = chance.choice((1, 2, 2, 3, 4))
+    widths = [chance.choice(HUGE_WIDTHS if chance.random() < 0.01 else WIDTHS)
+              for _ in range(columns)]
+    return dialect._replace(columns=columns, widths=widths, is_records=chance.random() < 0.5)
 
 
 def random_dialect(chance: random.Random) -> Dialect:
@@ -54,11 +64,20 @@ def random_dialect(chance: random.Random) -> Dialect:
     odd = not has_quotes and chance.random() < 0.03
     separator = chance.choice(ODD_SEPARATORS if odd else SEPARATORS)
     columns = chance.choice((0, 1, 1, 2, 2, 2, 3, 3, 4, 5))
-    return Dialect(separator, columns, has_returns, has_quotes, allows_blanks, skips,
-                   chance.choice(MARKS))
+    dialect = Dialect(separator, columns, has_returns, has_quotes, allows_blanks, skips,
+                      chance.choice(MARKS))
+    return with_widths(chance, dialect) if chance.random() < 0.4 else dialect
 
 
-def random_cell(chance: random.Random, dialect: Dialect, is_plain: bool) -> bytes:
+def fitted(cell: bytes, width: int, dialect: Dialect) -> bytes:
+    """A cell as wide as its column, in front of blanks or behind zeros."""
+    if width >= MOST_BYTES:
+        return cell
+    padded = cell.ljust(width) if dialect.allows_blanks else cell.zfill(width)
+    return padded[:width]
+
+
+def random_cell(chance: random.Random, dialect: Dialect, is_plain: bool, column: int) -> bytes:
     """A cell, plain or as it comes."""
     kind = chance.random()
     if is_plain or kind < 0.6:
@@ -74,9 +93,12 @@ def random_cell(chance: random.Random, dialect: Dialect, is_plain: bool) -> byte
     if dialect.allows_blanks and chance.random() < 0.2:
         blanks = (b" ", b"\t", b"  ", b"")
         cell = chance.choice(blanks) + cell + chance.choice(blanks)
-    if dialect.has_quotes and chance.random() < (0.1 if is_plain else 0.4):
-        cell = b'"' + cell.replace(b'"', b'""') + b'"'
-    return cell
+    is_quoted = dialect.has_quotes and chance.random() < (0.1 if is_plain else 0.4)
+    if is_quoted:
+        cell = cell.replace(b'"', b'""')
+    if dialect.widths and column < dialect.columns:
+        cell = fitted(cell, max(dialect.widths[column] - 2 * is_quoted, 0), dialect)
+    return b'"' + cell + b'"' if is_quoted else cell
 
 
 def random_row(chance: random.Random, dialect: Dialect, is_plain: bool) -> bytes:
@@ -84,9 +106,10 @@ def random_row(chance: random.Random, dialect: Dialect, is_plain: bool) -> bytes
     count = dialect.columns
     if not is_plain and chance.random() < 0.1:
         count = max(count + chance.choice((-1, 1)), 0)
-    cells = [random_cell(chance, dialect, is_plain) for _ in range(count)]
+    cells = [random_cell(chance, dialect, is_plain, column) for column in range(count)]
     end = b"\r\n" if dialect.has_returns != (chance.random() < (0 if is_plain else 0.03)) else b"\n"
-    return bytes([dialect.separator]).join(cells) + end
+    between = b"" if dialect.widths else bytes([dialect.separator])
+    return between.join(cells) + (b"" if dialect.is_records else end)
 
 
 def mutated(chance: random.Random, text: bytes) -> bytes:
@@ -131,30 +154,54 @@ def random_questions(chance: random.Random) -> Iterator[Question]:
 # ---- short texts
 
 SHORT_ALPHABET = b'1,"\n\r x'
+BYTE, SMALL = Target(b"u8", STANDARD, True), Target(b"i8", JSON, False)
+FLAGS = [Dialect(ord(","), 2, returns, quotes, blanks, skips)
+         for returns, quotes, blanks, skips in itertools.product((False, True), repeat=4)]
+ALL_FLAGS = FLAGS[-1]._replace(missing=b" ")
 
 
-def settings() -> Iterator[Question]:
-    """How the short texts are read: questions whose texts are still to come."""
-    byte, small = Target(b"u8", STANDARD, True), Target(b"i8", JSON, False)
-    whole, ends = range(0), ord("\n")
-    for returns, quotes, blanks, skips in itertools.product((False, True), repeat=4):
-        dialect = Dialect(ord(","), 2, returns, quotes, blanks, skips)
-        yield Question(b"", True, dialect, (byte, small), 6, 7, whole)
-        alone = dialect._replace(columns=1, missing=b"x")
-        yield Question(b"", True, alone, (byte,), 6, 6, whole)
-    for separator, columns in ((ends, 1), (ends, 2), (ord("\r"), 2), (ord('"'), 2)):
-        dialect = Dialect(separator, columns, has_returns=separator != ends, allows_blanks=True)
-        yield Question(b"", True, dialect, (byte, small)[:columns], 6, 6, whole)
-    yield Question(b"", True, Dialect(ord(" "), 2, False, True, True), (small, byte), 6, 6, whole)
-    quoted = Dialect(ord(","), 2, True, True, True, True, b" ")
-    yield Question(b"", False, quoted, (byte, None), 6, 6, whole)
-    yield Question(b"", True, quoted._replace(columns=0), (), 2, 2, whole)
-    yield Question(b"", True, quoted._replace(columns=3), (None, byte, None), 1, 3, whole)
+def setting(dialect: Dialect, *targets: Optional[Target], is_last: bool = True, rows: int = 6,
+            room: int = 6) -> Question:
+    """A question whose text is still to come."""
+    return Question(b"", is_last, dialect, targets, rows, room, range(0))
+
+
+def settings_by_separators() -> Iterator[Question]:
+    """How the short texts are read, with separators between cells."""
+    for dialect in FLAGS:
+        yield setting(dialect, BYTE, SMALL, room=7)
+        yield setting(dialect._replace(columns=1, missing=b"x"), BYTE)
+    yield setting(Dialect(ord("\n"), 1, allows_blanks=True), BYTE)
+    yield setting(Dialect(ord("\n"), 2, allows_blanks=True), BYTE, SMALL)
+    yield setting(Dialect(ord("\r"), 2, has_returns=True, allows_blanks=True), BYTE, SMALL)
+    yield setting(Dialect(ord('"'), 2, has_returns=True, allows_blanks=True), BYTE, SMALL)
+    yield setting(Dialect(ord(" "), 2, has_quotes=True, allows_blanks=True), SMALL, BYTE)
+    yield setting(ALL_FLAGS, BYTE, None, is_last=False)
+    yield setting(ALL_FLAGS._replace(columns=0), rows=2, room=2)
+    yield setting(ALL_FLAGS._replace(columns=3), None, BYTE, None, rows=1, room=3)
+
+
+def settings_by_widths() -> Iterator[Question]:
+    """How the short texts are read, where cells have widths."""
+    for dialect in FLAGS:
+        yield setting(dialect._replace(widths=(1, 2)), BYTE, SMALL)
+        yield setting(dialect._replace(widths=(2, 1), is_records=True), BYTE, SMALL)
+    lines, records = ALL_FLAGS, ALL_FLAGS._replace(is_records=True)
+    yield setting(lines._replace(widths=(2, 0)), SMALL, BYTE)
+    yield setting(lines._replace(widths=(3, 2 ** 64 - 1)), BYTE, SMALL)
+    yield setting(lines._replace(widths=(1, 1)), None, SMALL, is_last=False)
+    yield setting(records._replace(widths=(0, 1)), BYTE, SMALL)
+    yield setting(records._replace(columns=1, widths=(0,)), BYTE)
+    yield setting(records._replace(widths=(1, 2 ** 64 - 1)), SMALL, BYTE)
+    yield setting(records._replace(widths=(1, 1)), None, SMALL, is_last=False)
+    yield setting(records._replace(columns=1, widths=(3,)), None, rows=1, room=3)
 
 
 def short_questions(longest: int) -> Iterator[Question]:
     """All texts of the alphabet up to a length under each setting, cut at each place."""
-    for setting in settings():
-        for length in range(longest + 1):
-            for bytes_of_text in itertools.product(SHORT_ALPHABET, repeat=length):
-                yield setting._replace(text=bytes(bytes_of_text), cuts=range(length + 1))
+    lengths = range(longest + 1)
+    texts = [bytes(text) for length in lengths
+             for text in itertools.product(SHORT_ALPHABET, repeat=length)]
+    for asked in itertools.chain(settings_by_separators(), settings_by_widths()):
+        for text in texts:
+            yield asked._replace(text=text, cuts=range(len(text) + 1))

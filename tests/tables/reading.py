@@ -1,8 +1,8 @@
 """A slow reading of tables, to compare the built library with.
 
-Written from crates/lexical_tables/README.md, and not from the code or the definitions in specs/, so
-that a slip there isn't repeated here. It goes through a text byte by byte, and cuts all rows before
-it judges the first. A number is read by tools/reference.py.
+Written from crates/lexical_tables/README.md and the words of include/jadvolni.h, and not from the
+code or the definitions in specs/, so that a slip there isn't repeated here. It goes through a text
+byte by byte, and cuts all rows before it judges the first. A number is read by tools/reference.py.
 """
 from __future__ import annotations
 
@@ -31,6 +31,13 @@ class Dialect(NamedTuple):
     allows_blanks: bool = False
     skips_empty_rows: bool = False
     missing: bytes = b""
+    # The widths of cells, where no separator parts them; and whether no line feed ends a row then.
+    widths: Optional[Sequence[int]] = None
+    is_records: bool = False
+
+    def size(self) -> int:
+        """How many bytes a record has: as its widths say together, and one at least."""
+        return max(1, sum(self.widths or ()))
 
 
 @dataclass(frozen=True)
@@ -84,7 +91,10 @@ def ends_of(text: bytes, start: int, stop: int, end: int, has_quotes: bool) -> L
 
 
 def rows_of(text: bytes, dialect: Dialect) -> List[Piece]:
-    """The rows, each up to its line feed. Behind the last line feed there is none."""
+    """The rows: records, or each up to its line feed. Behind the last line feed there is none."""
+    if dialect.is_records:
+        starts = range(0, len(text), dialect.size())
+        return [Piece(start, min(start + dialect.size(), len(text))) for start in starts]
     rows, start = [], 0
     for end in ends_of(text, 0, len(text), LINE_FEED, dialect.has_quotes):
         rows.append(Piece(start, end))
@@ -92,16 +102,34 @@ def rows_of(text: bytes, dialect: Dialect) -> List[Piece]:
     return rows + [Piece(start, len(text))] if start < len(text) else rows
 
 
+def wants_return(text: bytes, row: Piece, dialect: Dialect) -> bool:
+    """Whether a line feed ends the row, and a return has to stand before it."""
+    return dialect.has_returns and not dialect.is_records and row.stop < len(text)
+
+
 def without_return(text: bytes, row: Piece, dialect: Dialect) -> Piece:
     """The row's cells: without the return before its line feed, where one is asked for."""
-    is_ended = row.stop < len(text)
-    if dialect.has_returns and is_ended and text[row.start:row.stop].endswith(b"\r"):
+    if wants_return(text, row, dialect) and text[row.start:row.stop].endswith(b"\r"):
         return Piece(row.start, row.stop - 1)
     return row
 
 
+def cells_by_widths(row: Piece, widths: Sequence[int]) -> List[Piece]:
+    """The cells of a row that are wholly there, and one of what is left."""
+    cells: List[Piece] = []
+    start = row.start
+    for width in widths:
+        if start + width > row.stop:
+            return cells
+        cells.append(Piece(start, start + width))
+        start += width
+    return cells + [Piece(start, row.stop)] if start < row.stop else cells
+
+
 def cells_of(text: bytes, row: Piece, dialect: Dialect) -> List[Piece]:
-    """The cells of a row, one more than separators."""
+    """The cells of a row: by their widths, or one more than separators."""
+    if dialect.widths is not None:
+        return cells_by_widths(row, dialect.widths)
     ends = ends_of(text, row.start, row.stop, dialect.separator, dialect.has_quotes)
     starts = [row.start] + [end + 1 for end in ends]
     return [Piece(*both) for both in zip(starts, ends + [row.stop])]
@@ -178,7 +206,7 @@ def row_fault(text: bytes, row: Piece, cells: Sequence[Piece], kept: Piece,
         return len(cells), "TooFewCells", kept.stop
     if len(cells) > dialect.columns:
         return dialect.columns, "TooManyCells", cells[dialect.columns].start
-    if dialect.has_returns and row.stop < len(text) and kept == row:
+    if wants_return(text, row, dialect) and kept == row:
         return dialect.columns, "MissingReturn", row.stop
     return None
 
@@ -224,6 +252,8 @@ def read(text: bytes, dialect: Dialect, targets: Sequence[Optional[Target]], roo
 
 def whole_rows(text: bytes, dialect: Dialect) -> int:
     """Where the last whole row of a part ends, behind its line feed."""
+    if dialect.is_records:
+        return len(text) - len(text) % dialect.size()
     ends = ends_of(text, 0, len(text), LINE_FEED, dialect.has_quotes)
     return ends[-1] + 1 if ends else 0
 

@@ -281,7 +281,7 @@ static PyMethodDef METHODS[] = {
      "A column whose fields count on from those of the parts before it."},
     {"_parse_table", (PyCFunction)(void (*)(void))parse_table, METH_FASTCALL,
      "The rows of a part of a text, each column into a buffer."},
-    {"_row_count", row_count, METH_O, "How many rows a text has."},
+    {"_row_count", row_count, METH_VARARGS, "How many rows a text has at most."},
     {"_row_stops", row_stops, METH_VARARGS, "Where about so many parts of a text stop, each with a row."},
     {"_array_code", array_code, METH_O, "The code of the arrays of a type."},
     {"_check_format", check_format, METH_O, "Raises FormatError where a format is invalid."},

@@ -109,14 +109,15 @@ void raise_table(const core_state *state, jadvolni_table_result answer, const ta
 /* ---- tables.c ---- */
 
 /* The rows of a part of a text: _parse_table(text, is_last, how, capacity, columns, row, start), where
- * `how` is separator, has_returns, has_quotes, allows_blanks, skips_empty_rows and missing. A column is
- * None, or its numbers, bits or None, type and format. It gives how many rows were read, and where reading
- * stopped. */
+ * `how` is separator, has_returns, has_quotes, allows_blanks, skips_empty_rows, missing, widths, which are
+ * an array of size_t, and is_records. A column is None, or its numbers, bits or None, type and format. It
+ * gives how many rows were read, and where reading stopped. */
 PyObject *parse_table(PyObject *module, PyObject *const *args, Py_ssize_t count);
 
-PyObject *row_count(PyObject *module, PyObject *given);
+/* How many rows a text has at most: _row_count(text, record), where a record of 0 bytes stands for lines. */
+PyObject *row_count(PyObject *module, PyObject *args);
 
-/* Where the parts of a text stop that threads may read: _row_stops(text, count, has_quotes). */
+/* Where parts stop that threads may read: _row_stops(text, count, has_quotes, record). */
 PyObject *row_stops(PyObject *module, PyObject *args);
 
 PyObject *array_code(PyObject *module, PyObject *given);

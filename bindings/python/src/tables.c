@@ -141,16 +141,18 @@ static int ask_apart(const columns *all, const borrowed_text *text, const borrow
     return apart ? 0 : -1;
 }
 
-/* How a table is written: its separator, flags, and what stands for a missing number. */
-static int table_of(PyObject *given, jadvolni_table *table, borrowed_text *missing)
+/* How a table is written: its separator, flags, what stands for a missing number, and widths. */
+static int table_of(PyObject *given, jadvolni_table *table, borrowed_text *missing,
+                    Py_buffer *widths)
 {
-    PyObject *separator, *mark;
-    int flags[4];
-    if (!PyArg_ParseTuple(given, "OppppO", &separator, &flags[0], &flags[1], &flags[2], &flags[3],
-                          &mark))
+    PyObject *separator, *mark, *sizes;
+    int flags[5];
+    if (!PyArg_ParseTuple(given, "OppppOOp", &separator, &flags[0], &flags[1], &flags[2], &flags[3],
+                          &mark, &sizes, &flags[4]))
         return -1;
     int byte = separator_of(separator);
-    if (byte < 0 || borrow("missing", mark, missing) < 0)
+    if (byte < 0 || borrow("missing", mark, missing) < 0
+        || PyObject_GetBuffer(sizes, widths, PyBUF_SIMPLE) < 0)
         return -1;
     *table = (jadvolni_table){
         .separator = (uint8_t)byte,
@@ -158,8 +160,11 @@ static int table_of(PyObject *given, jadvolni_table *table, borrowed_text *missi
         .has_quotes = (uint8_t)flags[1],
         .allows_blanks = (uint8_t)flags[2],
         .skips_empty_rows = (uint8_t)flags[3],
+        .is_records = (uint8_t)flags[4],
         .missing = missing->bytes,
         .missing_len = missing->len,
+        .widths = widths->buf,
+        .width_count = (size_t)widths->len / sizeof(size_t),
     };
     return 0;
 }
@@ -192,35 +197,45 @@ PyObject *parse_table(PyObject *module, PyObject *const *args, Py_ssize_t count)
     table_place first = {PyLong_AsSize_t(args[5]), PyLong_AsSize_t(args[6])};
     jadvolni_table table;
     borrowed_text text = {0}, missing = {0};
+    Py_buffer widths = {0};
     columns all = {0};
     PyObject *rows = NULL;
-    if (!PyErr_Occurred() && table_of(args[2], &table, &missing) == 0
+    if (!PyErr_Occurred() && table_of(args[2], &table, &missing, &widths) == 0
         && columns_of(state, args[4], &all) == 0 && borrow("text", args[0], &text) == 0
         && ask_apart(&all, &text, &missing) == 0)
         rows = rows_of(state, &text, is_last, &table, capacity, &all, &first);
     give_back(&text);
     give_back(&missing);
+    PyBuffer_Release(&widths);
     let_go(&all);
     return rows;
 }
 
-/* How many rows a text has: its lines. */
-PyObject *row_count(PyObject *module, PyObject *given)
+/* How many rows a text has: its lines, or its records of so many bytes. */
+static size_t rows_in(const borrowed_text *text, size_t record)
+{
+    return record ? text->len / record + (text->len % record > 0)
+                  : field_count(text->bytes, text->len, '\n');
+}
+
+PyObject *row_count(PyObject *module, PyObject *args)
 {
     (void)module;
+    PyObject *given;
+    Py_ssize_t record;
     borrowed_text text;
     size_t rows;
-    if (borrow("text", given, &text) < 0)
+    if (!PyArg_ParseTuple(args, "On", &given, &record) || borrow("text", given, &text) < 0)
         return NULL;
     Py_BEGIN_ALLOW_THREADS
-    rows = field_count(text.bytes, text.len, '\n');
+    rows = rows_in(&text, (size_t)record);
     Py_END_ALLOW_THREADS
     give_back(&text);
     return PyLong_FromSize_t(rows);
 }
 
-/* Where the row ends that a byte of a text stands in, which starts with a row. */
-static size_t row_end(const char *text, size_t len, size_t place, int has_quotes)
+/* Where the line ends that a byte of a text stands in, which starts with a line. */
+static size_t line_end(const char *text, size_t len, size_t place, int has_quotes)
 {
     size_t quotes = 0;
     for (size_t k = 0; has_quotes && k < place; k++)
@@ -233,15 +248,23 @@ static size_t row_end(const char *text, size_t len, size_t place, int has_quotes
     return len;
 }
 
+/* Where the record ends that a byte of a text stands in, which starts with a record. */
+static size_t record_end(size_t len, size_t place, size_t record)
+{
+    size_t start = place / record * record;
+    return record < len - start ? start + record : len;
+}
+
 /* Where about so many parts of a text stop, which are of one size but that each ends with a row. */
-static PyObject *stops_of(const borrowed_text *text, size_t count, int has_quotes)
+static PyObject *stops_of(const borrowed_text *text, size_t count, int has_quotes, size_t record)
 {
     size_t stop = 0;
     PyObject *stops = PyList_New(0);
     for (size_t left = count; stops && stop < text->len; left--) {
-        size_t start = stop, size = text->len - start;
+        const char *part = text->bytes + stop;
+        size_t len = text->len - stop, place = left > 1 ? (len - 1) / left : len - 1;
         Py_BEGIN_ALLOW_THREADS
-        stop += left > 1 ? row_end(text->bytes + start, size, (size - 1) / left, has_quotes) : size;
+        stop += record ? record_end(len, place, record) : line_end(part, len, place, has_quotes);
         Py_END_ALLOW_THREADS
         PyObject *one = PyLong_FromSize_t(stop);
         if (!one || PyList_Append(stops, one) < 0)
@@ -255,13 +278,13 @@ PyObject *row_stops(PyObject *module, PyObject *args)
 {
     (void)module;
     PyObject *given;
-    Py_ssize_t count;
+    Py_ssize_t count, record;
     int has_quotes;
     borrowed_text text;
-    if (!PyArg_ParseTuple(args, "Onp", &given, &count, &has_quotes)
+    if (!PyArg_ParseTuple(args, "Onpn", &given, &count, &has_quotes, &record)
         || borrow("text", given, &text) < 0)
         return NULL;
-    PyObject *stops = stops_of(&text, (size_t)count, has_quotes);
+    PyObject *stops = stops_of(&text, (size_t)count, has_quotes, (size_t)record);
     give_back(&text);
     return stops;
 }

@@ -14,9 +14,10 @@ import unittest
 
 EXAMPLES = pathlib.Path(__file__).resolve().parents[3] / "examples" / "columns"
 # Each example with the words after its file.
-COMMANDS = (("ledger.py",), ("csv_column.py", "2"), ("big_file.py", "3"), ("total.py",))
+COMMANDS = (("ledger.py",), ("records.py",), ("csv_column.py", "2"), ("big_file.py", "3"),
+            ("total.py",))
 # What each reads 3 from.
-CONTENTS = ("a 1\nb 2\n", "n,c\na,1\nb,2\n", "1\n2\n", "1\n2\n")
+CONTENTS = ("a 1\nb 2\n", "  7rent     1  8food     2", "n,c\na,1\nb,2\n", "1\n2\n", "1\n2\n")
 
 
 def answer_of(name, path, *words, **settings):
@@ -105,6 +106,35 @@ class Ledger(Case):
         ):
             with self.subTest(content=content[:40]):
                 self.assertEqual(self.answer("ledger.py", content), (1, "", f"{told}\n"))
+
+
+class Records(Case):
+    """records.py."""
+
+    def test_right_files(self):
+        for content, total in (
+            (b"365rent-80000 36food  1200", -78800),
+            (b"365rent-80000", -80000),
+            (b"", 0),
+            (b"  7\n,;\0\t    7", 7),
+            (b"  7rent     7" * 500_000, 3_500_000),
+        ):
+            with self.subTest(content=content[:40]):
+                self.assertEqual(self.answer("records.py", content), (0, f"{total}\n", ""))
+
+    def test_wrong_files(self):
+        record = b"365rent-80000"
+        for content, told in (
+            (record + b"\n", "record 2, cell 1, byte 14: TooFewCells"),
+            (record + record[:12], "record 2, cell 3, byte 25: TooFewCells"),
+            (record + b"\n" + record, "record 2, cell 1, byte 13: InvalidDigit"),
+            (b"365rent-8000x", "record 1, cell 3, byte 12: InvalidDigit"),
+            (b"365rent-8\n000", "record 1, cell 3, byte 9: InvalidDigit"),
+            (b"365rent      ", "record 1, cell 3, byte 13: Empty"),
+            (record * 500_000 + record[:5], "record 500001, cell 2, byte 6500005: TooFewCells"),
+        ):
+            with self.subTest(content=content[:40]):
+                self.assertEqual(self.answer("records.py", content), (1, "", f"{told}\n"))
 
 
 class CsvColumn(Case):
@@ -261,7 +291,7 @@ class BigFile(Case):
             (b"1\r2", (1, "", "line 1, byte 1: InvalidDigit\n")),
             (b"1\0\n2\n", (1, "", "line 1, byte 1: InvalidDigit\n")),
         ):
-            for name, *words in COMMANDS[2:]:
+            for name, *words in COMMANDS[3:]:
                 with self.subTest(name=name, content=content[:40]):
                     self.assertEqual(self.answer(name, content, *words), answer)
 
@@ -305,7 +335,8 @@ class Inputs(Case):
             with self.subTest(name=name):
                 status, output, errors = answer_of(name, "/dev/stdin", *words, input=content)
                 self.assertEqual((status, errors), (0, ""))
-                self.assertEqual(output, "3\n" if name == "ledger.py" else "2 numbers, sum 3\n")
+                wanted = "3\n" if name in ("ledger.py", "records.py") else "2 numbers, sum 3\n"
+                self.assertEqual(output, wanted)
 
     def test_a_named_pipe_whose_writer_pauses(self):
         path = self.folder / "pipe"
@@ -355,6 +386,7 @@ class Inputs(Case):
     def test_words_that_are_none(self):
         for name, *words in (
             ("ledger.py", "more"),
+            ("records.py", "more"),
             ("csv_column.py",),
             ("csv_column.py", "0"),
             ("csv_column.py", "²"),

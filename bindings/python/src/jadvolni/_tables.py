@@ -4,15 +4,17 @@ from __future__ import annotations
 
 import mmap
 import os
+import sys
 from array import array
 from concurrent.futures import ThreadPoolExecutor
 from contextlib import ExitStack
 from itertools import accumulate
-from typing import IO, TYPE_CHECKING, Any, Callable, Iterator, Mapping, NamedTuple, Optional, Union
+from typing import (IO, TYPE_CHECKING, Any, Callable, Iterator, Mapping, NamedTuple, Optional,
+                    Sequence, Union)
 
 from ._blocks import _block, _blocks
 from ._core import ParseError, _array_code, _parse_table, _row_count, _row_stops
-from ._format import Format
+from ._format import Format, _integer
 
 if TYPE_CHECKING:
     from ._core import ColumnType, Text
@@ -62,15 +64,37 @@ class _Part(NamedTuple):
     start: int = 0
 
 
+def _sizes(widths: Sequence[int], count: int) -> array[int]:
+    """The widths of so many columns."""
+    sizes = [_integer("a width", it) for it in widths]
+    if len(sizes) != count or count == 0:
+        raise ValueError(f"widths have to be one for each of {count} columns, and not {len(sizes)}")
+    for size in sizes:
+        if not 0 <= size <= sys.maxsize:
+            raise ValueError(f"a width has to be from 0 to {sys.maxsize}, and not {size}")
+    return array("Q", sizes)
+
+
 class _Reader:
     """How a table is written, and what is read of it."""
 
-    def __init__(self, columns: Columns, *how: Any) -> None:
+    def __init__(self, columns: Columns, separator: Optional[Text], *how: Any) -> None:
         self.columns = {name: it if it is None or isinstance(it, Column) else Column(it)
                         for name, it in columns.items()}
         self.read = {name: it for name, it in self.columns.items() if it is not None}
-        self.how = how
-        self.has_quotes = how[2]
+        *others, widths, is_records = how
+        sizes = array("Q") if widths is None else _sizes(widths, len(columns))
+        if sizes and separator is not None:
+            raise ValueError("separator has to be None where there are widths")
+        if is_records and not sizes:
+            raise ValueError("widths have to be there where is_records is true")
+        self.how = (b"," if separator is None else separator, *others, sizes, is_records)
+        self.has_quotes = how[1]
+        self.record = min(max(sum(sizes), 1), sys.maxsize) if is_records else 0
+
+    def row_count(self, text: Text) -> int:
+        """How many rows a text has at most."""
+        return _row_count(text, self.record)
 
     def room(self, rows: int) -> Table:
         """Arrays for so many rows."""
@@ -156,11 +180,11 @@ def _parse_in_threads(reader: _Reader, text: Text, arrays: Table, threads: int) 
     reader.parse(text, arrays, 0, _Part())  # (so that wrong arguments are told as ever)
     with ExitStack() as held:
         whole = held.enter_context(memoryview(text.encode() if isinstance(text, str) else text))
-        stops = _row_stops(whole, threads, reader.has_quotes)
+        stops = _row_stops(whole, threads, reader.has_quotes, reader.record)
         starts = [0, *stops]
         texts = [held.enter_context(whole[start:stop]) for start, stop in zip(starts, stops)]
         pool = held.enter_context(ThreadPoolExecutor(threads))
-        lines = list(pool.map(_row_count, texts))
+        lines = list(pool.map(reader.row_count, texts))
         rooms = [reader.room_behind(arrays, row, rows, held)
                  for row, rows in zip(accumulate(lines, initial=0), lines)]
 
@@ -184,30 +208,36 @@ def _parse_in_threads(reader: _Reader, text: Text, arrays: Table, threads: int) 
 def parse_table(
     text: Text,
     columns: Columns,
-    separator: Text = b",",
+    separator: Optional[Text] = None,
     has_returns: bool = False,
     has_quotes: bool = False,
     allows_blanks: bool = False,
     skips_empty_rows: bool = False,
     missing: Text = b"",
+    widths: Optional[Sequence[int]] = None,
+    is_records: bool = False,
     out: Optional[Table] = None,
     threads: int = 1,
 ) -> Table:
     """The rows of a text, each column as an array.
 
     `columns` names the cells of a row in their order, each with its type, a Column, or None where
-    it isn't read. A row has one cell more than separators. The arrays are NumPy's where it is
-    installed, and else of the module array; or those of `out`, up to the last row.
+    it isn't read. A row has one cell more than separators, by default commas. The arrays are
+    NumPy's where it is installed, and else of the module array; or those of `out`, up to the last
+    row.
 
     has_returns: a return stands before each line feed. has_quotes: a cell may stand within '"'.
     allows_blanks: spaces and tabs may stand around a number. skips_empty_rows: a row without a
     byte is none. missing: what stands for a missing number where a Column has may_miss, which then
-    is a Sparse: by default an empty cell. threads: how many read the text, in parts.
+    is a Sparse: by default an empty cell. widths: how many bytes each column's cells have, in the
+    place of separators. is_records: rows have as many bytes as the widths together, at least one,
+    and no line feed behind them. threads: how many read the text, in parts.
 
     ParseError has the first wrong cell in reading order, by `row`, `column` and `place`, from 0.
     """
-    how = (separator, has_returns, has_quotes, allows_blanks, skips_empty_rows, missing)
-    reader, rows = _Reader(columns, *how), _row_count(text)
+    reader = _Reader(columns, separator, has_returns, has_quotes, allows_blanks, skips_empty_rows,
+                     missing, widths, is_records)
+    rows = reader.row_count(text)
     arrays = reader.room(rows) if out is None else reader.room_of(out, rows)
     if threads < 1:
         raise ValueError(f"threads has to be 1 or more, and not {threads}")
@@ -236,12 +266,14 @@ def read_table(
 def iter_table(
     file: IO[bytes],
     columns: Columns,
-    separator: Text = b",",
+    separator: Optional[Text] = None,
     has_returns: bool = False,
     has_quotes: bool = False,
     allows_blanks: bool = False,
     skips_empty_rows: bool = False,
     missing: Text = b"",
+    widths: Optional[Sequence[int]] = None,
+    is_records: bool = False,
     rows: int = 100_000,
     size: int = 1 << 20,
     progress: Optional[Callable[[int], object]] = None,
@@ -254,11 +286,12 @@ def iter_table(
     """
     if rows < 1 or size < 1:
         raise ValueError(f"rows and size have to be 1 or more, and not {rows} and {size}")
-    how = (separator, has_returns, has_quotes, allows_blanks, skips_empty_rows, missing)
-    reader, left, part = _Reader(columns, *how), b"", _Part(False)
+    reader = _Reader(columns, separator, has_returns, has_quotes, allows_blanks, skips_empty_rows,
+                     missing, widths, is_records)
+    left, part = b"", _Part(False)
     for block in _blocks(file, size, progress):
         text, part, done, count = left + block, part._replace(is_last=not block), 0, rows
-        lines = _row_count(text)
+        lines = reader.row_count(text)
         while count == rows:
             room = max(1, min(rows, lines))
             arrays = reader.room(room)

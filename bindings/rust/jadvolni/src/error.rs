@@ -43,7 +43,7 @@ pub enum Error {
     TooManyCells(usize),
     /// The line feed at the place has no carriage return before it, and the table has returns.
     MissingReturn(usize),
-    /// A table can't be read as it is described. The calls of this crate don't make one.
+    /// A table has widths, and not one for each column, or its rows are records, and it has none.
     InvalidTable,
     /// A quote of a cell at the place is out of place, or within a number, or is never closed.
     MisplacedQuote(usize),

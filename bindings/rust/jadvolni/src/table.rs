@@ -6,11 +6,11 @@ use core::marker::PhantomData;
 use core::ptr::{null, null_mut};
 use jadvolni_sys as sys;
 
-/// How a table is written: the byte between two cells, and what else isn't as in plain lines.
+/// How a table is written: what parts two cells, and what else isn't as in plain lines.
 #[derive(Debug, Copy, Clone, PartialEq, Eq)]
 pub struct Dialect<'a>(sys::jadvolni_table, PhantomData<&'a [u8]>);
 
-// SAFETY: its pointer is that of a slice that it has borrowed, and is read alone.
+// SAFETY: its pointers are those of slices that it has borrowed, and are read alone.
 unsafe impl Send for Dialect<'_> {}
 unsafe impl Sync for Dialect<'_> {}
 
@@ -31,6 +31,32 @@ impl<'a> Dialect<'a> {
             width_count: 0,
         };
         Dialect(table, PhantomData)
+    }
+
+    /// Cells of so many bytes each, with nothing between them. There is one width at least, as many as columns.
+    ///
+    /// ```
+    /// use jadvolni::{parse_table, Dialect, Table, TableColumn};
+    /// let (mut days, mut cents) = ([0u16; 2], [0i32; 2]);
+    /// let mut columns = [TableColumn::of(&mut days), TableColumn::UNREAD, TableColumn::of(&mut cents)];
+    /// let fixed = Dialect::of_widths(&[3, 4, 6]).allows_blanks(true);
+    /// let read = parse_table("365rent-80000\n 36bank  1250\n", &fixed, &mut columns);
+    /// assert_eq!(read, Ok(Table { rows: 2, stop: 28 }));
+    /// let read = parse_table("  1rent    -5  2bank     7", &fixed.is_records(true), &mut columns);
+    /// assert_eq!(read, Ok(Table { rows: 2, stop: 26 }));
+    /// assert_eq!((days, cents), ([1, 2], [-5, 7]));
+    /// ```
+    pub const fn of_widths(widths: &'a [usize]) -> Self {
+        let mut dialect = Self::separated_by(0);
+        dialect.0.widths = widths.as_ptr();
+        dialect.0.width_count = widths.len();
+        dialect
+    }
+
+    /// Whether a row is a record, of as many bytes as the widths say together, with nothing between two rows.
+    pub const fn is_records(mut self, flag: bool) -> Self {
+        self.0.is_records = flag as u8;
+        self
     }
 
     /// Whether a carriage return stands before each line feed. Without it a return is a byte of its cell.

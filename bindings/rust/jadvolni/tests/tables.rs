@@ -167,3 +167,52 @@ fn room_formats_and_returns() {
         (Err(error), "the radix has to be 2 to 36, in column 0".into())
     );
 }
+
+#[test]
+fn cells_of_given_widths() {
+    let mut numbers = [9u16; 3];
+    let mut columns = [TableColumn::of(&mut numbers), TableColumn::UNREAD];
+    let lines = Dialect::of_widths(&[2, 1]).allows_blanks(true);
+    let records = lines.is_records(true);
+    let wrong = |row, column, error| Err(TableError { row, column, error });
+    let read = parse_table("12a\n 7,\n", &lines, &mut columns);
+    assert_eq!(read, Ok(Table { rows: 2, stop: 8 }));
+    let few = parse_table("12a\n 7\n", &lines, &mut columns);
+    assert_eq!(few, wrong(1, 1, Error::TooFewCells(6)));
+    let many = parse_table("12ab\n", &lines, &mut columns);
+    assert_eq!(many, wrong(0, 2, Error::TooManyCells(3)));
+    let read = parse_table("12a 8\n345", &records, &mut columns);
+    assert_eq!(read, Ok(Table { rows: 3, stop: 9 }));
+    let cut = parse_table("13a 7", &records, &mut columns);
+    assert_eq!(cut, wrong(1, 1, Error::TooFewCells(5)));
+    let part = parse_table_part("14a 7", false, &records, &mut columns);
+    assert_eq!(part, Ok(Table { rows: 1, stop: 3 }));
+    let huge = Dialect::of_widths(&[usize::MAX, 2]).is_records(true);
+    let few = parse_table("15a", &huge, &mut columns);
+    assert_eq!(few, wrong(0, 0, Error::TooFewCells(3)));
+    let empty = parse_table("14\n", &Dialect::of_widths(&[2, 0]), &mut columns);
+    assert_eq!(empty, Ok(Table { rows: 1, stop: 3 }));
+    for dialect in [Dialect::of_widths(&[3]), comma().is_records(true)] {
+        let told = parse_table("12a", &dialect, &mut columns);
+        assert_eq!(told, wrong(0, 0, Error::InvalidTable));
+    }
+    assert_eq!(numbers, [14, 7, 34]);
+}
+
+#[test]
+fn records_from_a_reader() {
+    let records = Dialect::of_widths(&[2, 1]).allows_blanks(true).is_records(true);
+    for (size, most, room) in (3..9)
+        .flat_map(|size| (1..9).flat_map(move |most| (1..4).map(move |room| (size, most, room))))
+    {
+        let device = |text| Device { text, most, place: 0, failure: None };
+        let (rows, told) = rows_of(device(b"12a 7\n345"), records, size, room);
+        assert_eq!((rows, told.len()), (vec![12, 7, 34], 0));
+        let (rows, told) = rows_of(device(b"12a 7\n34"), records, size, room);
+        let short = TableError { row: 2, column: 1, error: Error::TooFewCells(8) };
+        assert_eq!(rows, [12, 7]);
+        assert!(matches!(told[..], [TableReadError::Table { error, .. }] if error == short));
+    }
+    let device = Device { text: b"12a", most: 9, place: 0, failure: None };
+    assert!(matches!(rows_of(device, records, 2, 4).1[..], [TableReadError::LongRow(0)]));
+}

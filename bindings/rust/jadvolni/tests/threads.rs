@@ -77,7 +77,7 @@ fn random_tables() {
         (state >> 33) as usize % below
     };
     let mut right = 0;
-    for _ in 0..300 {
+    for _ in 0..100 {
         let (has_quotes, returns) = (draw(4) > 0, draw(2) > 0);
         let dialect = Dialect::separated_by(b',')
             .missing(b"NA")
@@ -87,12 +87,12 @@ fn random_tables() {
         let text = random_text(&mut draw, has_quotes, if returns { "\r\n" } else { "\n" });
         let wanted = rows_of(text.as_bytes(), &dialect);
         right += usize::from(wanted.1.is_ok());
-        for threads in [1, 2, 3, 7, 64] {
+        for threads in [2, 5, 1 + draw(64)] {
             let told = in_so_many(threads, text.as_bytes(), &dialect, has_quotes);
             assert_eq!(told, wanted, "{text:?} in {threads} threads");
         }
     }
-    assert!(right > 50 && right < 250, "{right} right ones");
+    assert!(right > 20 && right < 80, "{right} right ones");
 }
 
 #[test]

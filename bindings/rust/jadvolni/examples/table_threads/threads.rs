@@ -33,10 +33,11 @@ pub fn read_in_threads<B: Send>(
 fn parts(text: &[u8], has_quotes: bool, threads: usize) -> Vec<&[u8]> {
     let size = text.len().div_ceil(threads.max(1)).max(1);
     let pieces: Vec<&[u8]> = text.chunks(size).collect();
-    let quotes = in_threads(&pieces, |piece| piece.iter().filter(|&&byte| byte == b'"').count());
+    let is_quote = |byte: &&u8| has_quotes && **byte == b'"';
+    let quotes = in_threads(&pieces, |piece| piece.iter().filter(is_quote).count());
     let (mut parts, mut start, mut is_within) = (vec![], 0, false);
     for index in 1..pieces.len() {
-        is_within ^= has_quotes && quotes[index - 1] % 2 == 1;
+        is_within ^= quotes[index - 1] % 2 == 1;
         if let Some(place) = row_start(pieces[index], has_quotes, is_within) {
             parts.push(&text[start..index * size + place]);
             start = index * size + place;

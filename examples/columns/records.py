@@ -1,0 +1,42 @@
+"""Adds up the cents of a file of records, or tells its first wrong cell.
+
+    python3 records.py FILE
+
+A record has 13 bytes, and nothing stands between two: 3 of a day, 4 of what was paid for, and 6 of
+the cents, with blanks around the numbers. The file may be of any size.
+"""
+
+import sys
+
+import jadvolni
+
+CELLS = {"day": "u16", "what": None, "cents": "i64"}
+WIDTHS = (3, 4, 6)
+
+
+def total(path: str) -> int:
+    """The sum of the cents."""
+    with open(path, "rb") as file:
+        tables = jadvolni.iter_table(
+            file, CELLS, widths=WIDTHS, is_records=True, allows_blanks=True
+        )
+        return sum(sum(rows["cents"].tolist()) for rows in tables)
+
+
+def main() -> None:
+    """The command line."""
+    if len(sys.argv) != 2:
+        print(__doc__.strip(), file=sys.stderr)
+        sys.exit(2)
+    path = sys.argv[1]
+    try:
+        print(total(path))
+    except jadvolni.ParseError as error:
+        cell = f"record {error.row + 1}, cell {error.column + 1}, byte {error.place}"
+        sys.exit(f"{path}: {cell}: {error.kind}")
+    except OSError as error:
+        sys.exit(f"{path}: {error.strerror}")
+
+
+if __name__ == "__main__":
+    main()
