@@ -24,6 +24,9 @@
  * belong to the number: "12, 13" gives 12, and the place 2. Where it has read no digit, it answers
  * JADVOLNI_EMPTY at the place where it stopped: 0 in "x", and 1 in "+a".
  *
+ * WHERE MORE BYTES MAY COME, as from a stream, an answer of `_front` at place `len` isn't final: "12"
+ * may go on as "123". Ask again with more. One at an earlier place stays, if the format has no separator.
+ *
  * DON'T TAKE `_partial` WHERE A NUMBER HAS TO BE THERE: a front of no digits before other bytes is
  * mostly 0 to it, and no fault. Under the standard format "x" is 0 at place 0, and "+a" 0 at place 1.
  *
