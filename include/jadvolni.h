@@ -649,7 +649,8 @@ typedef struct jadvolni_table {
 /*
  * A column of a table: what its cells look like, and the array that their numbers go to. SET ONE OF THE
  * ARRAYS, which says the type; of several that have room the first is taken. A column without one, as
- * {0}, isn't read: its cells may hold any bytes but the separator and a line feed.
+ * {0}, isn't read: its cells may hold any bytes but the separator and a line feed. NOR IS ONE WHOSE ARRAY
+ * HAS THE CAPACITY 0: that is no fault, and its numbers are as they were.
  */
 typedef struct jadvolni_table_column {
     /* What a cell that is read looks like. It isn't looked at where no array has room. */
