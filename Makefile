@@ -67,7 +67,7 @@ test-dist: ## tries these as users get them, in a root without the toolchain; no
 	@packaging/test_dist.sh
 
 tag: ## makes the version's tag, whose message is dist/SHA256SUMS
-	@grep -q "commit $$(git rev-parse HEAD)" dist/*.spdx.json || { echo "make tag: dist is of another commit" >&2; exit 1; }
+	@grep -qs "commit $$(git rev-parse HEAD)" dist/*.spdx.json || { echo "make tag: no dist of this commit" >&2; exit 1; }
 	@cd dist && sha256sum --quiet -c SHA256SUMS && git tag -a v$(VERSION) -F SHA256SUMS
 
 include tools/lib.mk

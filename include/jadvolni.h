@@ -24,6 +24,9 @@
  * belong to the number: "12, 13" gives 12, and the place 2. Where it has read no digit, it answers
  * JADVOLNI_EMPTY at the place where it stopped: 0 in "x", and 1 in "+a".
  *
+ * WHERE MORE BYTES MAY COME, as from a stream, an answer of `_front` at place `len` isn't final: "12"
+ * may go on as "123". Ask again with more. One at an earlier place stays, if the format has no separator.
+ *
  * DON'T TAKE `_partial` WHERE A NUMBER HAS TO BE THERE: a front of no digits before other bytes is
  * mostly 0 to it, and no fault. Under the standard format "x" is 0 at place 0, and "+a" 0 at place 1.
  *
@@ -646,7 +649,8 @@ typedef struct jadvolni_table {
 /*
  * A column of a table: what its cells look like, and the array that their numbers go to. SET ONE OF THE
  * ARRAYS, which says the type; of several that have room the first is taken. A column without one, as
- * {0}, isn't read: its cells may hold any bytes but the separator and a line feed.
+ * {0}, isn't read: its cells may hold any bytes but the separator and a line feed. NOR IS ONE WHOSE ARRAY
+ * HAS THE CAPACITY 0: that is no fault, and its numbers are as they were.
  */
 typedef struct jadvolni_table_column {
     /* What a cell that is read looks like. It isn't looked at where no array has room. */
@@ -726,7 +730,7 @@ typedef struct jadvolni_table_result {
  *
  * A FILE IN BLOCKS. Where `is_last` is false the text is a part of one, and a row that it ends in is
  * left: put the bytes from `r.place` on in front of the next part. Rows and places are counted from the
- * start of each part. A part that is as long as the block and gives no row has a row that is longer.
+ * start of each part. Where `r.place` is 0 in a part as long as the block, a row is longer than that.
  * `capacity` bounds the rows of one call: before the next part is read, call again with what is left,
  * until fewer rows than `capacity` come.
  *

@@ -41,11 +41,11 @@ def main() -> None:
     try:
         with open(path, "rb") as file:
             found = [(len(numbers), sum(numbers)) for numbers in numbers_of(file, column)]
-        print(f"{sum(it[0] for it in found)} numbers, sum {sum(it[1] for it in found)}")
     except OSError as error:
         sys.exit(f"{path}: {error.strerror}")
     except ValueError as error:
         sys.exit(f"{path}: {error}")
+    print(f"{sum(it[0] for it in found)} numbers, sum {sum(it[1] for it in found)}")
 
 
 if __name__ == "__main__":

@@ -26,7 +26,7 @@ def main() -> None:
         sys.exit(2)
     path = sys.argv[1]
     try:
-        print(total(path))
+        found = total(path)
     except jadvolni.ParseError as error:
         cell = f"line {error.row + 1}, cell {error.column + 1}, byte {error.place}"
         sys.exit(f"{path}: {cell}: {error.kind}")
@@ -34,6 +34,7 @@ def main() -> None:
         sys.exit(f"{path}: {error.strerror}")
     except ValueError as error:
         sys.exit(f"{path}: {error}")
+    print(found)
 
 
 if __name__ == "__main__":

@@ -30,12 +30,13 @@ def main() -> None:
         sys.exit(2)
     path = sys.argv[1]
     try:
-        print(total(path))
+        found = total(path)
     except jadvolni.ParseError as error:
         cell = f"record {error.row + 1}, cell {error.column + 1}, byte {error.place}"
         sys.exit(f"{path}: {cell}: {error.kind}")
     except OSError as error:
         sys.exit(f"{path}: {error.strerror}")
+    print(found)
 
 
 if __name__ == "__main__":

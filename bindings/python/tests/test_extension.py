@@ -121,7 +121,9 @@ class Build(unittest.TestCase):
             sources, site = pathlib.Path(folder, "sources"), pathlib.Path(folder, "site")
             shutil.copytree(BINDING, sources)
             site.mkdir()
-            where = {**os.environ, "JADVOLNI_INCLUDE": str(BINDING.parents[1] / "include")}
+            top = BINDING.parents[1]
+            where = {"JADVOLNI_LIBRARY": str(top / "crates/jadvolni/out/libjadvolni.a"),
+                     **os.environ, "JADVOLNI_INCLUDE": str(top / "include")}
             where.pop("PYTHONPATH", None)
             build = f"import build_wheel; print(build_wheel.build_editable({str(site)!r}))"
             run = subprocess.run([sys.executable, "-c", build], cwd=sources, env=where, timeout=60,
