@@ -6,7 +6,7 @@ ghost use Rattle.lexical_tables.specs.Cells.{answer_as, view_of_cell};
 ghost use Rattle.lexical_tables.specs.Rows.{view_of_row};
 
 use crate::answers::{CellFault, Table, TableError};
-use crate::cells::{column_count, lacks_cell, next_cell};
+use crate::cells::{column_count, lacks_cell, marked_separator, next_cell};
 use crate::content::{Cell, content};
 use crate::dialect::Dialect;
 use crate::misplaced::quote_fault;
@@ -126,6 +126,7 @@ fn read_cells<C: TableColumn>(
         (map C.target targets.old) }
 {
     let columns = column_count(dialect);
+    let marked = marked_separator(dialect);
     let mut rest = row.text;
     let mut ended = lacks_cell(rest, 0, dialect);
     let mut column = 0;
@@ -133,7 +134,7 @@ fn read_cells<C: TableColumn>(
     while column < columns && !ended {
         let place = row.text.len() - rest.len();
         let left = &ahead[place..];
-        let next = next_cell(rest, left, marks, column, dialect);
+        let next = next_cell(rest, left, marks, column, marked, dialect);
         let cell = Cell {
             start: row.start + place,
             text: next.text,
