@@ -9,30 +9,35 @@ use crate::dialect::{Dialect, Layout};
 use crate::rows::split;
 use lexical_fields::{next_marks, split_marked};
 
-// How many columns a table has.
-#[inline(always)]
-pub(crate) fn column_count(dialect: &Dialect<'_>) -> usize
-    ensures { result ≡ column_count dialect.now.layout }
-{
-    match dialect.layout {
-        Layout::Separated { columns, .. } => columns,
-        Layout::Widths { widths } | Layout::Records { widths } => widths.len(),
-    }
+// What all rows have in common: how many columns there are, and the separator, if marks find cells: these stand between
+// such, and quotes have no meaning.
+#[derive(Copy, Clone)]
+pub(crate) struct Shape {
+    pub columns: usize,
+    pub marked: Option<u8>,
 }
 
-// The separator, if marks find cells: cells stand between such, and quotes have no meaning.
-#[inline(always)]
-pub(crate) fn marked_separator(dialect: &Dialect<'_>) -> Option<u8>
-    ensures { result ≡ marked_separator dialect.now.layout dialect.now.has_quotes }
+// The shape of a table's rows.
+pub(crate) fn shape_of(dialect: &Dialect<'_>) -> Shape
+    ensures columns { result.columns ≡ column_count dialect.now.layout }
+    ensures marked { result.marked
+        ≡ marked_separator dialect.now.layout dialect.now.has_quotes }
 {
     match dialect.layout {
-        Layout::Separated { separator, .. } if !dialect.has_quotes => Some(separator),
-        _ => None,
+        Layout::Separated { separator, columns } => Shape {
+            columns,
+            marked: (!dialect.has_quotes).then_some(separator),
+        },
+        Layout::Widths { widths } | Layout::Records { widths } => Shape {
+            columns: widths.len(),
+            marked: None,
+        },
     }
 }
 
 // Whether what is left of a row has no cell of the next width: the cell isn't wholly there, or none is to come, and no
 // byte is left.
+#[inline(never)]
 fn lacks_width(text: &[u8], column: usize, widths: &[usize]) -> bool
     ensures { result ≡ lacks_width (drop column widths.now) text.now }
 {
@@ -64,6 +69,7 @@ pub(crate) struct NextCell<'a> {
 }
 
 // The first cell of what is left of a row behind so many cells that have widths, if it has one.
+#[inline(never)]
 fn wide_cell<'a>(rest: &'a [u8], column: usize, widths: &[usize]) -> NextCell<'a>
     requires column { column < length widths.now }
     requires there { lacks_width (drop column widths.now) rest.now ≡ false }
