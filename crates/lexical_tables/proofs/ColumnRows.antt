@@ -235,7 +235,7 @@ abbrev quoted : Dialect
 quoted = record (pairs false) { has_quotes = true }
 
 -- the first column is read
-abbrev first : List (Option Kind)
+abbrev pub first : List (Option Kind)
 first = Some (record { format = standard; type = integer_type 8 false; may_miss = false }) ∷ []
 
 -- within quotes a separator parts no cells, and a line feed ends no row

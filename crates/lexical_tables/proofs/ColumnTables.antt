@@ -2,17 +2,15 @@
 use Rattle.std.proofs.Common.{◌≡◌, ◌∙◌, ℕ, suc, ◌+◌, ◌-◌, ◌<◌, ◌≤◌, List, [], ◌∷◌, length, take, drop, cond, Result, Option, Some, None, Ok, Err, refl, ap, ap₂, sym, subst, arith, inl, inr, ◌⊎◌}
 use Rattle.std.specs.Prelude.{IfOk, is_none}
 use Rattle.std.proofs.lemmas.List.{drop_all, drop-drop, take_all}
-use Rattle.lexical_fields.proofs.ColumnSteps.{tail_goes}
 use Rattle.lexical_tables.specs.ByColumn.{AreUsable, StopsAt, columns_answer, columns_put, first_fault, first_of, kinds_of, put_row, put_rows, row_fault, row_values, unless, values_to_fault}
-use Rattle.lexical_tables.specs.Quotes.{length_outside}
-use Rattle.lexical_tables.specs.Rows.{FirstCounts, RowView, line_feed, next_start, row_of, rows, rows_from}
+use Rattle.lexical_tables.specs.Rows.{FirstCounts, RowView, behind_piece, first_row, next_start, rows, rows_from}
 use Rattle.lexical_tables.specs.Targets.{TargetView}
 use Rattle.lexical_tables.specs.declared.answers.Table.{Table}
 use Rattle.lexical_tables.specs.declared.answers.TableError.{TableError}
 use Rattle.lexical_tables.specs.declared.dialect.Dialect.{Dialect}
 use Rattle.lexical_tables.proofs.LineSteps.{none_of}
 use Rattle.lexical_tables.proofs.PutSteps.{kinds_put_row, use_less, use_put_row}
-use Rattle.lexical_tables.proofs.RowSteps.{HasRowsOf, next_row, no_rows, start_of_rows, tail_of_tail}
+use Rattle.lexical_tables.proofs.RowSteps.{HasRowsOf, next_row, no_rows, piece_goes, start_of_rows, tail_of_tail}
 
 -- the rows of what is left of a text
 abbrev rows_left : Dialect → List ℕ → List ℕ → List RowView
@@ -125,12 +123,9 @@ module _ (d : Dialect) (room : ℕ) (text : List ℕ) (old now : List (Option Ta
   pub row_usable : count < room → AreUsable (count + 1) now
   row_usable more = use_less (count + 1) room now (omega arith) reading.usable
 
-  module _ (row : RowView) (line behind left : List ℕ) (more : count < room) (some : 0 < length rest)
-      (front : line ≡ take (length_outside d.has_quotes line_feed rest) rest)
-      (back : behind ≡ drop (length_outside d.has_quotes line_feed rest + 1) rest)
-      (shorter : length behind < length rest)
-      (row_is : row ≡ row_of d.has_returns (length text - length rest + length rest)
-      (record { start = length text - length rest; text = line })) (skipped : HasRowsOf d behind left)
+  module _ (row : RowView) (behind left : List ℕ) (more : count < room) (some : 0 < length rest)
+      (back : behind ≡ behind_piece d.layout d.has_quotes rest) (shorter : length behind < length rest)
+      (row_is : row ≡ first_row d (length text - length rest) rest) (skipped : HasRowsOf d behind left)
       (new : List (Option TargetView)) (are : new ≡ put_row count (row_values (kinds_of now) d row) now) where
     rows_go : rows_left d text rest ≡ row ∷ rows_left d text left
     rows_go =
@@ -138,7 +133,7 @@ module _ (d : Dialect) (room : ℕ) (text : List ℕ) (old now : List (Option Ta
         let behind_at = place + (length rest - length behind) in
         let at : behind_at + (length behind - length left) ≡ length text - length left =
         omega (arith, reading.within, skipped.within) in
-        next_row d place rest line behind some front back (omega arith) reading.first_counts
+        next_row d place rest behind some back reading.first_counts
         ∙ ap₂ (λ r l. r ∷ l) (sym row_is)
         (skipped.rows_are behind_at ∙ ap (λ k. rows_from d k left) at)
 
@@ -163,7 +158,7 @@ module _ (d : Dialect) (room : ℕ) (text : List ℕ) (old now : List (Option Ta
           few = omega arith;
           tail =
               tail_of_tail text behind left skipped.within (omega (arith, reading.within))
-              (tail_goes text rest behind (length_outside d.has_quotes line_feed rest) reading.within reading.tail back) skipped.tail;
+              (piece_goes d.layout d.has_quotes text rest behind reading.within reading.tail back) skipped.tail;
           first_counts = first;
           place = sym (drop-drop 1 count (rows d text)) ∙ ap (drop 1) (reading.place ∙ rows_go);
           counted = omega (arith, ap length next_rows, reading.counted);

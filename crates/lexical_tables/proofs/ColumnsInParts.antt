@@ -21,7 +21,7 @@ use Rattle.lexical_tables.specs.declared.answers.CellFault.TheVariants.{Misplace
 use Rattle.lexical_tables.specs.declared.answers.TableError.{TableError}
 use Rattle.lexical_tables.specs.declared.dialect.Dialect.{Dialect}
 use Rattle.lexical_tables.specs.declared.dialect.Layout.{Layout}
-use Rattle.lexical_tables.specs.declared.dialect.Layout.TheVariants.{Separated, Widths}
+use Rattle.lexical_tables.specs.declared.dialect.Layout.TheVariants.{Records, Separated, Widths}
 use Rattle.lexical_tables.proofs.ColumnSteps.{count_in}
 use Rattle.lexical_tables.proofs.RowsInParts.{long_moved, row_behind, rows_split, whole_within}
 
@@ -258,6 +258,7 @@ module _ (kinds : List (Option Kind)) (d : Dialect) where
             ap (λ l. as_long_as l row.text) (sym (fields_moved s bytes row.start bytes_seen))
             ∙ long_moved bytes (fields_from s row.start bytes_seen) row.text
         by_layout (Widths widths) = widths_moved bytes widths.now row.start row.text
+        by_layout (Records widths) = widths_moved bytes widths.now row.start row.text
 
     row_moved : (bytes : ℕ) (row : RowView)
         → row_answers kinds d (row_behind bytes row) ≡ map (answer_behind bytes) (row_answers kinds d row)
@@ -335,7 +336,7 @@ columns_in_parts kinds d part more valid =
     let front = take size part in
     let left = drop size part ++ more in
     let count = length (rows d front) in
-    let within = whole_within d part in
+    let within = whole_within d.layout d.has_quotes part in
     let cut = rows_split d part more size refl within in
     let long = sym (length-take-le size part within) in
     let none : 0 + count ≡ count + 0 = omega arith in

@@ -15,6 +15,8 @@ pub mod PutSteps
 pub mod QuoteSteps
 pub mod QuotesUnread
 pub mod ReadAlone
+pub mod RecordRows
+pub mod RecordSteps
 pub mod RowSteps
 pub mod RowsInParts
 pub mod SeekSteps

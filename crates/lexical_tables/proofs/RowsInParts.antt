@@ -1,20 +1,24 @@
 -- The rows of a text that is cut.
-use Rattle.std.proofs.Common.{◌≡◌, ◌∙◌, ℕ, zero, suc, ◌+◌, ◌==◌, ◌&&◌, ◌-◌, ◌<◌, ◌≤◌, List, [], ◌∷◌, ◌++◌, length, take, drop, map, filter, Bool, true, false, not, cond, refl, ap, ap₂, sym, subst, arith, inl, inr, length-append, length-drop, length-take-le}
+use Rattle.std.proofs.Common.{◌≡◌, ◌∙◌, ℕ, zero, suc, ◌+◌, ◌==◌, ◌&&◌, ◌-◌, ◌*◌, ◌/◌, ◌%◌, ◌<◌, ◌≤◌, List, [], ◌∷◌, ◌++◌, length, take, drop, map, filter, Bool, true, false, not, cond, refl, ap, ap₂, sym, subst, arith, inl, inr, length-append, length-drop, length-take-le}
 use Rattle.std.specs.Prelude.{nat_lt}
 use Rattle.std.specs.List.{list_any}
 use Rattle.std.proofs.lemmas.Bool.{lt-ltb}
 use Rattle.std.proofs.lemmas.List.{map-append}
 use Rattle.std.proofs.lemmas.List.Elements.{filter-append}
+use Rattle.std.proofs.lemmas.Nat.{div-add-mod'}
 use Rattle.lexical_fields.specs.Fields.{FieldView, fields_from, onto_field}
 use Rattle.lexical_fields.specs.Parts.{whole_fields}
 use Rattle.lexical_fields.proofs.FieldsInParts.{either, here, on, whole_here, whole_none, whole_on}
 use Rattle.lexical_fields.proofs.MovedFields.{fields_moved, moved}
-use Rattle.lexical_tables.specs.Parts.{whole_lines, whole_rows}
+use Rattle.lexical_tables.specs.Parts.{whole_lines, whole_pieces, whole_rows}
 use Rattle.lexical_tables.specs.Quotes.{as_long_as, fields_outside, seen}
-use Rattle.lexical_tables.specs.Rows.{RowView, carriage_return, counts, ends_in, line_feed, row_of, rows}
+use Rattle.lexical_tables.specs.Rows.{RowView, asks_returns, carriage_return, counts, ends_in, has_lines, line_feed, pieces_from, record_size, records_from, row_of, rows}
 use Rattle.lexical_tables.specs.declared.dialect.Dialect.{Dialect}
+use Rattle.lexical_tables.specs.declared.dialect.Layout.{Layout}
+use Rattle.lexical_tables.specs.declared.dialect.Layout.TheVariants.{Records, Separated, Widths}
 use Rattle.lexical_tables.proofs.OutsideInParts.{split_outside}
-use Rattle.lexical_tables.proofs.RowSteps.{moved_test}
+use Rattle.lexical_tables.proofs.RecordSteps.{records_moved, split_records}
+use Rattle.lexical_tables.proofs.RowSteps.{moved_test, size_low}
 use Rattle.lexical_tables.proofs.SeenBytes.{seen_long, seen_take}
 
 -- ---- lines in front of a cut are ended
@@ -121,10 +125,6 @@ rows_moved r bytes end (line ∷ more) =
     (ap (row_by r (moved bytes line)) (ap (λ k. nat_lt k (bytes + end)) at ∙ moved_test bytes place end))
     (rows_moved r bytes end more)
 
--- the lines of a text as rows, also those that don't count
-abbrev lines : Bool → Bool → List ℕ → List RowView
-lines q r text = map (row_of r (length text)) (fields_outside q line_feed 0 text)
-
 -- the fields of a text that stands further behind
 pub long_moved : (size : ℕ) (fields : List FieldView) (text : List ℕ)
     → as_long_as (map (moved size) fields) text ≡ map (moved size) (as_long_as fields text)
@@ -139,9 +139,14 @@ outside_moved q s size place text =
     sym (long_moved size (fields_from s place (seen q s text)) text)
     ∙ ap (λ l. as_long_as l text) (fields_moved s size place (seen q s text))
 
+-- what is made of a text, is made of so many bytes and of those that are left
+abbrev SplitsAt : (List ℕ → List RowView) → List ℕ → List ℕ → ℕ → Type 0
+SplitsAt made part more size =
+    made (part ++ more) ≡ made (take size part) ++ map (row_behind size) (made (drop size part ++ more))
+
 -- the lines of a text that is cut
 lines_split : (q r : Bool) (part more : List ℕ) (size : ℕ) → size ≡ whole_lines q part → size ≤ length part
-    → lines q r (part ++ more) ≡ lines q r (take size part) ++ map (row_behind size) (lines q r (drop size part ++ more))
+    → SplitsAt (λ text. map (row_of r (length text)) (fields_outside q line_feed 0 text)) part more size
 lines_split q r part more size is within =
     let front = fields_outside q line_feed 0 (take size part) in
     let bytes = seen q line_feed part in
@@ -172,6 +177,34 @@ lines_split q r part more size is within =
     add_zero : (n : ℕ) → n ≡ n + 0
     add_zero n = omega arith
 
+-- the records of a text that is cut
+records_split : (s : ℕ) → 0 < s → (end : ℕ) (part more : List ℕ) (size : ℕ) → size ≡ length part - length part % s
+    → SplitsAt (λ text. map (row_of false end) (records_from s 0 text)) part more size
+records_split s low end part more size is =
+    let count = length part / s in
+    let whole : size ≡ count * s = omega (arith, is, div-add-mod' (length part) s) in
+    let front = records_from s 0 (take size part) in
+    let left = drop size part ++ more in
+    let add : 0 + size ≡ size + 0 = omega arith in
+    let cut : records_from s 0 (part ++ more) ≡ front ++ records_from s (0 + size) left =
+    subst (λ n. records_from s 0 (part ++ more) ≡ records_from s 0 (take n part) ++ records_from s (0 + n) (drop n part ++ more))
+    (sym whole) (split_records s low count 0 part more (omega (arith, div-add-mod' (length part) s))) in
+    ap (map (row_of false end)) (cut ∙ ap (λ p. front ++ records_from s p left) add
+    ∙ ap (λ l. front ++ l) (sym (records_moved s size 0 left)))
+    ∙ map-append (row_of false end) front (map (moved size) (records_from s 0 left))
+    ∙ ap (λ l. map (row_of false end) front ++ l) (rows_moved false size end (records_from s 0 left))
+
+-- the lines or records of a text as rows, also those that don't count
+abbrev pieces : Layout → Bool → Bool → List ℕ → List RowView
+pieces layout q r text = map (row_of (has_lines layout && r) (length text)) (pieces_from layout q 0 text)
+
+pieces_split : (layout : Layout) (q r : Bool) (part more : List ℕ) (size : ℕ) → size ≡ whole_pieces layout q part
+    → size ≤ length part → SplitsAt (pieces layout q r) part more size
+pieces_split (Separated s columns) q r part more size is within = lines_split q r part more size is within
+pieces_split (Widths widths) q r part more size is within = lines_split q r part more size is within
+pieces_split (Records widths) q r part more size is within =
+    records_split (record_size widths.now) (size_low widths.now) 0 part more size is
+
 -- the rows of a text that is cut
 filter_behind : (d : Dialect) (size : ℕ) (lines : List RowView)
     → filter (counts d) (map (row_behind size) lines) ≡ map (row_behind size) (filter (counts d) lines)
@@ -185,9 +218,9 @@ filter_behind d size (line ∷ more) = by_test (counts d line) (filter_behind d 
     by_test true same = ap (λ l. row_behind size line ∷ l) same
     by_test false same = same
 
-rows_are : (d : Dialect) (text : List ℕ) → rows d text ≡ filter (counts d) (lines d.has_quotes d.has_returns text)
+rows_are : (d : Dialect) (text : List ℕ) → rows d text ≡ filter (counts d) (pieces d.layout d.has_quotes d.has_returns text)
 rows_are d text =
-    ap (λ end. filter (counts d) (map (row_of d.has_returns end) (fields_outside d.has_quotes line_feed 0 text))) (zero_add (length text))
+    ap (λ end. filter (counts d) (map (row_of (asks_returns d) end) (pieces_from d.layout d.has_quotes 0 text))) (zero_add (length text))
   where
     zero_add : (n : ℕ) → 0 + n ≡ n
     zero_add n = omega arith
@@ -195,13 +228,13 @@ rows_are d text =
 pub rows_split : (d : Dialect) (part more : List ℕ) (size : ℕ) → size ≡ whole_rows d part → size ≤ length part
     → rows d (part ++ more) ≡ rows d (take size part) ++ map (row_behind size) (rows d (drop size part ++ more))
 rows_split d part more size is within =
-    let front = lines d.has_quotes d.has_returns (take size part) in
+    let front = pieces d.layout d.has_quotes d.has_returns (take size part) in
     let left = drop size part ++ more in
     rows_are d (part ++ more)
-    ∙ ap (filter (counts d)) (lines_split d.has_quotes d.has_returns part more size is within)
-    ∙ filter-append (counts d) front (map (row_behind size) (lines d.has_quotes d.has_returns left))
+    ∙ ap (filter (counts d)) (pieces_split d.layout d.has_quotes d.has_returns part more size is within)
+    ∙ filter-append (counts d) front (map (row_behind size) (pieces d.layout d.has_quotes d.has_returns left))
     ∙ ap₂ (λ a b. a ++ b) (sym (rows_are d (take size part)))
-    (filter_behind d size (lines d.has_quotes d.has_returns left) ∙ ap (map (row_behind size)) (sym (rows_are d left)))
+    (filter_behind d size (pieces d.layout d.has_quotes d.has_returns left) ∙ ap (map (row_behind size)) (sym (rows_are d left)))
 
 -- the whole rows of a text are some of its bytes
 fields_within : (s : ℕ) (text : List ℕ) → whole_fields s text ≤ length text
@@ -212,6 +245,9 @@ fields_within s (byte ∷ rest) = by_test (list_any (λ b. b == s) (byte ∷ res
     by_test true low = omega arith
     by_test false low = omega arith
 
-pub whole_within : (d : Dialect) (text : List ℕ) → whole_rows d text ≤ length text
-whole_within d text =
-    omega (arith, fields_within line_feed (seen d.has_quotes line_feed text), seen_long d.has_quotes line_feed text)
+pub whole_within : (layout : Layout) (q : Bool) (text : List ℕ) → whole_pieces layout q text ≤ length text
+whole_within (Separated s columns) q text =
+    omega (arith, fields_within line_feed (seen q line_feed text), seen_long q line_feed text)
+whole_within (Widths widths) q text =
+    omega (arith, fields_within line_feed (seen q line_feed text), seen_long q line_feed text)
+whole_within (Records widths) q text = omega arith

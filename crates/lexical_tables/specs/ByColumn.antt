@@ -13,7 +13,7 @@ use Rattle.lexical_tables.specs.declared.answers.Table.{Table}
 use Rattle.lexical_tables.specs.declared.answers.TableError.{TableError}
 use Rattle.lexical_tables.specs.declared.dialect.Dialect.{Dialect}
 use Rattle.lexical_tables.specs.declared.dialect.Layout.{Layout}
-use Rattle.lexical_tables.specs.declared.dialect.Layout.TheVariants.{Separated, Widths}
+use Rattle.lexical_tables.specs.declared.dialect.Layout.TheVariants.{Records, Separated, Widths}
 
 -- what the column of a target is read as
 abbrev pub kind_of : TargetView → Kind
@@ -51,6 +51,7 @@ abbrev pub cells_by : Layout → Bool → RowView → List FieldView
 cells_by (Separated separator columns) has_quotes row =
     pieces_outside has_quotes separator row.start row.text
 cells_by (Widths widths) has_quotes row = cells_by_width widths.now row.start row.text
+cells_by (Records widths) has_quotes row = cells_by_width widths.now row.start row.text
 
 -- the cells of a row of a table
 abbrev pub cells_of : Dialect → RowView → List FieldView
@@ -60,6 +61,7 @@ cells_of dialect row = cells_by dialect.layout dialect.has_quotes row
 abbrev pub column_count : Layout → ℕ
 column_count (Separated separator columns) = columns
 column_count (Widths widths) = length widths.now
+column_count (Records widths) = length widths.now
 
 -- what the cells of a row stand for that have a column
 abbrev pub row_answers : List (Option Kind) → Dialect → RowView

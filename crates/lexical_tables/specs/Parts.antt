@@ -1,23 +1,30 @@
 -- Texts that come in parts, as from a file that is read in blocks.
-use Rattle.std.specs.Prelude.{◌≡◌, ◌+◌, ℕ, ℤ, Bool, if◌then◌else◌, List, [], ◌∷◌, ◌++◌, length, take, drop, false, is_none, option_map, Option, Some, None}
+use Rattle.std.specs.Prelude.{◌≡◌, ◌+◌, ◌-◌, ◌%◌, ℕ, ℤ, Bool, if◌then◌else◌, List, [], ◌∷◌, ◌++◌, length, take, drop, false, is_none, option_map, Option, Some, None}
 use Rattle.lexical_util.specs.Validity.{fault}
 use Rattle.lexical_fields.specs.Places.{error_in_text}
 use Rattle.lexical_tables.specs.ByColumn.{first_fault, first_of, values_to_fault, wrong_cell}
 use Rattle.lexical_tables.specs.Cells.{Kind}
 use Rattle.lexical_tables.specs.Quotes.{whole_outside}
-use Rattle.lexical_tables.specs.Rows.{line_feed, rows}
+use Rattle.lexical_tables.specs.Rows.{line_feed, record_size, rows}
 use Rattle.lexical_tables.specs.declared.answers.CellFault.{CellFault}
 use Rattle.lexical_tables.specs.declared.answers.CellFault.TheVariants.{MisplacedQuote, MissingReturn, NotNumber, TooFewCells, TooManyCells}
 use Rattle.lexical_tables.specs.declared.answers.TableError.{TableError}
 use Rattle.lexical_tables.specs.declared.dialect.Dialect.{Dialect}
+use Rattle.lexical_tables.specs.declared.dialect.Layout.{Layout}
+use Rattle.lexical_tables.specs.declared.dialect.Layout.TheVariants.{Records}
 
 -- how many bytes of a text are whole lines: those up to its last line feed outside quotes, that one counted
 abbrev pub whole_lines : Bool → List ℕ → ℕ
 whole_lines has_quotes text = whole_outside has_quotes line_feed text
 
+-- how many bytes of a text are whole lines or records
+abbrev pub whole_pieces : Layout → Bool → List ℕ → ℕ
+whole_pieces (Records widths) has_quotes text = length text - length text % record_size widths.now
+whole_pieces layout has_quotes text = whole_lines has_quotes text
+
 -- how many bytes of a text are whole rows
 abbrev pub whole_rows : Dialect → List ℕ → ℕ
-whole_rows dialect text = whole_lines dialect.has_quotes text
+whole_rows dialect text = whole_pieces dialect.layout dialect.has_quotes text
 
 -- what is read of a part: its whole rows, and all of the last part
 abbrev pub readable : Bool → Dialect → List ℕ → List ℕ

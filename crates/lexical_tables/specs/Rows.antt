@@ -1,8 +1,11 @@
 -- The rows of a text.
-use Rattle.std.specs.Prelude.{◌≡◌, ◌==◌, ◌&&◌, ◌||◌, ◌+◌, ◌-◌, ◌<◌, ℕ, Bool, true, not, if◌then◌else◌, List, [], ◌∷◌, length, take, map, filter, nat_lt, slice_index}
+use Rattle.std.specs.Prelude.{◌≡◌, ◌==◌, ◌&&◌, ◌||◌, ◌+◌, ◌-◌, ◌%◌, ◌<◌, ℕ, Bool, false, true, not, if◌then◌else◌, List, [], ◌∷◌, length, take, drop, map, filter, max, sum, nat_lt, slice_index}
+use Rattle.std.specs.List.{range_with_len}
 use Rattle.lexical_fields.specs.Fields.{FieldView}
 use Rattle.lexical_tables.specs.Quotes.{fields_outside, length_outside}
 use Rattle.lexical_tables.specs.declared.dialect.Dialect.{Dialect}
+use Rattle.lexical_tables.specs.declared.dialect.Layout.{Layout}
+use Rattle.lexical_tables.specs.declared.dialect.Layout.TheVariants.{Records}
 use Rattle.lexical_tables.specs.declared.rows.Row.{Row}
 
 abbrev pub line_feed : ℕ
@@ -36,15 +39,61 @@ row_of has_returns end line =
       lacks_return = asks && not returned;
     }
 
+-- ---- lines and records
+
+-- how many bytes a record has: as many as its widths together, or one where these have none
+abbrev pub record_size : List ℕ → ℕ
+record_size widths = max 1 (sum widths)
+
+-- the records of a text that stands at a place: one starts wherever their size divides, and the last may be short
+abbrev pub records_from : ℕ → ℕ → List ℕ → List FieldView
+records_from size place text =
+    map (λ start. record { start = place + start; text = take size (drop start text) })
+    (filter (λ start. start % size == 0) (range_with_len 0 (length text)))
+
+-- the lines of a text that stands at a place, or its records
+abbrev pub pieces_from : Layout → Bool → ℕ → List ℕ → List FieldView
+pieces_from (Records widths) has_quotes place text =
+    records_from (record_size widths.now) place text
+pieces_from layout has_quotes place text = fields_outside has_quotes line_feed place text
+
+-- the bytes of the first of them
+abbrev pub first_piece : Layout → Bool → List ℕ → List ℕ
+first_piece (Records widths) has_quotes text = take (record_size widths.now) text
+first_piece layout has_quotes text = take (length_outside has_quotes line_feed text) text
+
+-- what stands behind that
+abbrev pub behind_piece : Layout → Bool → List ℕ → List ℕ
+behind_piece (Records widths) has_quotes text = drop (record_size widths.now) text
+behind_piece layout has_quotes text = drop (length_outside has_quotes line_feed text + 1) text
+
+-- whether rows are lines
+abbrev pub has_lines : Layout → Bool
+has_lines (Records widths) = false
+has_lines layout = true
+
+-- whether a return has to stand where a row ends
+abbrev pub asks_returns : Dialect → Bool
+asks_returns dialect = has_lines dialect.layout && dialect.has_returns
+
+-- ---- rows
+
+-- the first line or record of a text that stands at a place, as a row
+abbrev pub first_row : Dialect → ℕ → List ℕ → RowView
+first_row dialect place text = row_of (asks_returns dialect) (place + length text) (record {
+  start = place;
+  text = first_piece dialect.layout dialect.has_quotes text;
+})
+
 -- whether a row counts: it has a byte, or empty rows aren't skipped
 abbrev pub counts : Dialect → RowView → Bool
 counts dialect row = not dialect.skips_empty_rows || nat_lt 0 (length row.text)
 
--- the rows of a text that stands at a place: its lines that count
+-- the rows of a text that stands at a place: its lines or records that count
 abbrev pub rows_from : Dialect → ℕ → List ℕ → List RowView
 rows_from dialect place text = filter (counts dialect)
-    (map (row_of dialect.has_returns (place + length text))
-    (fields_outside dialect.has_quotes line_feed place text))
+    (map (row_of (asks_returns dialect) (place + length text))
+    (pieces_from dialect.layout dialect.has_quotes place text))
 
 -- the rows of a text
 abbrev pub rows : Dialect → List ℕ → List RowView
@@ -55,13 +104,9 @@ abbrev pub next_start : ℕ → List RowView → ℕ
 next_start end [] = end
 next_start end (row ∷ more) = row.start
 
--- the first line of a text, if it has one, counts
+-- the first of a text's lines or records, if it has one, counts
 abbrev pub FirstCounts : Dialect → List ℕ → Type 0
-FirstCounts dialect text = 0 < length text
-    → counts dialect (row_of dialect.has_returns (length text) (record {
-      start = 0;
-      text = take (length_outside dialect.has_quotes line_feed text) text;
-    })) ≡ true
+FirstCounts dialect text = 0 < length text → counts dialect (first_row dialect 0 text) ≡ true
 
 -- a row as the program has it
 abbrev pub view_of_row : Row → RowView

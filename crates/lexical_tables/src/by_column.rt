@@ -268,17 +268,18 @@ fn read_cells<C: TableColumn>(
                 row, ahead, separator, columns, index, dialect, options, targets,
             )
         }
-        Layout::Widths { widths } => read_by_width(row, widths, index, dialect, options, targets),
+        Layout::Widths { widths } | Layout::Records { widths } => {
+            read_by_width(row, widths, index, dialect, options, targets)
+        }
     }
 }
 
 /// Reads a table's columns into slices of their own, for as many rows as are asked for at most.
 ///
-/// Each cell of a row has a target, or none: then it isn't read, and may hold any bytes but the separator
-/// and a line feed outside quotes. So it is with cells behind the last target. The number of a cell is put at
-/// its row's place in the target's slice, and all else in the slices is as it was, also after a fault: then
-/// the numbers are those of all cells before the wrong one. Where the text has more rows than are asked for,
-/// `stop` is where the next one starts.
+/// Each cell of a row has a target, or none: then it isn't read, and may hold any bytes. So it is with cells
+/// behind the last target. The number of a cell is put at its row's place in the target's slice, and all else
+/// in the slices is as it was, also after a fault: then the numbers are those of all cells before the wrong
+/// one. Where the text has more rows than are asked for, `stop` is where the next one starts.
 ///
 /// The formats of the targets have to be valid, and their slices and their bits have to have room for so
 /// many rows.

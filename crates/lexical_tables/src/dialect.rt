@@ -1,17 +1,26 @@
 //! How a table is written.
 
-/// How the cells of a row are found.
+/// How rows and their cells are found.
 #[derive(Debug, Copy, Clone, PartialEq, Eq)]
 pub enum Layout<'a> {
-    /// A byte stands between two cells, and each row has so many.
+    /// Rows are lines, and a byte stands between two cells.
     Separated {
         /// The byte. It may be any, but within a row no line feed is left.
         separator: u8,
         /// How many cells each row has. An empty row has one, which is empty: so with 0 each row has one too many.
         columns: usize,
     },
-    /// Each cell has as many bytes as its width says, and nothing stands between two.
+    /// Rows are lines, and each cell has as many bytes as its width says. A cell that isn't wholly there lacks, and
+    /// bytes that are left behind the last one are a cell too many.
+    ///
+    /// With the widths 3 and 2 the row `007ab` has the cells `007` and `ab`, and `007a` has one.
     Widths {
+        /// The widths of a row's cells, in bytes.
+        widths: &'a [usize],
+    },
+    /// Cells are found in the same way, but a row has as many bytes as its widths together, or one if these have none,
+    /// and nothing stands between two rows.
+    Records {
         /// The widths of a row's cells, in bytes.
         widths: &'a [usize],
     },
@@ -22,7 +31,8 @@ pub enum Layout<'a> {
 pub struct Dialect<'a> {
     /// How the cells of a row are found.
     pub layout: Layout<'a>,
-    /// Whether a carriage return stands before each line feed. Without it a return is a byte of its cell.
+    /// Whether a carriage return stands before each line feed that ends a row. Without it a return is a byte of its
+    /// cell.
     pub has_returns: bool,
     /// Whether cells may stand within quotes, `"`, as RFC 4180 says. A quote that is the separator parts cells.
     pub has_quotes: bool,

@@ -1,8 +1,9 @@
 //! Tables: the rows of a text are read by one call, and the first wrong cell is told.
 //!
 //! A row is a line, and its cells stand between separators, one byte that the caller names, or each has as
-//! many bytes as its width says. Each row has as many cells as the caller says. Each column is read into a
-//! slice of its own, of its own type and format, or isn't read.
+//! many bytes as its width says; then a row may also be a record, which no line feed ends. Each row has as many
+//! cells as the caller says. Each column is read into a slice of its own, of its own type and format, or isn't
+//! read.
 //!
 //! Nothing is guessed: what the caller doesn't ask for is a fault with its row, its column and its place.
 #![tactic(auto)]

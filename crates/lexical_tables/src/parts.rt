@@ -3,12 +3,12 @@
 ghost use Rattle.std.specs.Prelude.{◌≡◌, ◌≤◌, ℕ, List, Option, length, map, IfOk};
 ghost use Rattle.lexical_tables.specs.ByColumn.{AreUsable, StopsAt, columns_answer, columns_put, kinds_of};
 ghost use Rattle.lexical_tables.specs.Cells.{Kind};
-ghost use Rattle.lexical_tables.specs.Parts.{AreValid, ColumnsInParts, readable, whole_lines};
+ghost use Rattle.lexical_tables.specs.Parts.{AreValid, ColumnsInParts, readable, whole_lines, whole_rows};
 
 use crate::answers::{Table, TableError};
 use crate::by_column::read_columns;
-use crate::dialect::Dialect;
-use crate::rows::split;
+use crate::dialect::{Dialect, Layout};
+use crate::rows::{record_size, split};
 use crate::targets::TableColumn;
 use lexical_fields::whole_fields;
 use lexical_parse_integer::Options;
@@ -30,6 +30,17 @@ fn whole_lines(text: &[u8], has_quotes: bool) -> usize
         rest = behind;
     }
     text.len()
+}
+
+// How many bytes of a part are whole rows.
+fn whole_rows(text: &[u8], dialect: &Dialect<'_>) -> usize
+    ensures value { result ≡ whole_rows dialect.now text.now }
+    ensures within { result ≤ length text.now }
+{
+    if let Layout::Records { widths } = dialect.layout {
+        return text.len() - text.len() % record_size(widths, text.len() + 1);
+    }
+    whole_lines(text, dialect.has_quotes)
 }
 
 /// Reads the columns in the whole rows of a part of a text, as [`read_columns`](crate::read_columns) does in a
@@ -60,7 +71,7 @@ pub fn read_columns_part<C: TableColumn>(
     if is_last {
         return read_columns(text, dialect, options, rows, targets);
     }
-    let whole = &text[..whole_lines(text, dialect.has_quotes)];
+    let whole = &text[..whole_rows(text, dialect)];
     read_columns(whole, dialect, options, rows, targets)
 }
 

@@ -1,10 +1,10 @@
 //! The rows of a text.
 
-ghost use Rattle.std.specs.Prelude.{◌≡◌, ◌+◌, ◌-◌, ◌≤◌, ◌<◌, ◌^◌, ℕ, length, take, drop};
+ghost use Rattle.std.specs.Prelude.{◌≡◌, ◌+◌, ◌-◌, ◌≤◌, ◌<◌, ◌^◌, ℕ, min, length, take, drop};
 ghost use Rattle.lexical_tables.specs.Quotes.{length_outside};
-ghost use Rattle.lexical_tables.specs.Rows.{FirstCounts, ends_in, line_feed, row_of, rows_from, view_of_row};
+ghost use Rattle.lexical_tables.specs.Rows.{FirstCounts, behind_piece, ends_in, first_row, line_feed, record_size, row_of, rows_from, view_of_row};
 
-use crate::dialect::Dialect;
+use crate::dialect::{Dialect, Layout};
 use crate::quotes::length_outside;
 
 // A row: the place at which it starts, its bytes without what ends it, and whether that lacks its return.
@@ -42,6 +42,19 @@ pub(crate) fn split(text: &[u8], separator: u8, has_quotes: bool) -> (&[u8], &[u
     }
 }
 
+// How many bytes a record has, up to a limit.
+pub(crate) fn record_size(widths: &[usize], limit: usize) -> usize
+    ensures { result ≡ min (record_size widths.now) limit }
+{
+    let mut size = 0;
+    let mut column = 0;
+    while column < widths.len() {
+        size += widths[column].min(limit - size);
+        column += 1;
+    }
+    size.max(1).min(limit)
+}
+
 // The first row of a text that starts at a place, and what is behind it.
 #[inline(always)]
 pub(crate) fn first_row<'a>(
@@ -50,18 +63,40 @@ pub(crate) fn first_row<'a>(
     dialect: &Dialect<'_>,
 ) -> (Row<'a>, &'a [u8])
     requires some { 0 < length text.now }
-    ensures row { view_of_row result.0
-        ≡ row_of dialect.now.has_returns (start + length text.now) (record {
-          start = start;
-          text = take (length_outside dialect.now.has_quotes line_feed text.now) text.now;
-        }) }
+    ensures row { view_of_row result.0 ≡ first_row dialect.now start text.now }
     ensures behind { result.1.now
-        ≡ drop (length_outside dialect.now.has_quotes line_feed text.now + 1) text.now }
+        ≡ behind_piece dialect.now.layout dialect.now.has_quotes text.now }
     ensures within { length result.0.text.now ≤ length text.now }
     ensures front { result.0.text.now ≡ take (length result.0.text.now) text.now }
     ensures shorter { length result.1.now < length text.now }
 {
-    let (line, behind) = split(text, b'\n', dialect.has_quotes);
+    if let Layout::Records { widths } = dialect.layout {
+        let (text, behind) = text.split_at(record_size(widths, text.len()));
+        let row = Row {
+            start,
+            text,
+            lacks_return: false,
+        };
+        return (row, behind);
+    }
+    first_line(start, text, dialect.has_quotes, dialect.has_returns)
+}
+
+// The first line of a text that starts at a place, as a row, and what is behind it.
+#[inline(always)]
+fn first_line(start: usize, text: &[u8], has_quotes: bool, has_returns: bool) -> (Row<'_>, &[u8])
+    requires some { 0 < length text.now }
+    ensures row { view_of_row result.0 ≡ row_of has_returns (start + length text.now) (record {
+      start = start;
+      text = take (length_outside has_quotes line_feed text.now) text.now;
+    }) }
+    ensures behind { result.1.now
+        ≡ drop (length_outside has_quotes line_feed text.now + 1) text.now }
+    ensures within { length result.0.text.now ≤ length text.now }
+    ensures front { result.0.text.now ≡ take (length result.0.text.now) text.now }
+    ensures shorter { length result.1.now < length text.now }
+{
+    let (line, behind) = split(text, b'\n', has_quotes);
     if line.len() == text.len() {
         let row = Row {
             start,
@@ -70,7 +105,7 @@ pub(crate) fn first_row<'a>(
         };
         return (row, behind);
     }
-    if dialect.has_returns && ends_in(line, b'\r') {
+    if has_returns && ends_in(line, b'\r') {
         let row = Row {
             start,
             text: &line[..line.len() - 1],
@@ -81,7 +116,7 @@ pub(crate) fn first_row<'a>(
         let row = Row {
             start,
             text: line,
-            lacks_return: dialect.has_returns,
+            lacks_return: has_returns,
         };
         (row, behind)
     }

@@ -156,6 +156,59 @@ fn columns_go_into_slices_of_their_own(rt: HostRuntime) -> Result<(), Fail> {
     Ok(())
 }
 
+// What is read of a part whose first cell, of two that have widths, is read, in room for three rows, and what that
+// then holds.
+fn read_wide(text: &[u8], is_last: bool, layout: Layout<'_>) -> (Answer, [i16; 3]) {
+    let mut numbers = [9; 3];
+    let mut target = Some(Target {
+        format: STANDARD,
+        numbers: Numbers::I16(&mut numbers),
+        present: None,
+    });
+    let dialect = Dialect {
+        layout,
+        ..pairs(false)
+    };
+    let targets = slice::from_mut(&mut target);
+    let answer = read_columns_part(text, is_last, &dialect, &options::STANDARD, 3, targets);
+    (answer, numbers)
+}
+
+#[test]
+fn cells_have_widths(rt: HostRuntime) {
+    let lines = Layout::Widths { widths: &[3, 2] };
+    let few = fault_in(2, 1, CellFault::TooFewCells(16));
+    answers(
+        &rt,
+        read_wide(b"007ab\n-30,,\n1234", true, lines),
+        (few, [7, -30, 123]),
+    );
+    let many = fault_in(0, 2, CellFault::TooManyCells(5));
+    answers(&rt, read_wide(b"007abc\n", true, lines), (many, [7, 9, 9]));
+    let records = Layout::Records { widths: &[3, 2] };
+    let few = fault_in(1, 1, CellFault::TooFewCells(9));
+    answers(
+        &rt,
+        read_wide(b"007a\n-30,", true, records),
+        (few, [7, -30, 9]),
+    );
+    answers(
+        &rt,
+        read_wide(b"007a\n-30,", false, records),
+        (table(1, 5), [7, 9, 9]),
+    );
+    let wide = Layout::Records {
+        widths: &[3, usize::MAX],
+    };
+    let few = fault_in(0, 1, CellFault::TooFewCells(5));
+    answers(&rt, read_wide(b"007ab", true, wide), (few, [7, 9, 9]));
+    answers(
+        &rt,
+        read_wide(b"007ab", false, wide),
+        (table(0, 0), [9, 9, 9]),
+    );
+}
+
 #[test]
 fn a_part_has_whole_rows(rt: HostRuntime) {
     let mut column = [9_u8; 3];

@@ -1,4 +1,4 @@
-use Rattle.std.proofs.Common.{◌<◌, inl, inr, length, arith, refl, sym, map}
+use Rattle.std.proofs.Common.{◌<◌, inl, inr, length, arith, sym, map}
 use Rattle.std.proofs.lemmas.Bool.Decides.{nat_tests}
 use Rattle.lexical_tables.specs.Rows.{view_of_row}
 use Rattle.lexical_tables.proofs.ColumnTables.{row_usable, table_ends, table_fault, table_goes, table_starts}
@@ -26,7 +26,7 @@ returns-in-Some g c =
     let some : 0 < length c.loop-count.rest.now = grind (arith, nat_tests) in
     let done = table_fault c.args.dialect.now c.args.rows c.args.text.now (map g.C.TableColumn.target c.args.targets.now)
     (map g.C.TableColumn.target c.loop-count.targets) c.loop-count.count c.loop-count.rest.now c.loop-count.invariant
-    (view_of_row c.first_row.result.0) _ c.first_row.result.1.now c.first_row.result.1.now (grind (arith, nat_tests)) some refl
+    (view_of_row c.first_row.result.0) c.first_row.result.1.now c.first_row.result.1.now (grind (arith, nat_tests)) some
     c.first_row.ensures.behind c.first_row.ensures.shorter c.first_row.ensures.row
     (skip_starts c.args.dialect.now c.first_row.result.1.now) (map g.C.TableColumn.target c.read_cells.new.targets) c.in-Some.ensures.targets c.in-Some.error (sym c.in-Some.ensures.fault) in
     record { answer = done.answer_is; targets = done.targets_are; goes_on = tt }
@@ -36,8 +36,8 @@ loop-count-preserved g c =
     let some : 0 < length c.loop-count.rest.now = grind (arith, nat_tests) in
     table_goes c.args.dialect.now c.args.rows c.args.text.now (map g.C.TableColumn.target c.args.targets.now)
     (map g.C.TableColumn.target c.loop-count.targets) c.loop-count.count c.loop-count.rest.now c.loop-count.invariant
-    (view_of_row c.first_row.result.0) _ c.first_row.result.1.now c.without_empty_rows-rest-in-loop-count.result.now
-    (grind (arith, nat_tests)) some refl c.first_row.ensures.behind c.first_row.ensures.shorter c.first_row.ensures.row
+    (view_of_row c.first_row.result.0) c.first_row.result.1.now c.without_empty_rows-rest-in-loop-count.result.now
+    (grind (arith, nat_tests)) some c.first_row.ensures.behind c.first_row.ensures.shorter c.first_row.ensures.row
     (record {
       within = c.without_empty_rows-rest-in-loop-count.ensures.within;
       tail = c.without_empty_rows-rest-in-loop-count.ensures.tail;
