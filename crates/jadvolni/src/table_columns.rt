@@ -7,8 +7,8 @@ ghost use Rattle.jadvolni.specs.FormatFields.{format_of};
 ghost use Rattle.jadvolni.specs.Tables.{bits_of, column_status, lacks_bits, number_type, put_number, put_presence, put_zero, target_of};
 
 use crate::format::FormatFields;
-use lexical_parse_integer::{Error, NumberFormat, Options, format};
-use lexical_tables::{TableColumn, put_bit, put_cell, put_zero};
+use lexical_parse_integer::{Error, Options};
+use lexical_tables::{TableColumn, put_bit, put_cell, put_standard_cell, put_zero};
 
 /// The status of a table that no text can be read by.
 pub const INVALID_TABLE: u32 = 17;
@@ -43,23 +43,6 @@ pub enum NumberType {
     I16,
     I32,
     I64,
-}
-
-// The body of what puts a number into the array of a column: by its type.
-macro_rules! put_into_array {
-    ($column:expr, $($argument:expr),*) => {
-        match $column.number_type() {
-            None => None,
-            Some(NumberType::I64) => put_cell($column.i64s, $($argument),*),
-            Some(NumberType::U64) => put_cell($column.u64s, $($argument),*),
-            Some(NumberType::I32) => put_cell($column.i32s, $($argument),*),
-            Some(NumberType::U32) => put_cell($column.u32s, $($argument),*),
-            Some(NumberType::I16) => put_cell($column.i16s, $($argument),*),
-            Some(NumberType::U16) => put_cell($column.u16s, $($argument),*),
-            Some(NumberType::I8) => put_cell($column.i8s, $($argument),*),
-            Some(NumberType::U8) => put_cell($column.u8s, $($argument),*),
-        }
-    };
 }
 
 impl ColumnFields<'_> {
@@ -151,7 +134,17 @@ impl ColumnFields<'_> {
             (record { start = start; text = text.now })) (target_of self.old) }
     {
         let format = self.format.format();
-        put_into_array!(self, row, start, text, ahead, &format, options)
+        match self.number_type() {
+            None => None,
+            Some(NumberType::I64) => put_cell(self.i64s, row, start, text, ahead, &format, options),
+            Some(NumberType::U64) => put_cell(self.u64s, row, start, text, ahead, &format, options),
+            Some(NumberType::I32) => put_cell(self.i32s, row, start, text, ahead, &format, options),
+            Some(NumberType::U32) => put_cell(self.u32s, row, start, text, ahead, &format, options),
+            Some(NumberType::I16) => put_cell(self.i16s, row, start, text, ahead, &format, options),
+            Some(NumberType::U16) => put_cell(self.u16s, row, start, text, ahead, &format, options),
+            Some(NumberType::I8) => put_cell(self.i8s, row, start, text, ahead, &format, options),
+            Some(NumberType::U8) => put_cell(self.u8s, row, start, text, ahead, &format, options),
+        }
     }
 
     // Puts the number of a text into a row's place, or tells the text's fault. Most columns have the standard format, and
@@ -176,7 +169,17 @@ impl ColumnFields<'_> {
         if !self.format.is_standard() {
             return self.put_other_number(row, start, text, ahead, options);
         }
-        put_into_array!(self, row, start, text, ahead, &format::STANDARD, options)
+        match self.number_type() {
+            None => None,
+            Some(NumberType::I64) => put_standard_cell(self.i64s, row, start, text, ahead, options),
+            Some(NumberType::U64) => put_standard_cell(self.u64s, row, start, text, ahead, options),
+            Some(NumberType::I32) => put_standard_cell(self.i32s, row, start, text, ahead, options),
+            Some(NumberType::U32) => put_standard_cell(self.u32s, row, start, text, ahead, options),
+            Some(NumberType::I16) => put_standard_cell(self.i16s, row, start, text, ahead, options),
+            Some(NumberType::U16) => put_standard_cell(self.u16s, row, start, text, ahead, options),
+            Some(NumberType::I8) => put_standard_cell(self.i8s, row, start, text, ahead, options),
+            Some(NumberType::U8) => put_standard_cell(self.u8s, row, start, text, ahead, options),
+        }
     }
 
     /// What is wrong with the column, if so many rows are asked for.
