@@ -1,5 +1,5 @@
 -- What is read of the columns of a text that is cut.
-use Rattle.std.proofs.Common.{◌≡◌, ◌∙◌, ℕ, zero, suc, ◌+◌, List, [], ◌∷◌, ◌++◌, length, take, drop, map, cond, ◌&&◌, true, false, Bool, ℤ, Result, Option, Some, None, Ok, Err, refl, ap, ap₂, sym, arith, length-take-le}
+use Rattle.std.proofs.Common.{◌≡◌, ◌∙◌, ℕ, zero, suc, ◌+◌, List, [], ◌∷◌, ◌++◌, length, take, drop, map, cond, eqb, ◌&&◌, true, false, Bool, ℤ, Result, Option, Some, None, Ok, Err, refl, ap, ap₂, sym, arith, length-take-le}
 use Rattle.std.specs.List.{prefix_len}
 use Rattle.std.specs.Str.{bytes_eq}
 use Rattle.std.specs.Prelude.{is_none, nat_lt, option_map}
@@ -11,7 +11,7 @@ use Rattle.lexical_fields.specs.Fields.{FieldView, fields_from}
 use Rattle.lexical_fields.specs.Places.{in_text}
 use Rattle.lexical_fields.specs.ReadFields.{field_answer}
 use Rattle.lexical_fields.proofs.MovedFields.{answer_moved, fields_moved, moved}
-use Rattle.lexical_tables.specs.ByColumn.{cell_answers, cells_by, cells_by_width, cells_of, end_fault, fault_of, first_fault, first_of, first_start, row_answers, row_fault, row_values, values_to_fault, wrong_cell}
+use Rattle.lexical_tables.specs.ByColumn.{cell_answers, cells_by_width, cells_left, cells_of, end_fault, fault_of, first_fault, first_of, first_start, row_answers, row_fault, row_values, values_to_fault, wrong_cell}
 use Rattle.lexical_tables.specs.Cells.{Kind, answer_as, begins_with_quote, content, is_blank, misplaced_quote, number_at, quote_fault, some_number, unless, within_quotes, without_blanks, without_quotes}
 use Rattle.lexical_tables.specs.Parts.{AreValid, ColumnsInParts, fault_behind, fault_in, error_behind, values_in, whole_rows}
 use Rattle.lexical_tables.specs.Quotes.{as_long_as, seen}
@@ -190,8 +190,12 @@ first_moved bytes (Err fault ∷ more) = refl
 -- cells by their widths, further behind
 widths_moved : (bytes : ℕ) (widths : List ℕ) (place : ℕ) (text : List ℕ)
     → cells_by_width widths (bytes + place) text ≡ map (moved bytes) (cells_by_width widths place text)
-widths_moved bytes [] place [] = refl
-widths_moved bytes [] place (byte ∷ rest) = refl
+widths_moved bytes [] place text = by_test (eqb (length text) 0)
+  where
+    by_test : (t : Bool) → cond t [] (record { start = bytes + place; text = text } ∷ [])
+        ≡ map (moved bytes) (cond t [] (record { start = place; text = text } ∷ []))
+    by_test true = refl
+    by_test false = refl
 widths_moved bytes (width ∷ more) place text =
     let at : bytes + place + width ≡ bytes + (place + width) = omega arith in
     by_test (nat_lt (length text) width)
@@ -251,8 +255,8 @@ module _ (kinds : List (Option Kind)) (d : Dialect) where
     cells_moved : (bytes : ℕ) (row : RowView) → cells_of d (row_behind bytes row) ≡ map (moved bytes) (cells_of d row)
     cells_moved bytes row = by_layout d.layout
       where
-        by_layout : (layout : Layout) → cells_by layout d.has_quotes (row_behind bytes row)
-            ≡ map (moved bytes) (cells_by layout d.has_quotes row)
+        by_layout : (layout : Layout) → cells_left layout d.has_quotes 0 (bytes + row.start) row.text
+            ≡ map (moved bytes) (cells_left layout d.has_quotes 0 row.start row.text)
         by_layout (Separated s columns) =
             let bytes_seen = seen d.has_quotes s row.text ++ s ∷ [] in
             ap (λ l. as_long_as l row.text) (sym (fields_moved s bytes row.start bytes_seen))

@@ -2,7 +2,7 @@
 pub mod CellRows
 pub mod CellSteps
 pub mod CellsAlone
-pub mod CellsByWidth
+pub mod CellsLeft
 pub mod ColumnRows
 pub mod ColumnSteps
 pub mod ColumnTables
@@ -21,6 +21,5 @@ pub mod RowSteps
 pub mod RowsInParts
 pub mod SeekSteps
 pub mod SeenBytes
-pub mod SeparatedCells
 pub mod WholeRows
 pub mod WidthRows

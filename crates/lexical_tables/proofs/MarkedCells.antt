@@ -1,10 +1,11 @@
 -- The cells of a row, found by the marks of the text from there on.
-use Rattle.std.proofs.Common.{◌≡◌, ◌∙◌, ℕ, zero, suc, ◌+◌, ◌-◌, ◌<◌, ◌≤◌, List, [], ◌∷◌, Bool, true, false, not, cond, eqb, length, take, drop, length-drop, refl, ap, sym, subst, arith, inl, inr, ◌⊎◌}
-use Rattle.std.proofs.lemmas.Bool.{cases_lt}
-use Rattle.std.proofs.lemmas.List.{drop_all, drop-drop, drop-take}
+use Rattle.std.proofs.Common.{◌≡◌, ◌∙◌, ℕ, zero, suc, ◌+◌, ◌-◌, ◌<◌, ◌≤◌, List, [], ◌∷◌, Bool, true, false, not, cond, eqb, length, take, drop, refl, ap, sym, subst, arith}
+use Rattle.std.proofs.lemmas.List.{drop-drop, drop-take}
 use Rattle.lexical_fields.specs.Fields.{field_length}
-use Rattle.lexical_fields.specs.Search.{AreMarks}
 use Rattle.lexical_fields.proofs.Marks.{no_marks}
+use Rattle.lexical_tables.specs.ByColumn.{AreCellMarks}
+use Rattle.lexical_tables.specs.declared.dialect.Layout.{Layout}
+use Rattle.lexical_tables.specs.declared.dialect.Layout.TheVariants.{Records, Separated, Widths}
 
 -- a first field that ends in front of a place does so in the bytes up to there
 pub ends_before : (s : ℕ) (bs : List ℕ) (n : ℕ) → field_length s bs < n → field_length s (take n bs) ≡ field_length s bs
@@ -32,27 +33,32 @@ ends_behind s (b ∷ bs) (suc n) high = by_test (not (eqb b s)) (ends_behind s b
     by_test false further high = absurd (omega (arith, high))
 
 -- What is left of a row stands in front of the text from there on, whose separators are marked.
-pub record IsAhead (s : ℕ) (row ahead rest : List ℕ) (marks : ℕ) : Type 0 where
+pub record IsAhead (layout : Layout) (row ahead rest : List ℕ) (marks : ℕ) : Type 0 where
   pub within : length rest ≤ length row
   pub front : rest ≡ take (length rest) (drop (length row - length rest) ahead)
-  pub marks_are : AreMarks s (drop (length row - length rest) ahead) marks
+  pub marks_are : AreCellMarks layout (drop (length row - length rest) ahead) marks
 
 -- before the first cell
-pub ahead_starts : (s : ℕ) (row ahead : List ℕ) → row ≡ take (length row) ahead → IsAhead s row ahead row 0
-ahead_starts s row ahead front =
+pub ahead_starts : (layout : Layout) (row ahead : List ℕ) → row ≡ take (length row) ahead → IsAhead layout row ahead row 0
+ahead_starts layout row ahead front =
     let none : length row - length row ≡ 0 = omega arith in
     record {
       within = omega arith;
       front = front ∙ ap (λ k. take (length row) (drop k ahead)) (sym none);
-      marks_are = no_marks s (drop (length row - length row) ahead);
+      marks_are = unmarked layout (drop (length row - length row) ahead);
     }
+  where
+    unmarked : (layout : Layout) (text : List ℕ) → AreCellMarks layout text 0
+    unmarked (Separated s columns) text = no_marks s text
+    unmarked (Widths widths) text = tt
+    unmarked (Records widths) text = tt
 
 -- behind a cell
-pub behind_ahead : (s : ℕ) (row ahead rest behind : List ℕ) (marks more n : ℕ) → IsAhead s row ahead rest marks
-    → behind ≡ drop n rest → length behind ≤ length rest
-    → AreMarks s (drop (length rest - length behind) (drop (length row - length rest) ahead)) more
-    → IsAhead s row ahead behind more
-behind_ahead s row ahead rest behind marks more n here cut shorter marked =
+pub behind_ahead : (layout : Layout) (row ahead rest behind : List ℕ) (marks more : ℕ) → IsAhead layout row ahead rest marks
+    → behind ≡ drop (length rest - length behind) rest → length behind ≤ length rest
+    → AreCellMarks layout (drop (length rest - length behind) (drop (length row - length rest) ahead)) more
+    → IsAhead layout row ahead behind more
+behind_ahead layout row ahead rest behind marks more here cut shorter marked =
     let from = length row - length rest in
     let by = length rest - length behind in
     let place : from + by ≡ length row - length behind = omega (arith, here.within) in
@@ -62,18 +68,7 @@ behind_ahead s row ahead rest behind marks more n here cut shorter marked =
     record {
       within = omega (arith, here.within);
       front =
-          dropped (cases_lt n (length rest))
-          ∙ ap (drop by) (here.front ∙ ap (λ k. take k (drop from ahead)) (sym whole))
+          cut ∙ ap (drop by) (here.front ∙ ap (λ k. take k (drop from ahead)) (sym whole))
           ∙ drop-take by (length behind) (drop from ahead) ∙ ap (take (length behind)) at;
-      marks_are = subst (λ l. AreMarks s l more) at marked;
+      marks_are = subst (λ l. AreCellMarks layout l more) at marked;
     }
-  where
-    long : length behind ≡ length rest - n
-    long = ap length cut ∙ length-drop n rest
-
-    dropped : (n < length rest) ⊎ (length rest ≤ n) → behind ≡ drop (length rest - length behind) rest
-    dropped (inl low) = let same : n ≡ length rest - length behind = omega (arith, long) in cut ∙ ap (λ k. drop k rest) same
-    dropped (inr high) =
-        let all : length rest - length behind ≡ length rest = omega (arith, long) in
-        cut ∙ drop_all n rest high ∙ sym (drop_all (length rest) rest (omega arith))
-        ∙ ap (λ k. drop k rest) (sym all)

@@ -1,8 +1,9 @@
 -- What is read of a table whose columns go into slices of their own.
-use Rattle.std.specs.Prelude.{◌≡◌, ◌+◌, ◌*◌, ◌≤◌, ℕ, zero, suc, ℤ, Bool, if◌then◌else◌, List, [], ◌∷◌, length, take, drop, map, is_none, is_some, nat_lt, option_map, Option, Some, None, Result, Ok, Err, IfSome}
+use Rattle.std.specs.Prelude.{◌≡◌, ◌==◌, ◌+◌, ◌*◌, ◌≤◌, ℕ, zero, suc, ℤ, Bool, false, if◌then◌else◌, List, [], ◌∷◌, length, take, drop, map, is_none, is_some, nat_lt, option_map, Option, Some, None, Result, Ok, Err, IfSome}
 use Rattle.lexical_util.specs.Validity.{fault}
 use Rattle.lexical_fields.specs.Columns as columns
 use Rattle.lexical_fields.specs.Fields.{FieldView}
+use Rattle.lexical_fields.specs.Search.{AreMarks}
 pub use Rattle.lexical_tables.specs.Cells.{Kind, answer_as, first_of, unless}
 use Rattle.lexical_tables.specs.Quotes.{pieces_outside}
 use Rattle.lexical_tables.specs.Rows.{RowView, next_start, rows, rows_from}
@@ -39,23 +40,26 @@ cell_answers dialect (kind ∷ kinds) (cell ∷ cells) =
 
 -- the cells by widths of a text that stands at a place: those that are wholly there, and one more where bytes are left
 abbrev pub cells_by_width : List ℕ → ℕ → List ℕ → List FieldView
-cells_by_width [] place [] = []
-cells_by_width [] place (byte ∷ rest) = record { start = place; text = byte ∷ rest } ∷ []
+cells_by_width [] place text =
+    if length text == 0 then [] else record { start = place; text = text } ∷ []
 cells_by_width (width ∷ more) place text =
     if nat_lt (length text) width then []
     else record { start = place; text = take width text }
     ∷ cells_by_width more (place + width) (drop width text)
 
--- the cells of a row, at their places in the text: one more than it has separators outside quotes, or those by widths
-abbrev pub cells_by : Layout → Bool → RowView → List FieldView
-cells_by (Separated separator columns) has_quotes row =
-    pieces_outside has_quotes separator row.start row.text
-cells_by (Widths widths) has_quotes row = cells_by_width widths.now row.start row.text
-cells_by (Records widths) has_quotes row = cells_by_width widths.now row.start row.text
+-- The cells of what is left of a row behind so many others, at its place in the text: one more than it has separators
+-- outside quotes, or those by widths.
+abbrev pub cells_left : Layout → Bool → ℕ → ℕ → List ℕ → List FieldView
+cells_left (Separated separator columns) has_quotes column place text =
+    pieces_outside has_quotes separator place text
+cells_left (Widths widths) has_quotes column place text =
+    cells_by_width (drop column widths.now) place text
+cells_left (Records widths) has_quotes column place text =
+    cells_by_width (drop column widths.now) place text
 
--- the cells of a row of a table
+-- the cells of a row
 abbrev pub cells_of : Dialect → RowView → List FieldView
-cells_of dialect row = cells_by dialect.layout dialect.has_quotes row
+cells_of dialect row = cells_left dialect.layout dialect.has_quotes 0 row.start row.text
 
 -- how many columns a table has
 abbrev pub column_count : Layout → ℕ
@@ -142,6 +146,23 @@ abbrev pub answer_at : Dialect → List (Option Kind) → ℕ → FieldView → 
 answer_at dialect [] column cell = answer_as dialect None cell
 answer_at dialect (kind ∷ kinds) zero cell = answer_as dialect kind cell
 answer_at dialect (kind ∷ kinds) (suc column) cell = answer_at dialect kinds column cell
+
+-- whether a text has no cell of the first of some widths: that isn't wholly there, or where none is left, no byte is
+abbrev pub lacks_width : List ℕ → List ℕ → Bool
+lacks_width [] text = length text == 0
+lacks_width (width ∷ more) text = nat_lt (length text) width
+
+-- whether what is left of a row behind so many cells has none
+abbrev pub lacks_cell : Layout → ℕ → List ℕ → Bool
+lacks_cell (Separated separator columns) column text = false
+lacks_cell (Widths widths) column text = lacks_width (drop column widths.now) text
+lacks_cell (Records widths) column text = lacks_width (drop column widths.now) text
+
+-- a text's separators are marked, if cells stand between such
+abbrev pub AreCellMarks : Layout → List ℕ → ℕ → Type 0
+AreCellMarks (Separated separator columns) text marks = AreMarks separator text marks
+AreCellMarks (Widths widths) text marks = Unit {0}
+AreCellMarks (Records widths) text marks = Unit {0}
 
 -- the fault of an answer
 abbrev pub fault_in : Result (Option ℤ) CellFault → Option CellFault

@@ -1,20 +1,17 @@
 //! Tables whose columns go into slices of their own.
 
 ghost use Rattle.std.specs.Prelude.{◌≡◌, ◌+◌, ◌-◌, ◌<◌, ◌≤◌, ◌^◌, length, take, drop, map, is_some, option_map, true, IfOk};
-ghost use Rattle.lexical_fields.specs.Search.{AreMarks};
-ghost use Rattle.lexical_tables.specs.ByColumn.{AreUsable, IsUsable, StopsAt, answer_at, cells_by_width, cells_of, column_count, columns_answer, columns_put, end_fault, fault_in, kind_of, kinds_of, put_read, put_read_at, put_row, row_fault, row_values};
+ghost use Rattle.lexical_tables.specs.ByColumn.{AreUsable, IsUsable, StopsAt, answer_at, columns_answer, columns_put, end_fault, fault_in, kind_of, kinds_of, put_read, put_read_at, put_row, row_fault, row_values};
 ghost use Rattle.lexical_tables.specs.Cells.{answer_as, view_of_cell};
-ghost use Rattle.lexical_tables.specs.Quotes.{length_outside};
 ghost use Rattle.lexical_tables.specs.Rows.{view_of_row};
-ghost use Rattle.lexical_tables.specs.declared.dialect.Layout.TheVariants.{Separated, Widths};
 
 use crate::answers::{CellFault, Table, TableError};
+use crate::cells::{column_count, lacks_cell, next_cell};
 use crate::content::{Cell, content};
-use crate::dialect::{Dialect, Layout};
+use crate::dialect::Dialect;
 use crate::misplaced::quote_fault;
-use crate::rows::{Row, first_row, split, without_empty_rows};
+use crate::rows::{Row, first_row, without_empty_rows};
 use crate::targets::TableColumn;
-use lexical_fields::{next_marks, split_marked};
 use lexical_parse_integer::Options;
 
 // Reads a cell in its column, if its quotes are in place: it holds the mark or a number, which goes to the row's place.
@@ -109,140 +106,6 @@ fn end_fault(
     })
 }
 
-// The first cell of what is left of a row, and what is behind it. What is ahead begins with that and has the marks; the
-// last are those of what is behind the cell.
-#[inline(always)]
-fn split_cell<'a>(
-    rest: &'a [u8],
-    ahead: &[u8],
-    marks: u64,
-    separator: u8,
-    has_quotes: bool,
-) -> (&'a [u8], &'a [u8], u64)
-    requires rest { rest.now ≡ take (length rest.now) ahead.now }
-    requires marks { AreMarks separator ahead.now marks }
-    ensures front { result.0.now ≡ take (length_outside has_quotes separator rest.now) rest.now }
-    ensures behind { result.1.now
-        ≡ drop (length_outside has_quotes separator rest.now + 1) rest.now }
-    ensures within { length result.0.now ≤ length rest.now }
-    ensures size { length result.0.now ≡ length_outside has_quotes separator rest.now }
-    ensures left { length result.1.now ≤ length rest.now }
-    ensures marks { AreMarks separator
-        (drop (length rest.now - length result.1.now) ahead.now) result.2 }
-{
-    if has_quotes {
-        let (cell, behind) = split(rest, separator, true);
-        return (cell, behind, 0);
-    }
-    let known = next_marks(ahead, marks, separator);
-    if known == 0 {
-        let (cell, behind) = split(rest, separator, false);
-        return (cell, behind, 0);
-    }
-    let (size, _, more) = split_marked(ahead, known, separator);
-    if size >= rest.len() {
-        return (rest, &rest[rest.len()..], 0);
-    }
-    (&rest[..size], &rest[size + 1..], more)
-}
-
-// The numbers of a row whose cells stand between separators go to its place in the targets, up to the row's fault. What
-// is ahead begins with the row.
-#[inline(always)]
-fn read_separated<C: TableColumn>(
-    row: &Row<'_>,
-    ahead: &[u8],
-    separator: u8,
-    columns: usize,
-    index: usize,
-    dialect: &Dialect<'_>,
-    options: &Options,
-    targets: &mut [C],
-) -> Option<TableError>
-    requires layout { dialect.now.layout ≡ Separated separator columns }
-    requires usable { AreUsable (index + 1) (map C.target targets.old) }
-    requires front { row.now.text.now ≡ take (length row.now.text.now) ahead.now }
-    requires fits { row.now.start + length row.now.text.now < 2 ^ 64 }
-    ensures fault { result ≡ row_fault (kinds_of (map C.target targets.old)) dialect.now index
-        (view_of_row row.now) }
-    ensures targets { map C.target targets.new ≡ put_row index (row_values
-        (kinds_of (map C.target targets.old)) dialect.now (view_of_row row.now))
-        (map C.target targets.old) }
-{
-    let mut rest = row.text;
-    let mut ended = false;
-    let mut column = 0;
-    let mut marks = 0;
-    while column < columns && !ended {
-        let place = row.text.len() - rest.len();
-        let left = &ahead[place..];
-        let (text, behind, more) = split_cell(rest, left, marks, separator, dialect.has_quotes);
-        let cell = Cell {
-            start: row.start + place,
-            text,
-            ahead: left,
-        };
-        if let Some(fault) = read_cell(targets, column, index, cell, dialect, options) {
-            return Some(TableError {
-                row: index,
-                column,
-                fault,
-            });
-        }
-        ended = text.len() == rest.len();
-        rest = behind;
-        marks = more;
-        column += 1;
-    }
-    let next = row.start + (row.text.len() - rest.len());
-    let extra = (!ended).then_some(next);
-    end_fault(row, index, columns, column, extra)
-}
-
-// The numbers of a row whose cells have these widths go to its place in the targets, up to the row's fault.
-fn read_by_width<C: TableColumn>(
-    row: &Row<'_>,
-    widths: &[usize],
-    index: usize,
-    dialect: &Dialect<'_>,
-    options: &Options,
-    targets: &mut [C],
-) -> Option<TableError>
-    requires layout { column_count dialect.now.layout ≡ length widths.now }
-    requires cells { cells_of dialect.now (view_of_row row.now)
-        ≡ cells_by_width widths.now row.now.start row.now.text.now }
-    requires usable { AreUsable (index + 1) (map C.target targets.old) }
-    requires fits { row.now.start + length row.now.text.now < 2 ^ 64 }
-    ensures fault { result ≡ row_fault (kinds_of (map C.target targets.old)) dialect.now index
-        (view_of_row row.now) }
-    ensures targets { map C.target targets.new ≡ put_row index (row_values
-        (kinds_of (map C.target targets.old)) dialect.now (view_of_row row.now))
-        (map C.target targets.old) }
-{
-    let mut rest = row.text;
-    let mut column = 0;
-    while column < widths.len() && widths[column] <= rest.len() {
-        let (text, behind) = rest.split_at(widths[column]);
-        let cell = Cell {
-            start: row.start + (row.text.len() - rest.len()),
-            text,
-            ahead: rest,
-        };
-        if let Some(fault) = read_cell(targets, column, index, cell, dialect, options) {
-            return Some(TableError {
-                row: index,
-                column,
-                fault,
-            });
-        }
-        rest = behind;
-        column += 1;
-    }
-    let next = row.start + (row.text.len() - rest.len());
-    let extra = (!rest.is_empty()).then_some(next);
-    end_fault(row, index, widths.len(), column, extra)
-}
-
 // The numbers of a row go to its place in the targets, up to the row's fault. What is ahead begins with the row.
 #[inline(always)]
 fn read_cells<C: TableColumn>(
@@ -262,16 +125,35 @@ fn read_cells<C: TableColumn>(
         (kinds_of (map C.target targets.old)) dialect.now (view_of_row row.now))
         (map C.target targets.old) }
 {
-    match dialect.layout {
-        Layout::Separated { separator, columns } => {
-            read_separated(
-                row, ahead, separator, columns, index, dialect, options, targets,
-            )
+    let columns = column_count(dialect);
+    let mut rest = row.text;
+    let mut ended = lacks_cell(rest, 0, dialect);
+    let mut column = 0;
+    let mut marks = 0;
+    while column < columns && !ended {
+        let place = row.text.len() - rest.len();
+        let left = &ahead[place..];
+        let next = next_cell(rest, left, marks, column, dialect);
+        let cell = Cell {
+            start: row.start + place,
+            text: next.text,
+            ahead: left,
+        };
+        if let Some(fault) = read_cell(targets, column, index, cell, dialect, options) {
+            return Some(TableError {
+                row: index,
+                column,
+                fault,
+            });
         }
-        Layout::Widths { widths } | Layout::Records { widths } => {
-            read_by_width(row, widths, index, dialect, options, targets)
-        }
+        ended = next.ended;
+        rest = next.behind;
+        marks = next.marks;
+        column += 1;
     }
+    let next = row.start + (row.text.len() - rest.len());
+    let extra = (!ended).then_some(next);
+    end_fault(row, index, columns, column, extra)
 }
 
 /// Reads a table's columns into slices of their own, for as many rows as are asked for at most.

@@ -11,6 +11,7 @@
 mod alone;
 mod answers;
 mod by_column;
+mod cells;
 mod content;
 mod dialect;
 mod header;

@@ -3,7 +3,7 @@ use Rattle.std.proofs.lemmas.List.{drop_all, take_all, take_rest}
 use Rattle.lexical_fields.specs.Fields.{field_length}
 use Rattle.lexical_tables.specs.Quotes.{length_outside}
 use Rattle.lexical_tables.proofs.MarkedCells.{ends_before, ends_behind}
-use Rattle.lexical_tables.proofs.by_column.split_cell.Goals as goal
+use Rattle.lexical_tables.proofs.cells.split_cell.Goals as goal
 
 -- a row's last cell
 last_size : (c : goal.After-result-1) → length_outside c.args.has_quotes c.args.separator c.args.rest.now ≡ length c.args.rest.now

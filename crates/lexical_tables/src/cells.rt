@@ -1,0 +1,163 @@
+//! The cells of a row, found one after another.
+
+ghost use Rattle.std.specs.Prelude.{◌≡◌, ◌+◌, ◌-◌, ◌<◌, ◌≤◌, ℕ, [], ◌∷◌, false, length, take, drop, if◌then◌else◌};
+ghost use Rattle.lexical_fields.specs.Search.{AreMarks};
+ghost use Rattle.lexical_tables.specs.ByColumn.{AreCellMarks, cells_by_width, cells_left, column_count, lacks_cell, lacks_width};
+ghost use Rattle.lexical_tables.specs.Quotes.{length_outside};
+
+use crate::dialect::{Dialect, Layout};
+use crate::rows::split;
+use lexical_fields::{next_marks, split_marked};
+
+// How many columns a table has.
+#[inline(always)]
+pub(crate) fn column_count(dialect: &Dialect<'_>) -> usize
+    ensures { result ≡ column_count dialect.now.layout }
+{
+    match dialect.layout {
+        Layout::Separated { columns, .. } => columns,
+        Layout::Widths { widths } | Layout::Records { widths } => widths.len(),
+    }
+}
+
+// Whether what is left of a row has no cell of the next width: the cell isn't wholly there, or none is to come, and no
+// byte is left.
+fn lacks_width(text: &[u8], column: usize, widths: &[usize]) -> bool
+    ensures { result ≡ lacks_width (drop column widths.now) text.now }
+{
+    if column < widths.len() {
+        text.len() < widths[column]
+    } else {
+        text.is_empty()
+    }
+}
+
+// Whether what is left of a row behind so many cells has none.
+#[inline(always)]
+pub(crate) fn lacks_cell(text: &[u8], column: usize, dialect: &Dialect<'_>) -> bool
+    ensures { result ≡ lacks_cell dialect.now.layout column text.now }
+{
+    match dialect.layout {
+        Layout::Separated { .. } => false,
+        Layout::Widths { widths } | Layout::Records { widths } => lacks_width(text, column, widths),
+    }
+}
+
+// The first cell of what is left of a row, and what is behind it. What is ahead begins with that and has the marks; the
+// last are those of what is behind the cell.
+#[inline(always)]
+fn split_cell<'a>(
+    rest: &'a [u8],
+    ahead: &[u8],
+    marks: u64,
+    separator: u8,
+    has_quotes: bool,
+) -> (&'a [u8], &'a [u8], u64)
+    requires rest { rest.now ≡ take (length rest.now) ahead.now }
+    requires marks { AreMarks separator ahead.now marks }
+    ensures front { result.0.now ≡ take (length_outside has_quotes separator rest.now) rest.now }
+    ensures behind { result.1.now
+        ≡ drop (length_outside has_quotes separator rest.now + 1) rest.now }
+    ensures within { length result.0.now ≤ length rest.now }
+    ensures size { length result.0.now ≡ length_outside has_quotes separator rest.now }
+    ensures left { length result.1.now ≤ length rest.now }
+    ensures marks { AreMarks separator
+        (drop (length rest.now - length result.1.now) ahead.now) result.2 }
+{
+    if has_quotes {
+        let (cell, behind) = split(rest, separator, true);
+        return (cell, behind, 0);
+    }
+    let known = next_marks(ahead, marks, separator);
+    if known == 0 {
+        let (cell, behind) = split(rest, separator, false);
+        return (cell, behind, 0);
+    }
+    let (size, _, more) = split_marked(ahead, known, separator);
+    if size >= rest.len() {
+        return (rest, &rest[rest.len()..], 0);
+    }
+    (&rest[..size], &rest[size + 1..], more)
+}
+
+// A cell, what is left of its row behind it, the marks of what is ahead there, and whether no cell is left.
+#[derive(Copy, Clone)]
+pub(crate) struct NextCell<'a> {
+    pub text: &'a [u8],
+    pub behind: &'a [u8],
+    pub marks: u64,
+    pub ended: bool,
+}
+
+// The first cell of what is left of a row behind so many cells that have widths, if it has one.
+fn wide_cell<'a>(rest: &'a [u8], column: usize, widths: &[usize]) -> NextCell<'a>
+    requires column { column < length widths.now }
+    requires there { lacks_width (drop column widths.now) rest.now ≡ false }
+    ensures cells { (place : ℕ) → cells_by_width (drop column widths.now) place rest.now
+        ≡ record { start = place; text = result.text.now } ∷ (if result.ended then []
+        else cells_by_width (drop (column + 1) widths.now)
+        (place + (length rest.now - length result.behind.now)) result.behind.now) }
+    ensures ended { result.ended
+        ≡ lacks_width (drop (column + 1) widths.now) result.behind.now }
+    ensures front { result.text.now ≡ take (length result.text.now) rest.now }
+    ensures within { length result.text.now ≤ length rest.now }
+    ensures left { length result.behind.now ≤ length rest.now }
+    ensures tail { result.behind.now
+        ≡ drop (length rest.now - length result.behind.now) rest.now }
+{
+    let (text, behind) = rest.split_at(widths[column]);
+    NextCell {
+        text,
+        behind,
+        marks: 0,
+        ended: lacks_width(behind, column + 1, widths),
+    }
+}
+
+// The first cell of what is left of a row behind so many cells, if it has one. What is ahead begins with that.
+#[inline(always)]
+pub(crate) fn next_cell<'a>(
+    rest: &'a [u8],
+    ahead: &[u8],
+    marks: u64,
+    column: usize,
+    dialect: &Dialect<'_>,
+) -> NextCell<'a>
+    requires rest { rest.now ≡ take (length rest.now) ahead.now }
+    requires marks { AreCellMarks dialect.now.layout ahead.now marks }
+    requires column { column < column_count dialect.now.layout }
+    requires there { lacks_cell dialect.now.layout column rest.now ≡ false }
+    ensures cells { (place : ℕ)
+        → cells_left dialect.now.layout dialect.now.has_quotes column place rest.now
+        ≡ record { start = place; text = result.text.now } ∷ (if result.ended then []
+        else cells_left dialect.now.layout dialect.now.has_quotes (column + 1)
+        (place + (length rest.now - length result.behind.now)) result.behind.now) }
+    ensures ended { result.ended ≡ false
+        → lacks_cell dialect.now.layout (column + 1) result.behind.now ≡ false }
+    ensures front { result.text.now ≡ take (length result.text.now) ahead.now }
+    ensures within { length result.text.now ≤ length rest.now }
+    ensures left { length result.behind.now ≤ length rest.now }
+    ensures tail { result.behind.now
+        ≡ drop (length rest.now - length result.behind.now) rest.now }
+    ensures marks { AreCellMarks dialect.now.layout
+        (drop (length rest.now - length result.behind.now) ahead.now) result.marks }
+{
+    match dialect.layout {
+        Layout::Separated { separator, .. } => {
+            let (text, behind, marks) = split_cell(
+                rest,
+                ahead,
+                marks,
+                separator,
+                dialect.has_quotes,
+            );
+            NextCell {
+                text,
+                behind,
+                marks,
+                ended: text.len() == rest.len(),
+            }
+        }
+        Layout::Widths { widths } | Layout::Records { widths } => wide_cell(rest, column, widths),
+    }
+}
