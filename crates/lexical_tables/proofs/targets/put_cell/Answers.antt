@@ -1,4 +1,4 @@
-use Rattle.std.proofs.Common.{Ok, Err, Some, ap, sym, map, ◌∙◌}
+use Rattle.std.proofs.Common.{Ok, ap, sym, map, ◌∙◌}
 use Rattle.std.proofs.lemmas.List.{map-set}
 use Rattle.lexical_parse_integer.specs.Grammar.{complete}
 use Rattle.lexical_fields.proofs.FieldAnswers.{answered}

@@ -1,6 +1,5 @@
-use Rattle.std.proofs.Common.{Ok, Err, Some, ap, sym, map, ◌∙◌}
+use Rattle.std.proofs.Common.{Ok, Err, Some, ap, map, ◌∙◌}
 use Rattle.std.proofs.lemmas.List.{map-set}
-use Rattle.lexical_parse_integer.specs.Grammar.{complete}
 use Rattle.lexical_fields.proofs.FieldAnswers.{answered}
 use Rattle.lexical_tables.specs.Targets.{error_in, with_number}
 use Rattle.lexical_tables.proofs.targets.put_parsed.Goals as goal

@@ -1,4 +1,4 @@
-use Rattle.std.proofs.Common.{Ok, Err, Some, refl, ap, sym, map, ◌∙◌}
+use Rattle.std.proofs.Common.{Ok, refl, ap, sym, map, ◌∙◌}
 use Rattle.std.proofs.lemmas.List.{map-set}
 use Rattle.lexical_util.specs.Format.{standard}
 use Rattle.lexical_parse_integer.specs.Grammar.{complete}
