@@ -105,6 +105,25 @@ pub fn put_cell<T: ParseInteger>(
     put_parsed(values, row, start, cell, format, options)
 }
 
+// Puts a number by the parser under the standard format, which is made here: its caller would make it for each cell.
+#[inline(always)]
+fn put_standard_parsed<T: ParseInteger>(
+    values: &mut [T],
+    row: usize,
+    start: usize,
+    cell: &[u8],
+    options: &Options,
+) -> Option<Error>
+    requires room { row < length values.old }
+    requires fits { start + length cell.now < 2 ^ 64 }
+    ensures fault { result ≡ error_in (field_answer standard T.TYPE
+        (record { start = start; text = cell.now })) }
+    ensures numbers { map T.number values.new ≡ with_number row (field_answer standard T.TYPE
+        (record { start = start; text = cell.now })) (map T.number values.old) }
+{
+    put_parsed(values, row, start, cell, &format::STANDARD, options)
+}
+
 // The number of a text's first bytes, so many, under the standard format, as `value_in_front` has it. Why out of line:
 // docs/DECISIONS.md, code.
 #[inline(never)]
@@ -137,7 +156,7 @@ pub fn put_standard_cell<T: ParseInteger>(
         values[row] = value;
         return None;
     }
-    put_parsed(values, row, start, cell, &format::STANDARD, options)
+    put_standard_parsed(values, row, start, cell, options)
 }
 
 /// Puts 0 into a row's place of a slice.
