@@ -618,7 +618,7 @@ typedef struct jadvolni_table {
     /* Flag: spaces and tabs may stand around a number. */
     uint8_t allows_blanks;
 
-    /* Flag: a row without a byte is none. Else it is a row of one empty cell. */
+    /* Flag: a row without a byte is none. Else it is a row of one empty cell, or by widths of none. */
     uint8_t skips_empty_rows;
 
     /* Flag: a row is a record, of as many bytes as the widths say together, but at least one. Nothing

@@ -1,5 +1,5 @@
 -- When words of bytes are 0.
-use Rattle.std.proofs.Common.{◌≡◌, ◌∙◌, ℕ, Bool, zero, suc, ◌+◌, ◌*◌, ◌&&◌, nat_eq, nat_lt, true, false, List, [], ◌∷◌, ◌++◌, length, get_or, map, refl, ap, ap₂, sym, subst, arith}
+use Rattle.std.proofs.Common.{◌≡◌, ◌∙◌, ◌==◌, ◌<◌, ℕ, Bool, zero, suc, ◌+◌, ◌*◌, ◌&&◌, nat_eq, nat_lt, true, false, List, [], ◌∷◌, ◌++◌, length, get_or, map, refl, ap, ap₂, sym, subst, arith}
 use lib.Pointwise.{pointwise}
 use Rattle.std.proofs.lemmas.Bool.Decides.{nat_tests}
 use Rattle.std.proofs.lemmas.List.{ext_get_or}
@@ -49,6 +49,41 @@ radix_and_flag a b c d e f g h =
     ∙ ap (λ x. nat_eq d 0 && x) (above e (f + 256 * (g + 256 * 0))
     ∙ ap (λ x. nat_eq e 0 && x) (above f (g + 256 * 0)
     ∙ ap (λ x. nat_eq f 0 && x) (above g 0)))))
+
+-- The bytes of the standard format, whose first is the radix, and whose last is the flag of required digits.
+pub record AreStandard (a b c d e f g h : ℕ) : Type 0 where
+  pub radix : a ≡ 10
+  pub between : are_zeros (b ∷ c ∷ d ∷ e ∷ f ∷ g ∷ []) ≡ true
+  pub flag : h ≡ 1
+
+byte_of : (a rest n m : ℕ) → a < 256 → n < 256 → a + 256 * rest ≡ n + 256 * m → (a ≡ n) × (rest ≡ m)
+byte_of a rest n m small low same = (omega arith, omega arith)
+
+pub standard_word : (a b c d e f g h : ℕ) → a < 256 → b < 256 → c < 256 → d < 256 → e < 256 → f < 256 → g < 256
+    → from_le_bytes w64 (a ∷ b ∷ c ∷ d ∷ e ∷ f ∷ g ∷ h ∷ []) ≡ 72057594037927946 → AreStandard a b c d e f g h
+standard_word a b c d e f g h sa sb sc sd se sf sg same =
+    let r7 = h + 256 * 0 in
+    let r6 = g + 256 * r7 in
+    let r5 = f + 256 * r6 in
+    let r4 = e + 256 * r5 in
+    let r3 = d + 256 * r4 in
+    let r2 = c + 256 * r3 in
+    let r1 = b + 256 * r2 in
+    let whole : a + 256 * r1 ≡ 10 + 256 * 281474976710656 = omega arith in
+    let at_a = byte_of a r1 10 281474976710656 sa (omega arith) whole in
+    let at_b = byte_of b r2 0 1099511627776 sb (omega arith) (omega (arith, at_a.1)) in
+    let at_c = byte_of c r3 0 4294967296 sc (omega arith) (omega (arith, at_b.1)) in
+    let at_d = byte_of d r4 0 16777216 sd (omega arith) (omega (arith, at_c.1)) in
+    let at_e = byte_of e r5 0 65536 se (omega arith) (omega (arith, at_d.1)) in
+    let at_f = byte_of f r6 0 256 sf (omega arith) (omega (arith, at_e.1)) in
+    let at_g = byte_of g r7 0 1 sg (omega arith) (omega (arith, at_f.1)) in
+    record {
+      radix = at_a.0;
+      between =
+          ap₂ (λ x y. (x == 0) && y) at_b.0 (ap₂ (λ x y. (x == 0) && y) at_c.0 (ap₂ (λ x y. (x == 0) && y) at_d.0
+          (ap₂ (λ x y. (x == 0) && y) at_e.0 (ap₂ (λ x y. (x == 0) && y) at_f.0 (ap (λ x. (x == 0) && true) at_g.0)))));
+      flag = omega (arith, at_g.1);
+    }
 
 -- two numbers have no bit where both are 0
 or_is_zero : (a b : ℕ) → nat_eq (bit_or a b) 0 ≡ (nat_eq a 0 && nat_eq b 0)

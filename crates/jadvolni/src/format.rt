@@ -2,6 +2,7 @@
 //!
 //! Its lists of fields are written from tools/fields.txt, by `make docs`.
 
+ghost use Rattle.std.specs.Int.{from_le_bytes, w64};
 ghost use Rattle.std.specs.Prelude.{◌≡◌, ◌↔◌, ◌&&◌, ◌∷◌, [], IsTrue};
 ghost use Rattle.lexical_util.specs.Format.{standard};
 ghost use Rattle.jadvolni.specs.Effect.{format_status};
@@ -68,16 +69,16 @@ fn punctuation(byte: u8, is_nul: bool) -> Option<u8>
     }
 }
 
-// Whether a digit is required, and the fields before that one ask for nothing but a radix: the first eight bytes.
+// The first eight bytes as a word: the radix, punctuation and its case, and which digits are required.
 #[inline(always)]
-#[tactic(auto, using(crate::proofs::ZeroBytes::radix_and_flag))]
-fn asks_for_digits(fields: &FormatFields) -> bool
-    ensures { result ≡ (flag fields.now.required_mantissa_digits && are_zeros (
-        fields.now.digit_separator ∷ fields.now.base_prefix ∷ fields.now.base_suffix
-        ∷ fields.now.case_sensitive_base_prefix ∷ fields.now.case_sensitive_base_suffix
-        ∷ fields.now.required_integer_digits ∷ [])) }
+fn first_word(fields: &FormatFields) -> u64
+    ensures { result ≡ from_le_bytes w64 (
+        fields.now.mantissa_radix ∷ fields.now.digit_separator ∷ fields.now.base_prefix
+        ∷ fields.now.base_suffix ∷ fields.now.case_sensitive_base_prefix
+        ∷ fields.now.case_sensitive_base_suffix ∷ fields.now.required_integer_digits
+        ∷ fields.now.required_mantissa_digits ∷ []) }
 {
-    let word = u64::from_le_bytes([
+    u64::from_le_bytes([
         fields.mantissa_radix,
         fields.digit_separator,
         fields.base_prefix,
@@ -86,10 +87,35 @@ fn asks_for_digits(fields: &FormatFields) -> bool
         fields.case_sensitive_base_suffix,
         fields.required_integer_digits,
         fields.required_mantissa_digits,
-    ]);
+    ])
+}
+
+// Whether a digit is required, and the fields before that one ask for nothing but a radix.
+#[inline(always)]
+#[tactic(auto, using(crate::proofs::ZeroBytes::radix_and_flag))]
+fn asks_for_digits(fields: &FormatFields) -> bool
+    ensures { result ≡ (flag fields.now.required_mantissa_digits && are_zeros (
+        fields.now.digit_separator ∷ fields.now.base_prefix ∷ fields.now.base_suffix
+        ∷ fields.now.case_sensitive_base_prefix ∷ fields.now.case_sensitive_base_suffix
+        ∷ fields.now.required_integer_digits ∷ [])) }
+{
     let radix = fields.mantissa_radix as u64;
     let required = fields.required_mantissa_digits as u64;
-    required != 0 && word == radix + required * 0x100_0000_0000_0000
+    required != 0 && first_word(fields) == radix + required * 0x100_0000_0000_0000
+}
+
+// Whether the first eight bytes ask for digits of radix 10, and for no more, by a flag of 1.
+#[inline(always)]
+#[tactic(auto, using(crate::proofs::ZeroBytes::standard_word))]
+fn asks_for_ten_alone(fields: FormatFields) -> bool
+    ensures radix { IsTrue result → fields.mantissa_radix ≡ 10 }
+    ensures digits { IsTrue result → fields.required_mantissa_digits ≡ 1 }
+    ensures rest { IsTrue result → IsTrue (are_zeros (
+        fields.digit_separator ∷ fields.base_prefix ∷ fields.base_suffix
+        ∷ fields.case_sensitive_base_prefix ∷ fields.case_sensitive_base_suffix
+        ∷ fields.required_integer_digits ∷ [])) }
+{
+    first_word(&fields) == 0x100_0000_0000_000A
 }
 
 // Whether nothing is asked for of signs, zeros and separators: the next eight bytes.
@@ -177,6 +203,15 @@ impl FormatFields {
             × (format_of self.now ≡ record standard { mantissa_radix = self.now.mantissa_radix })) }
     {
         asks_for_digits(self) && asks_for_no_signs(self) && asks_for_no_literals(self)
+    }
+
+    /// Whether the fields are those of the standard format, as C writes it: its one flag is 1.
+    #[inline(always)]
+    #[tactic(auto, using(crate::proofs::ZeroBytes::no_bits))]
+    pub(crate) fn is_standard(&self) -> bool
+        ensures { IsTrue result → format_of self.now ≡ standard }
+    {
+        asks_for_ten_alone(*self) && asks_for_no_signs(self) && asks_for_no_literals(self)
     }
 
     /// The format that the fields stand for, which may be invalid.

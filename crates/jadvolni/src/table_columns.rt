@@ -7,8 +7,8 @@ ghost use Rattle.jadvolni.specs.FormatFields.{format_of};
 ghost use Rattle.jadvolni.specs.Tables.{bits_of, column_status, lacks_bits, number_type, put_number, put_presence, put_zero, target_of};
 
 use crate::format::FormatFields;
-use lexical_parse_integer::{Error, NumberFormat, Options, format};
-use lexical_tables::{TableColumn, put_bit, put_cell, put_zero};
+use lexical_parse_integer::{Error, Options};
+use lexical_tables::{TableColumn, put_bit, put_cell, put_standard_cell, put_zero};
 
 /// The status of a table that no text can be read by.
 pub const INVALID_TABLE: u32 = 17;
@@ -85,17 +85,6 @@ impl ColumnFields<'_> {
         !self.present.is_empty() && rows > 0 && self.present.len() <= (rows - 1) / 8
     }
 
-    // The format of the cells: what most columns have is at hand, and any other is made field by field.
-    #[inline(always)]
-    fn format(&self) -> NumberFormat
-        ensures { result ≡ format_of self.now.format }
-    {
-        if self.format.mantissa_radix == 10 && self.format.is_standard_but_radix() {
-            return format::STANDARD;
-        }
-        self.format.format()
-    }
-
     // Sets the bit of a row, or clears it, if the column is read and has bits.
     #[inline(always)]
     #[tactic(auto, using(crate::proofs::TableBits::bits_put, crate::proofs::TableBits::bits_there, crate::proofs::TableBits::no_bit, crate::proofs::TableBits::slice_stays))]
@@ -126,7 +115,40 @@ impl ColumnFields<'_> {
         }
     }
 
-    // Puts the number of a text into a row's place, or tells the text's fault.
+    // Puts the number of a text into a row's place, or tells the text's fault, under a format that is made field by field.
+    #[inline(never)]
+    fn put_other_number(
+        &mut self,
+        row: usize,
+        start: usize,
+        text: &[u8],
+        ahead: &[u8],
+        options: &Options,
+    ) -> Option<Error>
+        requires usable { IsUsable (row + 1) (target_of self.old) }
+        requires front { text.now ≡ take (length text.now) ahead.now }
+        requires fits { start + length text.now < 2 ^ 64 }
+        ensures fault { result ≡ text_fault (target_of self.old)
+            (record { start = start; text = text.now }) }
+        ensures target { target_of self.new ≡ option_map (put_number row
+            (record { start = start; text = text.now })) (target_of self.old) }
+    {
+        let format = self.format.format();
+        match self.number_type() {
+            None => None,
+            Some(NumberType::I64) => put_cell(self.i64s, row, start, text, ahead, &format, options),
+            Some(NumberType::U64) => put_cell(self.u64s, row, start, text, ahead, &format, options),
+            Some(NumberType::I32) => put_cell(self.i32s, row, start, text, ahead, &format, options),
+            Some(NumberType::U32) => put_cell(self.u32s, row, start, text, ahead, &format, options),
+            Some(NumberType::I16) => put_cell(self.i16s, row, start, text, ahead, &format, options),
+            Some(NumberType::U16) => put_cell(self.u16s, row, start, text, ahead, &format, options),
+            Some(NumberType::I8) => put_cell(self.i8s, row, start, text, ahead, &format, options),
+            Some(NumberType::U8) => put_cell(self.u8s, row, start, text, ahead, &format, options),
+        }
+    }
+
+    // Puts the number of a text into a row's place, or tells the text's fault. Most columns have the standard format, and
+    // its tests fold away.
     #[inline(always)]
     fn put_number(
         &mut self,
@@ -144,17 +166,19 @@ impl ColumnFields<'_> {
         ensures target { target_of self.new ≡ option_map (put_number row
             (record { start = start; text = text.now })) (target_of self.old) }
     {
-        let format = self.format();
+        if !self.format.is_standard() {
+            return self.put_other_number(row, start, text, ahead, options);
+        }
         match self.number_type() {
             None => None,
-            Some(NumberType::I64) => put_cell(self.i64s, row, start, text, ahead, &format, options),
-            Some(NumberType::U64) => put_cell(self.u64s, row, start, text, ahead, &format, options),
-            Some(NumberType::I32) => put_cell(self.i32s, row, start, text, ahead, &format, options),
-            Some(NumberType::U32) => put_cell(self.u32s, row, start, text, ahead, &format, options),
-            Some(NumberType::I16) => put_cell(self.i16s, row, start, text, ahead, &format, options),
-            Some(NumberType::U16) => put_cell(self.u16s, row, start, text, ahead, &format, options),
-            Some(NumberType::I8) => put_cell(self.i8s, row, start, text, ahead, &format, options),
-            Some(NumberType::U8) => put_cell(self.u8s, row, start, text, ahead, &format, options),
+            Some(NumberType::I64) => put_standard_cell(self.i64s, row, start, text, ahead, options),
+            Some(NumberType::U64) => put_standard_cell(self.u64s, row, start, text, ahead, options),
+            Some(NumberType::I32) => put_standard_cell(self.i32s, row, start, text, ahead, options),
+            Some(NumberType::U32) => put_standard_cell(self.u32s, row, start, text, ahead, options),
+            Some(NumberType::I16) => put_standard_cell(self.i16s, row, start, text, ahead, options),
+            Some(NumberType::U16) => put_standard_cell(self.u16s, row, start, text, ahead, options),
+            Some(NumberType::I8) => put_standard_cell(self.i8s, row, start, text, ahead, options),
+            Some(NumberType::U8) => put_standard_cell(self.u8s, row, start, text, ahead, options),
         }
     }
 

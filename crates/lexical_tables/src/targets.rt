@@ -1,7 +1,9 @@
 //! Where the numbers of a table's columns go.
 
-ghost use Rattle.std.specs.Prelude.{◌≡◌, ◌+◌, ◌*◌, ◌<◌, ◌≤◌, ◌^◌, Option, None, Some, length, take, map, set, is_some, option_map, pos, IfSome, IsNone};
+ghost use Rattle.std.specs.Prelude.{◌≡◌, ◌+◌, ◌*◌, ◌<◌, ◌≤◌, ◌^◌, Ok, Option, None, Some, length, take, map, set, is_some, option_map, pos, IfSome, IsNone};
+ghost use Rattle.lexical_util.specs.Format.{standard};
 ghost use Rattle.lexical_util.specs.Validity.{fault};
+ghost use Rattle.lexical_parse_integer.specs.Grammar.{complete};
 ghost use Rattle.lexical_fields.specs.ReadFields.{field_answer};
 ghost use Rattle.lexical_tables.specs.ByColumn.{IsUsable};
 ghost use Rattle.lexical_tables.specs.Targets.{TargetView, error_in, has_bits, put_text, put_value, text_answer, text_fault, view_of_target, with_number, with_row_bit};
@@ -9,7 +11,7 @@ ghost use Rattle.lexical_tables.specs.Targets.{TargetView, error_in, has_bits, p
 use lexical_fields::{error_in_text, value_in_front};
 use lexical_parse_integer::laws::grammar::fault_places;
 use lexical_parse_integer::parse::ParseInteger;
-use lexical_parse_integer::{Error, NumberFormat, Options};
+use lexical_parse_integer::{Error, NumberFormat, Options, format};
 
 /// The slice that a column's numbers go to. It says their type.
 #[derive(Drop)]
@@ -44,6 +46,35 @@ pub struct Target<'a> {
     pub present: Option<&'a mut [u8]>,
 }
 
+// Puts the number of a cell into a row's place, or tells the cell's fault: by the parser.
+#[inline(never)]
+fn put_parsed<T: ParseInteger>(
+    values: &mut [T],
+    row: usize,
+    start: usize,
+    cell: &[u8],
+    format: &NumberFormat,
+    options: &Options,
+) -> Option<Error>
+    requires valid { IsNone (fault format.now) }
+    requires room { row < length values.old }
+    requires fits { start + length cell.now < 2 ^ 64 }
+    ensures fault { result ≡ error_in (field_answer format.now T.TYPE
+        (record { start = start; text = cell.now })) }
+    ensures numbers { map T.number values.new ≡ with_number row (field_answer format.now T.TYPE
+        (record { start = start; text = cell.now })) (map T.number values.old) }
+{
+    // The law by which a fault's place is at most the cell's length, so that the sum fits.
+    fault_places();
+    match T::parse_complete(cell, format, options) {
+        Ok(value) => {
+            values[row] = value;
+            None
+        }
+        Err(error) => Some(error_in_text(start, error)),
+    }
+}
+
 /// Puts the number of a cell that starts at a place into a row's place of a slice, or tells the cell's fault.
 ///
 /// It is for a [`TableColumn`] of one's own. The format has to be valid, and the slice has to have that place. The
@@ -59,8 +90,8 @@ pub fn put_cell<T: ParseInteger>(
     options: &Options,
 ) -> Option<Error>
     requires valid { IsNone (fault format.now) }
-    requires room { row < length values.old }
     requires front { cell.now ≡ take (length cell.now) ahead.now }
+    requires room { row < length values.old }
     requires fits { start + length cell.now < 2 ^ 64 }
     ensures fault { result ≡ error_in (field_answer format.now T.TYPE
         (record { start = start; text = cell.now })) }
@@ -71,15 +102,61 @@ pub fn put_cell<T: ParseInteger>(
         values[row] = value;
         return None;
     }
-    // The law by which a fault's place is at most the cell's length, so that the sum fits.
-    fault_places();
-    match T::parse_complete(cell, format, options) {
-        Ok(value) => {
-            values[row] = value;
-            None
-        }
-        Err(error) => Some(error_in_text(start, error)),
+    put_parsed(values, row, start, cell, format, options)
+}
+
+// Puts a number by the parser under the standard format, which is made here: its caller would make it for each cell.
+#[inline(always)]
+fn put_standard_parsed<T: ParseInteger>(
+    values: &mut [T],
+    row: usize,
+    start: usize,
+    cell: &[u8],
+    options: &Options,
+) -> Option<Error>
+    requires room { row < length values.old }
+    requires fits { start + length cell.now < 2 ^ 64 }
+    ensures fault { result ≡ error_in (field_answer standard T.TYPE
+        (record { start = start; text = cell.now })) }
+    ensures numbers { map T.number values.new ≡ with_number row (field_answer standard T.TYPE
+        (record { start = start; text = cell.now })) (map T.number values.old) }
+{
+    put_parsed(values, row, start, cell, &format::STANDARD, options)
+}
+
+// The number of a text's first bytes, so many, under the standard format, as `value_in_front` has it. Why out of line:
+// docs/DECISIONS.md, code.
+#[inline(never)]
+fn standard_in_front<T: ParseInteger>(text: &[u8], size: usize) -> Option<T>
+    ensures { IfSome result
+        (λ value. complete standard T.TYPE (take size text.now) ≡ Ok (T.number value)) }
+{
+    value_in_front::<T>(text, size, &format::STANDARD)
+}
+
+/// Puts the number of a cell into a row's place of a slice, as [`put_cell`] does under the standard format.
+#[inline(always)]
+pub fn put_standard_cell<T: ParseInteger>(
+    values: &mut [T],
+    row: usize,
+    start: usize,
+    cell: &[u8],
+    ahead: &[u8],
+    options: &Options,
+) -> Option<Error>
+    requires front { cell.now ≡ take (length cell.now) ahead.now }
+    requires room { row < length values.old }
+    requires fits { start + length cell.now < 2 ^ 64 }
+    ensures fault { result ≡ error_in (field_answer standard T.TYPE
+        (record { start = start; text = cell.now })) }
+    ensures numbers { map T.number values.new ≡ with_number row (field_answer standard T.TYPE
+        (record { start = start; text = cell.now })) (map T.number values.old) }
+{
+    if let Some(value) = standard_in_front::<T>(ahead, cell.len()) {
+        values[row] = value;
+        return None;
     }
+    put_standard_parsed(values, row, start, cell, options)
 }
 
 /// Puts 0 into a row's place of a slice.
