@@ -110,13 +110,19 @@ impl<'a, R: Read> TableReader<'a, R> {
         while !self.has_ended && capacity(columns) > 0 {
             let text = &self.block[self.parsed..self.filled];
             match parse_table_part(text, self.is_last, &self.dialect, columns) {
-                Ok(table) if table.rows > 0 => {
+                Ok(table) => {
+                    // Empty rows that are skipped are read, and no row.
                     self.parsed += table.stop;
                     self.row += table.rows;
-                    return Ok(table.rows);
+                    if table.rows > 0 {
+                        return Ok(table.rows);
+                    }
+                    if self.is_last {
+                        self.has_ended = true;
+                    } else {
+                        self.fill()?;
+                    }
                 }
-                Ok(_) if self.is_last => self.has_ended = true,
-                Ok(_) => self.fill()?,
                 Err(error) => {
                     self.has_ended = true;
                     let in_text = error.behind(self.row, self.start + self.parsed);

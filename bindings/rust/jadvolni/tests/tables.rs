@@ -123,6 +123,18 @@ fn a_row_that_no_block_holds_is_told() {
 }
 
 #[test]
+fn blocks_of_skipped_rows_alone() {
+    for (size, most) in (3..9).flat_map(|size| (1..9).map(move |most| (size, most))) {
+        let text = b"\n\n\n\n\n\n\n\n\n7,\n\n\n\n\n\n\n\n\nx,";
+        let device = Device { text, most, place: 0, failure: None };
+        let (rows, told) = rows_of(device, comma().skips_empty_rows(true), size, 4);
+        let wrong = TableError { row: 1, column: 0, error: Error::InvalidDigit(20) };
+        assert_eq!(rows, [7]);
+        assert!(matches!(told[..], [TableReadError::Table { error, .. }] if error == wrong));
+    }
+}
+
+#[test]
 fn quotes_blanks_empty_rows_and_bits() {
     let (mut numbers, mut bits) = ([9i32; 8], [0xAA]);
     let dialect =
