@@ -277,7 +277,7 @@ template <class T>
 }
 
 // The number in front of the text as a T. Its place() is where reading stopped; without a digit it
-// is status::empty.
+// is status::empty. Where more bytes may come, an answer at the text's end isn't final.
 template <class T>
 [[nodiscard]] result<T> parse_front(std::string_view text) noexcept
 {

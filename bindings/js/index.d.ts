@@ -56,7 +56,8 @@ export function parse<T extends NumberType>(text: Text, type: T, format?: Format
 
 /**
  * The number in front of a text: "12px" gives 12, and stops at 2. Where no digit was read, it throws
- * a `ParseError` of the kind "Empty", whatever the format says.
+ * a `ParseError` of the kind "Empty", whatever the format says. Where more text may come, as from a
+ * stream, what is told at the text's end isn't final: "12" may go on as "123".
  */
 export function parseFront<T extends NumberType>(
   text: Text,

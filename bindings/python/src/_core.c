@@ -259,7 +259,8 @@ static PyMethodDef METHODS[] = {
     CALL(parse_front,
          "parse_front(text, type=\"i64\", format=None)\n--\n\n"
          "The number in front of the text, and how many bytes of the text it has.\n\n"
-         "Where no digit was read, ParseError tells the place where reading stopped."),
+         "Where no digit was read, ParseError tells the place where reading stopped. Where more\n"
+         "bytes may come, an answer at the text's end isn't final: 12 may go on as 123."),
     CALL(parse_partial,
          "parse_partial(text, type=\"i64\", format=None)\n--\n\n"
          "The number at the text's front, where no digit has to be there.\n\n"

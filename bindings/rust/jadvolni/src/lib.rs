@@ -64,6 +64,8 @@ pub fn parse<T: Integer>(text: impl AsRef<[u8]>) -> Result<T, Error> {
 /// The number in front of the text as a `T`, and where reading stopped. Where no digit was read, that is
 /// `Error::Empty` at the place where reading stopped.
 ///
+/// Where more bytes may come, as from a stream, an answer at the text's end isn't final: `12` may go on as `123`.
+///
 /// ```
 /// use jadvolni::{parse_front, Error};
 /// assert_eq!(parse_front::<u64>("1234 }"), Ok((1234, 4)));
