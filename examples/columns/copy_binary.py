@@ -24,13 +24,22 @@ def bytes_of(day: int, cents: int, has_cents: bool) -> bytes:
     return ROW.pack(2, 4, day, 8, cents) if has_cents else ROW_WITH_NULL.pack(2, 4, day, -1)
 
 
-def copy(file, out) -> None:
-    """Writes the rows of a file."""
-    out.write(b"PGCOPY\n\xff\r\n\0" + bytes(8))
+def copied(file):
+    """What is written for a file, block by block."""
+    yield b"PGCOPY\n\xff\r\n\0" + bytes(8)
     for rows in jadvolni.iter_table(file, CELLS, ";"):
         days, cents = rows["day"].tolist(), rows["cents"]
-        out.write(b"".join(map(bytes_of, days, cents.numbers.tolist(), cents.present)))
-    out.write(b"\xff\xff")
+        yield b"".join(map(bytes_of, days, cents.numbers.tolist(), cents.present))
+    yield b"\xff\xff"
+
+
+def write(block: bytes) -> None:
+    """Writes a block to standard output."""
+    try:
+        sys.stdout.buffer.write(block)
+        sys.stdout.flush()
+    except OSError as error:
+        sys.exit(f"standard output: {error.strerror}")
 
 
 def main() -> None:
@@ -41,7 +50,8 @@ def main() -> None:
     path = sys.argv[1]
     try:
         with open(path, "rb") as file:
-            copy(file, sys.stdout.buffer)
+            for block in copied(file):
+                write(block)
     except jadvolni.ParseError as error:
         cell = f"line {error.row + 1}, cell {error.column + 1}, byte {error.place}"
         sys.exit(f"{path}: {cell}: {error.kind}")

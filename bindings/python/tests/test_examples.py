@@ -193,6 +193,16 @@ class CopyBinary(Case):
                 run = subprocess.run(command, capture_output=True, timeout=60)
                 self.assertEqual((run.returncode, run.stderr.decode()), (1, f"{path}: {told}\n"))
 
+    def test_a_full_device(self):
+        path = self.folder / "input"
+        path.write_bytes(b"1;a;1\n")
+        with open("/dev/full", "wb") as full:
+            command = [sys.executable, EXAMPLES / "copy_binary.py", path]
+            run = subprocess.run(command, stdout=full, stderr=subprocess.PIPE, timeout=60)
+        self.assertNotEqual(run.returncode, 0)
+        self.assertEqual(run.stderr.decode().splitlines()[0],
+                         "standard output: No space left on device")
+
     @unittest.skipUnless(shutil.which("initdb"), "there is no PostgreSQL on the PATH")
     def test_postgres(self):
         """PostgreSQL, started here on a socket of its own, has the same rows, and NULLs."""
