@@ -1,9 +1,9 @@
 -- The cells of what is left of a row: the first, and those behind it.
-use Rattle.std.proofs.Common.{◌≡◌, ◌∙◌, ℕ, ◌+◌, ◌-◌, ◌≤◌, List, [], ◌∷◌, length, take, drop, Bool, true, false, not, cond, eqb, Option, Some, refl, ap, sym, arith, length-take-le}
+use Rattle.std.proofs.Common.{◌≡◌, ◌∙◌, ℕ, ◌+◌, ◌-◌, ◌≤◌, List, [], ◌∷◌, length, take, drop, Bool, true, false, not, cond, eqb, Option, Some, refl, ap, sym, subst, arith, length-take-le}
 use Rattle.std.specs.Bool.{then_some}
 use Rattle.std.specs.Prelude.{nat_lt}
 use Rattle.lexical_fields.specs.Fields.{FieldView}
-use Rattle.lexical_tables.specs.ByColumn.{cells_by_width, cells_left, cells_of, first_start, lacks_cell, lacks_width}
+use Rattle.lexical_tables.specs.ByColumn.{cells_by_width, cells_left, cells_of, first_start, lacks_cell, lacks_width, marked_separator}
 use Rattle.lexical_tables.specs.Quotes.{length_outside}
 use Rattle.lexical_tables.specs.Rows.{RowView}
 use Rattle.lexical_tables.specs.declared.dialect.Dialect.{Dialect}
@@ -53,6 +53,18 @@ starts_left (Separated s columns) q column place text there =
     (length-take-le n text (outside_within q s text)))
 starts_left (Widths widths) q column place text there = starts_by_width (drop column widths.now) place text there
 starts_left (Records widths) q column place text there = starts_by_width (drop column widths.now) place text there
+
+-- marks find cells only between separators that no quote hides
+pub marked_is : (layout : Layout) (q : Bool) (s : ℕ) → Some s ≡ marked_separator layout q → (P : Layout → Bool → Type 0)
+    → ((columns : ℕ) → P (Separated s columns) false) → P layout q
+marked_is (Separated t columns) false s is P right =
+    let same : s ≡ t = cc in
+    subst (λ k. P (Separated k columns) false) same (right columns)
+marked_is (Separated t columns) true s is P right = absurd cc
+marked_is (Widths widths) false s is P right = absurd cc
+marked_is (Widths widths) true s is P right = absurd cc
+marked_is (Records widths) false s is P right = absurd cc
+marked_is (Records widths) true s is P right = absurd cc
 
 -- ---- of a row that is read
 

@@ -158,11 +158,20 @@ lacks_cell (Separated separator columns) column text = false
 lacks_cell (Widths widths) column text = lacks_width (drop column widths.now) text
 lacks_cell (Records widths) column text = lacks_width (drop column widths.now) text
 
--- a text's separators are marked, if cells stand between such
-abbrev pub AreCellMarks : Layout → List ℕ → ℕ → Type 0
-AreCellMarks (Separated separator columns) text marks = AreMarks separator text marks
-AreCellMarks (Widths widths) text marks = Unit {0}
-AreCellMarks (Records widths) text marks = Unit {0}
+-- the separator, if cells stand between such
+abbrev pub separator_of : Layout → Option ℕ
+separator_of (Separated separator columns) = Some separator
+separator_of (Widths widths) = None
+separator_of (Records widths) = None
+
+-- the separator, if marks find cells: quotes have no meaning
+abbrev pub marked_separator : Layout → Bool → Option ℕ
+marked_separator layout has_quotes = if has_quotes then None else separator_of layout
+
+-- a text's separators are marked, if marks find cells
+abbrev pub AreCellMarks : Option ℕ → List ℕ → ℕ → Type 0
+AreCellMarks None text marks = Unit {0}
+AreCellMarks (Some separator) text marks = AreMarks separator text marks
 
 -- the fault of an answer
 abbrev pub fault_in : Result (Option ℤ) CellFault → Option CellFault

@@ -1,12 +1,12 @@
 //! Tables whose columns go into slices of their own.
 
 ghost use Rattle.std.specs.Prelude.{◌≡◌, ◌+◌, ◌-◌, ◌<◌, ◌≤◌, ◌^◌, length, take, drop, map, is_some, option_map, true, IfOk};
-ghost use Rattle.lexical_tables.specs.ByColumn.{AreUsable, IsUsable, StopsAt, answer_at, columns_answer, columns_put, end_fault, fault_in, kind_of, kinds_of, put_read, put_read_at, put_row, row_fault, row_values};
+ghost use Rattle.lexical_tables.specs.ByColumn.{AreUsable, IsUsable, StopsAt, answer_at, column_count, columns_answer, columns_put, end_fault, fault_in, kind_of, kinds_of, marked_separator, put_read, put_read_at, put_row, row_fault, row_values};
 ghost use Rattle.lexical_tables.specs.Cells.{answer_as, view_of_cell};
 ghost use Rattle.lexical_tables.specs.Rows.{view_of_row};
 
 use crate::answers::{CellFault, Table, TableError};
-use crate::cells::{column_count, lacks_cell, next_cell};
+use crate::cells::{Shape, lacks_cell, next_cell, shape_of};
 use crate::content::{Cell, content};
 use crate::dialect::Dialect;
 use crate::misplaced::quote_fault;
@@ -112,10 +112,14 @@ fn read_cells<C: TableColumn>(
     row: &Row<'_>,
     ahead: &[u8],
     index: usize,
+    shape: Shape,
     dialect: &Dialect<'_>,
     options: &Options,
     targets: &mut [C],
 ) -> Option<TableError>
+    requires columns { shape.columns ≡ column_count dialect.now.layout }
+    requires marked { shape.marked
+        ≡ marked_separator dialect.now.layout dialect.now.has_quotes }
     requires usable { AreUsable (index + 1) (map C.target targets.old) }
     requires front { row.now.text.now ≡ take (length row.now.text.now) ahead.now }
     requires fits { row.now.start + length row.now.text.now < 2 ^ 64 }
@@ -125,15 +129,14 @@ fn read_cells<C: TableColumn>(
         (kinds_of (map C.target targets.old)) dialect.now (view_of_row row.now))
         (map C.target targets.old) }
 {
-    let columns = column_count(dialect);
     let mut rest = row.text;
     let mut ended = lacks_cell(rest, 0, dialect);
     let mut column = 0;
     let mut marks = 0;
-    while column < columns && !ended {
+    while column < shape.columns && !ended {
         let place = row.text.len() - rest.len();
         let left = &ahead[place..];
-        let next = next_cell(rest, left, marks, column, dialect);
+        let next = next_cell(rest, left, marks, column, shape.marked, dialect);
         let cell = Cell {
             start: row.start + place,
             text: next.text,
@@ -153,7 +156,7 @@ fn read_cells<C: TableColumn>(
     }
     let next = row.start + (row.text.len() - rest.len());
     let extra = (!ended).then_some(next);
-    end_fault(row, index, columns, column, extra)
+    end_fault(row, index, shape.columns, column, extra)
 }
 
 /// Reads a table's columns into slices of their own, for as many rows as are asked for at most.
@@ -183,11 +186,12 @@ pub fn read_columns<C: TableColumn>(
         (map C.target targets.old) }
     ensures goes_on { IfOk result (StopsAt dialect.now rows text.now) }
 {
+    let shape = shape_of(dialect);
     let mut rest = without_empty_rows(text, dialect);
     let mut count = 0;
     while count < rows && !rest.is_empty() {
         let (row, behind) = first_row(text.len() - rest.len(), rest, dialect);
-        if let Some(error) = read_cells(&row, rest, count, dialect, options, targets) {
+        if let Some(error) = read_cells(&row, rest, count, shape, dialect, options, targets) {
             return Err(error);
         }
         rest = without_empty_rows(behind, dialect);

@@ -1,27 +1,43 @@
 //! The cells of a row, found one after another.
 
-ghost use Rattle.std.specs.Prelude.{◌≡◌, ◌+◌, ◌-◌, ◌<◌, ◌≤◌, ℕ, [], ◌∷◌, false, length, take, drop, if◌then◌else◌};
+ghost use Rattle.std.specs.Prelude.{◌≡◌, ◌==◌, ◌+◌, ◌-◌, ◌<◌, ◌≤◌, ℕ, [], ◌∷◌, false, length, take, drop, if◌then◌else◌};
 ghost use Rattle.lexical_fields.specs.Search.{AreMarks};
-ghost use Rattle.lexical_tables.specs.ByColumn.{AreCellMarks, cells_by_width, cells_left, column_count, lacks_cell, lacks_width};
+ghost use Rattle.lexical_tables.specs.ByColumn.{AreCellMarks, cells_by_width, cells_left, column_count, lacks_cell, lacks_width, marked_separator};
 ghost use Rattle.lexical_tables.specs.Quotes.{length_outside};
 
 use crate::dialect::{Dialect, Layout};
 use crate::rows::split;
 use lexical_fields::{next_marks, split_marked};
 
-// How many columns a table has.
-#[inline(always)]
-pub(crate) fn column_count(dialect: &Dialect<'_>) -> usize
-    ensures { result ≡ column_count dialect.now.layout }
+// What all rows have in common: how many columns there are, and the separator, if marks find cells: these stand between
+// such, and quotes have no meaning.
+#[derive(Copy, Clone)]
+pub(crate) struct Shape {
+    pub columns: usize,
+    pub marked: Option<u8>,
+}
+
+// The shape of a table's rows.
+pub(crate) fn shape_of(dialect: &Dialect<'_>) -> Shape
+    ensures columns { result.columns ≡ column_count dialect.now.layout }
+    ensures marked { result.marked
+        ≡ marked_separator dialect.now.layout dialect.now.has_quotes }
 {
     match dialect.layout {
-        Layout::Separated { columns, .. } => columns,
-        Layout::Widths { widths } | Layout::Records { widths } => widths.len(),
+        Layout::Separated { separator, columns } => Shape {
+            columns,
+            marked: (!dialect.has_quotes).then_some(separator),
+        },
+        Layout::Widths { widths } | Layout::Records { widths } => Shape {
+            columns: widths.len(),
+            marked: None,
+        },
     }
 }
 
 // Whether what is left of a row has no cell of the next width: the cell isn't wholly there, or none is to come, and no
 // byte is left.
+#[inline(never)]
 fn lacks_width(text: &[u8], column: usize, widths: &[usize]) -> bool
     ensures { result ≡ lacks_width (drop column widths.now) text.now }
 {
@@ -43,43 +59,6 @@ pub(crate) fn lacks_cell(text: &[u8], column: usize, dialect: &Dialect<'_>) -> b
     }
 }
 
-// The first cell of what is left of a row, and what is behind it. What is ahead begins with that and has the marks; the
-// last are those of what is behind the cell.
-#[inline(always)]
-fn split_cell<'a>(
-    rest: &'a [u8],
-    ahead: &[u8],
-    marks: u64,
-    separator: u8,
-    has_quotes: bool,
-) -> (&'a [u8], &'a [u8], u64)
-    requires rest { rest.now ≡ take (length rest.now) ahead.now }
-    requires marks { AreMarks separator ahead.now marks }
-    ensures front { result.0.now ≡ take (length_outside has_quotes separator rest.now) rest.now }
-    ensures behind { result.1.now
-        ≡ drop (length_outside has_quotes separator rest.now + 1) rest.now }
-    ensures within { length result.0.now ≤ length rest.now }
-    ensures size { length result.0.now ≡ length_outside has_quotes separator rest.now }
-    ensures left { length result.1.now ≤ length rest.now }
-    ensures marks { AreMarks separator
-        (drop (length rest.now - length result.1.now) ahead.now) result.2 }
-{
-    if has_quotes {
-        let (cell, behind) = split(rest, separator, true);
-        return (cell, behind, 0);
-    }
-    let known = next_marks(ahead, marks, separator);
-    if known == 0 {
-        let (cell, behind) = split(rest, separator, false);
-        return (cell, behind, 0);
-    }
-    let (size, _, more) = split_marked(ahead, known, separator);
-    if size >= rest.len() {
-        return (rest, &rest[rest.len()..], 0);
-    }
-    (&rest[..size], &rest[size + 1..], more)
-}
-
 // A cell, what is left of its row behind it, the marks of what is ahead there, and whether no cell is left.
 #[derive(Copy, Clone)]
 pub(crate) struct NextCell<'a> {
@@ -90,6 +69,7 @@ pub(crate) struct NextCell<'a> {
 }
 
 // The first cell of what is left of a row behind so many cells that have widths, if it has one.
+#[inline(never)]
 fn wide_cell<'a>(rest: &'a [u8], column: usize, widths: &[usize]) -> NextCell<'a>
     requires column { column < length widths.now }
     requires there { lacks_width (drop column widths.now) rest.now ≡ false }
@@ -114,6 +94,64 @@ fn wide_cell<'a>(rest: &'a [u8], column: usize, widths: &[usize]) -> NextCell<'a
     }
 }
 
+// The first cell of what is left of a row, whose separators marks find. What is ahead begins with that.
+#[inline(always)]
+fn marked_cell<'a>(rest: &'a [u8], ahead: &[u8], marks: u64, separator: u8) -> NextCell<'a>
+    requires rest { rest.now ≡ take (length rest.now) ahead.now }
+    requires marks { AreMarks separator ahead.now marks }
+    ensures front { result.text.now ≡ take (length_outside false separator rest.now) rest.now }
+    ensures behind { result.behind.now
+        ≡ drop (length_outside false separator rest.now + 1) rest.now }
+    ensures within { length result.text.now ≤ length rest.now }
+    ensures size { length result.text.now ≡ length_outside false separator rest.now }
+    ensures left { length result.behind.now ≤ length rest.now }
+    ensures ended { result.ended ≡ (length result.text.now == length rest.now) }
+    ensures marks { AreMarks separator
+        (drop (length rest.now - length result.behind.now) ahead.now) result.marks }
+{
+    let known = next_marks(ahead, marks, separator);
+    if known == 0 {
+        return parted_cell(rest, separator, false);
+    }
+    let (size, _, more) = split_marked(ahead, known, separator);
+    if size >= rest.len() {
+        return NextCell {
+            text: rest,
+            behind: &rest[rest.len()..],
+            marks: 0,
+            ended: true,
+        };
+    }
+    NextCell {
+        text: &rest[..size],
+        behind: &rest[size + 1..],
+        marks: more,
+        ended: false,
+    }
+}
+
+// The first cell of what is left of a row, whose separators are searched for.
+#[inline(always)]
+fn parted_cell(rest: &[u8], separator: u8, has_quotes: bool) -> NextCell<'_>
+    ensures front { result.text.now
+        ≡ take (length_outside has_quotes separator rest.now) rest.now }
+    ensures behind { result.behind.now
+        ≡ drop (length_outside has_quotes separator rest.now + 1) rest.now }
+    ensures within { length result.text.now ≤ length rest.now }
+    ensures size { length result.text.now ≡ length_outside has_quotes separator rest.now }
+    ensures left { length result.behind.now ≤ length rest.now }
+    ensures ended { result.ended ≡ (length result.text.now == length rest.now) }
+    ensures marks { result.marks ≡ 0 }
+{
+    let (text, behind) = split(rest, separator, has_quotes);
+    NextCell {
+        text,
+        behind,
+        marks: 0,
+        ended: text.len() == rest.len(),
+    }
+}
+
 // The first cell of what is left of a row behind so many cells, if it has one. What is ahead begins with that.
 #[inline(always)]
 pub(crate) fn next_cell<'a>(
@@ -121,10 +159,12 @@ pub(crate) fn next_cell<'a>(
     ahead: &[u8],
     marks: u64,
     column: usize,
+    marked: Option<u8>,
     dialect: &Dialect<'_>,
 ) -> NextCell<'a>
     requires rest { rest.now ≡ take (length rest.now) ahead.now }
-    requires marks { AreCellMarks dialect.now.layout ahead.now marks }
+    requires marked { marked ≡ marked_separator dialect.now.layout dialect.now.has_quotes }
+    requires marks { AreCellMarks marked ahead.now marks }
     requires column { column < column_count dialect.now.layout }
     requires there { lacks_cell dialect.now.layout column rest.now ≡ false }
     ensures cells { (place : ℕ)
@@ -139,25 +179,14 @@ pub(crate) fn next_cell<'a>(
     ensures left { length result.behind.now ≤ length rest.now }
     ensures tail { result.behind.now
         ≡ drop (length rest.now - length result.behind.now) rest.now }
-    ensures marks { AreCellMarks dialect.now.layout
+    ensures marks { AreCellMarks marked
         (drop (length rest.now - length result.behind.now) ahead.now) result.marks }
 {
+    if let Some(separator) = marked {
+        return marked_cell(rest, ahead, marks, separator);
+    }
     match dialect.layout {
-        Layout::Separated { separator, .. } => {
-            let (text, behind, marks) = split_cell(
-                rest,
-                ahead,
-                marks,
-                separator,
-                dialect.has_quotes,
-            );
-            NextCell {
-                text,
-                behind,
-                marks,
-                ended: text.len() == rest.len(),
-            }
-        }
+        Layout::Separated { separator, .. } => parted_cell(rest, separator, dialect.has_quotes),
         Layout::Widths { widths } | Layout::Records { widths } => wide_cell(rest, column, widths),
     }
 }

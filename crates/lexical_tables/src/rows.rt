@@ -43,6 +43,7 @@ pub(crate) fn split(text: &[u8], separator: u8, has_quotes: bool) -> (&[u8], &[u
 }
 
 // How many bytes a record has, up to a limit.
+#[inline(never)]
 pub(crate) fn record_size(widths: &[usize], limit: usize) -> usize
     ensures { result ≡ min (record_size widths.now) limit }
 {

@@ -11,7 +11,7 @@ use Rattle.lexical_tables.proofs.by_column.read_cells.Goals as goal
 
 pub loop-column-init : goal.loop-column-init
 loop-column-init g c = (
-  ahead_starts c.args.dialect.now.layout c.args.row.now.text.now c.args.ahead.now c.requires.front,
+  ahead_starts c.args.shape.marked c.args.row.now.text.now c.args.ahead.now c.requires.front,
   λ some. sym c.lacks_cell-ended.ensures ∙ some,
   row_starts (kinds_of (map g.C.TableColumn.target c.args.targets.now)) c.args.dialect.now c.args.index (view_of_row c.args.row.now)
       (map g.C.TableColumn.target c.args.targets.now) _ refl c.requires.usable
@@ -37,12 +37,12 @@ loop-column-preserved g c =
     let more : c.loop-column.column < count_in c.args.dialect.now = grind (arith, nat_tests) in
     let place = length c.args.row.now.text.now - length c.loop-column.rest.now in
     let shift = length c.loop-column.rest.now - length c.next_cell-next.result.behind.now in
-    let marked = subst (λ l. AreCellMarks c.args.dialect.now.layout (drop shift l) c.next_cell-next.result.marks)
+    let marked = subst (λ l. AreCellMarks c.args.shape.marked (drop shift l) c.next_cell-next.result.marks)
     (take_rest c.args.ahead.now place) c.next_cell-next.ensures.marks in
     let at = next_left c.args.dialect.now row c.loop-column.column c.loop-column.ended c.loop-column.rest.now
     c.next_cell-next.result.text.now c.next_cell-next.result.behind.now c.next_cell-next.result.ended c.loop-column.invariant.0.within
     (search rules) c.next_cell-next.ensures.left c.next_cell-next.ensures.cells in (
-      behind_ahead c.args.dialect.now.layout c.args.row.now.text.now c.args.ahead.now c.loop-column.rest.now
+      behind_ahead c.args.shape.marked c.args.row.now.text.now c.args.ahead.now c.loop-column.rest.now
           c.next_cell-next.result.behind.now c.loop-column.marks c.next_cell-next.result.marks c.loop-column.invariant.0
           c.next_cell-next.ensures.tail c.next_cell-next.ensures.left marked,
       c.next_cell-next.ensures.ended,
@@ -66,6 +66,6 @@ returns g c =
           c.loop-column.ended c.loop-column.rest.now (search rules))
       | else-loop-column-test w ↦ inr (grind (arith, nat_tests))
     ])
-    (c.end_fault.ensures ∙ ap (λ n. end_fault n c.args.index row column c.then_some-extra.result) c.column_count-columns.ensures
+    (c.end_fault.ensures ∙ ap (λ n. end_fault n c.args.index row column c.then_some-extra.result) c.requires.columns
     ∙ ap (end_fault (count_in c.args.dialect.now) c.args.index row column) start) in
     record { fault = done.fault_is; targets = done.targets_are }

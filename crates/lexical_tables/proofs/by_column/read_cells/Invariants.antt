@@ -9,10 +9,10 @@ use Rattle.lexical_tables.proofs.by_column.read_cells.Given as goal
 -- so many cells were read
 abbrev pub invariant-loop-column : goal.invariant-loop-column
 invariant-loop-column g l =
-    IsAhead l.dialect.layout l.row.text.now l.ahead l.rest l.marks
+    IsAhead l.shape.marked l.row.text.now l.ahead l.rest l.marks
     × (l.ended ≡ false → lacks_cell l.dialect.layout l.column l.rest ≡ false)
     × IsRowPut (kinds_of (map g.C.TableColumn.target l.initial.targets)) l.dialect l.index (view_of_row l.row) (map g.C.TableColumn.target l.initial.targets)
     (map g.C.TableColumn.target l.targets) l.column (left_in l.dialect (view_of_row l.row) l.column l.ended l.rest)
 
 abbrev pub decreases-loop-column : goal.decreases-loop-column
-decreases-loop-column g l = l.columns - l.column
+decreases-loop-column g l = l.shape.columns - l.column
