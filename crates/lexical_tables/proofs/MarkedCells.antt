@@ -1,6 +1,6 @@
 -- The cells of a row, found by the marks of the text from there on.
-use Rattle.std.proofs.Common.{◌≡◌, ◌∙◌, ℕ, zero, suc, ◌+◌, ◌-◌, ◌<◌, ◌≤◌, List, [], ◌∷◌, Bool, true, false, not, cond, eqb, length, take, drop, refl, ap, sym, subst, arith, Option, Some, None}
-use Rattle.std.proofs.lemmas.List.{drop-drop, drop-take}
+use Rattle.std.proofs.Common.{◌≡◌, ◌∙◌, ℕ, zero, suc, ◌+◌, ◌-◌, ◌<◌, ◌≤◌, List, [], ◌∷◌, Bool, true, false, not, cond, eqb, length, length-drop, take, drop, refl, ap, sym, subst, arith, Option, Some, None}
+use Rattle.std.proofs.lemmas.List.{drop-drop, drop-take, length-take, length-take-le, take-take}
 use Rattle.lexical_fields.specs.Fields.{field_length}
 use Rattle.lexical_fields.proofs.Marks.{no_marks}
 use Rattle.lexical_tables.specs.ByColumn.{AreCellMarks}
@@ -79,3 +79,22 @@ behind_ahead marked row ahead rest behind marks more here cut shorter there =
           ∙ drop-take by (length behind) (drop from ahead) ∙ ap (take (length behind)) at;
       marks_are = subst (λ l. AreCellMarks marked l more) at there;
     }
+
+-- ---- bytes within a cell
+
+-- what a cell begins has its bytes
+pub ahead_long : (text ahead : List ℕ) → text ≡ take (length text) ahead → length text ≤ length ahead
+ahead_long text ahead front = omega (arith, ap length front, length-take (length text) ahead)
+
+-- bytes of a cell begin what is ahead from there on
+pub begins_ahead : (text ahead : List ℕ) (k n : ℕ) → text ≡ take (length text) ahead → k + n ≤ length text
+    → take n (drop k text) ≡ take (length (take n (drop k text))) (drop k ahead)
+begins_ahead text ahead k n front low =
+    let m = length text - k in
+    let whole : length text ≡ k + m = omega arith in
+    let size : length (take n (drop k text)) ≡ n =
+    length-take-le n (drop k text) (omega (arith, length-drop k text)) in
+    ap (λ l. take n (drop k l)) (front ∙ ap (λ j. take j ahead) whole)
+    ∙ ap (take n) (drop-take k m ahead)
+    ∙ take-take n m (drop k ahead) (omega arith)
+    ∙ ap (λ j. take j (drop k ahead)) (sym size)

@@ -46,8 +46,10 @@ fn end_of_content(text: &[u8]) -> usize
 }
 
 // A cell without the blanks on both sides.
+#[tactic(auto, using(crate::proofs::MarkedCells::begins_ahead, crate::proofs::MarkedCells::ahead_long))]
 fn without_blanks(cell: Cell<'_>) -> Cell<'_>
     requires fits { cell.start + length cell.text.now < 2 ^ 64 }
+    requires front { cell.text.now ≡ take (length cell.text.now) cell.ahead.now }
     ensures content { view_of_cell result ≡ without_blanks (view_of_cell cell.entry) }
     ensures front { result.text.now ≡ take (length result.text.now) result.ahead.now }
     ensures within { result.start + length result.text.now
@@ -55,16 +57,16 @@ fn without_blanks(cell: Cell<'_>) -> Cell<'_>
 {
     let front = blanks_in_front(cell.text);
     let rest = &cell.text[front..];
-    let text = &rest[..end_of_content(rest)];
     Cell {
         start: cell.start + front,
-        text,
-        ahead: text,
+        text: &rest[..end_of_content(rest)],
+        ahead: &cell.ahead[front..],
     }
 }
 
 // A cell without its quotes, where these have a meaning.
 #[inline(always)]
+#[tactic(auto, using(crate::proofs::MarkedCells::begins_ahead, crate::proofs::MarkedCells::ahead_long))]
 fn without_quotes(cell: Cell<'_>, has_quotes: bool) -> Cell<'_>
     requires fits { cell.start + length cell.text.now < 2 ^ 64 }
     requires front { cell.text.now ≡ take (length cell.text.now) cell.ahead.now }
@@ -75,11 +77,10 @@ fn without_quotes(cell: Cell<'_>, has_quotes: bool) -> Cell<'_>
 {
     if has_quotes && begins_with_quote(cell.text) {
         let rest = &cell.text[1..];
-        let text = &rest[..rest.len().saturating_sub(1)];
         return Cell {
             start: cell.start + 1,
-            text,
-            ahead: text,
+            text: &rest[..rest.len().saturating_sub(1)],
+            ahead: &cell.ahead[1..],
         };
     }
     cell
