@@ -36,7 +36,7 @@ pub(crate) fn shape_of(dialect: &Dialect<'_>) -> Shape
 }
 
 // Whether what is left of a row has no cell of the next width: the cell isn't wholly there, or none is to come, and no
-// byte is left.
+// byte is left. What widths need is out of line, so that the loop over cells between separators keeps its registers.
 #[inline(never)]
 fn lacks_width(text: &[u8], column: usize, widths: &[usize]) -> bool
     ensures { result ≡ lacks_width (drop column widths.now) text.now }
