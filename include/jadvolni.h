@@ -155,7 +155,7 @@ typedef enum jadvolni_status {
 
     /* A reserved byte of the table isn't 0, it has widths, and not one for each column, or its rows are
      * records, and it has none; or the array or the bits of a column have less room than rows are
-     * asked for, and then that column is told. The place is 0. */
+     * asked for, or it has a format and no room, and then that column is told. The place is 0. */
     JADVOLNI_INVALID_TABLE = 17,
 
     /* A quote in a cell is neither its first and last byte nor doubled, or there is an odd number of
@@ -649,11 +649,11 @@ typedef struct jadvolni_table {
 /*
  * A column of a table: what its cells look like, and the array that their numbers go to. SET ONE OF THE
  * ARRAYS, which says the type; of several that have room the first is taken. A column without one, as
- * {0}, isn't read: its cells may hold any bytes but the separator and a line feed. NOR IS ONE WHOSE ARRAY
- * HAS THE CAPACITY 0: that is no fault, and its numbers are as they were.
+ * {0}, isn't read: its cells may hold any bytes but the separator and a line feed. Where rows are asked
+ * for, its format has to have the radix 0, as {0} has it: else it is JADVOLNI_INVALID_TABLE.
  */
 typedef struct jadvolni_table_column {
-    /* What a cell that is read looks like. It isn't looked at where no array has room. */
+    /* What a cell that is read looks like. Where no array has room, its radix alone is looked at. */
     jadvolni_format format;
 
     JADVOLNI_ARRAY_(i64, int64_t);

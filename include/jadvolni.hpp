@@ -392,8 +392,8 @@ using table = jadvolni_table;
 // A column of a table: how its cells are read, and where their numbers go. table_column{} isn't read.
 using table_column = jadvolni_table_column;
 
-// A column whose numbers go to an array. Without room, as of a std::vector that was only reserved, it isn't
-// read, and that is no fault.
+// A column whose numbers go to an array. One without room, as of a std::vector that was only reserved, is
+// status::invalid_table where rows are asked for.
 template <class T>
 [[nodiscard]] table_column column_into(T *numbers, std::size_t capacity,
                                        const format &under = standard) noexcept

@@ -116,9 +116,39 @@ static void faults_of_tables(void)
     CHECK(answers(jadvolni_parse_table("", 0, true, &table, 0, NULL, 0), JADVOLNI_INVALID_TABLE, 0, 0, 0));
     table.is_records = 0;
     CHECK(first[0] == 77 && second[0] == 77);
-    /* Where no array has room, neither the format nor the cell is looked at. */
-    columns[0].u32.capacity = columns[1].u32.capacity = 0;
-    CHECK(answers(jadvolni_parse_table("x,\n", 3, true, &table, 1, columns, 2), JADVOLNI_OK, 0, 1, 3));
+}
+
+/* A column without room and with a format was meant to be read; without a format it isn't. */
+static void columns_without_room(void)
+{
+    uint32_t numbers[2] = {77, 77};
+    int64_t wide[2] = {77, 77};
+    jadvolni_table table = {.separator = ','};
+    jadvolni_table_column columns[] = {{.format = STANDARD, .u32 = {numbers, 2}}, {.format = STANDARD}};
+    CHECK(answers(jadvolni_parse_table("1,2\n", 4, true, &table, 2, columns, 2), JADVOLNI_INVALID_TABLE, 1, 0, 0));
+    columns[1].i64.numbers = wide;
+    CHECK(answers(jadvolni_parse_table("1,2\n", 4, true, &table, 2, columns, 2), JADVOLNI_INVALID_TABLE, 1, 0, 0));
+    CHECK(answers(jadvolni_parse_table("", 0, false, &table, 1, columns, 2), JADVOLNI_INVALID_TABLE, 1, 0, 0));
+    CHECK(answers(jadvolni_parse_table("1,2\n", 4, true, &table, 0, columns, 2), JADVOLNI_OK, 0, 0, 0));
+    columns[0].u32.capacity = 0;
+    CHECK(answers(jadvolni_parse_table("1,2\n", 4, true, &table, 2, columns, 2), JADVOLNI_INVALID_TABLE, 0, 0, 0));
+    CHECK(answers(jadvolni_parse_table("1,2\n", 4, true, &table, 0, columns, 2), JADVOLNI_OK, 0, 0, 0));
+    columns[0].u32.capacity = 2;
+    for (unsigned radix = 1; radix < 256; radix++) {
+        columns[1].format = (jadvolni_format){.mantissa_radix = (uint8_t)radix};
+        CHECK(answers(jadvolni_parse_table("1,x\n", 4, true, &table, 2, columns, 2), JADVOLNI_INVALID_TABLE, 1, 0, 0));
+    }
+    CHECK(numbers[0] == 77 && wide[0] == 77);
+    /* Without a radix, neither what else the format has nor the cell is looked at. */
+    memset(&columns[1].format, 0xff, sizeof columns[1].format);
+    columns[1].format.mantissa_radix = 0;
+    CHECK(answers(jadvolni_parse_table("1,x\n", 4, true, &table, 2, columns, 2), JADVOLNI_OK, 0, 1, 4));
+    columns[1] = (jadvolni_table_column){.format = {0}};
+    CHECK(answers(jadvolni_parse_table("5,x\n6,\n", 7, true, &table, 2, columns, 2), JADVOLNI_OK, 0, 2, 7));
+    CHECK(numbers[0] == 5 && numbers[1] == 6);
+    /* With an array, the radix 0 is a wrong one. */
+    columns[0].format.mantissa_radix = 0;
+    CHECK(answers(jadvolni_parse_table("5,x\n", 4, true, &table, 2, columns, 2), JADVOLNI_INVALID_MANTISSA_RADIX, 0, 0, 0));
 }
 
 /* Lengths of 0 with NULL, no column, no room, and two arrays in a column. */
@@ -212,7 +242,7 @@ static void missing_numbers(void)
     CHECK(answers(jadvolni_parse_table(",2", 2, true, &table, 8, columns, 2), JADVOLNI_OK, 0, 1, 2));
     CHECK(numbers[0] == 0 && bits[0] == 0xF4);
     /* Bits of a column that isn't read are left alone. */
-    columns[0].i16.capacity = 0;
+    columns[0].i16.capacity = columns[0].format.mantissa_radix = 0;
     CHECK(answers(jadvolni_parse_table("x,2", 3, true, &table, 9, columns, 2), JADVOLNI_OK, 0, 1, 3));
     CHECK(bits[0] == 0xF4 && bits[1] == 0xA4);
 }
@@ -278,6 +308,7 @@ int main(void)
     each_type();
     faults_of_cells();
     faults_of_tables();
+    columns_without_room();
     ends();
     parts();
     formats();

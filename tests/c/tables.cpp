@@ -30,6 +30,12 @@ static void tables()
     columns[2] = jadvolni::column_into(cents, jadvolni_format_of_radix(1));
     read = jadvolni::parse_table("", ledger, 2, columns);
     CHECK(read.status() == status::invalid_mantissa_radix && read.column() == 2);
+    std::vector<long> reserved;
+    reserved.reserve(2);
+    columns[2] = jadvolni::column_into(reserved);
+    read = jadvolni::parse_table("1;;2\r\n", ledger, 2, columns);
+    CHECK(read.status() == status::invalid_table && read.column() == 2 && read.rows() == 0 && read.place() == 0);
+    CHECK(jadvolni::parse_table("1;;2\r\n", ledger, 0, columns).place() == 0);
 }
 
 static jadvolni::table ledger_of_lines()

@@ -54,9 +54,9 @@ def compiled(folder: str) -> str:
 
 @functools.lru_cache(maxsize=None)
 def target_written(target: Optional[Target]) -> bytes:
-    """A target, as the program reads it. The format of a column that isn't read is none."""
+    """A target, as the program reads it. Of a column that isn't read, only the radix is 0."""
     if target is None:
-        return bytes(2) + b"\xff" * ctypes.sizeof(CFormat)
+        return bytes(3) + b"\xff" * (ctypes.sizeof(CFormat) - 1)
     return bytes([1 + KINDS.index(target.type), target.may_miss, *bytes(c_format(target.form))])
 
 

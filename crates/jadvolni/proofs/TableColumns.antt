@@ -62,7 +62,7 @@ bits_roomy rows (Some bytes) is = grind (arith, nat_tests)
 
 module _ (rows : ℕ) (column : ColumnFields) where
   with_usable : (type : IntegerType) (slice : Slice) (numbers : List ℤ)
-      → target_status rows (format_status column.format) (target_with column type slice numbers) ≡ 0
+      → target_status rows column.format (target_with column type slice numbers) ≡ 0
       → IsUsable rows (target_with column type slice numbers)
   with_usable type slice numbers is =
       let less = nat_lt (length numbers) rows in
@@ -75,7 +75,7 @@ module _ (rows : ℕ) (column : ColumnFields) where
       )
 
   as_usable : (type : Option NumberType)
-      → target_status rows (format_status column.format) (target_as column type) ≡ 0
+      → target_status rows column.format (target_as column type) ≡ 0
       → IsUsable rows (target_as column type)
   as_usable None is = tt
   as_usable (Some U8) is = with_usable (unsigned 8) (slice_of column.u8s) (map pos column.u8s.now) is

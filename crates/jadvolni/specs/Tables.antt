@@ -15,6 +15,7 @@ use Rattle.lexical_tables.specs.declared.dialect.Layout.{Layout}
 use Rattle.lexical_tables.specs.declared.dialect.Layout.TheVariants.{Records, Separated, Widths}
 use Rattle.jadvolni.specs.Effect.{fault_place, fault_status, format_status, signed, unsigned}
 use Rattle.jadvolni.specs.FormatFields.{are_zeros, flag, format_of}
+use Rattle.jadvolni.specs.declared.format.FormatFields.{FormatFields}
 use Rattle.jadvolni.specs.declared.table_columns.ColumnFields.{ColumnFields}
 use Rattle.jadvolni.specs.declared.table_columns.NumberType.{NumberType}
 use Rattle.jadvolni.specs.declared.table_columns.NumberType.TheVariants.{I16, I32, I64, I8, U16, U32, U64, U8}
@@ -94,16 +95,17 @@ abbrev pub lacks_bits : ℕ → Option (List ℕ) → Bool
 lacks_bits rows None = false
 lacks_bits rows (Some bytes) = nat_lt (8 * length bytes) rows
 
--- what is wrong with a target for so many rows, if the status of its format is this
-abbrev pub target_status : ℕ → ℕ → Option TargetView → ℕ
-target_status rows format None = 0
+-- what is wrong with a target of this format for so many rows; without one, rows ask for a format without a radix
+abbrev pub target_status : ℕ → FormatFields → Option TargetView → ℕ
+target_status rows format None =
+    if rows == 0 || format.mantissa_radix == 0 then 0 else invalid_table
 target_status rows format (Some target) =
     if nat_lt (length target.numbers) rows || lacks_bits rows target.present
-    then invalid_table else format
+    then invalid_table else format_status format
 
--- the status of a column for so many rows: 0 if it can be read, or isn't
+-- the status of a column for so many rows: 0 if it can be read, or isn't meant to be
 abbrev pub column_status : ℕ → ColumnFields → ℕ
-column_status rows column = target_status rows (format_status column.format) (target_of column)
+column_status rows column = target_status rows column.format (target_of column)
 
 -- ---- what is answered
 

@@ -16,7 +16,7 @@ pub const INVALID_TABLE: u32 = 17;
 /// A column of a table: `jadvolni_column` in C, where each field is described.
 ///
 /// One array has room, and is where the column's numbers go, and says their type. Where none has, the column
-/// isn't read, and its format isn't looked at. Where there is room for bits, a number may be missing.
+/// isn't read, and its format has no radix. Where there is room for bits, a number may be missing.
 #[repr(C)]
 #[derive(Drop)]
 pub struct ColumnFields<'a> {
@@ -187,7 +187,8 @@ impl ColumnFields<'_> {
         ensures { result ≡ column_status rows self.now }
     {
         let room = match self.number_type() {
-            None => return 0,
+            None if rows == 0 || self.format.mantissa_radix == 0 => return 0,
+            None => return INVALID_TABLE,
             Some(NumberType::I64) => self.i64s.len(),
             Some(NumberType::U64) => self.u64s.len(),
             Some(NumberType::I32) => self.i32s.len(),

@@ -82,7 +82,7 @@ pub struct jadvolni_array<T> {
     pub capacity: usize,
 }
 
-/// A column of a table. One array has room, or none.
+/// A column of a table. One array has room, or none has, and then the format's radix is 0.
 #[repr(C)]
 #[derive(Debug, Copy, Clone, PartialEq, Eq)]
 pub struct jadvolni_table_column {

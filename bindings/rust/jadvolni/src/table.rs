@@ -3,7 +3,7 @@
 use crate::{ColumnInteger, Error, Format};
 use core::fmt;
 use core::marker::PhantomData;
-use core::ptr::{null, null_mut};
+use core::ptr::null;
 use jadvolni_sys as sys;
 
 /// How a table is written: what parts two cells, and what else isn't as in plain lines.
@@ -150,22 +150,9 @@ pub(crate) fn capacity(columns: &[TableColumn<'_>]) -> usize {
     columns.iter().filter_map(TableColumn::room).min().unwrap_or(usize::MAX)
 }
 
-const fn no_array<T>() -> sys::jadvolni_array<T> {
-    sys::jadvolni_array { numbers: null_mut(), capacity: 0 }
-}
-
-const UNREAD: sys::jadvolni_table_column = sys::jadvolni_table_column {
-    format: Format::STANDARD.0,
-    i64: no_array(),
-    u64: no_array(),
-    i32: no_array(),
-    u32: no_array(),
-    i16: no_array(),
-    u16: no_array(),
-    i8: no_array(),
-    u8: no_array(),
-    present: no_array(),
-};
+/// As C's `{0}`.
+// SAFETY: the fields are integers and pointers, and each of these may be 0.
+const UNREAD: sys::jadvolni_table_column = unsafe { core::mem::zeroed() };
 
 /// One of the eight integer types that the columns of a table have: `u8` to `u64`, `i8` to `i64`.
 pub trait TableInteger: ColumnInteger + TableArray {}
