@@ -612,7 +612,8 @@ typedef struct jadvolni_table {
      * cell, and so a fault in a number. */
     uint8_t has_returns;
 
-    /* Flag: a cell may stand within quotes, '"', and then hold separators and line feeds. */
+    /* Flag: a cell may stand within quotes, '"', and then hold separators and line feeds. A quote that
+     * is the separator parts cells. */
     uint8_t has_quotes;
 
     /* Flag: spaces and tabs may stand around a number. */
