@@ -95,7 +95,7 @@ abbrev pub lacks_bits : ℕ → Option (List ℕ) → Bool
 lacks_bits rows None = false
 lacks_bits rows (Some bytes) = nat_lt (8 * length bytes) rows
 
--- what is wrong with a target of this format for so many rows; without one, rows ask for a format without a radix
+-- what is wrong with a target of this format for so many rows; a column that is no target has the radix 0, if rows are asked for
 abbrev pub target_status : ℕ → FormatFields → Option TargetView → ℕ
 target_status rows format None =
     if rows == 0 || format.mantissa_radix == 0 then 0 else invalid_table
