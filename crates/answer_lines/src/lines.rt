@@ -3,8 +3,6 @@
 ghost use Rattle.std.specs.Prelude.{◌≡◌, ◌≢◌, ℕ, ◌^◌, ◌<◌, ◌≤◌, length, slice_index};
 ghost use Rattle.lexical_util.specs.Ascii.{line_feed};
 
-use lexical_fields::field_length;
-
 /// The length of the first line: the place of the first line feed, or the end.
 pub fn line_end(bytes: &[u8]) -> usize
     ensures within { result ≤ length bytes.now }
@@ -12,5 +10,10 @@ pub fn line_end(bytes: &[u8]) -> usize
     ensures found { result < length bytes.now → slice_index bytes.now result ≡ line_feed }
     ensures room { length bytes.now < 2 ^ 64 }
 {
-    field_length(bytes, b'\n')
+    for i in 0..bytes.len() {
+        if bytes[i] == b'\n' {
+            return i;
+        }
+    }
+    bytes.len()
 }

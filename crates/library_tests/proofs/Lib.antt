@@ -1,6 +1,7 @@
 -- What texts are read as, and how many turns they take, worked out.
 mod Digits
 mod Fields
+mod LinesArePieces
 mod Readers
 mod Tables
 mod Tokens
