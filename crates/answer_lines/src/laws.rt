@@ -4,10 +4,18 @@ ghost use Rattle.std.specs.Prelude.{◌≡◌, ℕ, ℤ, List};
 ghost use Rattle.std.specs.List.{flat_map, scan};
 ghost use Rattle.lexical_parse_integer.specs.Laws.{IsNumeralOf};
 ghost use Rattle.answer_lines.specs.Given.{IsAnsweredInTurn, LeavesLastGiven};
+ghost use Rattle.lexical_util.specs.Ascii.{line_feed};
+ghost use Rattle.lexical_fields.specs.Fields.{pieces, without_empty_last};
 ghost use Rattle.answer_lines.specs.Lines.{lines};
 ghost use Rattle.answer_lines.specs.Decimal.{signed_text};
 ghost use Rattle.answer_lines.specs.Output.{answer_lines, output, settings_after};
 ghost use Rattle.answer_lines.specs.Settings.{standard_settings};
+
+/// The lines are the pieces between the line feeds, without the last where that is empty.
+#[tactic(auto, using(crate::proofs::Pieces::lines_are_pieces))]
+pub fn lines_are_pieces()
+    ensures { (bytes : List ℕ) → lines bytes ≡ without_empty_last (pieces line_feed bytes) }
+{}
 
 /// The lines of the output are those of the answers to the lines of the input, in order. An answer
 /// is a single line, or, where tokens are asked for, a line for each token and `end`.

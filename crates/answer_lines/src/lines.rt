@@ -3,6 +3,8 @@
 ghost use Rattle.std.specs.Prelude.{◌≡◌, ◌≢◌, ℕ, ◌^◌, ◌<◌, ◌≤◌, length, slice_index};
 ghost use Rattle.lexical_util.specs.Ascii.{line_feed};
 
+use lexical_fields::field_length;
+
 /// The length of the first line: the place of the first line feed, or the end.
 pub fn line_end(bytes: &[u8]) -> usize
     ensures within { result ≤ length bytes.now }
@@ -10,10 +12,5 @@ pub fn line_end(bytes: &[u8]) -> usize
     ensures found { result < length bytes.now → slice_index bytes.now result ≡ line_feed }
     ensures room { length bytes.now < 2 ^ 64 }
 {
-    for i in 0..bytes.len() {
-        if bytes[i] == b'\n' {
-            return i;
-        }
-    }
-    bytes.len()
+    field_length(bytes, b'\n')
 }

@@ -1,7 +1,6 @@
 -- What texts are read as, and how many turns they take, worked out.
 mod Digits
 mod Fields
-mod LinesArePieces
 mod Readers
 mod Tables
 mod Tokens

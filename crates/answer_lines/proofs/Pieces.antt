@@ -1,4 +1,4 @@
--- The program's lines are the pieces between the line feeds, as fields are, without the last where that is empty.
+-- The lines are the pieces between the line feeds.
 use Rattle.std.proofs.Common.{◌≡◌, ℕ, List, [], ◌∷◌, Bool, true, false, cond, eqb, refl, ap, sym, ◌∙◌}
 use Rattle.std.specs.List.{onto_first}
 use Rattle.lexical_util.specs.Ascii.{line_feed}
