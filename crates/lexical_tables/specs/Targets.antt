@@ -17,6 +17,7 @@ pub record Slice : Type 0 where
   pub at : ℕ × ℕ
   pub name : GName
 
+-- which slice a borrow is of
 abbrev pub slice_of : {Item : Type 0} → MutBor (List Item) → Slice
 slice_of borrow = record { at = borrow.ref_ptr; name = borrow.ghost_name }
 
