@@ -47,13 +47,13 @@ install: install-programs install-lib ## puts the programs and the library where
 
 uninstall: uninstall-programs uninstall-lib ## takes them away
 
-install-programs: $(PROGRAM) $(FOR_SHELLS)
+install-programs: paths $(PROGRAM) $(FOR_SHELLS)
 	install -d "$(DESTDIR)$(PREFIX)/bin" "$(DESTDIR)$(MANDIR)/man1"
-	install -m 755 $^ "$(DESTDIR)$(PREFIX)/bin"
+	install -m 755 $(PROGRAM) $(FOR_SHELLS) "$(DESTDIR)$(PREFIX)/bin"
 	for program in lexint jad; do \
 	    $(FILL) packaging/$$program.1.in > "$(DESTDIR)$(MANDIR)/man1/$$program.1" || exit 1; done
 
-uninstall-programs:
+uninstall-programs: paths
 	for program in lexint jad; do \
 	    rm -f "$(DESTDIR)$(PREFIX)/bin/$$program" "$(DESTDIR)$(MANDIR)/man1/$$program.1" || exit 1; done
 

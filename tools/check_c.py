@@ -194,26 +194,26 @@ def install(place: Place) -> str:
     needs_shared(place)
     below = place.path("installed")
     run(["make", "-s", *BUILT, "install-lib", f"DESTDIR={below}", *INSTALLED], cwd=TOP)
-    pages = f"{below}/usr/share/man/man3"
-    missing = {f"{name}.3" for name in CALLS} - set(os.listdir(pages))
-    if missing:
-        raise Failed(f"no page: {sorted(missing)}")
-    licences = {"LICENSE-APACHE", "LICENSE-MIT", "NOTICE"} & set(os.listdir(TOP))
-    documents = set(os.listdir(f"{below}/usr/share/doc/jadvolni"))
-    if documents != licences:
-        raise Failed(f"installed {sorted(documents)}, and there are {sorted(licences)}")
+    share = f"{below}/usr/share"
+    found = {*os.listdir(f"{share}/man/man3"), *os.listdir(f"{share}/doc/jadvolni")}
+    wanted = {"LICENSE-APACHE", "LICENSE-MIT", "NOTICE", *(f"{name}.3" for name in CALLS)}
+    if wanted - found:
+        raise Failed(f"not installed: {sorted(wanted - found)}")
+    refused = "! make -n install-lib PREFIX="
+    run(["sh", "-c", f"{refused}'~/x' && {refused}'/x&y'"], cwd=TOP)
     return f"{sum(len(files) for _, _, files in os.walk(below))} files"
 
 
 def uninstall(place: Place) -> str:
-    """Nothing is left."""
+    """Nothing is left but what is the user's own."""
     needs_shared(place)
     below = place.path("installed")
+    own = shutil.copy(__file__, f"{below}/usr/share/doc/jadvolni/own")
     run(["make", "-s", "uninstall-lib", f"DESTDIR={below}", *INSTALLED], cwd=TOP)
-    left = [file for _, _, files in os.walk(below) for file in files]
-    if left or os.path.exists(f"{below}/usr/share/doc/jadvolni"):
+    left = [os.path.join(folder, file) for folder, _, files in os.walk(below) for file in files]
+    if left != [own] or os.path.exists(f"{below}{LIBDIR}/cmake/jadvolni"):
         raise Failed(f"left: {left}")
-    return "0 files"
+    return "1 file"
 
 
 def by_pkg_config(place: Place, compiler: str, caller: str, words: List[str], wanted: str) -> str:

@@ -15,7 +15,7 @@ SHARED := $(if $(shell command -v $(CC) 2>/dev/null),build/libjadvolni.so)
 LIBRARY_CRATES := jadvolni lexical_tables lexical_fields lexical_literals lexical_parse_integer lexical_digits lexical_util
 LIBRARY_SOURCES := $(shell find $(LIBRARY_CRATES:%=crates/%) -name out -prune -o -type f \( -name '*.rt' -o -name '*.antt' \) -print) crates.txt
 
-.PHONY: lib symbols wasm serve install-lib uninstall-lib test-c check-c test-js test-page
+.PHONY: lib symbols wasm serve paths install-lib uninstall-lib test-c check-c test-js test-page
 
 lib: build/libjadvolni.a $(SHARED) ## proves and builds the library for C, as build/libjadvolni.a and build/libjadvolni.so
 	$(if $(SHARED),,@echo "there is no $(CC): build/libjadvolni.so, the shared library, is left out")
@@ -69,11 +69,19 @@ CALLS := $(EXPORTS) $(addsuffix _part,$(filter %_column,$(EXPORTS))) \
 PAGES = $(DESTDIR)$(MANDIR)/man3
 TO = $(DESTDIR)$(LIBDIR)
 
+# A path that is no path from the root, as `~/.local` of a shell that leaves it so, or that sed, a shell or pkg-config
+# reads otherwise would be written wrong.
+STRANGE := " ' ` \ | & $$ \#
+path = $(if $(filter-out /%,$(firstword $($(1))))$(strip $(foreach character,$(STRANGE),$(findstring $(character),$($(1))))), \
+    $(error $(1)=$($(1)): it has to begin with a slash, and to have none of $(STRANGE)))
+paths:
+	@: $(foreach name,PREFIX LIBDIR INCLUDEDIR MANDIR,$(call path,$(name)))
+
 # What the templates of pkg-config, CMake and man leave open. Everyone may read what is written.
 FILL = umask 022; sed -e 's|@PREFIX@|$(PREFIX)|; s|@LIBDIR@|$(LIBDIR)|; s|@INCLUDEDIR@|$(INCLUDEDIR)|' \
     -e 's|@VERSION@|$(VERSION)|; s|@SOVERSION@|$(SOVERSION)|'
 
-install-lib: $(LIBRARIES) ## puts the library where compilers look: PREFIX, LIBDIR, DESTDIR
+install-lib: paths $(LIBRARIES) ## puts the library where compilers look: PREFIX, LIBDIR, DESTDIR
 	install -d "$(DESTDIR)$(INCLUDEDIR)" "$(TO)/pkgconfig" "$(TO)/cmake/jadvolni" "$(PAGES)" "$(DESTDIR)$(DOCDIR)"
 	install -m 644 include/jadvolni.h include/jadvolni.hpp "$(DESTDIR)$(INCLUDEDIR)"
 	install -m 644 build/libjadvolni.a "$(TO)"
@@ -87,12 +95,15 @@ install-lib: $(LIBRARIES) ## puts the library where compilers look: PREFIX, LIBD
 	umask 022; for page in $(CALLS); do echo .so man3/jadvolni.3 > "$(PAGES)/$$page.3" || exit 1; done
 	install -m 644 $(LICENCES) "$(DESTDIR)$(DOCDIR)"
 
-uninstall-lib: ## takes the library away
+uninstall-lib: paths ## takes the library away
 	rm -f "$(DESTDIR)$(INCLUDEDIR)/jadvolni.h" "$(DESTDIR)$(INCLUDEDIR)/jadvolni.hpp"
 	rm -f "$(TO)/libjadvolni.a" "$(TO)/libjadvolni.so" "$(TO)/libjadvolni.so.$(SOVERSION)" "$(TO)/libjadvolni.so.$(VERSION)"
 	rm -f "$(TO)/pkgconfig/jadvolni.pc"
 	for page in jadvolni $(CALLS); do rm -f "$(PAGES)/$$page.3" || exit 1; done
-	rm -rf "$(TO)/cmake/jadvolni" "$(DESTDIR)$(DOCDIR)"
+	for end in .cmake Version.cmake; do rm -f "$(TO)/cmake/jadvolni/jadvolniConfig$$end" || exit 1; done
+	for file in $(LICENCES); do rm -f "$(DESTDIR)$(DOCDIR)/$$file" || exit 1; done
+	for folder in "$(TO)/cmake/jadvolni" "$(DESTDIR)$(DOCDIR)"; do \
+	    [ ! -d "$$folder" ] || rmdir --ignore-fail-on-non-empty "$$folder" || exit 1; done
 
 # Without a compiler of C there is no shared library; check_c.py says what it skips then.
 test-c: build/libjadvolni.a $(SHARED) ## runs the callers in C, C++, Rust and Python; a part of the gate
