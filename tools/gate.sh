@@ -98,7 +98,7 @@ devices() {
     python3 tools/devices.py crates/lexint/out/lexint.by-rattle && wait $!
 }
 
-# A crate that a user has changed is named, and stays; what was copied is what stands here.
+# A crate or a line that a user has changed is named, and stays; what was copied is what stands here.
 vendor() {
     user="$copy/a user"
     set -- make -s vendor DEST="$user" WITH="lexical_fields lexical_formats lexical_laws lexical_literals lexical_tables"
@@ -107,6 +107,10 @@ vendor() {
     "$@" 2>&1 | grep 'crates/lexical_util has other contents' || return 1
     cp crates/lexical_util/README.md "$user/crates/lexical_util"
     for crate in crates/lexical_*; do diff -rx out "$crate" "$user/$crate" || return 1; done
+    for file in LICENSE-* NOTICE; do cmp "$file" "$user/crates/$file" || return 1; done
+    sed -i 's/^lexical_digits:/& lexical_old/' "$user/crates.txt"
+    "$@" 2>&1 | grep "crates.txt has 'lexical_digits: lexical_old" || return 1
+    sed -i 's/ lexical_old//' "$user/crates.txt"
     "$@"
     test "$(grep '^lexical_' crates.txt | sort)" = "$(sort "$user/crates.txt")"
 }
