@@ -7,7 +7,7 @@ FOR_SHELLS := crates/jad/out/jad
 SOURCES = $(shell find crates/$(1) crates/answer_lines crates/lexical_* -name out -prune -o -type f \( -name '*.rt' -o -name '*.antt' \) -print) crates.txt
 
 .PHONY: help toolchain run check test devices answers lexint jad install uninstall install-programs uninstall-programs rows
-.PHONY: docs dist test-dist tag vendor check-docs check-languages bench must-not-compile fuzz fuzz-edges fuzz-tables
+.PHONY: docs check-dist dist test-dist tag vendor check-docs check-languages bench must-not-compile fuzz fuzz-edges fuzz-tables
 
 # A target is listed by the words after its two number signs.
 help:
@@ -60,7 +60,10 @@ uninstall-programs: paths
 vendor: ## copies the Rattle crates into your repository: DEST=../yours WITH="lexical_literals lexical_tables lexical_formats"
 	@packaging/vendor.sh
 
-dist: lib lexint jad build/page ## writes dist/, the archives of a release, from a clean tree: docs/RELEASING.md
+check-dist:
+	@packaging/dist.sh check
+
+dist: check-dist lib lexint jad build/page ## writes dist/, the archives of a release, from a clean tree: docs/RELEASING.md
 	@RT=$(RT) packaging/dist.sh
 
 test-dist: ## tries these as users get them, in a root without the toolchain; not a part of the gate

@@ -12,12 +12,15 @@ is() { # NAME COMMAND..: the command has to print what README shows
         exit 1
     fi
 }
+block() { # KIND: the README's blocks of a kind, `console` where it names none
+    awk -v kind="$1" '/^```/ { inside = !inside; there = inside && kind == ($0 == "```" ? "console" : substr($0, 4)); next } there' README.md
+}
 has() { command -v "$1" > /dev/null || { echo "skipped: there is no $1"; return 1; }; }
 if command -v rt > /dev/null; then echo "rt is on the PATH, as on no user's machine" >&2; exit 1; fi
 
-for file in *.tar.gz; do tar xzf "$file"; done
+for file in *.tar.gz *.tgz *.crate; do [ ! -e "$file" ] || tar xzf "$file"; done
 tree=$(echo "$PWD"/jadvolni-*-linux-x86_64)
-sources=${tree%-linux-x86_64}
+sources=${tree%-linux-x86_64}-sources
 printf 'c u64 18446744073709551616\n' > line
 cat > ten.cpp << 'END'
 #include <cstdint>
@@ -54,29 +57,25 @@ callers() { # WHOSE [PREFIX]: in C, C++ and CMake, over what pkg-config and CMak
 if has pkg-config; then
     (export PKG_CONFIG_PATH="$tree/lib/pkgconfig" LD_LIBRARY_PATH="$tree/lib" && callers tarball "$tree")
 fi
+block c > "$tree/ten.c"
+block console | grep -v '^\$ ' > wanted
+block console | sed -n 's/^\$ //p' > commands
+(cd "$tree" && sh -e ../commands) | diff - wanted
+echo "passed: tarball: $(wc -l < commands) commands of its README"
 cc -I"$tree/include" "$sources/examples/c/ten_lines.c" "$tree/src/jadvolni.S" -o ten
 is "tarball: C over the assembly" ./ten
-is "tarball: lexint" sh -c '"$0/bin/lexint" < line' "$tree"
 
 if has cargo; then
-    mkdir -p crates/src
-    for crate in *.crate; do tar xzf "$crate" -C crates; done
-    cp "$sources/bindings/rust/jadvolni/examples/ten_lines.rs" crates/src/main.rs
-    cat > crates/Cargo.toml << END
-[package]
-name = "caller"
-version = "0.0.0"
-edition = "2021"
-[dependencies]
-jadvolni = { path = "$(echo crates/jadvolni-[0-9]* | sed 's|crates/||')" }
-[patch.crates-io]
-jadvolni-sys = { path = "$(echo crates/jadvolni-sys-* | sed 's|crates/||')" }
-END
-    is "crates: Rust by cargo" env JADVOLNI_LIB_DIR="$tree/lib" cargo -q run --offline --manifest-path crates/Cargo.toml
+    mkdir src
+    cp "$sources/bindings/rust/jadvolni/examples/ten_lines.rs" src/main.rs
+    {
+        printf '[package]\nname = "caller"\nversion = "0.0.0"\nedition = "2021"\n'
+        block toml
+    } > Cargo.toml
+    is "crates: Rust by cargo" env CARGO_TERM_QUIET=true sh -c "$(block sh)"
 fi
 
 if has node; then
-    tar xzf jadvolni-[0-9]*.tgz
     cat > call.mjs << 'END'
 import { parse } from "./package/index.js";
 try {
@@ -91,6 +90,10 @@ fi
 
 python3 -m venv venv
 venv/bin/pip -q install --no-index jadvolni-*.whl
+pages=$(find . \( -path ./venv -o -path "./${sources##*/}" \) -prune -o -name '*.md' -print; find venv -path '*/jadvolni-*/METADATA')
+# shellcheck disable=SC2086 # (several words)
+if grep '](' $pages | grep -v '](#'; then echo "FAILED: a page's link leads out of its package" >&2; exit 1; fi
+echo "passed: links of $(echo "$pages" | wc -l) pages"
 JADVOLNI_LIBRARY="$tree/lib/libjadvolni.a" venv/bin/python -m unittest discover -s "$sources/bindings/python/tests" 2> wheel.log || { cat wheel.log; exit 1; }
 echo "passed: wheel: $(sed -n '/^Ran/p' wheel.log)"
 

@@ -1,6 +1,8 @@
 #!/bin/sh
 # What `make dist` does: writes dist/, the archives of a release, from a clean tree at a commit.
 #
+#     packaging/dist.sh [check]    check: only looks whether it can, before anything is built
+#
 # The Makefile has proved and built what goes into them. What an archive needs and this machine
 # doesn't have leaves that archive out, with a sentence. Two runs at one commit give the same bytes.
 set -eu
@@ -24,11 +26,16 @@ for file in bindings/rust/Cargo.toml bindings/python/pyproject.toml; do
     grep -qx "version = \"$version\"" "$file" || fail "$file has another version than jadvolni.h, $version"
 done
 grep -qx "## $version" CHANGELOG.md || fail "CHANGELOG.md has no part for version $version"
+[ "${1:-}" != check ] || exit 0
 
 work=$(mktemp -d)
 trap 'rm -rf "$work"' EXIT
 rm -rf dist
 mkdir dist
+unlinked() { # PAGE: a page of the sources for a package, which lacks where its links lead
+    sed 's,](docs/,](../../docs/,g; s,\[\([^]]*\)\](\.\./\.\./\([^)#]*/\)\1[^)]*),`\2\1` of the sources,g
+        s,\[\([^]]*\)\](\.\./\.\./\([^)#]*\)[^)]*),\1 (`\2` of the sources),g; s,\[\([^]]*\)\]([^)]*),\1,g' "$1"
+}
 packed() { # FILE FOLDER..: a tarball of folders of $work/tree, of one time and one owner
     file=$1
     shift
@@ -37,8 +44,11 @@ packed() { # FILE FOLDER..: a tarball of folders of $work/tree, of one time and 
 }
 
 echo "sources"
-git archive --format=tar --prefix="jadvolni-$version/" HEAD | gzip -9n > "dist/jadvolni-$version.tar.gz"
-sed -n "/^## $version\$/,/^## /{/^## /!p}" CHANGELOG.md | sed '1{/^$/d}' > "dist/CHANGES-$version.md"
+# (a crate has the folder jadvolni-VERSION)
+git archive --format=tar --prefix="jadvolni-$version-sources/" HEAD | gzip -9n > "dist/jadvolni-$version-sources.tar.gz"
+sed -n "/^## $version\$/,/^## /{/^## /!p}" CHANGELOG.md | sed '1{/^$/d}' > "$work/changes"
+unlinked "$work/changes" > "dist/CHANGES-$version.md"
+sed "s/@VERSION@/$version/g" packaging/README.release.md > dist/README.md
 
 echo "assembly"
 packaging/assembly.sh "$work/jadvolni.S" "$work/verdict"
@@ -50,8 +60,8 @@ make -s install DESTDIR="$work/tree" PREFIX="/$name" > /dev/null
 sed -i "s|=/$name|=\${pcfiledir}/../..|" "$work/tree/$name/lib/pkgconfig/jadvolni.pc"
 mkdir "$work/tree/$name/src"
 cp "$work/jadvolni.S" "$work/tree/$name/src"
-cp packaging/README.release.md "$work/tree/$name/README.md"
-cp SECURITY.md "$work/tree/$name"
+cp dist/README.md "$work/tree/$name"
+unlinked SECURITY.md > "$work/tree/$name/SECURITY.md"
 packed "$name.tar.gz" "$name"
 
 # What manylinux2014 allows: glibc 2.17, and no library but glibc's.
@@ -67,14 +77,20 @@ others=$(objdump -p "$extension" | awk '$1 == "NEEDED" && $2 != "libc.so.6" { pr
 
 if has cargo; then
     echo "crates"
-    (cd bindings/rust && JADVOLNI_LIB_DIR="$top/build" cargo -q package --workspace --offline --locked --target-dir "$work/cargo")
+    git archive HEAD bindings/rust | tar x -C "$work"
+    for crate in jadvolni jadvolni-sys; do
+        cp LICENSE-APACHE LICENSE-MIT NOTICE "$work/bindings/rust/$crate"
+        unlinked bindings/rust/README.md > "$work/bindings/rust/$crate/README.md"
+    done
+    (cd "$work/bindings/rust" && JADVOLNI_LIB_DIR="$top/build" cargo -q package --workspace --offline --locked --target-dir "$work/cargo")
     cp "$work"/cargo/package/*.crate dist
 fi
 
 echo "JavaScript, and the page to try a format on"
 mkdir "$work/tree/package"
-cp bindings/js/*.js bindings/js/index.d.ts bindings/js/package.json bindings/js/README.md build/jadvolni.wasm \
+cp bindings/js/*.js bindings/js/index.d.ts bindings/js/package.json build/jadvolni.wasm \
     LICENSE-APACHE LICENSE-MIT NOTICE "$work/tree/package"
+unlinked bindings/js/README.md > "$work/tree/package/README.md"
 packed "jadvolni-$version.tgz" package
 cp -R build/page "$work/tree/jadvolni-page-$version"
 packed "jadvolni-page-$version.tar.gz" "jadvolni-page-$version"

@@ -16,6 +16,7 @@ from __future__ import annotations
 import base64
 import hashlib
 import os
+import re
 import shlex
 import subprocess
 import sys
@@ -38,6 +39,7 @@ FLAGS = ["-std=c11", "-O3", "-Wall", "-Wextra", "-fPIC", "-fno-plt", "-shared",
 LINK_FLAGS = ["-Wl,--exclude-libs,ALL", "-Wl,-z,x86-64-v2"]
 MODULES = ["__init__.py", "_blocks.py", "_format.py", "formats.py", "_numpy.py", "_tables.py",
            "_core.pyi", "py.typed"]
+LINK = re.compile(r"\[([^]]*)\]\((?:\.\./\.\./([^)#]*))?[^)]*\)")
 
 
 def tag() -> str:
@@ -76,9 +78,18 @@ def command(target: Path) -> list[str]:
     return [*compiler, *sources, str(library), *LINK_FLAGS, *words("LDFLAGS"), "-o", str(target)]
 
 
+def unlinked(link: re.Match[str]) -> str:
+    """What the wheel's page has in place of a link, since the wheel lacks where it leads."""
+    text, path = link.groups()
+    if not path:
+        return text
+    where = f"`{path}` of the sources"
+    return where if path.endswith(f"/{text}") else f"{text} ({where})"
+
+
 def metadata() -> str:
     """The wheel's METADATA."""
-    readme = (HERE / "README.md").read_text(encoding="utf-8")
+    readme = LINK.sub(unlinked, (HERE / "README.md").read_text(encoding="utf-8"))
     head = f"Metadata-Version: 2.1\nName: {NAME}\nVersion: {VERSION}\n"
     about = f"Summary: {PROJECT['description']}\nLicense: {PROJECT['license']['text']}\n"
     needed = f"Requires-Python: {PROJECT['requires-python']}\n"
