@@ -11,6 +11,17 @@ has() { command -v "$1" > /dev/null || { echo "skipped: there is no $1"; return 
 [ -f dist/SHA256SUMS ] || { echo "make test-dist: there is no dist/SHA256SUMS; make dist writes it" >&2; exit 1; }
 (cd dist && sha256sum --quiet -c SHA256SUMS)
 jq -e -f packaging/sbom_check.jq dist/*.spdx.json > /dev/null || { echo "the SBOM lacks what SPDX 2.3 asks for" >&2; exit 1; }
+given=$(mktemp -d)
+trap 'rm -rf "$given"' EXIT
+
+# The sources are no clone. Their gate runs as far as it can with a toolchain that only lays out.
+tar xzf dist/jadvolni-*-sources.tar.gz -C "$given"
+printf '#!/bin/sh\n[ "$1" = fmt ]\n' > "$given/rt"
+chmod 755 "$given/rt"
+(cd "$given"/jadvolni-*-sources && RT=$given/rt tools/gate.sh) > build/sources.log 2>&1 || :
+grep -q 'layout passed' build/sources.log || { cat build/sources.log; exit 1; }
+echo "passed: sources: $(grep -c ' passed after ' build/sources.log) parts of the gate"
+rm -r "$given"/*
 if has lintian; then lintian --allow-root --fail-on error,warning dist/*.deb; fi
 if [ -z "${LAST:-}" ]; then
     echo "skipped: abidiff has no release before, whose folder LAST would name"
@@ -40,8 +51,6 @@ if has node && has chromium; then
     PAGE=$(echo "$PWD"/build/jadvolni-page-*) node --test tests/page/page.test.mjs > build/page.log || { cat build/page.log; exit 1; }
     echo "passed: page: $(sed -n 's/^# pass //p' build/page.log) tests in $(chromium --version 2> /dev/null)"
 fi
-given=$(mktemp -d)
-trap 'rm -rf "$given"' EXIT
 cp dist/* packaging/as_user.sh "$given"
 if [ "$(id -u)" != 0 ] || ! has debootstrap || ! has unshare; then
     echo "skipped: the packages, for which it takes root, debootstrap and unshare"

@@ -115,7 +115,9 @@ vendor() {
     test "$(grep '^lexical_' crates.txt | sort)" = "$(sort "$user/crates.txt")"
 }
 
-git ls-files -z | xargs -0 cp --parents -t "$copy"
+# (the sources of a release are no clone, and may stand in one of another project)
+files() { if [ -e .git ]; then git ls-files -z; else find . \( -name out -o -path ./build \) -prune -o -type f -print0; fi; }
+files | xargs -0 cp --parents -t "$copy"
 part lint lint
 part layout layout
 part rows python3 tools/rows.py --check
