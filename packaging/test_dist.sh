@@ -21,7 +21,7 @@ chmod 755 "$given/rt"
 (cd "$given"/jadvolni-*-sources && RT=$given/rt tools/gate.sh) > build/sources.log 2>&1 || :
 grep -q 'layout passed' build/sources.log || { cat build/sources.log; exit 1; }
 echo "passed: sources: $(grep -c ' passed after ' build/sources.log) parts of the gate"
-rm -r "$given"/*
+rm -r "${given:?}"/*
 if has lintian; then lintian --allow-root --fail-on error,warning dist/*.deb; fi
 if [ -z "${LAST:-}" ]; then
     echo "skipped: abidiff has no release before, whose folder LAST would name"
