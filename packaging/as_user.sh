@@ -69,10 +69,14 @@ if has cargo; then
     mkdir src
     cp "$sources/bindings/rust/jadvolni/examples/ten_lines.rs" src/main.rs
     {
-        printf '[package]\nname = "caller"\nversion = "0.0.0"\nedition = "2021"\n'
+        printf '[package]\nname = "caller"\nversion = "0.0.0"\nedition = "2021"\n[workspace]\nmembers = [%s]\n' \
+            "$(printf '"%s", ' jadvolni-*.crate | sed 's/\.crate"/"/g')"
         block toml
     } > Cargo.toml
-    is "crates: Rust by cargo" env CARGO_TERM_QUIET=true sh -c "$(block sh)"
+    export CARGO_TERM_QUIET=true
+    is "crates: Rust by cargo" sh -c "$(block sh)"
+    JADVOLNI_LIB_DIR=$tree/lib cargo test --offline --all-features -p jadvolni -p jadvolni-sys > cargo.log 2>&1 || { cat cargo.log; exit 1; }
+    echo "passed: crates: $(sed -n 's/^test result: ok. \([1-9][0-9]*\) passed.*/\1/p' cargo.log | paste -sd+) tests of their own"
 fi
 
 if has node; then

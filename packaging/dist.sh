@@ -82,6 +82,7 @@ if has cargo; then
         cp LICENSE-APACHE LICENSE-MIT NOTICE "$work/bindings/rust/$crate"
         unlinked bindings/rust/README.md > "$work/bindings/rust/$crate/README.md"
     done
+    sed -i 's|"../../README.md"|"../README.md"|' "$work/bindings/rust/jadvolni/src/lib.rs"
     (cd "$work/bindings/rust" && JADVOLNI_LIB_DIR="$top/build" cargo -q package --workspace --offline --locked --target-dir "$work/cargo")
     cp "$work"/cargo/package/*.crate dist
 fi
