@@ -73,9 +73,9 @@ WORDS = {
     "Rattle.lexical_parse_integer.specs.Computed": ["grammar"],
     "Rattle.lexical_parse_integer.specs.Grammar":
         "complete complete_if_valid partial partial_if_valid".split(),
+    "Rattle.lexical_formats.specs.Names": ["format_named"],
     "Rattle.rows.proofs.Tables": ["Answers", "FaultsAre", "minus", *TYPES],
 }
-LANGUAGE_WORDS = "Rattle.lexical_formats.specs.Languages"
 
 
 def definition_of(row: Row) -> str:
@@ -137,8 +137,10 @@ def antt_group(group: Group) -> str:
     found = []
     asked: Dict[str, List[Row]] = {}
     if group.fields is not None:
-        name, form = f"{group.name}_fields", antt_format(group.fields)
-        found.append(f"{name} : {group.name} ≡ {form}\n{name} = refl\n")
+        name, form = group.name, antt_format(group.fields)
+        found.append(f"{name}_fields : ({name} ≡ {form})\n"
+                     f'    × (format_named (codes "{name}") ≡ Some {name})\n'
+                     f"{name}_fields = (refl, refl)\n")
     for row in group.rows:
         if not row.is_long:
             asked.setdefault(definition_of(row), []).append(row)
@@ -153,7 +155,7 @@ def antt_imports(body: str, languages: List[str]) -> str:
     code = re.sub(r'"(?:[^"\\]|\\.)*"|--[^\n]*', "", body)
     there = set(re.findall(r"\w+|≡|∷|\[\]", code))
     imports = ""
-    for module, names in {**WORDS, LANGUAGE_WORDS: languages}.items():
+    for module, names in {**WORDS, "Rattle.lexical_formats.specs.Languages": languages}.items():
         used = ", ".join(name for name in names if name.strip("◌") in there)
         imports += f"use {module}.{{{used}}}\n" if used else ""
     return imports
@@ -161,12 +163,10 @@ def antt_imports(body: str, languages: List[str]) -> str:
 
 def theorems(file: File) -> str:
     """The theorems of a file."""
-    body = "".join(map(antt_group, file.groups))
-    body = body.rstrip("\n") + "\n"
-    with_fields = {group.name for group in file.groups if group.fields is not None}
-    imports = antt_imports(body, sorted(with_fields - {"json"}))
+    body = "".join(map(antt_group, file.groups)).rstrip("\n") + "\n"
+    languages = {group.name for group in file.groups if group.fields is not None} - {"json"}
     head = f"-- Test vectors: {file.shows}.\n-- {WRITTEN.format(file.data)}\n"
-    return f"{head}{imports}\n{body}"
+    return f"{head}{antt_imports(body, sorted(languages))}\n{body}"
 
 
 # ---- texts

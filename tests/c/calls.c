@@ -179,8 +179,12 @@ static void nul_as_punctuation(void)
     EXPECT(jadvolni_parse_u16_with_format, uint16_t, UNDER(nul), "1\0002\0003\0", JADVOLNI_OK, 6, 123);
     /* That reads no UTF-16: the bytes 31 31, there the one letter U+3131, are two digits. */
     EXPECT(jadvolni_parse_u16_with_format, uint16_t, UNDER(nul), "\x31\x31", JADVOLNI_OK, 2, 11);
-    nul.nul_is_punctuation = JADVOLNI_NUL_IS_SEPARATOR | JADVOLNI_NUL_IS_SUFFIX;
+    nul.nul_is_punctuation = JADVOLNI_NUL_IS_SEPARATOR | JADVOLNI_NUL_IS_PREFIX | JADVOLNI_NUL_IS_SUFFIX;
     CHECK(jadvolni_format_error(&nul) == JADVOLNI_INVALID_PUNCTUATION);
+    nul.digit_separator = '_'; /* Beside a byte its bit does nothing. */
+    nul.nul_is_punctuation = JADVOLNI_NUL_IS_SEPARATOR;
+    EXPECT(jadvolni_parse_u16_with_format, uint16_t, UNDER(nul), "1_2", JADVOLNI_OK, 3, 12);
+    nul.digit_separator = 0;
     nul.nul_is_punctuation = JADVOLNI_NUL_IS_SUFFIX;
     EXPECT(jadvolni_parse_u16_with_format, uint16_t, UNDER(nul), "12\0", JADVOLNI_OK, 3, 12);
     nul.nul_is_punctuation = JADVOLNI_NUL_IS_PREFIX;

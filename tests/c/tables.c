@@ -151,20 +151,42 @@ static void columns_without_room(void)
     CHECK(answers(jadvolni_parse_table("5,x\n", 4, true, &table, 2, columns, 2), JADVOLNI_INVALID_MANTISSA_RADIX, 0, 0, 0));
 }
 
-/* Lengths of 0 with NULL, no column, no room, and two arrays in a column. */
+/* Of several arrays the first that has room is taken, in the order of the fields. */
+static void arrays_in_turn(void)
+{
+    int64_t i64 = 77;
+    uint64_t u64 = 77;
+    int32_t i32 = 77;
+    uint32_t u32 = 77;
+    int16_t i16 = 77;
+    uint16_t u16 = 77;
+    int8_t i8 = 77;
+    uint8_t u8 = 77;
+    jadvolni_table table = {.separator = ','};
+    jadvolni_table_column column = {.format = STANDARD, .i64 = {&i64, 1}, .u64 = {&u64, 1}, .i32 = {&i32, 1},
+                                    .u32 = {&u32, 1}, .i16 = {&i16, 1}, .u16 = {&u16, 1}, .i8 = {&i8, 1}, .u8 = {&u8, 1}};
+    size_t *capacities[] = {&column.i64.capacity, &column.u64.capacity, &column.i32.capacity, &column.u32.capacity,
+                            &column.i16.capacity, &column.u16.capacity, &column.i8.capacity,  &column.u8.capacity};
+    for (size_t k = 0; k < 8; k++) {
+        CHECK(answers(jadvolni_parse_table(&"01234567"[k], 1, true, &table, 1, &column, 1), JADVOLNI_OK, 0, 1, 1));
+        *capacities[k] = 0;
+    }
+    CHECK(i64 == 0 && u64 == 1 && i32 == 2 && u32 == 3 && i16 == 4 && u16 == 5 && i8 == 6 && u8 == 7);
+}
+
+/* Lengths of 0 with NULL, no column and no room. */
 static void ends(void)
 {
     uint8_t bytes[2] = {77, 77};
-    int64_t wide[2] = {77, 77};
     jadvolni_table table = {.separator = '\n'};
-    jadvolni_table_column column = {.format = STANDARD, .u8 = {bytes, 2}, .i64 = {wide, 2}};
+    jadvolni_table_column column = {.format = STANDARD, .u8 = {bytes, 2}};
     CHECK(answers(jadvolni_parse_table(NULL, 0, true, &table, 2, &column, 1), JADVOLNI_OK, 0, 0, 0));
     CHECK(answers(jadvolni_parse_table(NULL, 0, false, &table, 2, NULL, 0), JADVOLNI_OK, 0, 0, 0));
     CHECK(answers(jadvolni_parse_table("1\n", 2, true, &table, 2, NULL, 0), JADVOLNI_TOO_MANY_CELLS, 0, 0, 0));
     CHECK(answers(jadvolni_parse_table("x", 1, true, &table, 0, &column, 1), JADVOLNI_OK, 0, 0, 0));
-    CHECK(bytes[0] == 77 && wide[0] == 77);
+    CHECK(bytes[0] == 77);
     CHECK(answers(jadvolni_parse_table("5\n6\n7", 5, true, &table, 2, &column, 1), JADVOLNI_OK, 0, 2, 4));
-    CHECK(wide[0] == 5 && wide[1] == 6 && bytes[0] == 77 && bytes[1] == 77);
+    CHECK(bytes[0] == 5 && bytes[1] == 6);
 }
 
 /* A text of 10, -20 and 30, whose third row lacks its last cell, gives in two parts what the whole one gives. */
@@ -178,6 +200,7 @@ static void parts_of(const jadvolni_table *table, const char *text)
         jadvolni_table_result front = jadvolni_parse_table(bytes, cut, false, table, 4, columns, 3);
         free(bytes);
         CHECK(front.status == JADVOLNI_OK && front.place <= cut && front.column == 0);
+        CHECK(numbers[front.rows] == 77);
         columns[0].i32.numbers += front.rows;
         columns[0].i32.capacity -= front.rows;
         size_t left = size - front.place;
@@ -309,6 +332,7 @@ int main(void)
     faults_of_cells();
     faults_of_tables();
     columns_without_room();
+    arrays_in_turn();
     ends();
     parts();
     formats();

@@ -1,5 +1,5 @@
 -- Cells with what they hold.
-use Rattle.std.specs.Prelude.{◌≡◌, ◌≢◌, ◌++◌, ◌/◌, ◌%◌, ◌<◌, ℕ, Bool, List, length, codes, [], ◌∷◌, pos, true, false, Option, Some, None, Ok, Err}
+use Rattle.std.specs.Prelude.{◌≡◌, ◌≢◌, ◌++◌, ◌/◌, ◌%◌, ◌<◌, ℕ, ℤ, Bool, List, length, codes, [], ◌∷◌, pos, true, false, Option, Some, None, Ok, Err}
 use Rattle.std.specs.Int.{bit_at, bit_not}
 use Rattle.std.specs.Int.Bits.{bit_and, bit_or}
 use Rattle.std.proofs.lemmas.Nat.{one_shl}
@@ -9,11 +9,12 @@ use Rattle.lexical_util.specs.declared.error.Error.TheVariants.{Empty, InvalidDi
 use Rattle.lexical_util.specs.Format.{standard}
 use Rattle.lexical_util.specs.Number.{integer_type}
 use Rattle.lexical_parse_integer.specs.Computed.{grammar}
+use Rattle.lexical_tables.specs.ByColumn.{columns_put}
 use Rattle.lexical_tables.specs.Cells.{Kind, answer_as, content}
 use Rattle.lexical_tables.specs.Targets.{TargetView, put_value, with_bit, with_row_bit}
 use Rattle.lexical_tables.specs.declared.answers.CellFault.TheVariants.{MisplacedQuote, NotNumber}
 use Rattle.lexical_tables.specs.declared.dialect.Dialect.{Dialect}
-use Rattle.lexical_tables.proofs.ColumnRows.{plain}
+use Rattle.lexical_tables.proofs.ColumnRows.{line, plain}
 
 -- blanks are left out on both sides, and count for places
 spaced : content false true (record { start = 5; text = codes " " ++ 9 ∷ codes "-7  " })
@@ -136,6 +137,10 @@ unread_doubled = refl
 unread_within : answer_as quoting None (record { start = 5; text = codes "\"a\"b\"" }) ≡ Err (MisplacedQuote 7)
 unread_within = refl
 
+-- not even in front of the last byte
+unread_end : answer_as quoting None (record { start = 5; text = codes "\"a\"b" }) ≡ Err (MisplacedQuote 7)
+unread_end = refl
+
 unread_unclosed : answer_as quoting None (record { start = 5; text = codes "\"a\"\"" }) ≡ Err (MisplacedQuote 5)
 unread_unclosed = refl
 
@@ -191,3 +196,15 @@ half_read = record {
 -- a missing number is 0
 missing_put : put_value 1 None half_read ≡ record half_read { numbers = pos 77 ∷ pos 0 ∷ []; present = Some (253 ∷ []) }
 missing_put = refl
+
+-- the mark clears a row's bit and a number sets it where the column has bits, and elsewhere the mark is no number
+abbrev with_bits_and_without : List ℤ → List ℕ → List ℤ → List (Option TargetView)
+with_bits_and_without first present second =
+    Some (record half_read { numbers = first; present = Some present })
+    ∷ Some (record half_read { numbers = second; bits = None; present = None }) ∷ []
+
+marks_put : columns_put (marked (codes "NA")) 3 (line (codes "1,2") ++ line (codes "NA,3") ++ codes "4,NA")
+    (with_bits_and_without (pos 77 ∷ pos 77 ∷ pos 77 ∷ []) (250 ∷ []) (pos 77 ∷ pos 77 ∷ pos 77 ∷ []))
+    ≡ with_bits_and_without (pos 1 ∷ pos 0 ∷ pos 4 ∷ []) (253 ∷ []) (pos 2 ∷ pos 3 ∷ pos 77 ∷ [])
+unfolding grammar columns_put
+marks_put = refl

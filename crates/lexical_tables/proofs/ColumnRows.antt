@@ -1,5 +1,5 @@
 -- Tables with the columns that are read of them.
-use Rattle.std.specs.Prelude.{◌≡◌, ◌++◌, ℕ, Bool, List, codes, [], ◌∷◌, ℤ, pos, negsuc, false, true, Option, Some, None, Ok, Err}
+use Rattle.std.specs.Prelude.{◌≡◌, ◌++◌, ℕ, Bool, List, codes, map, [], ◌∷◌, ℤ, pos, negsuc, false, true, Option, Some, None, Ok, Err}
 use Rattle.std.proofs.Common.{refl}
 use Rattle.lexical_util.specs.declared.error.Error.TheVariants.{Empty, InvalidDigit, Overflow}
 use Rattle.lexical_util.specs.Format.{standard}
@@ -8,9 +8,10 @@ use Rattle.lexical_parse_integer.specs.Computed.{grammar}
 use Rattle.lexical_tables.specs.ByColumn.{columns_answer, columns_put, kinds_of, wrong_cell}
 use Rattle.lexical_tables.specs.Cells.{Kind}
 use Rattle.lexical_tables.specs.Header.{behind_lines}
-use Rattle.lexical_tables.specs.Parts.{readable}
+use Rattle.lexical_tables.specs.OneColumn.{cells_read, only}
+use Rattle.lexical_tables.specs.Parts.{error_behind, fault_behind, readable}
 use Rattle.lexical_tables.specs.Targets.{TargetView}
-use Rattle.lexical_tables.specs.declared.answers.CellFault.TheVariants.{MissingReturn, NotNumber, TooFewCells, TooManyCells}
+use Rattle.lexical_tables.specs.declared.answers.CellFault.TheVariants.{MisplacedQuote, MissingReturn, NotNumber, TooFewCells, TooManyCells}
 use Rattle.lexical_tables.specs.declared.dialect.Dialect.{Dialect}
 use Rattle.lexical_tables.specs.declared.dialect.Layout.TheVariants.{Separated}
 
@@ -64,13 +65,18 @@ unfolding grammar columns_answer
 two_rows_answer = refl
 
 -- of as many rows as are asked for
+one_row : columns_put four 1 (codes "1,a,f,\"" ++ 10 ∷ codes "20,,-1,b") before
+    ≡ targets (pos 1 ∷ pos 77 ∷ pos 77 ∷ []) (pos 15 ∷ pos 77 ∷ pos 77 ∷ [])
+unfolding grammar columns_put
+one_row = refl
+
 one_row_answer : columns_answer (kinds_of before) four 1 (codes "1,a,f,\"" ++ 10 ∷ codes "x")
     ≡ Ok (record { rows = 1; stop = 8 })
 unfolding grammar columns_answer
 one_row_answer = refl
 
--- the first wrong cell is told in its row, its column and its place, and the cells before it were read
-first_wrong : columns_put four 3 (codes "1,a,f,b" ++ 10 ∷ codes "2,c,80,d" ++ 10 ∷ []) before
+-- the first wrong cell is told in its row, its column and its place, and the cells before it alone were read
+first_wrong : columns_put four 3 (codes "1,a,f,b" ++ 10 ∷ codes "2,c,80,d" ++ 10 ∷ codes "3,e,5,f") before
     ≡ targets (pos 1 ∷ pos 2 ∷ pos 77 ∷ []) (pos 15 ∷ pos 77 ∷ pos 77 ∷ [])
 unfolding grammar columns_put
 first_wrong = refl
@@ -204,6 +210,11 @@ no_return : columns_answer both (pairs true) 4 (returned (codes "1,2") ++ line (
 unfolding grammar columns_answer
 no_return = refl
 
+-- and a cell too few before it
+few_before_return : columns_answer both (pairs true) 4 (line (codes "3")) ≡ Err (wrong_cell 0 1 (TooFewCells 1))
+unfolding grammar columns_answer
+few_before_return = refl
+
 -- a digit parts cells as any byte does
 digit_separator : columns_answer both (record (pairs false) { layout = Separated 48 2 }) 4 (line (codes "102"))
     ≡ Ok (record { rows = 1; stop = 4 })
@@ -265,6 +276,21 @@ behind_quotes : columns_answer first quoted 4 (line (codes "1,\"" ++ 10 ∷ code
 unfolding grammar columns_answer
 behind_quotes = refl
 
+-- a quote that is the separator parts cells
+quote_separator : columns_answer both (record quoted { layout = Separated 34 3 }) 4 (line (codes "1\"2\"") ++ codes "3\"4\"x")
+    ≡ Ok (record { rows = 2; stop = 10 })
+unfolding grammar columns_answer
+quote_separator = refl
+
+-- the quotes of a cell behind those that are read are judged, but none of a cell too many
+quote_unread : columns_answer first quoted 4 (codes "1,a\"b") ≡ Err (wrong_cell 0 1 (MisplacedQuote 3))
+unfolding grammar columns_answer
+quote_unread = refl
+
+quote_too_many : columns_answer both quoted 4 (codes "1,2,a\"b") ≡ Err (wrong_cell 0 2 (TooManyCells 4))
+unfolding grammar columns_answer
+quote_too_many = refl
+
 -- a row whose quotes are closed is whole, whatever stands within them
 whole_quoted : readable false quoted (line (codes "1,\"" ++ 10 ∷ codes "\"") ++ codes "2,\"" ++ 10 ∷ [])
     ≡ line (codes "1,\"" ++ 10 ∷ codes "\"")
@@ -275,6 +301,10 @@ whole_quoted = refl
 -- a line ends at a line feed outside quotes
 header : behind_lines true 1 (line (codes "\"width" ++ 10 ∷ codes "in mm\",2") ++ codes "1,2") ≡ codes "1,2"
 header = refl
+
+-- whatever quotes stand behind it
+quote_behind : behind_lines true 1 (line (codes "\"width" ++ 10 ∷ codes "in mm\",2") ++ codes "5\"") ≡ codes "5\""
+quote_behind = refl
 
 -- where a quote never closes, at any line feed
 stray_quote : behind_lines true 1 (line (codes "width 5\"") ++ line (codes "1,\"a\"")) ≡ line (codes "1,\"a\"")
@@ -287,3 +317,27 @@ plain_header = refl
 -- a text may have fewer
 short_header : behind_lines true 3 (line (codes "a") ++ codes "b") ≡ []
 short_header = refl
+
+-- ---- parts
+
+-- a wrong cell counts the rows and the bytes in front of its part
+behind : error_behind 2 10 (record { row = 1; column = 5; fault = TooFewCells 4 })
+    ≡ record { row = 3; column = 5; fault = TooFewCells 14 }
+behind = refl
+
+behind_each : map (fault_behind 10) (NotNumber (Empty 4) ∷ MisplacedQuote 4 ∷ TooManyCells 4 ∷ MissingReturn 4 ∷ [])
+    ≡ NotNumber (Empty 14) ∷ MisplacedQuote 14 ∷ TooManyCells 14 ∷ MissingReturn 14 ∷ []
+behind_each = refl
+
+-- ---- a column alone
+
+-- no other column is read
+alone : only {A = ℕ} 1 (Some 5 ∷ Some 6 ∷ Some 7 ∷ []) ≡ None ∷ Some 6 ∷ []
+alone = refl
+
+-- cells in front of a wrong one are read in its row too, and where none is wrong, those of all rows
+cells_alone : map (λ column. cells_read column 9 (Err (wrong_cell 3 2 (TooFewCells 0)))) (1 ∷ 2 ∷ []) ≡ 4 ∷ 3 ∷ []
+cells_alone = refl
+
+all_cells_alone : cells_read 1 9 (Ok (record { rows = 3; stop = 5 })) ≡ 9
+all_cells_alone = refl

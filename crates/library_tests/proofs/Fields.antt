@@ -1,13 +1,14 @@
 -- Texts with their fields and columns.
-use Rattle.std.specs.Prelude.{ℕ, ℤ, List, [], ◌∷◌, map, codes, pos, true, false, Some, Result, Ok, Err}
+use Rattle.std.specs.Prelude.{◌≡◌, ℕ, ℤ, List, [], ◌∷◌, map, codes, pos, true, false, Some, Result, Ok, Err}
 use Rattle.std.proofs.Common.{refl}
 use Rattle.lexical_util.specs.declared.error.Error.{Error}
-use Rattle.lexical_util.specs.declared.error.Error.TheVariants.{Overflow, InvalidDigit, Empty, InvalidMantissaRadix}
+use Rattle.lexical_util.specs.declared.error.Error.TheVariants.{Overflow, Underflow, InvalidDigit, Empty, MissingSign, InvalidPositiveSign, InvalidLeadingZeros, InvalidMantissaRadix, InvalidDigitSeparator, InvalidBasePrefix, InvalidBaseSuffix, InvalidPunctuation, InvalidLiteralPrefixes}
 use Rattle.lexical_util.specs.Format.{Format, standard}
 use Rattle.lexical_util.specs.Number.{IntegerType, integer_type}
 use Rattle.lexical_parse_integer.specs.Computed.{grammar}
 use Rattle.lexical_fields.specs.Columns.{answer_of, numbers_of}
 use Rattle.lexical_fields.specs.Parts.{whole_fields}
+use Rattle.lexical_fields.specs.Places.{error_in_text}
 use Rattle.lexical_fields.specs.ReadFields.{read_fields}
 use Rattle.lexical_fields.specs.declared.columns.Column.{Column}
 use Rattle.lexical_fields.specs.declared.columns.ColumnError.{ColumnError}
@@ -43,6 +44,20 @@ fields_go_on_behind_a_fault : Reads (bytes_between 44) ((
     [])
 unfolding grammar
 fields_go_on_behind_a_fault = refl
+
+a_wrong_format_is_told_of_each_field : read_fields (record standard { mantissa_radix = 1 }) (integer_type 8 false) 44 (codes "0,")
+    ≡ record { start = 0; text = codes "0"; answer = Err InvalidMantissaRadix } ∷ []
+unfolding grammar
+a_wrong_format_is_told_of_each_field = refl
+
+places_count_from_the_start_of_the_text : Reads (error_in_text 10) (
+    (Overflow 2, Overflow 12) ∷ (Underflow 3, Underflow 13) ∷ (InvalidDigit 0, InvalidDigit 10) ∷
+    (Empty 1, Empty 11) ∷ (MissingSign 0, MissingSign 10) ∷ (InvalidPositiveSign 0, InvalidPositiveSign 10) ∷
+    (InvalidLeadingZeros 1, InvalidLeadingZeros 11) ∷ (InvalidMantissaRadix, InvalidMantissaRadix) ∷
+    (InvalidDigitSeparator, InvalidDigitSeparator) ∷ (InvalidBasePrefix, InvalidBasePrefix) ∷
+    (InvalidBaseSuffix, InvalidBaseSuffix) ∷ (InvalidPunctuation, InvalidPunctuation) ∷
+    (InvalidLiteralPrefixes, InvalidLiteralPrefixes) ∷ [])
+places_count_from_the_start_of_the_text = refl
 
 -- ---- columns
 

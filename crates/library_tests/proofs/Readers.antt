@@ -23,8 +23,8 @@ use Rattle.library_tests.proofs.Tables.{Reads, minus}
 
 values_of_a_file_are_read : Reads value_in (
     (codes "64_000", Ok (pos 64000)) ∷
-    (codes "8080", Ok (pos 8080)) ∷
-    (codes "1_000_000", Ok (pos 1000000)) ∷
+    (codes "+8080", Ok (pos 8080)) ∷
+    (codes "18_446_744_073_709_551_615", Ok (pos 18446744073709551615)) ∷
     (codes "0x1F_FF", Ok (pos 8191)) ∷
     (codes "0xdead_BEEF", Ok (pos 3735928559)) ∷
     (codes "0xffff_ffff_ffff_ffff", Ok (pos 18446744073709551615)) ∷
@@ -265,6 +265,8 @@ other_texts_are_none_of_toml : Reads integer_in (
     (codes "+0x1", Err (InvalidDigit 2)) ∷
     (codes "-0o7", Err (InvalidDigit 2)) ∷
     (codes "+0b", Err (InvalidDigit 2)) ∷
+    (codes "+0o7", Err (InvalidDigit 2)) ∷
+    (codes "-0b1", Err (InvalidDigit 2)) ∷
     (codes "1.0", Err (InvalidDigit 1)) ∷
     [])
 unfolding grammar

@@ -1,10 +1,11 @@
 -- Sources and their tokens, under the format of literals and under others.
-use Rattle.std.specs.Prelude.{ℕ, List, [], ◌∷◌, map, codes, true, Some}
+use Rattle.std.specs.Prelude.{◌≡◌, ℕ, List, [], ◌∷◌, map, codes, true, Some, Ok, Err}
 use Rattle.std.proofs.Common.{refl}
-use Rattle.lexical_util.specs.declared.error.Error.TheVariants.{Empty}
+use Rattle.lexical_util.specs.declared.error.Error.TheVariants.{Empty, InvalidMantissaRadix}
 use Rattle.lexical_util.specs.Format.{Format, standard}
 use Rattle.lexical_parse_integer.specs.Computed.{grammar}
-use Rattle.lexical_literals.specs.Tokens.{literals, number_of, tokens_under}
+use Rattle.lexical_literals.specs.Literals.{literal_in_front_if_valid}
+use Rattle.lexical_literals.specs.Tokens.{literals, number_of, tokens_if_valid, tokens_under}
 use Rattle.lexical_literals.specs.declared.Kind.{Kind}
 use Rattle.lexical_literals.specs.declared.Kind.TheVariants.{Number, Word, Byte, Fault}
 use Rattle.library_tests.proofs.Tables.{Reads}
@@ -19,6 +20,15 @@ blanks_and_line_ends_are_skipped : Reads (spans literals) (
     [])
 unfolding grammar number_of
 blanks_and_line_ends_are_skipped = refl
+
+zeros_are_decimal_and_prefixes_of_either_case : Reads (spans literals) ((
+  codes "0078 0B102 0X1f",
+  (Number 78, 0, 4, codes "0078") ∷ (Number 2, 5, 9, codes "0B10") ∷ (Number 2, 9, 10, codes "2")
+      ∷ (Number 31, 11, 15, codes "0X1f") ∷ [],
+) ∷
+    [])
+unfolding grammar number_of
+zeros_are_decimal_and_prefixes_of_either_case = refl
 
 -- as in C++14: octal behind a zero, hexadecimal behind `0x`, and `'` between digits
 abbrev like_c : Format
@@ -55,3 +65,14 @@ numbers_with_a_suffix : Reads (spans (record standard { mantissa_radix = 16; bas
     [])
 unfolding grammar number_of
 numbers_with_a_suffix = refl
+
+a_wrong_format_is_told_first : tokens_if_valid (record standard { mantissa_radix = 1 }) (codes "0") ≡ Err InvalidMantissaRadix
+a_wrong_format_is_told_first = refl
+
+-- ---- literals
+
+-- a plus is a part of the number, which may have 128 bits
+a_plus_and_128_bits_are_read : literal_in_front_if_valid literals (codes "+340282366920938463463374607431768211455u")
+    ≡ Ok (record { value = 340282366920938463463374607431768211455; number_stop = 40; stop = 41 })
+unfolding grammar
+a_plus_and_128_bits_are_read = refl

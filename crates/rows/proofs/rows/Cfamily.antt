@@ -6,13 +6,15 @@ use Rattle.lexical_util.specs.declared.error.Error.TheVariants.{Overflow, Invali
 use Rattle.lexical_util.specs.Format.{standard}
 use Rattle.lexical_parse_integer.specs.Computed.{grammar}
 use Rattle.lexical_parse_integer.specs.Grammar.{complete}
+use Rattle.lexical_formats.specs.Names.{format_named}
 use Rattle.rows.proofs.Tables.{Answers, minus, u32, u64, i32, i64}
 use Rattle.lexical_formats.specs.Languages.{c, c23, c_decimal, c_hexadecimal, c_octal, cpp14, csharp, java, kotlin}
 
 -- ---- C, up to C17
 
-c_fields : c ≡ record standard { no_positive_mantissa_sign = true; literal_prefixes = true; literal_octal_zero = true }
-c_fields = refl
+c_fields : (c ≡ record standard { no_positive_mantissa_sign = true; literal_prefixes = true; literal_octal_zero = true })
+    × (format_named (codes "c") ≡ Some c)
+c_fields = (refl, refl)
 
 c_complete : Answers complete (
     (c, u32, codes "0", Ok (pos 0)) ∷
@@ -41,8 +43,9 @@ c_complete = refl
 
 -- ---- C, decimal constants
 
-c_decimal_fields : c_decimal ≡ record standard { no_positive_mantissa_sign = true; no_integer_leading_zeros = true }
-c_decimal_fields = refl
+c_decimal_fields : (c_decimal ≡ record standard { no_positive_mantissa_sign = true; no_integer_leading_zeros = true })
+    × (format_named (codes "c_decimal") ≡ Some c_decimal)
+c_decimal_fields = (refl, refl)
 
 c_decimal_complete : Answers complete (
     (c_decimal, u64, codes "0", Ok (pos 0)) ∷
@@ -63,8 +66,9 @@ c_decimal_complete = refl
 
 -- ---- C, octal constants
 
-c_octal_fields : c_octal ≡ record standard { no_positive_mantissa_sign = true; mantissa_radix = 8 }
-c_octal_fields = refl
+c_octal_fields : (c_octal ≡ record standard { no_positive_mantissa_sign = true; mantissa_radix = 8 })
+    × (format_named (codes "c_octal") ≡ Some c_octal)
+c_octal_fields = (refl, refl)
 
 c_octal_complete : Answers complete (
     (c_octal, u64, codes "0", Ok (pos 0)) ∷
@@ -88,8 +92,9 @@ c_octal_complete = refl
 
 -- ---- C, hexadecimal constants
 
-c_hexadecimal_fields : c_hexadecimal ≡ record standard { no_positive_mantissa_sign = true; mantissa_radix = 16; base_prefix = Some 120 }
-c_hexadecimal_fields = refl
+c_hexadecimal_fields : (c_hexadecimal ≡ record standard { no_positive_mantissa_sign = true; mantissa_radix = 16; base_prefix = Some 120 })
+    × (format_named (codes "c_hexadecimal") ≡ Some c_hexadecimal)
+c_hexadecimal_fields = (refl, refl)
 
 c_hexadecimal_complete : Answers complete (
     (c_hexadecimal, u64, codes "0x1FF", Ok (pos 511)) ∷
@@ -117,8 +122,9 @@ c_hexadecimal_complete = refl
 
 -- ---- C23
 
-c23_fields : c23 ≡ record standard { no_positive_mantissa_sign = true; literal_prefixes = true; digit_separator = Some 39; integer_internal_digit_separator = true; literal_octal_zero = true }
-c23_fields = refl
+c23_fields : (c23 ≡ record standard { no_positive_mantissa_sign = true; literal_prefixes = true; digit_separator = Some 39; integer_internal_digit_separator = true; literal_octal_zero = true })
+    × (format_named (codes "c23") ≡ Some c23)
+c23_fields = (refl, refl)
 
 c23_complete : Answers complete (
     (c23, u32, codes "1'000", Ok (pos 1000)) ∷
@@ -144,8 +150,9 @@ c23_complete = refl
 
 -- ---- C++14 and later
 
-cpp14_fields : cpp14 ≡ record standard { no_positive_mantissa_sign = true; literal_prefixes = true; digit_separator = Some 39; integer_internal_digit_separator = true; literal_octal_zero = true }
-cpp14_fields = refl
+cpp14_fields : (cpp14 ≡ record standard { no_positive_mantissa_sign = true; literal_prefixes = true; digit_separator = Some 39; integer_internal_digit_separator = true; literal_octal_zero = true })
+    × (format_named (codes "cpp14") ≡ Some cpp14)
+cpp14_fields = (refl, refl)
 
 cpp14_complete : Answers complete (
     (cpp14, u32, codes "1'0'0", Ok (pos 100)) ∷
@@ -171,8 +178,9 @@ cpp14_complete = refl
 
 -- ---- C#
 
-csharp_fields : csharp ≡ record standard { no_positive_mantissa_sign = true; literal_prefixes = true; digit_separator = Some 95; integer_internal_digit_separator = true; integer_consecutive_digit_separator = true; integer_prefix_digit_separator = true }
-csharp_fields = refl
+csharp_fields : (csharp ≡ record standard { no_positive_mantissa_sign = true; literal_prefixes = true; digit_separator = Some 95; integer_internal_digit_separator = true; integer_consecutive_digit_separator = true; integer_prefix_digit_separator = true })
+    × (format_named (codes "csharp") ≡ Some csharp)
+csharp_fields = (refl, refl)
 
 csharp_complete : Answers complete (
     (csharp, u32, codes "1__000", Ok (pos 1000)) ∷
@@ -199,8 +207,9 @@ csharp_complete = refl
 
 -- ---- Java
 
-java_fields : java ≡ record standard { no_positive_mantissa_sign = true; literal_prefixes = true; digit_separator = Some 95; integer_internal_digit_separator = true; base_suffix = Some 108; integer_consecutive_digit_separator = true; literal_octal_zero = true }
-java_fields = refl
+java_fields : (java ≡ record standard { no_positive_mantissa_sign = true; literal_prefixes = true; digit_separator = Some 95; integer_internal_digit_separator = true; base_suffix = Some 108; integer_consecutive_digit_separator = true; literal_octal_zero = true })
+    × (format_named (codes "java") ≡ Some java)
+java_fields = (refl, refl)
 
 java_complete : Answers complete (
     (java, u32, codes "1__000", Ok (pos 1000)) ∷
@@ -230,8 +239,9 @@ java_complete = refl
 
 -- ---- Kotlin
 
-kotlin_fields : kotlin ≡ record standard { no_positive_mantissa_sign = true; literal_prefixes = true; digit_separator = Some 95; integer_internal_digit_separator = true; base_suffix = Some 76; case_sensitive_base_suffix = true; integer_consecutive_digit_separator = true; no_integer_leading_zeros = true }
-kotlin_fields = refl
+kotlin_fields : (kotlin ≡ record standard { no_positive_mantissa_sign = true; literal_prefixes = true; digit_separator = Some 95; integer_internal_digit_separator = true; base_suffix = Some 76; case_sensitive_base_suffix = true; integer_consecutive_digit_separator = true; no_integer_leading_zeros = true })
+    × (format_named (codes "kotlin") ≡ Some kotlin)
+kotlin_fields = (refl, refl)
 
 kotlin_complete : Answers complete (
     (kotlin, u32, codes "1__000", Ok (pos 1000)) ∷

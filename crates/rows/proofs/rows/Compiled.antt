@@ -6,13 +6,15 @@ use Rattle.lexical_util.specs.declared.error.Error.TheVariants.{InvalidDigit, Em
 use Rattle.lexical_util.specs.Format.{standard}
 use Rattle.lexical_parse_integer.specs.Computed.{grammar}
 use Rattle.lexical_parse_integer.specs.Grammar.{complete}
+use Rattle.lexical_formats.specs.Names.{format_named}
 use Rattle.rows.proofs.Tables.{Answers, minus, u32, i32}
 use Rattle.lexical_formats.specs.Languages.{ada, assembler_hexadecimal, go, rust, swift, vhdl}
 
 -- ---- Rust
 
-rust_fields : rust ≡ record standard { no_positive_mantissa_sign = true; literal_prefixes = true; digit_separator = Some 95; integer_internal_digit_separator = true; integer_trailing_digit_separator = true; integer_consecutive_digit_separator = true; case_sensitive_base_prefix = true; integer_prefix_digit_separator = true }
-rust_fields = refl
+rust_fields : (rust ≡ record standard { no_positive_mantissa_sign = true; literal_prefixes = true; digit_separator = Some 95; integer_internal_digit_separator = true; integer_trailing_digit_separator = true; integer_consecutive_digit_separator = true; case_sensitive_base_prefix = true; integer_prefix_digit_separator = true })
+    × (format_named (codes "rust") ≡ Some rust)
+rust_fields = (refl, refl)
 
 rust_complete : Answers complete (
     (rust, u32, codes "1__0", Ok (pos 10)) ∷
@@ -38,8 +40,9 @@ rust_complete = refl
 
 -- ---- Go
 
-go_fields : go ≡ record standard { no_positive_mantissa_sign = true; literal_prefixes = true; digit_separator = Some 95; integer_internal_digit_separator = true; integer_prefix_digit_separator = true; literal_octal_zero = true }
-go_fields = refl
+go_fields : (go ≡ record standard { no_positive_mantissa_sign = true; literal_prefixes = true; digit_separator = Some 95; integer_internal_digit_separator = true; integer_prefix_digit_separator = true; literal_octal_zero = true })
+    × (format_named (codes "go") ≡ Some go)
+go_fields = (refl, refl)
 
 go_complete : Answers complete (
     (go, u32, codes "1_000", Ok (pos 1000)) ∷
@@ -64,8 +67,9 @@ go_complete = refl
 
 -- ---- Swift
 
-swift_fields : swift ≡ record standard { no_positive_mantissa_sign = true; literal_prefixes = true; digit_separator = Some 95; integer_internal_digit_separator = true; integer_trailing_digit_separator = true; integer_consecutive_digit_separator = true; case_sensitive_base_prefix = true }
-swift_fields = refl
+swift_fields : (swift ≡ record standard { no_positive_mantissa_sign = true; literal_prefixes = true; digit_separator = Some 95; integer_internal_digit_separator = true; integer_trailing_digit_separator = true; integer_consecutive_digit_separator = true; case_sensitive_base_prefix = true })
+    × (format_named (codes "swift") ≡ Some swift)
+swift_fields = (refl, refl)
 
 swift_complete : Answers complete (
     (swift, u32, codes "1__0", Ok (pos 10)) ∷
@@ -88,8 +92,9 @@ swift_complete = refl
 
 -- ---- Ada, decimal literals
 
-ada_fields : ada ≡ record standard { no_positive_mantissa_sign = true; digit_separator = Some 95; integer_internal_digit_separator = true }
-ada_fields = refl
+ada_fields : (ada ≡ record standard { no_positive_mantissa_sign = true; digit_separator = Some 95; integer_internal_digit_separator = true })
+    × (format_named (codes "ada") ≡ Some ada)
+ada_fields = (refl, refl)
 
 ada_complete : Answers complete (
     (ada, u32, codes "1_000", Ok (pos 1000)) ∷
@@ -112,8 +117,9 @@ ada_complete = refl
 
 -- ---- VHDL, decimal literals
 
-vhdl_fields : vhdl ≡ record standard { no_positive_mantissa_sign = true; digit_separator = Some 95; integer_internal_digit_separator = true }
-vhdl_fields = refl
+vhdl_fields : (vhdl ≡ record standard { no_positive_mantissa_sign = true; digit_separator = Some 95; integer_internal_digit_separator = true })
+    × (format_named (codes "vhdl") ≡ Some vhdl)
+vhdl_fields = (refl, refl)
 
 vhdl_complete : Answers complete (
     (vhdl, u32, codes "1_0_0", Ok (pos 100)) ∷
@@ -133,8 +139,9 @@ vhdl_complete = refl
 
 -- ---- assemblers, hexadecimal numbers with an `h`
 
-assembler_hexadecimal_fields : assembler_hexadecimal ≡ record standard { no_positive_mantissa_sign = true; mantissa_radix = 16; base_suffix = Some 104 }
-assembler_hexadecimal_fields = refl
+assembler_hexadecimal_fields : (assembler_hexadecimal ≡ record standard { no_positive_mantissa_sign = true; mantissa_radix = 16; base_suffix = Some 104 })
+    × (format_named (codes "assembler_hexadecimal") ≡ Some assembler_hexadecimal)
+assembler_hexadecimal_fields = (refl, refl)
 
 assembler_hexadecimal_complete : Answers complete (
     (assembler_hexadecimal, u32, codes "0FFh", Ok (pos 255)) ∷

@@ -6,13 +6,15 @@ use Rattle.lexical_util.specs.declared.error.Error.TheVariants.{InvalidDigit, Em
 use Rattle.lexical_util.specs.Format.{standard, json}
 use Rattle.lexical_parse_integer.specs.Computed.{grammar}
 use Rattle.lexical_parse_integer.specs.Grammar.{complete}
+use Rattle.lexical_formats.specs.Names.{format_named}
 use Rattle.rows.proofs.Tables.{Answers, minus, i32, i64}
 use Rattle.lexical_formats.specs.Languages.{json5, sql, sql_2023, toml, yaml}
 
 -- ---- JSON
 
-json_fields : json ≡ record standard { required_integer_digits = true; no_positive_mantissa_sign = true; no_integer_leading_zeros = true }
-json_fields = refl
+json_fields : (json ≡ record standard { required_integer_digits = true; no_positive_mantissa_sign = true; no_integer_leading_zeros = true })
+    × (format_named (codes "json") ≡ Some json)
+json_fields = (refl, refl)
 
 json_complete : Answers complete (
     (json, i32, codes "0", Ok (pos 0)) ∷
@@ -37,8 +39,9 @@ json_complete = refl
 
 -- ---- JSON5
 
-json5_fields : json5 ≡ record standard { literal_prefixes = true; no_integer_leading_zeros = true }
-json5_fields = refl
+json5_fields : (json5 ≡ record standard { literal_prefixes = true; no_integer_leading_zeros = true })
+    × (format_named (codes "json5") ≡ Some json5)
+json5_fields = (refl, refl)
 
 json5_complete : Answers complete (
     (json5, i32, codes "+1", Ok (pos 1)) ∷
@@ -66,8 +69,9 @@ json5_complete = refl
 
 -- ---- TOML
 
-toml_fields : toml ≡ record standard { literal_prefixes = true; digit_separator = Some 95; integer_internal_digit_separator = true; case_sensitive_base_prefix = true; no_integer_leading_zeros = true }
-toml_fields = refl
+toml_fields : (toml ≡ record standard { literal_prefixes = true; digit_separator = Some 95; integer_internal_digit_separator = true; case_sensitive_base_prefix = true; no_integer_leading_zeros = true })
+    × (format_named (codes "toml") ≡ Some toml)
+toml_fields = (refl, refl)
 
 toml_complete : Answers complete (
     (toml, i64, codes "+1_000", Ok (pos 1000)) ∷
@@ -95,8 +99,9 @@ toml_complete = refl
 
 -- ---- YAML 1.2, core schema
 
-yaml_fields : yaml ≡ record standard { literal_prefixes = true; case_sensitive_base_prefix = true }
-yaml_fields = refl
+yaml_fields : (yaml ≡ record standard { literal_prefixes = true; case_sensitive_base_prefix = true })
+    × (format_named (codes "yaml") ≡ Some yaml)
+yaml_fields = (refl, refl)
 
 yaml_complete : Answers complete (
     (yaml, i32, codes "+0511", Ok (pos 511)) ∷
@@ -122,8 +127,9 @@ yaml_complete = refl
 
 -- ---- SQL, up to SQL:2016
 
-sql_fields : sql ≡ standard
-sql_fields = refl
+sql_fields : (sql ≡ standard)
+    × (format_named (codes "sql") ≡ Some sql)
+sql_fields = (refl, refl)
 
 sql_complete : Answers complete (
     (sql, i32, codes "511", Ok (pos 511)) ∷
@@ -143,8 +149,9 @@ sql_complete = refl
 
 -- ---- SQL:2023
 
-sql_2023_fields : sql_2023 ≡ record standard { literal_prefixes = true; digit_separator = Some 95; integer_internal_digit_separator = true; integer_prefix_digit_separator = true }
-sql_2023_fields = refl
+sql_2023_fields : (sql_2023 ≡ record standard { literal_prefixes = true; digit_separator = Some 95; integer_internal_digit_separator = true; integer_prefix_digit_separator = true })
+    × (format_named (codes "sql_2023") ≡ Some sql_2023)
+sql_2023_fields = (refl, refl)
 
 sql_2023_complete : Answers complete (
     (sql_2023, i32, codes "+1_000", Ok (pos 1000)) ∷

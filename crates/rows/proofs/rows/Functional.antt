@@ -6,13 +6,15 @@ use Rattle.lexical_util.specs.declared.error.Error.TheVariants.{InvalidDigit, Em
 use Rattle.lexical_util.specs.Format.{standard}
 use Rattle.lexical_parse_integer.specs.Computed.{grammar}
 use Rattle.lexical_parse_integer.specs.Grammar.{complete}
+use Rattle.lexical_formats.specs.Names.{format_named}
 use Rattle.rows.proofs.Tables.{Answers, minus, u32, i32, i64}
 use Rattle.lexical_formats.specs.Languages.{haskell, ocaml}
 
 -- ---- Haskell, with NumericUnderscores and BinaryLiterals
 
-haskell_fields : haskell ≡ record standard { no_positive_mantissa_sign = true; literal_prefixes = true; digit_separator = Some 95; integer_internal_digit_separator = true; integer_consecutive_digit_separator = true; integer_prefix_digit_separator = true }
-haskell_fields = refl
+haskell_fields : (haskell ≡ record standard { no_positive_mantissa_sign = true; literal_prefixes = true; digit_separator = Some 95; integer_internal_digit_separator = true; integer_consecutive_digit_separator = true; integer_prefix_digit_separator = true })
+    × (format_named (codes "haskell") ≡ Some haskell)
+haskell_fields = (refl, refl)
 
 haskell_complete : Answers complete (
     (haskell, u32, codes "1__000", Ok (pos 1000)) ∷
@@ -36,8 +38,9 @@ haskell_complete = refl
 
 -- ---- OCaml
 
-ocaml_fields : ocaml ≡ record standard { no_positive_mantissa_sign = true; literal_prefixes = true; digit_separator = Some 95; integer_internal_digit_separator = true; integer_trailing_digit_separator = true; integer_consecutive_digit_separator = true }
-ocaml_fields = refl
+ocaml_fields : (ocaml ≡ record standard { no_positive_mantissa_sign = true; literal_prefixes = true; digit_separator = Some 95; integer_internal_digit_separator = true; integer_trailing_digit_separator = true; integer_consecutive_digit_separator = true })
+    × (format_named (codes "ocaml") ≡ Some ocaml)
+ocaml_fields = (refl, refl)
 
 ocaml_complete : Answers complete (
     (ocaml, i32, codes "1__0", Ok (pos 10)) ∷

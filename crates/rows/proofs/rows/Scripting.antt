@@ -6,13 +6,15 @@ use Rattle.lexical_util.specs.declared.error.Error.TheVariants.{InvalidDigit, Em
 use Rattle.lexical_util.specs.Format.{standard}
 use Rattle.lexical_parse_integer.specs.Computed.{grammar}
 use Rattle.lexical_parse_integer.specs.Grammar.{complete}
+use Rattle.lexical_formats.specs.Names.{format_named}
 use Rattle.rows.proofs.Tables.{Answers, minus, u32, u64, i32}
 use Rattle.lexical_formats.specs.Languages.{javascript, julia, python, ruby}
 
 -- ---- Python 3
 
-python_fields : python ≡ record standard { no_positive_mantissa_sign = true; literal_prefixes = true; digit_separator = Some 95; integer_internal_digit_separator = true; integer_prefix_digit_separator = true; no_integer_leading_zeros = true }
-python_fields = refl
+python_fields : (python ≡ record standard { no_positive_mantissa_sign = true; literal_prefixes = true; digit_separator = Some 95; integer_internal_digit_separator = true; integer_prefix_digit_separator = true; no_integer_leading_zeros = true })
+    × (format_named (codes "python") ≡ Some python)
+python_fields = (refl, refl)
 
 python_complete : Answers complete (
     (python, u32, codes "1_000", Ok (pos 1000)) ∷
@@ -40,8 +42,9 @@ python_complete = refl
 
 -- ---- Ruby
 
-ruby_fields : ruby ≡ record standard { literal_prefixes = true; digit_separator = Some 95; integer_internal_digit_separator = true; literal_octal_zero = true }
-ruby_fields = refl
+ruby_fields : (ruby ≡ record standard { literal_prefixes = true; digit_separator = Some 95; integer_internal_digit_separator = true; literal_octal_zero = true })
+    × (format_named (codes "ruby") ≡ Some ruby)
+ruby_fields = (refl, refl)
 
 ruby_complete : Answers complete (
     (ruby, i32, codes "+1_000", Ok (pos 1000)) ∷
@@ -67,8 +70,9 @@ ruby_complete = refl
 
 -- ---- JavaScript, in strict mode and in modules
 
-javascript_fields : javascript ≡ record standard { no_positive_mantissa_sign = true; literal_prefixes = true; digit_separator = Some 95; integer_internal_digit_separator = true; base_suffix = Some 110; case_sensitive_base_suffix = true; no_integer_leading_zeros = true }
-javascript_fields = refl
+javascript_fields : (javascript ≡ record standard { no_positive_mantissa_sign = true; literal_prefixes = true; digit_separator = Some 95; integer_internal_digit_separator = true; base_suffix = Some 110; case_sensitive_base_suffix = true; no_integer_leading_zeros = true })
+    × (format_named (codes "javascript") ≡ Some javascript)
+javascript_fields = (refl, refl)
 
 javascript_complete : Answers complete (
     (javascript, u64, codes "1_000", Ok (pos 1000)) ∷
@@ -97,8 +101,9 @@ javascript_complete = refl
 
 -- ---- Julia
 
-julia_fields : julia ≡ record standard { no_positive_mantissa_sign = true; literal_prefixes = true; digit_separator = Some 95; integer_internal_digit_separator = true; case_sensitive_base_prefix = true }
-julia_fields = refl
+julia_fields : (julia ≡ record standard { no_positive_mantissa_sign = true; literal_prefixes = true; digit_separator = Some 95; integer_internal_digit_separator = true; case_sensitive_base_prefix = true })
+    × (format_named (codes "julia") ≡ Some julia)
+julia_fields = (refl, refl)
 
 julia_complete : Answers complete (
     (julia, u32, codes "1_000", Ok (pos 1000)) ∷
