@@ -312,7 +312,7 @@ static inline jadvolni_format jadvolni_format_of_radix(int radix)
 /* The format of the project's tokenizer, and of no language: "1_000", "0xFF", "0o17", "0b1". "0777",
  * which is 511 in C, is 777 unless `literal_octal_zero` is set, and a sign is taken, as in "+1". */
 #define JADVOLNI_FORMAT_LITERAL \
-    {10, '_', 0, 0, 0, 0, 0, 1, 0, 0, 0, 0, 1, 0, 1, 0, 1, 0, 0, {0}}
+    {10, 95, 0, 0, 0, 0, 0, 1, 0, 0, 0, 0, 1, 0, 1, 0, 1, 0, 0, {0}}
 
 /* The formats of languages and of data, by make docs from tools/languages.txt. */
 

@@ -42,7 +42,7 @@ class Field(NamedTuple):
         return self.name.title().replace("_", "")
 
     @property
-    def standard(self) -> object:
+    def standard(self) -> int:
         """The number or truth value that the standard format has."""
         return STANDARD.get(self.name, False)
 
@@ -96,8 +96,7 @@ def statuses_of(top: str) -> list[Field]:
 
 def quoted(text: str, most: int, between: str) -> str:
     """A text as a literal, in lines of at most so many columns."""
-    lines = textwrap.wrap(text, most)
-    return '"' + between.join([*(f"{line} " for line in lines[:-1]), lines[-1]]) + '"'
+    return '"' + f" {between}".join(textwrap.wrap(text, most)) + '"'
 
 
 def in_cases(statuses: list[Field], literal: Callable[[Field], str]) -> str:
@@ -136,9 +135,13 @@ def in_c(fields: list[Field]) -> str:
         about = field.about
         if field.kind == "flag":
             about = f"Flag: {about[0].lower()}{about[1:]}"
-        lines.append(wrapped(about + " */", "    /* ", "     * "))
-        lines.append(f"    uint8_t {field.name};\n")
+        lines += [wrapped(about + " */", "    /* ", "     * "), f"    uint8_t {field.name};\n"]
     return "\n".join(lines) + "\n"
+
+
+def in_bytes(fields: list[Field], **given: int) -> str:
+    """The bytes of C's struct: those of the standard format, but for these."""
+    return ", ".join(str(int(given.get(it.name, it.standard))) for it in fields) + ", 0, {0}"
 
 
 def each(**texts: str) -> Written:
@@ -192,9 +195,8 @@ def in_setters(kind: str, fields: list[Field]) -> str:
     lines = []
     for field in fields:
         if field.kind == kind:
-            lines.append(wrapped(field.about, "        /// ", "        /// "))
             bit = f" JADVOLNI_NUL_IS_{field.constant}" if field.bit else ""
-            lines.append(f"        {field.name}{bit}")
+            lines += [wrapped(field.about, *["        /// "] * 2), f"        {field.name}{bit}"]
     return "\n".join(lines) + "\n"
 
 
@@ -249,6 +251,10 @@ REGIONS = [
                   "beq format.{it.name} other.{it.name}\n",
                   "option_eq ◌==◌ format.{it.name} other.{it.name}\n")),
     Region(HEADER, "typedef struct jadvolni_format {\n", "    /* Bits: ", in_c),
+    Region(HEADER, "#define JADVOLNI_FORMAT_STANDARD \\\n    {", "}\n", in_bytes),
+    Region(HEADER, "#define JADVOLNI_FORMAT_LITERAL \\\n    {", "}\n", lambda fields: in_bytes(
+        fields, digit_separator=ord("_"), integer_internal_digit_separator=1,
+        integer_consecutive_digit_separator=1, literal_prefixes=1)),
     Region(OF_C, "pub struct FormatFields {\n", "    pub nul_is_punctuation", BYTES),
     Region(OF_C, "        NumberFormatBuilder::new()\n", "            .build_unchecked()",
            in_builder),

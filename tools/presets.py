@@ -7,7 +7,7 @@ import textwrap
 from typing import Sequence
 
 import field_lists
-from field_lists import STANDARD, Field, Region, fields_of, fill, statuses_of
+from field_lists import Field, Region, fields_of, fill, in_bytes, statuses_of
 from formats_page import setter
 from row_data import BYTES, Group, groups_of
 
@@ -22,13 +22,8 @@ JAVASCRIPT, TYPES = "bindings/js/lists.js", "bindings/js/index.d.ts"
 
 def in_c(groups: list[Group], fields: list[Field]) -> str:
     """A macro for each language: the bytes of its format."""
-    def row(group: Group) -> str:
-        values = {**STANDARD, **dict(group.fields or ())}
-        numbers = [str(int(values.get(field.name, 0))) for field in fields]
-        return (f"\n/* {group.shows}. */\n#define JADVOLNI_FORMAT_{group.name.upper()} \\\n"
-                f"    {{{', '.join(numbers)}, 0, {{0}}}}\n")
-
-    return "".join(row(group) for group in groups)
+    return "".join(f"\n/* {group.shows}. */\n#define JADVOLNI_FORMAT_{group.name.upper()} \\\n"
+                   f"    {{{in_bytes(fields, **dict(group.fields or ()))}}}\n" for group in groups)
 
 
 def in_rust(groups: list[Group]) -> str:
@@ -89,8 +84,7 @@ def files(top: str, found: dict[str, str]) -> dict[str, str]:
                     for it in groups)
     fill(top, found, [Region("include/jadvolni.h", BEGIN_C, END_C, lambda it: in_c(groups, it)),
                       Region("include/jadvolni.hpp", BEGIN_CPP, END_CPP, lambda _: constants),
-                      Region(TYPES, "export const formats: {\n", "};\n", lambda _: types)],
-         fields)
+                      Region(TYPES, "export const formats: {\n", "};\n", lambda _: types)], fields)
     known = statuses_of(top)[:-2]  # (those that a format without reserved bytes can have)
     return {**found, RUST: in_rust(groups), PYTHON: in_python(groups),
             JAVASCRIPT: in_javascript(groups, fields, known)}

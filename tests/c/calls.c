@@ -139,7 +139,7 @@ static void faults_of_formats(void)
     format.mantissa_radix = 1;
     CHECK(jadvolni_format_error(&format) == JADVOLNI_INVALID_MANTISSA_RADIX);
     EXPECT(jadvolni_parse_i64_with_format, int64_t, UNDER(format), "1", JADVOLNI_INVALID_MANTISSA_RADIX, 0, 77);
-    format.reserved[12] = 1;
+    format.reserved[sizeof format.reserved - 1] = 1;
     CHECK(jadvolni_format_error(&format) == JADVOLNI_UNKNOWN_FIELD);
     EXPECT(jadvolni_parse_i64_with_format, int64_t, UNDER(format), "1", JADVOLNI_UNKNOWN_FIELD, 0, 77);
     EXPECT(jadvolni_parse_i64_partial_with_format, int64_t, UNDER(format), "1", JADVOLNI_UNKNOWN_FIELD, 0, 77);

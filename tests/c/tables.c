@@ -95,7 +95,7 @@ static void faults_of_tables(void)
     CHECK(answers(jadvolni_parse_table("1,2", 3, true, &table, 2, columns, 2), JADVOLNI_INVALID_TABLE, 1, 0, 0));
     columns[1].format.mantissa_radix = 37;
     CHECK(answers(jadvolni_parse_table("1,2", 3, true, &table, 1, columns, 2), JADVOLNI_INVALID_MANTISSA_RADIX, 1, 0, 0));
-    columns[1].format.reserved[12] = 1;
+    columns[1].format.reserved[sizeof columns[1].format.reserved - 1] = 1;
     CHECK(answers(jadvolni_parse_table("1,2", 3, true, &table, 1, columns, 2), JADVOLNI_UNKNOWN_FIELD, 1, 0, 0));
     columns[0].format.digit_separator = '-';
     CHECK(answers(jadvolni_parse_table("x,2", 3, true, &table, 1, columns, 2), JADVOLNI_INVALID_DIGIT_SEPARATOR, 0, 0, 0));

@@ -241,3 +241,24 @@ minus_required_complete : Answers complete (
     [])
 unfolding grammar
 minus_required_complete = refl
+
+-- ---- the sign's fault comes before each other fault
+
+sign_first_complete : Answers complete (
+    (record standard { no_positive_mantissa_sign = true; base_prefix = Some 120 }, i32, codes "+0x", Err (InvalidPositiveSign 0)) ∷
+    (record standard { no_positive_mantissa_sign = true; no_integer_leading_zeros = true }, i32, codes "+01", Err (InvalidPositiveSign 0)) ∷
+    (record standard { no_positive_mantissa_sign = true }, u8, codes "+256", Err (InvalidPositiveSign 0)) ∷
+    (record standard { no_positive_mantissa_sign = true }, i32, codes "+x", Err (InvalidPositiveSign 0)) ∷
+    (record standard { no_positive_mantissa_sign = true }, i32, codes "+", Err (InvalidPositiveSign 0)) ∷
+    (record standard { required_mantissa_sign = true; base_prefix = Some 120 }, i32, codes "0x", Err (MissingSign 0)) ∷
+    (record standard { required_mantissa_sign = true; no_integer_leading_zeros = true }, i32, codes "01", Err (MissingSign 0)) ∷
+    (record standard { required_mantissa_sign = true }, u8, codes "256", Err (MissingSign 0)) ∷
+    [])
+unfolding grammar
+sign_first_complete = refl
+
+sign_first_partial : Answers partial (
+    (record standard { required_mantissa_sign = true }, u8, codes "256", Err (MissingSign 0)) ∷
+    [])
+unfolding grammar
+sign_first_partial = refl
