@@ -104,7 +104,8 @@ class Runs:
         """Notes a run, and whether it ended as wanted."""
         self.count += 1
         if got != want:
-            self.fail(f"{what}: it ended with {got.status}, {got.out[:60]!r}, {got.err[:60]!r}")
+            said, wanted = ([str(it)[:60] for it in ended] for ended in (got, want))
+            self.fail(f"{what}: it ended with {said}, and not {wanted}")
 
     def run(self, given: Optional[bytes] = None, stdin: Device = None,
             stdout: Device = subprocess.PIPE, before: Optional[Callable[[], None]] = None,
@@ -112,10 +113,9 @@ class Runs:
         """Runs the program over the given input or devices, and in an environment that has MORE.
         Signals that a refused write raises stay ignored, as a shell's trap would have it, so that
         the program itself meets the refusal."""
-        environment = {**os.environ, **(more or {})}
-        ran = subprocess.run(
-            [self.program], input=given, stdin=stdin, stdout=stdout, stderr=subprocess.PIPE,
-            preexec_fn=before, restore_signals=False, timeout=SECONDS, env=environment)
+        ran = subprocess.run([self.program], input=given, stdin=stdin, stdout=stdout,
+                             stderr=subprocess.PIPE, preexec_fn=before, restore_signals=False,
+                             timeout=SECONDS, env={**os.environ, **(more or {})})
         return Ended(ran.returncode, ran.stdout or b"", ran.stderr)
 
     def start(self, stdin: Device, stdout: Device = subprocess.PIPE) -> subprocess.Popen[bytes]:

@@ -284,9 +284,10 @@ static void null_texts(void)
 }
 
 #if __STDC_VERSION__ >= 201112L
-/* The call of C11 for the type of the value. */
-#define EXPECT_GENERIC(type, text, wanted_status, wanted_place, wanted_number) \
-    EXPECT(jadvolni_parse, type, NO_FORMAT, text, wanted_status, wanted_place, wanted_number)
+/* The call of C11 for the type of the value, which reads whole texts alone. */
+#define EXPECT_GENERIC(type, text, wanted_status, wanted_place, wanted_number)                 \
+    EXPECT(jadvolni_parse, type, NO_FORMAT, text, wanted_status, wanted_place, wanted_number); \
+    EXPECT(jadvolni_parse, type, NO_FORMAT, "7x", JADVOLNI_INVALID_DIGIT, 1, 77)
 
 static void by_type(void)
 {
@@ -304,6 +305,8 @@ static void by_type(void)
     EXPECT_GENERIC(ptrdiff_t, "-2147483649", JADVOLNI_OK, 11, -2147483649);
     CHECK(jadvolni_parse("18446744073709551616", 20, &u).status == JADVOLNI_OK && u.high == 1);
     CHECK(jadvolni_parse("-1", 2, &i).status == JADVOLNI_OK && i.high == -1);
+    CHECK(jadvolni_parse("7x", 2, &u).status == JADVOLNI_INVALID_DIGIT);
+    CHECK(jadvolni_parse("7x", 2, &i).status == JADVOLNI_INVALID_DIGIT);
 }
 #else
 static void by_type(void) {}

@@ -92,8 +92,8 @@ impl<R: Read, T: ColumnInteger> ColumnReader<R, T> {
             filled: 0,
             start: 0,
             field: 0,
-            // A number has a byte at least, and all but the last a separator.
-            numbers: vec![T::number(T::Kept::default()); size / 2 + 1],
+            // Where the format requires no digit, a separator alone is a number.
+            numbers: vec![T::number(T::Kept::default()); size.saturating_add(1)],
             given: 0,
             count: 0,
             fault: None,

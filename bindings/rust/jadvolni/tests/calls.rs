@@ -166,7 +166,7 @@ fn texts_of_faults_are_those_of_the_list() {
     }
 }
 
-/// The least and the greatest number of a type, by all six calls.
+/// The least and the greatest number of a type, by all six calls, and a text without a digit by those of fronts.
 fn ends<T: Integer + ToString + PartialEq + std::fmt::Debug>(ends: [T; 2]) {
     for end in ends {
         let text = end.to_string();
@@ -177,6 +177,11 @@ fn ends<T: Integer + ToString + PartialEq + std::fmt::Debug>(ends: [T; 2]) {
         assert_eq!(parse_with_format::<T>(&text, &Format::STANDARD), Ok(end));
         assert_eq!(parse_partial_with_format::<T>(&text, &Format::STANDARD), Ok((end, text.len())));
     }
+    let zero = || parse::<T>("0").map(|number| (number, 0));
+    assert_eq!(parse_partial("x"), zero());
+    assert_eq!(parse_partial_with_format("x", &Format::STANDARD), zero());
+    assert_eq!(parse_front::<T>("x"), Err(Error::Empty(0)));
+    assert_eq!(parse_front_with_format::<T>("x", &Format::STANDARD), Err(Error::Empty(0)));
 }
 
 #[test]

@@ -70,6 +70,17 @@ fn every_cut_gives_the_whole_column() {
 }
 
 #[test]
+fn empty_fields_are_numbers_where_no_digit_is_required() {
+    let loose = Format::STANDARD.required_mantissa_digits(false);
+    for (size, most) in (2..12).flat_map(|size| (1..12).map(move |most| (size, most))) {
+        let device = device(b",,,7,,,1,,", most, None);
+        let numbers = ColumnReader::<_, u8>::with_capacity(size, device, b',', loose);
+        let found: Vec<u8> = numbers.map(Result::unwrap).collect();
+        assert_eq!(found, [0, 0, 0, 7, 0, 0, 1, 0], "by {most} of {size}");
+    }
+}
+
+#[test]
 fn failures_are_told_and_lose_nothing() {
     let text = b"12,345,6,78,9";
     for at in 0..text.len() {

@@ -181,6 +181,18 @@ fn room_formats_and_returns() {
 }
 
 #[test]
+fn each_type_has_a_column() {
+    macro_rules! alone {
+        ($($type:ident)*) => {$(
+            let mut numbers = [0 as $type; 2];
+            let read = parse_table("7\n8\n9\n", &comma(), &mut [TableColumn::of(&mut numbers)]);
+            assert_eq!((read, numbers), (Ok(Table { rows: 2, stop: 4 }), [7, 8]));
+        )*};
+    }
+    alone! { u8 u16 u32 u64 i8 i16 i32 i64 }
+}
+
+#[test]
 fn cells_of_given_widths() {
     let mut numbers = [9u16; 3];
     let mut columns = [TableColumn::of(&mut numbers), TableColumn::UNREAD];
