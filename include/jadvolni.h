@@ -1,5 +1,5 @@
 /*
- * jadvolni.h - integers from bytes, proved.
+ * jadvolni.h - integers from bytes, proved. It needs C99 or C++11.
  *
  * A call reads one integer from the `len` bytes at `text`. They may be any bytes, and no NUL has to
  * follow them:
@@ -69,7 +69,12 @@
 #define JADVOLNI_H
 
 #ifndef __cplusplus
+#if defined __STRICT_ANSI__ && (!defined __STDC_VERSION__ || __STDC_VERSION__ < 199901L)
+#error "jadvolni.h needs C99"
+#endif
 #include <stdbool.h>
+#elif __cplusplus < 201103L
+#error "jadvolni.h needs C++11"
 #endif
 #include <stddef.h>
 #include <stdint.h>
@@ -481,7 +486,7 @@ JADVOLNI_CALLS_(isize, ptrdiff_t);
 
 #if !defined __cplusplus && defined __STDC_VERSION__ && __STDC_VERSION__ >= 201112L
 /* The whole text as a number of the type that `value` points to. A size_t and a ptrdiff_t are read as
- * the uint64_t and int64_t that they are. */
+ * the uint64_t and int64_t that they are; a long long is another type, and is none of these. */
 #define jadvolni_parse(text, len, value)         \
     _Generic((value),                            \
         uint8_t *: jadvolni_parse_u8,            \
@@ -887,7 +892,6 @@ static inline jadvolni_native_int128 jadvolni_i128_number(jadvolni_int128 halves
 #define JADVOLNI_ASSERT_(name, condition) typedef char jadvolni_##name##_[(condition) ? 1 : -1]
 #endif
 
-JADVOLNI_ASSERT_(bytes_have_8_bits, (unsigned char)-1 == 255);
 JADVOLNI_ASSERT_(size_t_has_64_bits, sizeof(size_t) == 8 && sizeof(ptrdiff_t) == 8);
 JADVOLNI_ASSERT_(result_has_16_bytes, sizeof(jadvolni_result) == 16);
 JADVOLNI_ASSERT_(status_is_at_0, offsetof(jadvolni_result, status) == 0);
