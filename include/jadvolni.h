@@ -634,8 +634,9 @@ typedef struct jadvolni_table {
     /* 0, each of them: they are for fields of later versions. */
     uint8_t reserved[10];
 
-    /* What stands for a missing number, byte for byte, in columns that have bits for it. With no
-     * byte, which NULL may stand for, an empty cell does. */
+    /* What stands for a missing number, byte for byte, in columns that have bits for it: in a cell, also
+     * within its quotes, and among blanks where they are allowed. With no byte, which NULL may stand
+     * for, an empty cell does. */
     const char *missing;
     size_t missing_len;
 
