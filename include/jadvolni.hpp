@@ -417,6 +417,9 @@ template <class Values>
 [[nodiscard]] auto column_into(Values &&values, const format &under = standard) noexcept
     -> decltype(column_into(std::data(values), std::size(values), under))
 {
+    // A span may be a temporary.
+    static_assert(std::is_lvalue_reference_v<Values> || std::is_trivially_destructible_v<Values>,
+                  "the numbers have to outlive the column");
     return column_into(std::data(values), std::size(values), under);
 }
 

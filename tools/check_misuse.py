@@ -1,7 +1,7 @@
-"""What compilers say of calls that break the header's conditions: a part of make test-c.
+"""What compilers say of calls that break the headers' conditions: a part of make test-c.
 
-tests/c/misuse.c has such calls by number, and which compiler warns of what. Number 0 breaks none,
-and has to be compiled without a word; but a standard that is too old for a header is told.
+tests/c/misuse.c and misuse.cpp have such calls by number, and what each compiler has to say of it.
+Number 0 breaks none, and is compiled without a word; but a standard that is too old is told.
 """
 from __future__ import annotations
 
@@ -10,34 +10,35 @@ import subprocess
 from functools import partial
 from typing import Iterator
 
-from callers import C_COMPILERS, OPTIMISED, Failed, Place, Step, needs, source, text_of
+from callers import C_COMPILERS, CXX17, OPTIMISED, Failed, Place, Step, needs, source, text_of
 
-OLD = {"C99": ["-std=c89"], "C++11": ["-xc++", "-std=c++98"],
-       "C++17": ["-xc++", "-std=c++14", "-include", "jadvolni.hpp"]}
+FILES = {"misuse.c": ["-std=c99"], "misuse.cpp": [CXX17]}
+OLD = [("misuse.c", ["-std=c89"], "needs C99"), ("misuse.cpp", ["-std=c++14"], r"needs C\+\+17"),
+       ("misuse.c", ["-xc++", "-std=c++98"], r"needs C\+\+11")]
 
 
-def said_of(place: Place, compiler: str, misuse: str, *how: str) -> str:
+def said_of(place: Place, compiler: str, file: str, misuse: str, how: list[str]) -> str:
     """What a compiler says of the call with that number."""
     command = [compiler, *how, *OPTIMISED, f"-DMISUSE={misuse}", f"-I{source('include')}",
-               "-c", source("tests", "c", "misuse.c"), "-o", place.path("misuse.o")]
+               "-c", source("tests", "c", file), "-o", place.path("misuse.o")]
     return subprocess.run(command, capture_output=True, text=True, timeout=60).stderr
 
 
 def misuses(place: Place, compiler: str) -> str:
-    """A compiler warns of each misuse, and of nothing else."""
+    """A compiler tells each misuse, and nothing else."""
     needs(compiler)
-    right = said_of(place, compiler, "0", "-std=c99")
-    if right:
-        raise Failed(right)
-    row = re.compile(rf"MISUSE == (\d+) /\*.*(?:both|{compiler}): ([\w-]+)")
-    warnings = row.findall(text_of("tests", "c", "misuse.c"))
-    asked = [(["-std=c99"], misuse, rf"-W(error=)?{warning}\b") for misuse, warning in warnings]
-    asked += [(how, "0", rf"needs {re.escape(standard)}\"") for standard, how in OLD.items()]
-    for how, misuse, wanted in asked:
-        said = said_of(place, compiler, misuse, *how)
+    asked = [(file, "0", how, wanted) for file, how, wanted in OLD]
+    for file, how in FILES.items():
+        if said := said_of(place, compiler, file, "0", how):
+            raise Failed(said)
+        row = rf"MISUSE == (\d+) /\*.*(?:both|{compiler}): ([^,*]*[^,* ])"
+        asked += [(file, misuse, how, wanted)
+                  for misuse, wanted in re.findall(row, text_of("tests", "c", file))]
+    for file, misuse, how, wanted in asked:
+        said = said_of(place, compiler, file, misuse, how)
         if not re.search(wanted, said):
-            raise Failed(f"misuse {misuse} by {how} lacks {wanted}:\n{said}")
-    return f"{len(warnings)} warnings, {len(OLD)} old standards"
+            raise Failed(f"{file} {misuse} by {how} lacks {wanted}:\n{said}")
+    return f"{len(asked)} misuses"
 
 
 def steps(place: Place) -> Iterator[Step]:

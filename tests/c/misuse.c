@@ -1,5 +1,5 @@
 /* Calls that break what jadvolni.h asks of a caller, each chosen by MISUSE: behind its number stands what compilers
- * have to warn of, in the words after -W. */
+ * have to say. */
 #include "jadvolni.h"
 
 #include <stdlib.h>
