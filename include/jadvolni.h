@@ -758,7 +758,6 @@ jadvolni_table_result jadvolni_parse_table(const char *text, size_t len, bool is
 #pragma clang diagnostic pop
 #endif
 
-#undef JADVOLNI_CHECKED_
 #undef JADVOLNI_PURE_
 #undef JADVOLNI_READS_
 #undef JADVOLNI_TEXT_
@@ -772,7 +771,7 @@ jadvolni_table_result jadvolni_parse_table(const char *text, size_t len, bool is
  * on in front of the next part: read so, all parts have the numbers of the whole text.
  */
 #define JADVOLNI_COLUMN_PART_(name, type)                                                      \
-    static inline jadvolni_result jadvolni_parse_##name##_column_part(                         \
+    static inline JADVOLNI_CHECKED_(5, 8) jadvolni_result jadvolni_parse_##name##_column_part( \
         const char *text, size_t len, bool is_last, uint8_t separator,                         \
         const jadvolni_format *format, type *values, size_t capacity, size_t *count)           \
     {                                                                                          \
@@ -791,6 +790,7 @@ JADVOLNI_COLUMN_PART_(i32, int32_t)
 JADVOLNI_COLUMN_PART_(i64, int64_t)
 
 #undef JADVOLNI_COLUMN_PART_
+#undef JADVOLNI_CHECKED_
 
 /* The name of a status, as "Overflow" for JADVOLNI_OVERFLOW; "Unknown" for a number that is none. */
 static inline const char *jadvolni_status_name(uint32_t status)

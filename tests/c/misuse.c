@@ -33,6 +33,7 @@ uint64_t misuse(void)
         + used(jadvolni_parse_u64_front_with_format(NULL, 0, FORMAT, &value), value)
         + used(jadvolni_parse_u64_column(text, 4, ',', FORMAT, values, 2, &count), values[0])
         + used(jadvolni_parse_u64_column(text, 4, ',', FORMAT, NULL, 0, &count), count)
+        + used(jadvolni_parse_u64_column_part(text, 4, true, ',', FORMAT, values, 2, &count), values[0])
         + used(jadvolni_parse_literal(text, 4, FORMAT, &wide, &count), wide.low)
         + jadvolni_field_start(text, 4, ',') + jadvolni_field_start(NULL, 0, ',')
         + used_table(jadvolni_parse_table(text, 4, true, &table, 2, &column, 1))
@@ -85,5 +86,10 @@ uint64_t misuse(void)
 #elif MISUSE == 21 /* both: incompatible-pointer-types */
     table.widths = &narrow, table.width_count = 1;
     return used_table(jadvolni_parse_table(text, 4, true, &table, 2, &column, 1));
+#elif MISUSE == 22 /* both: unused-result */
+    jadvolni_parse_u64_column_part(text, 4, true, ',', FORMAT, values, 2, &count);
+    return values[0];
+#elif MISUSE == 23 /* both: nonnull */
+    return used(jadvolni_parse_u64_column_part(text, 4, true, ',', NULL, values, 2, &count), values[0]);
 #endif
 }
