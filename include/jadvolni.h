@@ -1,5 +1,5 @@
 /*
- * jadvolni.h - integers from bytes, proved.
+ * jadvolni.h - integers from bytes, proved. It needs C99 or C++11.
  *
  * A call reads one integer from the `len` bytes at `text`. They may be any bytes, and no NUL has to
  * follow them:
@@ -69,7 +69,12 @@
 #define JADVOLNI_H
 
 #ifndef __cplusplus
+#if defined __STRICT_ANSI__ && (!defined __STDC_VERSION__ || __STDC_VERSION__ < 199901L)
+#error "jadvolni.h needs C99"
+#endif
 #include <stdbool.h>
+#elif __cplusplus < 201103L
+#error "jadvolni.h needs C++11"
 #endif
 #include <stddef.h>
 #include <stdint.h>
@@ -481,7 +486,7 @@ JADVOLNI_CALLS_(isize, ptrdiff_t);
 
 #if !defined __cplusplus && defined __STDC_VERSION__ && __STDC_VERSION__ >= 201112L
 /* The whole text as a number of the type that `value` points to. A size_t and a ptrdiff_t are read as
- * the uint64_t and int64_t that they are. */
+ * the uint64_t and int64_t that they are; a long long is another type, and is none of these. */
 #define jadvolni_parse(text, len, value)         \
     _Generic((value),                            \
         uint8_t *: jadvolni_parse_u8,            \
@@ -629,8 +634,9 @@ typedef struct jadvolni_table {
     /* 0, each of them: they are for fields of later versions. */
     uint8_t reserved[10];
 
-    /* What stands for a missing number, byte for byte, in columns that have bits for it. With no
-     * byte, which NULL may stand for, an empty cell does. */
+    /* What stands for a missing number, byte for byte, in columns that have bits for it: in a cell, also
+     * within its quotes, and among blanks where they are allowed. With no byte, which NULL may stand
+     * for, an empty cell does. */
     const char *missing;
     size_t missing_len;
 
@@ -752,7 +758,6 @@ jadvolni_table_result jadvolni_parse_table(const char *text, size_t len, bool is
 #pragma clang diagnostic pop
 #endif
 
-#undef JADVOLNI_CHECKED_
 #undef JADVOLNI_PURE_
 #undef JADVOLNI_READS_
 #undef JADVOLNI_TEXT_
@@ -766,7 +771,7 @@ jadvolni_table_result jadvolni_parse_table(const char *text, size_t len, bool is
  * on in front of the next part: read so, all parts have the numbers of the whole text.
  */
 #define JADVOLNI_COLUMN_PART_(name, type)                                                      \
-    static inline jadvolni_result jadvolni_parse_##name##_column_part(                         \
+    static inline JADVOLNI_CHECKED_(5, 8) jadvolni_result jadvolni_parse_##name##_column_part( \
         const char *text, size_t len, bool is_last, uint8_t separator,                         \
         const jadvolni_format *format, type *values, size_t capacity, size_t *count)           \
     {                                                                                          \
@@ -785,6 +790,7 @@ JADVOLNI_COLUMN_PART_(i32, int32_t)
 JADVOLNI_COLUMN_PART_(i64, int64_t)
 
 #undef JADVOLNI_COLUMN_PART_
+#undef JADVOLNI_CHECKED_
 
 /* The name of a status, as "Overflow" for JADVOLNI_OVERFLOW; "Unknown" for a number that is none. */
 static inline const char *jadvolni_status_name(uint32_t status)
@@ -887,7 +893,6 @@ static inline jadvolni_native_int128 jadvolni_i128_number(jadvolni_int128 halves
 #define JADVOLNI_ASSERT_(name, condition) typedef char jadvolni_##name##_[(condition) ? 1 : -1]
 #endif
 
-JADVOLNI_ASSERT_(bytes_have_8_bits, (unsigned char)-1 == 255);
 JADVOLNI_ASSERT_(size_t_has_64_bits, sizeof(size_t) == 8 && sizeof(ptrdiff_t) == 8);
 JADVOLNI_ASSERT_(result_has_16_bytes, sizeof(jadvolni_result) == 16);
 JADVOLNI_ASSERT_(status_is_at_0, offsetof(jadvolni_result, status) == 0);

@@ -17,6 +17,10 @@
 // too. What the calls of jadvolni.h answer is proved; what this header adds to them is tested.
 #pragma once
 
+#if __cplusplus < 201703L
+#error "jadvolni.hpp needs C++17"
+#endif
+
 #include "jadvolni.h"
 
 #include <cassert>
@@ -226,7 +230,7 @@ template <class T, class = void>
 struct kept_as {
     static_assert(std::is_integral_v<T> && !std::is_const_v<T> && !std::is_volatile_v<T>
                       && !is_one_of<T, bool, wchar_t, char16_t, char32_t> && sizeof(T) <= 8,
-                  "jadvolni reads integers");
+                  "jadvolni reads integers that may be written, and no bool or wide character");
     using narrow = std::conditional_t<sizeof(T) == 1, std::int8_t, std::int16_t>;
     using wide = std::conditional_t<sizeof(T) == 4, std::int32_t, std::int64_t>;
     using with_sign = std::conditional_t<sizeof(T) <= 2, narrow, wide>;
@@ -413,6 +417,9 @@ template <class Values>
 [[nodiscard]] auto column_into(Values &&values, const format &under = standard) noexcept
     -> decltype(column_into(std::data(values), std::size(values), under))
 {
+    // A span may be a temporary.
+    static_assert(std::is_lvalue_reference_v<Values> || std::is_trivially_destructible_v<Values>,
+                  "the numbers have to outlive the column");
     return column_into(std::data(values), std::size(values), under);
 }
 
@@ -585,8 +592,7 @@ private:
         first_ = 0;
         if (stop_ == size_) return without_room(true);
         auto count = static_cast<std::ptrdiff_t>(read_(bytes_ + stop_, size_ - stop_));
-        if (count < 0) return "reading has failed";
-        assert(static_cast<std::size_t>(count) <= size_ - stop_);
+        if (count < 0 || static_cast<std::size_t>(count) > size_ - stop_) return "reading has failed";
         is_last_ = count == 0;
         stop_ += static_cast<std::size_t>(count);
         return nullptr;

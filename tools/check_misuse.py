@@ -1,48 +1,47 @@
-"""What compilers say of calls that break the header's conditions: a part of make test-c.
+"""What compilers say of calls that break the headers' conditions: a part of make test-c.
 
-tests/c/misuse.c has such calls by number. Each has to be warned of, and number 0, which breaks
-none, has to be compiled without a word.
+tests/c/misuse.c and misuse.cpp have such calls by number, and what each compiler has to say of it.
+Number 0 breaks none, and is compiled without a word; but a standard that is too old is told.
 """
 from __future__ import annotations
 
+import re
 import subprocess
 from functools import partial
-from typing import Dict, Iterator
+from typing import Iterator
 
-from callers import OPTIMISED, Failed, Place, Step, needs, source
+from callers import C_COMPILERS, CXX17, OPTIMISED, Failed, Place, Step, needs, source, text_of
 
-# The warnings by the number of the misuse, in the words after -W. gcc alone checks room in arrays.
-TEXTS = (1, 2, 10, 15, 18)
-OF_BOTH = {**dict.fromkeys((3, 11, 12, 13, 16), "unused-result"),
-           **dict.fromkeys((4, 5, 6, 14, 17), "nonnull"), 21: "incompatible-pointer-types"}
-WARNINGS: Dict[str, Dict[int, str]] = {
-    "gcc": {**OF_BOTH, **dict.fromkeys((*TEXTS, 19), "stringop-overread"), 9: "nonnull",
-            20: "nonnull", 7: "stringop-overflow", 8: "stringop-overflow"},
-    "clang": {**OF_BOTH, **dict.fromkeys(TEXTS, "user-defined-warnings")},
-}
+FILES = {"misuse.c": ["-std=c99"], "misuse.cpp": [CXX17]}
+OLD = [("misuse.c", ["-std=c89"], "needs C99"), ("misuse.cpp", ["-std=c++14"], r"needs C\+\+17"),
+       ("misuse.c", ["-xc++", "-std=c++98"], r"needs C\+\+11")]
 
 
-def said_of(place: Place, compiler: str, misuse: int) -> str:
+def said_of(place: Place, compiler: str, file: str, misuse: str, how: list[str]) -> str:
     """What a compiler says of the call with that number."""
-    command = [compiler, "-std=c99", *OPTIMISED, f"-DMISUSE={misuse}", f"-I{source('include')}",
-               "-c", source("tests", "c", "misuse.c"), "-o", place.path("misuse.o")]
+    command = [compiler, *how, *OPTIMISED, f"-DMISUSE={misuse}", f"-I{source('include')}",
+               "-c", source("tests", "c", file), "-o", place.path("misuse.o")]
     return subprocess.run(command, capture_output=True, text=True, timeout=60).stderr
 
 
 def misuses(place: Place, compiler: str) -> str:
-    """A compiler warns of each misuse, and of nothing else."""
+    """A compiler tells each misuse, and nothing else."""
     needs(compiler)
-    right = said_of(place, compiler, 0)
-    if right:
-        raise Failed(right)
-    for misuse, warning in WARNINGS[compiler].items():
-        said = said_of(place, compiler, misuse)
-        if f"-W{warning}" not in said and f"-Werror={warning}" not in said:
-            raise Failed(f"misuse {misuse} has no {warning}:\n{said}")
-    return f"{len(WARNINGS[compiler])} warnings"
+    asked = [(file, "0", how, wanted) for file, how, wanted in OLD]
+    for file, how in FILES.items():
+        if said := said_of(place, compiler, file, "0", how):
+            raise Failed(said)
+        row = rf"MISUSE == (\d+) /\*.*(?:both|{compiler}): ([^,*]*[^,* ])"
+        asked += [(file, misuse, how, wanted)
+                  for misuse, wanted in re.findall(row, text_of("tests", "c", file))]
+    for file, misuse, how, wanted in asked:
+        said = said_of(place, compiler, file, misuse, how)
+        if not re.search(wanted, said):
+            raise Failed(f"{file} {misuse} by {how} lacks {wanted}:\n{said}")
+    return f"{len(asked)} misuses"
 
 
 def steps(place: Place) -> Iterator[Step]:
     """A step for each compiler."""
-    for compiler in WARNINGS:
+    for compiler in C_COMPILERS:
         yield f"misuse of calls, {compiler}", partial(misuses, place, compiler)

@@ -1,4 +1,5 @@
-/* Calls that break what jadvolni.h asks of a caller, each chosen by MISUSE: compilers have to say so. */
+/* Calls that break what jadvolni.h asks of a caller, each chosen by MISUSE: behind its number stands what compilers
+ * have to say. */
 #include "jadvolni.h"
 
 #include <stdlib.h>
@@ -32,57 +33,63 @@ uint64_t misuse(void)
         + used(jadvolni_parse_u64_front_with_format(NULL, 0, FORMAT, &value), value)
         + used(jadvolni_parse_u64_column(text, 4, ',', FORMAT, values, 2, &count), values[0])
         + used(jadvolni_parse_u64_column(text, 4, ',', FORMAT, NULL, 0, &count), count)
+        + used(jadvolni_parse_u64_column_part(text, 4, true, ',', FORMAT, values, 2, &count), values[0])
         + used(jadvolni_parse_literal(text, 4, FORMAT, &wide, &count), wide.low)
         + jadvolni_field_start(text, 4, ',') + jadvolni_field_start(NULL, 0, ',')
         + used_table(jadvolni_parse_table(text, 4, true, &table, 2, &column, 1))
         + used_table(jadvolni_parse_table(NULL, 0, true, &table, 2, NULL, 0)) + values[1];
-#elif MISUSE == 1
+#elif MISUSE == 1 /* gcc: stringop-overread, clang: user-defined-warnings */
     return used(jadvolni_parse_u64(text, 40, &value), value);
-#elif MISUSE == 2
+#elif MISUSE == 2 /* gcc: stringop-overread, clang: user-defined-warnings */
     return used(jadvolni_parse_u64_column(text, 40, ',', FORMAT, values, 2, &count), values[0]);
-#elif MISUSE == 3
+#elif MISUSE == 3 /* both: unused-result */
     jadvolni_parse_u64_front(text, 4, &value);
     return value;
-#elif MISUSE == 4
+#elif MISUSE == 4 /* both: nonnull */
     return used(jadvolni_parse_u64_partial(text, 4, NULL), value);
-#elif MISUSE == 5
+#elif MISUSE == 5 /* both: nonnull */
     return used(jadvolni_parse_u64_with_format(text, 4, NULL, &value), value);
-#elif MISUSE == 6
+#elif MISUSE == 6 /* both: nonnull */
     return used(jadvolni_parse_u64_column(text, 4, ',', FORMAT, values, 2, NULL), values[0]);
-#elif MISUSE == 7
+#elif MISUSE == 7 /* gcc: stringop-overflow */
     return used(jadvolni_parse_u64_column(text, 4, ',', FORMAT, values, 3, &count), values[0]);
-#elif MISUSE == 8
+#elif MISUSE == 8 /* gcc: stringop-overflow */
     return used(jadvolni_parse_u64(text, 4, (uint64_t *)(void *)&narrow), narrow);
-#elif MISUSE == 9
+#elif MISUSE == 9 /* gcc: nonnull */
     return used(jadvolni_parse_u64(NULL, 4, &value), value);
-#elif MISUSE == 10
+#elif MISUSE == 10 /* gcc: stringop-overread, clang: user-defined-warnings */
     return jadvolni_field_start(text, 40, ',');
-#elif MISUSE == 11
+#elif MISUSE == 11 /* both: unused-result */
     jadvolni_field_start(text, 4, ',');
     return value;
-#elif MISUSE == 12
+#elif MISUSE == 12 /* both: unused-result */
     jadvolni_format_error(FORMAT);
     return value;
-#elif MISUSE == 13
+#elif MISUSE == 13 /* both: unused-result */
     jadvolni_parse_literal(text, 4, FORMAT, &wide, &count);
     return wide.low;
-#elif MISUSE == 14
+#elif MISUSE == 14 /* both: nonnull */
     return used(jadvolni_parse_literal(text, 4, FORMAT, &wide, NULL), wide.low);
-#elif MISUSE == 15
+#elif MISUSE == 15 /* gcc: stringop-overread, clang: user-defined-warnings */
     return used(jadvolni_parse_literal(text, 40, FORMAT, &wide, &count), wide.low);
-#elif MISUSE == 16
+#elif MISUSE == 16 /* both: unused-result */
     jadvolni_parse_table(text, 4, true, &table, 2, &column, 1);
     return values[0];
-#elif MISUSE == 17
+#elif MISUSE == 17 /* both: nonnull */
     return used_table(jadvolni_parse_table(text, 4, true, NULL, 2, &column, 1));
-#elif MISUSE == 18
+#elif MISUSE == 18 /* gcc: stringop-overread, clang: user-defined-warnings */
     return used_table(jadvolni_parse_table(text, 40, true, &table, 2, &column, 1));
-#elif MISUSE == 19
+#elif MISUSE == 19 /* gcc: stringop-overread */
     return used_table(jadvolni_parse_table(text, 4, true, &table, 2, &column, 2));
-#elif MISUSE == 20
+#elif MISUSE == 20 /* gcc: nonnull */
     return used_table(jadvolni_parse_table(text, 4, true, &table, 2, NULL, 1));
-#elif MISUSE == 21
+#elif MISUSE == 21 /* both: incompatible-pointer-types */
     table.widths = &narrow, table.width_count = 1;
     return used_table(jadvolni_parse_table(text, 4, true, &table, 2, &column, 1));
+#elif MISUSE == 22 /* both: unused-result */
+    jadvolni_parse_u64_column_part(text, 4, true, ',', FORMAT, values, 2, &count);
+    return values[0];
+#elif MISUSE == 23 /* both: nonnull */
+    return used(jadvolni_parse_u64_column_part(text, 4, true, ',', NULL, values, 2, &count), values[0]);
 #endif
 }

@@ -104,6 +104,9 @@ static void tables_in_blocks()
     std::vector<jadvolni::table_column> unread(3);
     jadvolni::table_blocks blocks(reader{"1;2;3\n4;5;6\n7;8;9\n", 99, never}, bytes, ledger_of_lines(), 2, unread);
     CHECK(std::distance(blocks.begin(), blocks.end()) == 2 && blocks.begin() == blocks.end());
+    // A reader that answers more than there is room for.
+    jadvolni::table_blocks beyond([](char *, std::size_t room) { return room + 1; }, bytes, ledger_of_lines(), 2, unread);
+    CHECK(beyond.begin()->message() == std::string_view("reading has failed"));
     // Where reading fails nothing is lost, and no row comes twice.
     for (std::size_t fails_at = 0; fails_at <= rows.size(); ++fails_at) {
         auto told = in_table_blocks({rows, 1, fails_at}, 20, 9, 2);

@@ -1,0 +1,40 @@
+// Calls that break what jadvolni.hpp asks of a caller, as misuse.c has them of jadvolni.h: behind a number stands what
+// compilers have to say.
+#include "jadvolni.hpp"
+
+#include <array>
+#include <vector>
+
+// What a function hands over that has a view of numbers which it doesn't own.
+struct view {
+    int *numbers;
+    std::size_t count;
+    int *data() const { return numbers; }
+    std::size_t size() const { return count; }
+};
+
+void misuse();
+void misuse()
+{
+    std::vector<int> values(2);
+    const std::vector<int> constant(2);
+    (void)values, (void)constant;
+#if MISUSE == 0
+    std::array<long long, 2> kept{};
+    (void)jadvolni::column_into(values), (void)jadvolni::column_into(kept);
+    (void)jadvolni::column_into(view{values.data(), values.size()});
+    (void)jadvolni::parse_column("1,2", ',', values), (void)jadvolni::parse<char>("1");
+#elif MISUSE == 1 /* both: have to outlive the column */
+    (void)jadvolni::column_into(std::vector<int>(2));
+#elif MISUSE == 2 /* both: may be written */
+    (void)jadvolni::parse_column("1,2", ',', constant);
+#elif MISUSE == 3 /* both: may be written */
+    (void)jadvolni::column_into(constant);
+#elif MISUSE == 4 /* both: no bool */
+    (void)jadvolni::parse<bool>("1");
+#elif MISUSE == 5 /* both: up to 64 bits */
+    (void)jadvolni::column_into(static_cast<jadvolni_native_int128 *>(nullptr), 0);
+#elif MISUSE == 6 /* both: unused-result */
+    jadvolni::parse<int>("1");
+#endif
+}
