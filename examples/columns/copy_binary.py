@@ -35,6 +35,8 @@ def copied(file):
 
 def write(block: bytes) -> None:
     """Writes a block to standard output."""
+    if sys.stdout is None:
+        sys.exit("standard output is closed")
     try:
         sys.stdout.buffer.write(block)
         sys.stdout.flush()

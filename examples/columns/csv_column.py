@@ -45,6 +45,8 @@ def main() -> None:
         sys.exit(f"{path}: {error.strerror}")
     except ValueError as error:
         sys.exit(f"{path}: {error}")
+    if sys.stdout is None:
+        sys.exit("standard output is closed")
     print(f"{sum(it[0] for it in found)} numbers, sum {sum(it[1] for it in found)}")
 
 

@@ -393,6 +393,14 @@ class Inputs(Case):
                 self.assertNotEqual(status, 0)
                 self.assertIn("No space left on device", errors)
 
+    def test_a_closed_output(self):
+        for (name, *words), content in zip((*COMMANDS, ("copy_binary.py",)), (*CONTENTS, "1;a;2")):
+            with self.subTest(name=name):
+                path = self.folder / "input"
+                path.write_text(content)
+                answer = answer_of(name, path, *words, preexec_fn=lambda: os.close(1))
+                self.assertEqual(answer, (1, "", "standard output is closed\n"))
+
     def test_words_that_are_none(self):
         for name, *words in (
             ("ledger.py", "more"),
