@@ -10,7 +10,7 @@ from ._format import Format, _integer
 if TYPE_CHECKING:
     from array import array
 
-    from ._core import ColumnType
+    from ._core import NumberType
 
 
 def _one_or_more(name: str, value: object) -> int:
@@ -46,7 +46,7 @@ def _blocks(
 
 def iter_column(
     file: IO[bytes],
-    type: ColumnType = "i64",
+    type: NumberType = "i64",
     separator: Union[bytes, str] = b"\n",
     format: Optional[Format] = None,
     size: int = 1 << 20,
@@ -61,6 +61,7 @@ def iter_column(
     """
     size = _one_or_more("size", size)
     parted = separator.encode() if isinstance(separator, str) else separator
+    _parse_part(b"", type, parted, format, 0, 0)  # (so that wrong arguments are told as ever)
     left, field, start = b"", 0, 0
     for block in _blocks(file, size, progress):
         text = left + block

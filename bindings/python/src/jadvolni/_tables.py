@@ -17,10 +17,10 @@ from ._core import ParseError, _array_code, _parse_table, _row_count, _row_stops
 from ._format import Format, _integer
 
 if TYPE_CHECKING:
-    from ._core import ColumnType, Text
+    from ._core import NumberType, Text
 
     # What is read of a column: nothing, numbers of a type, or what a Column says.
-    Columns = Mapping[str, Optional[Union[ColumnType, "Column"]]]
+    Columns = Mapping[str, Optional[Union[NumberType, "Column"]]]
     # The columns that are read: arrays, NumPy's where it is installed and else those of `array`, or
     # a Sparse of them where numbers may be missing.
     Table = dict[str, Any]
@@ -29,7 +29,7 @@ if TYPE_CHECKING:
 class Column(NamedTuple):
     """What is read of a column: numbers of a type, under a format, of which some may be missing."""
 
-    type: ColumnType
+    type: NumberType
     format: Optional[Format] = None
     may_miss: bool = False
 
@@ -112,11 +112,13 @@ class _Reader:
         """The caller's arrays, which have to be for so many rows."""
         _ask_type("out", out, Mapping, "a dict or None")
         for name, column in self.read.items():
-            numbers, bits = _pair(out[name])
-            if (bits is not None) != column.may_miss:
-                wanted = "a Sparse" if column.may_miss else "an array"
-                raise ValueError(f"out has to have {wanted} for the column {name!r}")
-            if len(numbers) < rows or (bits is not None and 8 * len(bits) < rows):
+            given = out.get(name)
+            is_pair = isinstance(given, tuple) and len(given) == 2
+            sizes = [_writable_size(it) for it in (given if is_pair else (given,))]
+            if is_pair != bool(column.may_miss) or None in sizes:
+                wanted = "a Sparse of arrays" if column.may_miss else "an array"
+                raise ValueError(f"out has to have {wanted} to write to for the column {name!r}")
+            if any(size < needed for size, needed in zip(sizes, (rows, (rows + 7) // 8))):
                 raise ValueError(f"out has to have room for the {rows} rows of the text")
         return {name: out[name] for name in self.read}
 
@@ -134,6 +136,15 @@ class _Reader:
         columns = tuple(None if it is None else (*_pair(arrays[name]), it.type, it.format)
                         for name, it in self.columns.items())
         return _parse_table(text, part.is_last, self.how, rows, columns, part.row, part.start)
+
+
+def _writable_size(values: Any) -> Optional[int]:
+    """How many items an array has that may be written, and None for what is no such array."""
+    try:
+        with memoryview(values) as view:
+            return None if view.readonly or not view.c_contiguous else len(view)
+    except (TypeError, ValueError, BufferError):
+        return None
 
 
 def _pair(values: Any) -> tuple[Any, Any]:
@@ -187,13 +198,13 @@ def _join(values: Any, parts: list[Any], lines: list[int], counts: list[int]) ->
 def _parse_in_threads(reader: _Reader, text: Text, arrays: Table, threads: int) -> int:
     """Reads the rows of a text in parts, side by side, and answers how many there are."""
     reader.parse(text, arrays, 0, _Part())  # (so that wrong arguments are told as ever)
-    with ExitStack() as held:
+    # The pool comes last, so that its threads have ended when the memory that they use is let go.
+    with ExitStack() as held, ThreadPoolExecutor(threads) as pool:
         whole = held.enter_context(memoryview(text.encode() if isinstance(text, str) else text))
         parts = min(threads, len(whole))
         stops = _row_stops(whole, parts, reader.has_quotes, reader.record)
         starts = [0, *stops]
         texts = [held.enter_context(whole[start:stop]) for start, stop in zip(starts, stops)]
-        pool = held.enter_context(ThreadPoolExecutor(threads))
         lines = list(pool.map(reader.row_count, texts))
         rooms = [reader.room_behind(arrays, row, rows, held)
                  for row, rows in zip(accumulate(lines, initial=0), lines)]
