@@ -121,8 +121,11 @@ class Types(unittest.TestCase):
             import jadvolni
             ledger = {"day": "u16", "what": None, "cents": jadvolni.Column("i64", may_miss=True)}
             day: int = jadvolni.read_table("ledger.csv", ledger, ";")["day"][0]
-            for kind in "u8", "u16":
-                day += jadvolni.parse("1", kind)
+            try:
+                for kind in "u8", "u16":
+                    day += jadvolni.parse("1", kind)
+            except jadvolni.ParseError as error:
+                print(error.place + 1, error.row + 1)
         """
         with tempfile.TemporaryDirectory() as folder:
             caller = pathlib.Path(folder, "caller.py")

@@ -10,6 +10,7 @@ import sys
 import tempfile
 import unittest
 from array import array
+from unittest import mock
 
 from jadvolni import (Column, Format, FormatError, ParseError, Sparse, iter_table, parse_table,
                       read_table)
@@ -114,7 +115,17 @@ class Tables(unittest.TestCase):
 
     def test_a_file_without_a_size(self):
         path = pathlib.Path("/proc/sys/kernel/pid_max")
-        self.assertEqual(lists(read_table(path, {"a": "u32"})), {"a": [int(path.read_text())]})
+        wanted = {"a": [int(path.read_text())]}
+        self.assertEqual(lists(read_table(path, {"a": "u32"})), wanted)
+
+    def test_a_file_that_can_not_be_mapped(self):
+        with tempfile.NamedTemporaryFile() as file, mock.patch("mmap.mmap", side_effect=OSError):
+            file.write(b"n\n7\n")
+            file.seek(2)
+            self.assertEqual(lists(read_table(file, {"a": "u8"})), {"a": [7]})
+            with self.assertRaises(ParseError) as told:
+                read_table(file.name, {"a": "u8"})
+        self.assertIsNone(told.exception.__context__)
 
     def test_missing_numbers(self):
         columns = {"a": Column("i16", may_miss=True), "b": None, "c": "u8",

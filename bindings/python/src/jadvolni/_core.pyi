@@ -16,11 +16,12 @@ __version__: str
 
 class ParseError(ValueError):
     kind: str
-    place: Optional[int]
-    field: Optional[int]
-    start: Optional[int]
-    row: Optional[int]
-    column: Optional[int]
+    place: int
+    # An int of a column, or of a table, and else None: for callers, who know which, not Optional.
+    field: Any
+    start: Any
+    row: Any
+    column: Any
 
 class FormatError(ValueError):
     kind: str

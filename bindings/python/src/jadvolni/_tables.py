@@ -7,10 +7,10 @@ import os
 import sys
 from array import array
 from concurrent.futures import ThreadPoolExecutor
-from contextlib import ExitStack
+from contextlib import ExitStack, nullcontext, suppress
 from itertools import accumulate
-from typing import (IO, TYPE_CHECKING, Any, Callable, Iterable, Iterator, Mapping, NamedTuple,
-                    Optional, Union)
+from typing import (IO, TYPE_CHECKING, Any, Callable, ContextManager, Iterable, Iterator, Mapping,
+                    NamedTuple, Optional, Union)
 
 from ._blocks import _block, _blocks, _one_or_more
 from ._core import ParseError, _array_code, _parse_table, _row_count, _row_stops
@@ -112,10 +112,10 @@ class _Reader:
         """The caller's arrays, which have to be for so many rows."""
         _ask_type("out", out, Mapping, "a dict or None")
         for name, column in self.read.items():
-            given = out.get(name)
+            given: Any = out.get(name)
             is_pair = isinstance(given, tuple) and len(given) == 2
             sizes = [_writable_size(it) for it in (given if is_pair else (given,))]
-            if is_pair != bool(column.may_miss) or None in sizes:
+            if is_pair != bool(column.may_miss) or -1 in sizes:
                 wanted = "a Sparse of arrays" if column.may_miss else "an array"
                 raise ValueError(f"out has to have {wanted} to write to for the column {name!r}")
             if any(size < needed for size, needed in zip(sizes, (rows, (rows + 7) // 8))):
@@ -138,13 +138,11 @@ class _Reader:
         return _parse_table(text, part.is_last, self.how, rows, columns, part.row, part.start)
 
 
-def _writable_size(values: Any) -> Optional[int]:
-    """How many items an array has that may be written, and None for what is no such array."""
-    try:
-        with memoryview(values) as view:
-            return None if view.readonly or not view.c_contiguous else len(view)
-    except (TypeError, ValueError, BufferError):
-        return None
+def _writable_size(values: Any) -> int:
+    """How many items an array has that may be written, and -1 for what is no such array."""
+    with suppress(TypeError, ValueError, BufferError), memoryview(values) as view:
+        return -1 if view.readonly or not view.c_contiguous else len(view)
+    return -1
 
 
 def _pair(values: Any) -> tuple[Any, Any]:
@@ -271,15 +269,20 @@ def read_table(
 ) -> Table:
     """The rows of a file, by its path or opened by "rb", with the arguments of parse_table.
 
-    A path is mapped to memory: no other program may change the file meanwhile.
+    A path is mapped to memory: no other program may change the file meanwhile. A header is no row:
+    open such a file, and read its line before, by file.readline().
     """
     if not isinstance(file, (str, os.PathLike)):
         return parse_table(_block(file, -1), columns, *how, **more)
-    with open(file, "rb") as opened:
-        if not os.fstat(opened.fileno()).st_size:  # (it is empty, or can't be mapped, as a pipe)
-            return parse_table(_block(opened, -1), columns, *how, **more)
-        with mmap.mmap(opened.fileno(), 0, access=mmap.ACCESS_READ) as text:
-            return parse_table(text, columns, *how, **more)
+    with open(file, "rb") as opened, _mapped(opened) as text:
+        return parse_table(text, columns, *how, **more)
+
+
+def _mapped(file: IO[bytes]) -> ContextManager[Any]:
+    """The bytes of a file, in its own memory where it can be mapped."""
+    with suppress(OSError, ValueError):  # (it is empty, a pipe, or of a file system without maps)
+        return mmap.mmap(file.fileno(), 0, access=mmap.ACCESS_READ)
+    return nullcontext(_block(file, -1))
 
 
 def iter_table(
@@ -299,9 +302,10 @@ def iter_table(
 ) -> Iterator[Table]:
     """The rows of a file of any size, by tables of at most so many rows and about `size` bytes.
 
-    A row that a block cuts is read with the next one. ParseError counts `row` and `place` over the
-    whole file, and the tables before it stand. A row of more than `size` bytes is a ValueError, so
-    that no more than two blocks are held. `progress` is called as by iter_column.
+    A row that a block cuts is read with the next one. ParseError counts `row` and `place` from
+    where reading began, as behind a header, and the tables before it stand. A row of more than
+    `size` bytes is a ValueError, so that no more than two blocks are held. `progress` is called as
+    by iter_column.
     """
     rows, size = _one_or_more("rows", rows), _one_or_more("size", size)
     reader = _Reader(columns, separator, has_returns, has_quotes, allows_blanks, skips_empty_rows,
