@@ -170,8 +170,9 @@ class CsvColumn(Case):
             (b"name\n", "line 1 has 1 names, and no column 2"),
             (b"", "line 1 has 1 names, and no column 2"),
             (b'"n",c\n', "line 1 has a quote"),
+            (b"n," + b"c" * 3_000_000, "line 1 has more than 1048576 bytes"),
         ):
-            with self.subTest(content=content):
+            with self.subTest(content=content[:40]):
                 self.assertEqual(self.answer("csv_column.py", content, "2"), (1, "", f"{told}\n"))
 
 
