@@ -33,11 +33,11 @@ impl fmt::Display for ReadError {
 }
 
 impl core::error::Error for ReadError {
+    /// Why a read failed. What has a text of its own isn't a source too: it would be told twice.
     fn source(&self) -> Option<&(dyn core::error::Error + 'static)> {
         match self {
-            ReadError::Io(error) => Some(error),
-            ReadError::Column(error) => Some(error),
-            ReadError::LongField(_) => None,
+            ReadError::Io(error) => error.source(),
+            ReadError::Column(_) | ReadError::LongField(_) => None,
         }
     }
 }

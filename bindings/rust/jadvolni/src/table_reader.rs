@@ -41,11 +41,11 @@ impl fmt::Display for TableReadError {
 }
 
 impl core::error::Error for TableReadError {
+    /// Why a read failed, as of [`crate::ReadError`].
     fn source(&self) -> Option<&(dyn core::error::Error + 'static)> {
         match self {
-            TableReadError::Io(error) => Some(error),
-            TableReadError::Table { error, .. } => Some(error),
-            TableReadError::LongRow(_) => None,
+            TableReadError::Io(error) => error.source(),
+            TableReadError::Table { .. } | TableReadError::LongRow(_) => None,
         }
     }
 }

@@ -3,7 +3,7 @@
 
 use jadvolni::{
     parse_column, ColumnError, ColumnReader, Dialect, Error, Format, ReadError, TableColumn,
-    TableReadError, TableReader,
+    TableError, TableReadError, TableReader,
 };
 use std::io::{self, ErrorKind, Read};
 
@@ -128,6 +128,27 @@ fn a_reader_that_tells_more_than_it_gave_is_a_fault() {
     let (mut rows, mut slice) = (TableReader::new(Boastful, Dialect::separated_by(b',')), [0u8]);
     let told = rows.read(&mut [TableColumn::of(&mut slice)]);
     assert!(matches!(told, Err(TableReadError::Io(_))));
+}
+
+#[test]
+fn a_fault_is_told_once_by_its_chain() {
+    let told = read(device(b"1,x", 4, None), 8).1.remove(0);
+    let row = TableError { row: 0, column: 0, error: Error::Empty(0) };
+    let failed = || io::Error::other("no disk");
+    let chains: [(&dyn std::error::Error, &str); 4] = [
+        (&told, "invalid digit at byte 2, in field 1"),
+        (
+            &TableReadError::Table { rows: 0, error: row },
+            "missing digit at byte 0, in row 0, column 0",
+        ),
+        (&ReadError::Io(failed()), "no disk"),
+        (&TableReadError::Io(failed()), "no disk"),
+    ];
+    for (error, text) in chains {
+        assert_eq!(error.to_string(), text);
+        let source = error.source().map(|source| source.to_string());
+        assert_ne!(source.as_deref(), Some(text));
+    }
 }
 
 #[test]
