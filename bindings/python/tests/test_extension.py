@@ -118,9 +118,10 @@ class Types(unittest.TestCase):
     @unittest.skipUnless(shutil.which("mypy"), "there is no mypy")
     def test_columns_of_a_dict(self):
         program = """
-            import jadvolni
+            import gzip, jadvolni
             ledger = {"day": "u16", "what": None, "cents": jadvolni.Column("i64", may_miss=True)}
             day: int = jadvolni.read_table("ledger.csv", ledger, ";")["day"][0]
+            day += next(jadvolni.iter_column(gzip.open("days.gz", "rb")))[0]
             try:
                 for kind in "u8", "u16":
                     day += jadvolni.parse("1", kind)

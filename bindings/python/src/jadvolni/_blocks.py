@@ -2,7 +2,7 @@
 
 from __future__ import annotations
 
-from typing import IO, TYPE_CHECKING, Callable, Iterator, Optional, Union
+from typing import TYPE_CHECKING, Callable, Iterator, Optional, Protocol, Union
 
 from ._core import _parse_part
 from ._format import Format, _integer
@@ -13,6 +13,13 @@ if TYPE_CHECKING:
     from ._core import NumberType
 
 
+class File(Protocol):
+    """What is opened by "rb", as also by gzip."""
+
+    def read(self, size: int, /) -> Optional[bytes]:
+        """So many bytes at most, or all for -1."""
+
+
 def _one_or_more(name: str, value: object) -> int:
     """A number of things, of which there has to be one."""
     number = _integer(name, value)
@@ -21,7 +28,7 @@ def _one_or_more(name: str, value: object) -> int:
     return number
 
 
-def _block(file: IO[bytes], size: int) -> bytes:
+def _block(file: File, size: int) -> bytes:
     """The next bytes of a file, none at its end."""
     if not hasattr(file, "read"):
         raise TypeError(f"file has to be one opened by \"rb\", and not {type(file).__name__}")
@@ -34,7 +41,7 @@ def _block(file: IO[bytes], size: int) -> bytes:
 
 
 def _blocks(
-    file: IO[bytes], size: int, progress: Optional[Callable[[int], object]]
+    file: File, size: int, progress: Optional[Callable[[int], object]]
 ) -> Iterator[bytes]:
     """The blocks of a file, and behind them one without a byte."""
     while block := _block(file, size):
@@ -45,7 +52,7 @@ def _blocks(
 
 
 def iter_column(
-    file: IO[bytes],
+    file: File,
     type: NumberType = "i64",
     separator: Union[bytes, str] = b"\n",
     format: Optional[Format] = None,

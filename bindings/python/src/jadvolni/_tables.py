@@ -9,10 +9,10 @@ from array import array
 from concurrent.futures import ThreadPoolExecutor
 from contextlib import ExitStack, nullcontext, suppress
 from itertools import accumulate
-from typing import (IO, TYPE_CHECKING, Any, Callable, ContextManager, Iterable, Iterator, Mapping,
-                    NamedTuple, Optional, Union)
+from typing import (TYPE_CHECKING, Any, BinaryIO, Callable, ContextManager, Iterable, Iterator,
+                    Mapping, NamedTuple, Optional, Union)
 
-from ._blocks import _block, _blocks, _one_or_more
+from ._blocks import File, _block, _blocks, _one_or_more
 from ._core import ParseError, _array_code, _parse_table, _row_count, _row_stops
 from ._format import Format, _integer
 
@@ -265,7 +265,7 @@ def parse_table(
 
 
 def read_table(
-    file: Union[str, os.PathLike[str], IO[bytes]], columns: Columns, *how: Any, **more: Any
+    file: Union[str, os.PathLike[str], File], columns: Columns, *how: Any, **more: Any
 ) -> Table:
     """The rows of a file, by its path or opened by "rb", with the arguments of parse_table.
 
@@ -278,7 +278,7 @@ def read_table(
         return parse_table(text, columns, *how, **more)
 
 
-def _mapped(file: IO[bytes]) -> ContextManager[Any]:
+def _mapped(file: BinaryIO) -> ContextManager[Any]:
     """The bytes of a file, in its own memory where it can be mapped."""
     with suppress(OSError, ValueError):  # (it is empty, a pipe, or of a file system without maps)
         return mmap.mmap(file.fileno(), 0, access=mmap.ACCESS_READ)
@@ -286,7 +286,7 @@ def _mapped(file: IO[bytes]) -> ContextManager[Any]:
 
 
 def iter_table(
-    file: IO[bytes],
+    file: File,
     columns: Columns,
     separator: Optional[Text] = None,
     has_returns: bool = False,
