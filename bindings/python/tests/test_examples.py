@@ -193,6 +193,7 @@ class CopyBinary(Case):
                 command = [sys.executable, EXAMPLES / "copy_binary.py", path]
                 run = subprocess.run(command, capture_output=True, timeout=60)
                 self.assertEqual((run.returncode, run.stderr.decode()), (1, f"{path}: {told}\n"))
+                self.assertEqual(run.stdout[-2:], b"\0\0")
 
     def test_a_full_device(self):
         path = self.folder / "input"
@@ -217,6 +218,11 @@ class CopyBinary(Case):
             psql("COPY ledger (day, cents) FROM STDIN BINARY", copied)
             told = psql("COPY ledger TO STDOUT (FORMAT csv)").decode()
             self.assertTrue(told == "".join(f"{day},{cents}\n" for day, cents in rows))
+            (self.folder / "input").write_text(text + "x;;")
+            cut = subprocess.run(given, stdout=subprocess.PIPE, stderr=subprocess.DEVNULL)
+            with self.assertRaises(subprocess.CalledProcessError):
+                psql("COPY ledger (day, cents) FROM STDIN BINARY", cut.stdout)
+            self.assertEqual(psql("SELECT count(*) FROM ledger"), b"1000000\n")
 
 
 class Dask(unittest.TestCase):
