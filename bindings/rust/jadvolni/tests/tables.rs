@@ -229,5 +229,5 @@ fn records_from_a_reader() {
         assert!(matches!(told[..], [TableReadError::Table { error, .. }] if error == short));
     }
     let device = Device { text: b"12a", most: 9, place: 0, failure: None };
-    assert!(matches!(rows_of(device, records, 2, 4).1[..], [TableReadError::LongRow(0)]));
+    assert!(matches!(rows_of(device, records, 1, 4).1[..], [TableReadError::LongRow(0)]));
 }
