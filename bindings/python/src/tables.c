@@ -36,7 +36,7 @@ static int has_type(const Py_buffer *room, const number_type *type)
     const char *signs = type->name[0] == 'u' ? "BHILQ" : "bhilq";
     return room->ndim == 1 && (size_t)room->itemsize == type->size && room->format
         && strlen(room->format) == 1 && strchr(signs, *room->format)
-        && (uintptr_t)room->buf % type->size == 0;
+        && (room->len == 0 || (uintptr_t)room->buf % type->size == 0);
 }
 
 /* Borrows an array of a type, to be written. -1 with an exception. */

@@ -193,6 +193,8 @@ class Tables(unittest.TestCase):
         with memoryview(bytearray(17)) as view, view[1:].cast("q") as askew:
             with self.assertRaisesRegex(ValueError, "out has to have aligned arrays"):
                 parse_table(b"1\n2\n", {"a": "i64"}, out={"a": askew})
+            with view[1:1].cast("q") as empty:  # (as an array without items has it)
+                parse_table(b"", {"a": "i64"}, out={"a": empty})
 
     def test_bits_of_the_caller(self):
         columns = {"a": Column("u8", may_miss=True)}
