@@ -53,6 +53,8 @@ def main() -> int:
     except ValueError as error:
         print(f"{sys.argv[1]}: {error}", file=sys.stderr)
         return 1
+    if sys.stdout is None:
+        sys.exit("standard output is closed")
     print(f"{len(numbers)} numbers, sum {sum(numbers)}")
     return 0
 

@@ -1,11 +1,12 @@
 """Writes a checked table of lines `DAY;NAME;CENTS` as PostgreSQL's COPY reads it in binary.
 
-    python3 copy_binary.py FILE > rows
+    psql -c 'CREATE TABLE ledger (day integer, cents bigint)'
+    python3 copy_binary.py FILE > rows &&
     psql -c 'COPY ledger (day, cents) FROM STDIN BINARY' < rows
 
-DAY is an integer of 0 to 65535, and CENTS a bigint, or nothing for NULL. The file may be of any
-size. Its first wrong cell is told, and the status is 1. Don't pipe the rows into psql: it would
-load those before a fault, since COPY asks for no end.
+DAY is 0 to 65535, and CENTS may be empty for NULL. The file may be of any size. Its first wrong
+cell is told, the status is 1, and the rows end in one that COPY refuses: it loads none then. Don't
+pipe them into psql all the same: COPY asks for no end, and would load what a killed program wrote.
 """
 
 import struct
@@ -17,6 +18,7 @@ CELLS = {"day": "u16", "name": None, "cents": jadvolni.Column("i64", may_miss=Tr
 # A row: two fields, of 4 and 8 bytes, each behind its size; one that is NULL has the size -1 alone.
 ROW = struct.Struct("!hiiiq")
 ROW_WITH_NULL = struct.Struct("!hiii")
+ROW_THAT_IS_REFUSED = b"\0\0"  # of no field
 
 
 def bytes_of(day: int, cents: int, has_cents: bool) -> bytes:
@@ -27,14 +29,20 @@ def bytes_of(day: int, cents: int, has_cents: bool) -> bytes:
 def copied(file):
     """What is written for a file, block by block."""
     yield b"PGCOPY\n\xff\r\n\0" + bytes(8)
-    for rows in jadvolni.iter_table(file, CELLS, ";"):
-        days, cents = rows["day"].tolist(), rows["cents"]
-        yield b"".join(map(bytes_of, days, cents.numbers.tolist(), cents.present))
+    try:
+        for rows in jadvolni.iter_table(file, CELLS, ";"):
+            days, cents = rows["day"].tolist(), rows["cents"]
+            yield b"".join(map(bytes_of, days, cents.numbers.tolist(), cents.present))
+    except (OSError, ValueError):
+        yield ROW_THAT_IS_REFUSED
+        raise
     yield b"\xff\xff"
 
 
 def write(block: bytes) -> None:
     """Writes a block to standard output."""
+    if sys.stdout is None:
+        sys.exit("standard output is closed")
     try:
         sys.stdout.buffer.write(block)
         sys.stdout.flush()

@@ -13,8 +13,10 @@ import jadvolni
 
 def numbers_of(file, column: int):
     """The numbers of a column, by blocks. ValueError has the place of the first fault."""
-    names = file.readline()
+    names = file.readline(2**20 + 1)
     count = names.count(b",") + 1
+    if len(names) > 2**20:
+        raise ValueError(f"line 1 has more than {2**20} bytes")
     if b'"' in names:
         raise ValueError("line 1 has a quote")
     if column > count:
@@ -45,6 +47,8 @@ def main() -> None:
         sys.exit(f"{path}: {error.strerror}")
     except ValueError as error:
         sys.exit(f"{path}: {error}")
+    if sys.stdout is None:
+        sys.exit("standard output is closed")
     print(f"{sum(it[0] for it in found)} numbers, sum {sum(it[1] for it in found)}")
 
 

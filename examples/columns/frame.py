@@ -35,6 +35,8 @@ def main() -> None:
     except OSError as error:
         sys.exit(f"{path}: {error.strerror}")
     cents = frame["cents"]
+    if sys.stdout is None:
+        sys.exit("standard output is closed")
     print(f"{len(frame)} rows, {cents.isna().sum()} without cents, {cents.min()} to {cents.max()}")
 
 

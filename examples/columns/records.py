@@ -36,6 +36,8 @@ def main() -> None:
         sys.exit(f"{path}: {cell}: {error.kind}")
     except OSError as error:
         sys.exit(f"{path}: {error.strerror}")
+    if sys.stdout is None:
+        sys.exit("standard output is closed")
     print(found)
 
 

@@ -49,6 +49,8 @@ def main() -> None:
         sys.exit(f"{path}: {error.strerror}")
     except ValueError as error:
         sys.exit(f"{path}: {error}")
+    if sys.stdout is None:
+        sys.exit("standard output is closed")
     print(f"{count} numbers, sum {found}")
 
 

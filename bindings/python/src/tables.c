@@ -30,12 +30,13 @@ static void let_go(columns *all)
     PyMem_Free(all->rooms);
 }
 
-/* Whether a buffer is a row of numbers of a type. */
+/* Whether a buffer is a row of numbers of a type, each at a place for it. */
 static int has_type(const Py_buffer *room, const number_type *type)
 {
     const char *signs = type->name[0] == 'u' ? "BHILQ" : "bhilq";
     return room->ndim == 1 && (size_t)room->itemsize == type->size && room->format
-        && strlen(room->format) == 1 && strchr(signs, *room->format);
+        && strlen(room->format) == 1 && strchr(signs, *room->format)
+        && (room->len == 0 || (uintptr_t)room->buf % type->size == 0);
 }
 
 /* Borrows an array of a type, to be written. -1 with an exception. */
@@ -46,7 +47,8 @@ static int lend(PyObject *values, const number_type *type, Py_buffer *room)
     if (has_type(room, type))
         return 0;
     PyErr_Format(PyExc_ValueError,
-                 "out has to have arrays of the columns' types, and of u8 for bits: one isn't of %s",
+                 "out has to have aligned arrays of the columns' types, and of u8 for bits: one isn't "
+                 "of %s",
                  type->name);
     return -1;
 }

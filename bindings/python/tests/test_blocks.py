@@ -103,10 +103,11 @@ class Blocks(unittest.TestCase):
         for separator in (b"", b"ab"):
             with self.assertRaises(ValueError):
                 self.numbers(b"1ab2", "u8", separator)
+        for separator in (None, 10, [","]):
+            with self.assertRaisesRegex(TypeError, "separator has to be a str or contiguous bytes"):
+                self.numbers(b"1", "u8", separator)
         with self.assertRaises(ValueError):
             self.numbers(b"1", "u128")
-        with self.assertRaises(TypeError):
-            self.numbers(b"1", "u8", 10)
         with self.assertRaises((FormatError, TypeError)):
             self.numbers(b"1", "u8", b",", 10)
 

@@ -170,8 +170,9 @@ class CsvColumn(Case):
             (b"name\n", "line 1 has 1 names, and no column 2"),
             (b"", "line 1 has 1 names, and no column 2"),
             (b'"n",c\n', "line 1 has a quote"),
+            (b"n," + b"c" * 3_000_000, "line 1 has more than 1048576 bytes"),
         ):
-            with self.subTest(content=content):
+            with self.subTest(content=content[:40]):
                 self.assertEqual(self.answer("csv_column.py", content, "2"), (1, "", f"{told}\n"))
 
 
@@ -192,6 +193,7 @@ class CopyBinary(Case):
                 command = [sys.executable, EXAMPLES / "copy_binary.py", path]
                 run = subprocess.run(command, capture_output=True, timeout=60)
                 self.assertEqual((run.returncode, run.stderr.decode()), (1, f"{path}: {told}\n"))
+                self.assertEqual(run.stdout[-2:], b"\0\0")
 
     def test_a_full_device(self):
         path = self.folder / "input"
@@ -216,6 +218,11 @@ class CopyBinary(Case):
             psql("COPY ledger (day, cents) FROM STDIN BINARY", copied)
             told = psql("COPY ledger TO STDOUT (FORMAT csv)").decode()
             self.assertTrue(told == "".join(f"{day},{cents}\n" for day, cents in rows))
+            (self.folder / "input").write_text(text + "x;;")
+            cut = subprocess.run(given, stdout=subprocess.PIPE, stderr=subprocess.DEVNULL)
+            with self.assertRaises(subprocess.CalledProcessError):
+                psql("COPY ledger (day, cents) FROM STDIN BINARY", cut.stdout)
+            self.assertEqual(psql("SELECT count(*) FROM ledger"), b"1000000\n")
 
 
 class Dask(unittest.TestCase):
@@ -392,6 +399,14 @@ class Inputs(Case):
                 status, _, errors = answer_of(name, path, *words, stdout=full)
                 self.assertNotEqual(status, 0)
                 self.assertIn("No space left on device", errors)
+
+    def test_a_closed_output(self):
+        for (name, *words), content in zip((*COMMANDS, ("copy_binary.py",)), (*CONTENTS, "1;a;2")):
+            with self.subTest(name=name):
+                path = self.folder / "input"
+                path.write_text(content)
+                answer = answer_of(name, path, *words, preexec_fn=lambda: os.close(1))
+                self.assertEqual(answer, (1, "", "standard output is closed\n"))
 
     def test_words_that_are_none(self):
         for name, *words in (

@@ -112,6 +112,32 @@ class Interpreters(unittest.TestCase):
             sys.modules["jadvolni._core"] = jadvolni._core = ours
 
 
+class Types(unittest.TestCase):
+    """What a checker of types says of callers."""
+
+    @unittest.skipUnless(shutil.which("mypy"), "there is no mypy")
+    def test_columns_of_a_dict(self):
+        program = """
+            import gzip, jadvolni
+            ledger = {"day": "u16", "what": None, "cents": jadvolni.Column("i64", may_miss=True)}
+            day: int = jadvolni.read_table("ledger.csv", ledger, ";")["day"][0]
+            day += next(jadvolni.iter_column(gzip.open("days.gz", "rb")))[0]
+            try:
+                for kind in "u8", "u16":
+                    day += jadvolni.parse("1", kind)
+            except jadvolni.ParseError as error:
+                print(error.place + 1, error.row + 1)
+        """
+        with tempfile.TemporaryDirectory() as folder:
+            caller = pathlib.Path(folder, "caller.py")
+            caller.write_text(textwrap.dedent(program))
+            command = ["mypy", "--strict", "--follow-imports=silent", "--no-site-packages",
+                       "--cache-dir", folder, str(caller)]
+            where = {**os.environ, "MYPYPATH": str(BINDING / "src")}
+            run = subprocess.run(command, capture_output=True, text=True, env=where, timeout=120)
+        self.assertIn("Success", run.stdout, run.stderr)
+
+
 class Build(unittest.TestCase):
     """How the wheel is built. Where one is installed, -S keeps it out."""
 

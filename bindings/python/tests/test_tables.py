@@ -10,6 +10,7 @@ import sys
 import tempfile
 import unittest
 from array import array
+from unittest import mock
 
 from jadvolni import (Column, Format, FormatError, ParseError, Sparse, iter_table, parse_table,
                       read_table)
@@ -114,7 +115,17 @@ class Tables(unittest.TestCase):
 
     def test_a_file_without_a_size(self):
         path = pathlib.Path("/proc/sys/kernel/pid_max")
-        self.assertEqual(lists(read_table(path, {"a": "u32"})), {"a": [int(path.read_text())]})
+        wanted = {"a": [int(path.read_text())]}
+        self.assertEqual(lists(read_table(path, {"a": "u32"})), wanted)
+
+    def test_a_file_that_can_not_be_mapped(self):
+        with tempfile.NamedTemporaryFile() as file, mock.patch("mmap.mmap", side_effect=OSError):
+            file.write(b"n\n7\n")
+            file.seek(2)
+            self.assertEqual(lists(read_table(file, {"a": "u8"})), {"a": [7]})
+            with self.assertRaises(ParseError) as told:
+                read_table(file.name, {"a": "u8"})
+        self.assertIsNone(told.exception.__context__)
 
     def test_missing_numbers(self):
         columns = {"a": Column("i16", may_miss=True), "b": None, "c": "u8",
@@ -171,10 +182,19 @@ class Tables(unittest.TestCase):
         for code, count in ("H", 1), ("h", 2), ("I", 2), ("B", 4):
             out["day"] = array(code, [9] * count)
             self.assertRaises(ValueError, parse_table, TEXT, LEDGER, ";", True, out=out)
-        out["day"] = b"1234"
-        self.assertRaises(BufferError, parse_table, TEXT, LEDGER, ";", True, out=out)
-        del out["day"]
-        self.assertRaises(KeyError, parse_table, TEXT, LEDGER, ";", True, out=out)
+        wanted = "out has to have an array to write to for the column 'day'"
+        for given in (None, 7, "12", b"1234", [0, 0], (array("H", [0, 0]),), (1, 2, 3),
+                      memoryview(array("H", [0] * 4))[::2]):
+            out["day"] = given
+            with self.assertRaisesRegex(ValueError, wanted):
+                parse_table(TEXT, LEDGER, ";", True, out=out)
+        with self.assertRaisesRegex(ValueError, wanted):
+            parse_table(TEXT, LEDGER, ";", True, out={})
+        with memoryview(bytearray(17)) as view, view[1:].cast("q") as askew:
+            with self.assertRaisesRegex(ValueError, "out has to have aligned arrays"):
+                parse_table(b"1\n2\n", {"a": "i64"}, out={"a": askew})
+            with view[1:1].cast("q") as empty:  # (as an array without items has it)
+                parse_table(b"", {"a": "i64"}, out={"a": empty})
 
     def test_bits_of_the_caller(self):
         columns = {"a": Column("u8", may_miss=True)}
@@ -184,9 +204,9 @@ class Tables(unittest.TestCase):
         self.assertEqual((numbers.tolist(), bytes(bits)), ([1, 0] * 4 + [9], b"\x55\xff"))
         for given in (numbers, (numbers, bits[:0]), (numbers[:1], bits), (numbers, numbers),
                       (numbers, array("H", [9])), (numbers, b"\0\0"), (numbers, None), (numbers,)):
-            with self.assertRaises((ValueError, TypeError, BufferError)):
+            with self.assertRaisesRegex(ValueError, "out has to have "):
                 parse_table(b"1\n2\n", columns, out={"a": given})
-        with self.assertRaisesRegex(ValueError, "out has to have an array for the column 'a'"):
+        with self.assertRaisesRegex(ValueError, "out has to have an array to write to for .* 'a'"):
             parse_table(b"1", {"a": "u8"}, out={"a": (numbers, bits)})
         self.assertEqual((numbers.tolist(), bytes(bits)), ([1, 0] * 4 + [9], b"\x55\xff"))
 

@@ -1,14 +1,20 @@
 """Tests of tables that threads read: beside one thread, and misused."""
 
 import mmap
+import os
 import pathlib
+import pickle
 import random
+import signal
 import sys
 import tempfile
+import threading
+import time
 import unittest
 from array import array
 from unittest import mock
 
+import jadvolni
 from jadvolni import Column, Format, ParseError, Sparse, parse_table, read_table
 
 COLUMNS = {"a": Column("u8", may_miss=True), "b": None, "c": Column("i32", None, True), "d": "i16"}
@@ -52,11 +58,11 @@ class Threads(unittest.TestCase):
     def test_random_tables_beside_one_thread(self):
         chance = random.Random(1)
         kinds, tables = set(), 0
-        for time in range(2000):
+        for turn in range(2000):
             given = {flag: chance.random() < 0.9 for flag in FLAGS}
             given["missing"] = chance.choice((b"", b"", b"", b"NA"))
             text = random_text(chance, b"\r\n" if given["has_returns"] else b"\n")
-            with mock.patch.dict(sys.modules, {"numpy": None} if time % 2 else {}):
+            with mock.patch.dict(sys.modules, {"numpy": None} if turn % 2 else {}):
                 wanted = told(text, COLUMNS, **given)
                 for threads in (2, chance.randint(3, 16)):
                     self.assertEqual(told(text, COLUMNS, threads=threads, **given), wanted,
@@ -182,6 +188,23 @@ class Threads(unittest.TestCase):
             parse_table(text, {"a": "u8"}, threads=4)
         text.append(7)  # (no buffer is kept)
         self.assertEqual(caught.exception.place, 3)
+
+    def test_an_interrupt_is_told(self):
+        """It isn't hidden by the memory that a thread still has when it comes."""
+        first = threading.Lock()
+
+        def parse(text, is_last, how, rows, columns, *place):
+            held = pickle.PickleBuffer(columns[0][0])
+            if rows and first.acquire(blocking=False):
+                time.sleep(0.2)  # (until all threads have started)
+                os.kill(os.getpid(), signal.SIGINT)
+                time.sleep(0.2)
+            held.release()
+            return jadvolni._core._parse_table(text, is_last, how, rows, columns, *place)
+
+        with mock.patch("jadvolni._tables._parse_table", parse):
+            with self.assertRaises(KeyboardInterrupt):
+                parse_table(b"1\n" * 20, {"a": "u8"}, threads=4)
 
     def test_memory_is_given_back(self):
         text = b"1\n" * 20

@@ -2,7 +2,7 @@
 
 from __future__ import annotations
 
-from typing import IO, TYPE_CHECKING, Callable, Iterator, Optional, Union
+from typing import TYPE_CHECKING, Callable, Iterator, Optional, Protocol, Union
 
 from ._core import _parse_part
 from ._format import Format, _integer
@@ -10,7 +10,14 @@ from ._format import Format, _integer
 if TYPE_CHECKING:
     from array import array
 
-    from ._core import ColumnType
+    from ._core import NumberType
+
+
+class File(Protocol):
+    """What is opened by "rb", as also by gzip."""
+
+    def read(self, size: int, /) -> Optional[bytes]:
+        """So many bytes at most, or all for -1."""
 
 
 def _one_or_more(name: str, value: object) -> int:
@@ -21,7 +28,7 @@ def _one_or_more(name: str, value: object) -> int:
     return number
 
 
-def _block(file: IO[bytes], size: int) -> bytes:
+def _block(file: File, size: int) -> bytes:
     """The next bytes of a file, none at its end."""
     if not hasattr(file, "read"):
         raise TypeError(f"file has to be one opened by \"rb\", and not {type(file).__name__}")
@@ -34,7 +41,7 @@ def _block(file: IO[bytes], size: int) -> bytes:
 
 
 def _blocks(
-    file: IO[bytes], size: int, progress: Optional[Callable[[int], object]]
+    file: File, size: int, progress: Optional[Callable[[int], object]]
 ) -> Iterator[bytes]:
     """The blocks of a file, and behind them one without a byte."""
     while block := _block(file, size):
@@ -45,8 +52,8 @@ def _blocks(
 
 
 def iter_column(
-    file: IO[bytes],
-    type: ColumnType = "i64",
+    file: File,
+    type: NumberType = "i64",
     separator: Union[bytes, str] = b"\n",
     format: Optional[Format] = None,
     size: int = 1 << 20,
@@ -61,6 +68,7 @@ def iter_column(
     """
     size = _one_or_more("size", size)
     parted = separator.encode() if isinstance(separator, str) else separator
+    _parse_part(b"", type, parted, format, 0, 0)  # (so that wrong arguments are told as ever)
     left, field, start = b"", 0, 0
     for block in _blocks(file, size, progress):
         text = left + block

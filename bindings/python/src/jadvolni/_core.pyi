@@ -1,30 +1,27 @@
 """The calls of the library, by `_core.c`."""
 
 from array import array
-from typing import Any, Literal, Optional, Union
+from typing import Any, Optional, Union
 
 from _typeshed import ReadableBuffer
 
 from ._format import Format
 
 Text = Union[str, ReadableBuffer]
-# A class is one with the name of a type, as numpy.int64.
-ColumnType = Union[
-    Literal["u8", "u16", "u32", "u64", "usize", "i8", "i16", "i32", "i64", "isize"],
-    Literal["uint8", "uint16", "uint32", "uint64", "int8", "int16", "int32", "int64"],
-    type,
-]
-NumberType = Union[ColumnType, Literal["u128", "i128"]]
+# The name of a type, as "u8", or a class of that name, as numpy.uint8. Not Literal: mypy takes the
+# names in a dict of columns for any str.
+NumberType = Union[str, type]
 
 __version__: str
 
 class ParseError(ValueError):
     kind: str
-    place: Optional[int]
-    field: Optional[int]
-    start: Optional[int]
-    row: Optional[int]
-    column: Optional[int]
+    place: int
+    # An int of a column, or of a table, and else None: for callers, who know which, not Optional.
+    field: Any
+    start: Any
+    row: Any
+    column: Any
 
 class FormatError(ValueError):
     kind: str
@@ -40,13 +37,13 @@ def parse_partial(
 def parse_literal(text: Text, format: Optional[Format] = None) -> tuple[int, str, int]: ...
 def parse_column(
     text: Text,
-    type: ColumnType = "i64",
+    type: NumberType = "i64",
     separator: Text = b"\n",
     format: Optional[Format] = None,
 ) -> array[int]: ...
 def _parse_part(
     text: bytes,
-    type: ColumnType,
+    type: NumberType,
     separator: bytes,
     format: Optional[Format],
     field: int,
@@ -57,11 +54,11 @@ def _parse_table(
     is_last: bool,
     how: tuple[Any, ...],
     rows: int,
-    columns: tuple[Optional[tuple[Any, Any, ColumnType, Optional[Format]]], ...],
+    columns: tuple[Optional[tuple[Any, Any, NumberType, Optional[Format]]], ...],
     row: int,
     start: int,
 ) -> tuple[int, int]: ...
 def _row_count(text: Text, record: int) -> int: ...
 def _row_stops(text: Text, count: int, has_quotes: bool, record: int) -> list[int]: ...
-def _array_code(type: ColumnType) -> str: ...
+def _array_code(type: NumberType) -> str: ...
 def _check_format(format: Format) -> None: ...

@@ -10,12 +10,12 @@ from ._format import Format
 if TYPE_CHECKING:
     import numpy
 
-    from ._core import ColumnType, Text
+    from ._core import NumberType, Text
 
 
 def numpy_column(
     text: Text,
-    type: ColumnType = "i64",
+    type: NumberType = "i64",
     separator: Text = b"\n",
     format: Optional[Format] = None,
 ) -> numpy.ndarray:

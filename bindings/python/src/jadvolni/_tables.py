@@ -7,20 +7,20 @@ import os
 import sys
 from array import array
 from concurrent.futures import ThreadPoolExecutor
-from contextlib import ExitStack
+from contextlib import ExitStack, nullcontext, suppress
 from itertools import accumulate
-from typing import (IO, TYPE_CHECKING, Any, Callable, Iterable, Iterator, Mapping, NamedTuple,
-                    Optional, Union)
+from typing import (TYPE_CHECKING, Any, BinaryIO, Callable, ContextManager, Iterable, Iterator,
+                    Mapping, NamedTuple, Optional, Union)
 
-from ._blocks import _block, _blocks, _one_or_more
+from ._blocks import File, _block, _blocks, _one_or_more
 from ._core import ParseError, _array_code, _parse_table, _row_count, _row_stops
 from ._format import Format, _integer
 
 if TYPE_CHECKING:
-    from ._core import ColumnType, Text
+    from ._core import NumberType, Text
 
     # What is read of a column: nothing, numbers of a type, or what a Column says.
-    Columns = Mapping[str, Optional[Union[ColumnType, "Column"]]]
+    Columns = Mapping[str, Optional[Union[NumberType, "Column"]]]
     # The columns that are read: arrays, NumPy's where it is installed and else those of `array`, or
     # a Sparse of them where numbers may be missing.
     Table = dict[str, Any]
@@ -29,7 +29,7 @@ if TYPE_CHECKING:
 class Column(NamedTuple):
     """What is read of a column: numbers of a type, under a format, of which some may be missing."""
 
-    type: ColumnType
+    type: NumberType
     format: Optional[Format] = None
     may_miss: bool = False
 
@@ -112,11 +112,13 @@ class _Reader:
         """The caller's arrays, which have to be for so many rows."""
         _ask_type("out", out, Mapping, "a dict or None")
         for name, column in self.read.items():
-            numbers, bits = _pair(out[name])
-            if (bits is not None) != column.may_miss:
-                wanted = "a Sparse" if column.may_miss else "an array"
-                raise ValueError(f"out has to have {wanted} for the column {name!r}")
-            if len(numbers) < rows or (bits is not None and 8 * len(bits) < rows):
+            given: Any = out.get(name)
+            is_pair = isinstance(given, tuple) and len(given) == 2
+            sizes = [_writable_size(it) for it in (given if is_pair else (given,))]
+            if is_pair != bool(column.may_miss) or -1 in sizes:
+                wanted = "a Sparse of arrays" if column.may_miss else "an array"
+                raise ValueError(f"out has to have {wanted} to write to for the column {name!r}")
+            if any(size < needed for size, needed in zip(sizes, (rows, (rows + 7) // 8))):
                 raise ValueError(f"out has to have room for the {rows} rows of the text")
         return {name: out[name] for name in self.read}
 
@@ -134,6 +136,13 @@ class _Reader:
         columns = tuple(None if it is None else (*_pair(arrays[name]), it.type, it.format)
                         for name, it in self.columns.items())
         return _parse_table(text, part.is_last, self.how, rows, columns, part.row, part.start)
+
+
+def _writable_size(values: Any) -> int:
+    """How many items an array has that may be written, and -1 for what is no such array."""
+    with suppress(TypeError, ValueError, BufferError), memoryview(values) as view:
+        return -1 if view.readonly or not view.c_contiguous else len(view)
+    return -1
 
 
 def _pair(values: Any) -> tuple[Any, Any]:
@@ -187,13 +196,13 @@ def _join(values: Any, parts: list[Any], lines: list[int], counts: list[int]) ->
 def _parse_in_threads(reader: _Reader, text: Text, arrays: Table, threads: int) -> int:
     """Reads the rows of a text in parts, side by side, and answers how many there are."""
     reader.parse(text, arrays, 0, _Part())  # (so that wrong arguments are told as ever)
-    with ExitStack() as held:
+    # The pool comes last, so that its threads have ended when the memory that they use is let go.
+    with ExitStack() as held, ThreadPoolExecutor(threads) as pool:
         whole = held.enter_context(memoryview(text.encode() if isinstance(text, str) else text))
         parts = min(threads, len(whole))
         stops = _row_stops(whole, parts, reader.has_quotes, reader.record)
         starts = [0, *stops]
         texts = [held.enter_context(whole[start:stop]) for start, stop in zip(starts, stops)]
-        pool = held.enter_context(ThreadPoolExecutor(threads))
         lines = list(pool.map(reader.row_count, texts))
         rooms = [reader.room_behind(arrays, row, rows, held)
                  for row, rows in zip(accumulate(lines, initial=0), lines)]
@@ -256,23 +265,28 @@ def parse_table(
 
 
 def read_table(
-    file: Union[str, os.PathLike[str], IO[bytes]], columns: Columns, *how: Any, **more: Any
+    file: Union[str, os.PathLike[str], File], columns: Columns, *how: Any, **more: Any
 ) -> Table:
     """The rows of a file, by its path or opened by "rb", with the arguments of parse_table.
 
-    A path is mapped to memory: no other program may change the file meanwhile.
+    A path is mapped to memory: no other program may change the file meanwhile. A header is no row:
+    open such a file, and read its line before, by file.readline().
     """
     if not isinstance(file, (str, os.PathLike)):
         return parse_table(_block(file, -1), columns, *how, **more)
-    with open(file, "rb") as opened:
-        if not os.fstat(opened.fileno()).st_size:  # (it is empty, or can't be mapped, as a pipe)
-            return parse_table(_block(opened, -1), columns, *how, **more)
-        with mmap.mmap(opened.fileno(), 0, access=mmap.ACCESS_READ) as text:
-            return parse_table(text, columns, *how, **more)
+    with open(file, "rb") as opened, _mapped(opened) as text:
+        return parse_table(text, columns, *how, **more)
+
+
+def _mapped(file: BinaryIO) -> ContextManager[Any]:
+    """The bytes of a file, in its own memory where it can be mapped."""
+    with suppress(OSError, ValueError):  # (it is empty, a pipe, or of a file system without maps)
+        return mmap.mmap(file.fileno(), 0, access=mmap.ACCESS_READ)
+    return nullcontext(_block(file, -1))
 
 
 def iter_table(
-    file: IO[bytes],
+    file: File,
     columns: Columns,
     separator: Optional[Text] = None,
     has_returns: bool = False,
@@ -288,9 +302,10 @@ def iter_table(
 ) -> Iterator[Table]:
     """The rows of a file of any size, by tables of at most so many rows and about `size` bytes.
 
-    A row that a block cuts is read with the next one. ParseError counts `row` and `place` over the
-    whole file, and the tables before it stand. A row of more than `size` bytes is a ValueError, so
-    that no more than two blocks are held. `progress` is called as by iter_column.
+    A row that a block cuts is read with the next one. ParseError counts `row` and `place` from
+    where reading began, as behind a header, and the tables before it stand. A row of more than
+    `size` bytes is a ValueError, so that no more than two blocks are held. `progress` is called as
+    by iter_column.
     """
     rows, size = _one_or_more("rows", rows), _one_or_more("size", size)
     reader = _Reader(columns, separator, has_returns, has_quotes, allows_blanks, skips_empty_rows,

@@ -33,11 +33,24 @@ impl fmt::Display for ReadError {
 }
 
 impl core::error::Error for ReadError {
+    /// Why a read failed. What has a text of its own isn't a source too: it would be told twice.
     fn source(&self) -> Option<&(dyn core::error::Error + 'static)> {
         match self {
-            ReadError::Io(error) => Some(error),
-            ReadError::Column(error) => Some(error),
-            ReadError::LongField(_) => None,
+            ReadError::Io(error) => error.source(),
+            ReadError::Column(_) | ReadError::LongField(_) => None,
+        }
+    }
+}
+
+/// Reads once, and again where that was interrupted.
+pub(crate) fn read_once(reader: &mut impl Read, room: &mut [u8]) -> io::Result<usize> {
+    loop {
+        match reader.read(room) {
+            Err(error) if error.kind() == io::ErrorKind::Interrupted => {}
+            Ok(count) if count > room.len() => {
+                return Err(io::Error::other("the reader tells more bytes than it was asked for"));
+            }
+            answer => return answer,
         }
     }
 }
@@ -88,7 +101,8 @@ impl<R: Read, T: ColumnInteger> ColumnReader<R, T> {
             reader,
             separator,
             format,
-            block: vec![0; size],
+            // A field of `size` bytes has room, and the byte behind it tells whether it is longer.
+            block: vec![0; size.saturating_add(1)],
             filled: 0,
             start: 0,
             field: 0,
@@ -107,18 +121,13 @@ impl<R: Read, T: ColumnInteger> ColumnReader<R, T> {
             self.has_ended = true;
             return Err(ReadError::LongField(self.start));
         }
-        match self.reader.read(&mut self.block[self.filled..]) {
-            Ok(0) => {
-                self.has_ended = true;
-                self.parse(self.filled)
-            }
-            Ok(count) => {
-                self.filled += count;
-                self.parse(field_start(&self.block[..self.filled], self.separator))
-            }
-            Err(error) if error.kind() == io::ErrorKind::Interrupted => Ok(()),
-            Err(error) => Err(ReadError::Io(error)),
-        }
+        let room = &mut self.block[self.filled..];
+        let count = read_once(&mut self.reader, room).map_err(ReadError::Io)?;
+        self.has_ended = count == 0;
+        self.filled += count;
+        let text = &self.block[..self.filled];
+        let whole = if count == 0 { text.len() } else { field_start(text, self.separator) };
+        self.parse(whole)
     }
 
     /// Parses so many bytes, which are whole fields, and keeps the others.

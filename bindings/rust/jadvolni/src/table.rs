@@ -7,7 +7,7 @@ use core::ptr::null;
 use jadvolni_sys as sys;
 
 /// How a table is written: what parts two cells, and what else isn't as in plain lines.
-#[derive(Debug, Copy, Clone, PartialEq, Eq)]
+#[derive(Debug, Copy, Clone)]
 pub struct Dialect<'a>(sys::jadvolni_table, PhantomData<&'a [u8]>);
 
 // SAFETY: its pointers are those of slices that it has borrowed, and are read alone.

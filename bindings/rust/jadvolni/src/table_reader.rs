@@ -2,6 +2,7 @@
 
 extern crate std;
 
+use crate::reader::read_once;
 use crate::table::capacity;
 use crate::{parse_table_part, Dialect, TableColumn, TableError};
 use core::fmt;
@@ -40,11 +41,11 @@ impl fmt::Display for TableReadError {
 }
 
 impl core::error::Error for TableReadError {
+    /// Why a read failed, as of [`crate::ReadError`].
     fn source(&self) -> Option<&(dyn core::error::Error + 'static)> {
         match self {
-            TableReadError::Io(error) => Some(error),
-            TableReadError::Table { error, .. } => Some(error),
-            TableReadError::LongRow(_) => None,
+            TableReadError::Io(error) => error.source(),
+            TableReadError::Table { .. } | TableReadError::LongRow(_) => None,
         }
     }
 }
@@ -93,7 +94,8 @@ impl<'a, R: Read> TableReader<'a, R> {
         TableReader {
             reader,
             dialect,
-            block: vec![0; size.max(1)],
+            // A row of `size` bytes has room, and the byte behind it tells whether it is longer.
+            block: vec![0; size.max(1).saturating_add(1)],
             parsed: 0,
             filled: 0,
             start: 0,
@@ -143,12 +145,10 @@ impl<'a, R: Read> TableReader<'a, R> {
             self.has_ended = true;
             return Err(TableReadError::LongRow(self.start));
         }
-        match self.reader.read(&mut self.block[self.filled..]) {
-            Ok(0) => self.is_last = true,
-            Ok(count) => self.filled += count,
-            Err(error) if error.kind() == io::ErrorKind::Interrupted => {}
-            Err(error) => return Err(TableReadError::Io(error)),
-        }
+        let room = &mut self.block[self.filled..];
+        let count = read_once(&mut self.reader, room).map_err(TableReadError::Io)?;
+        self.is_last = count == 0;
+        self.filled += count;
         Ok(())
     }
 }

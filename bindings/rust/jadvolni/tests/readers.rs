@@ -1,7 +1,10 @@
 //! Columns from readers that give little, fail, are interrupted, or end early.
 #![cfg(feature = "std")]
 
-use jadvolni::{parse_column, ColumnError, ColumnReader, Error, Format, ReadError};
+use jadvolni::{
+    parse_column, ColumnError, ColumnReader, Dialect, Error, Format, ReadError, TableColumn,
+    TableError, TableReadError, TableReader,
+};
 use std::io::{self, ErrorKind, Read};
 
 /// A reader of a text that gives so many bytes at most, and fails once, before the byte at a place.
@@ -105,6 +108,58 @@ fn long_fields_and_invalid_formats_end_it() {
     let Some(Err(ReadError::Column(told))) = reader.next() else { panic!("an invalid format") };
     assert_eq!(told, ColumnError::InvalidFormat(Error::InvalidMantissaRadix));
     assert!(reader.next().is_none());
+}
+
+#[test]
+fn a_field_as_long_as_a_block_is_read() {
+    for (text, whole) in
+        [("00000007", vec![7]), ("1,00000007", vec![1, 7]), ("00000007,2", vec![7, 2])]
+    {
+        for most in 1..12 {
+            let (numbers, told) = read(device(text.as_bytes(), most, None), 8);
+            assert_eq!((numbers, told.len()), (whole.clone(), 0), "{text} by {most}");
+        }
+        let long = text.replace('7', "07");
+        let (_, told) = read(device(long.as_bytes(), 4, None), 8);
+        assert!(matches!(told[..], [ReadError::LongField(_)]), "{long}");
+    }
+}
+
+#[test]
+fn a_reader_that_tells_more_than_it_gave_is_a_fault() {
+    struct Boastful;
+    impl Read for Boastful {
+        fn read(&mut self, block: &mut [u8]) -> io::Result<usize> {
+            block.fill(b'1');
+            Ok(block.len() + 1)
+        }
+    }
+    let mut numbers = ColumnReader::<_, u8>::new(Boastful, b',', Format::STANDARD);
+    assert!(matches!(numbers.next(), Some(Err(ReadError::Io(_)))));
+    let (mut rows, mut slice) = (TableReader::new(Boastful, Dialect::separated_by(b',')), [0u8]);
+    let told = rows.read(&mut [TableColumn::of(&mut slice)]);
+    assert!(matches!(told, Err(TableReadError::Io(_))));
+}
+
+#[test]
+fn a_fault_is_told_once_by_its_chain() {
+    let told = read(device(b"1,x", 4, None), 8).1.remove(0);
+    let row = TableError { row: 0, column: 0, error: Error::Empty(0) };
+    let failed = || io::Error::other("no disk");
+    let chains: [(&dyn std::error::Error, &str); 4] = [
+        (&told, "invalid digit at byte 2, in field 1"),
+        (
+            &TableReadError::Table { rows: 0, error: row },
+            "missing digit at byte 0, in row 0, column 0",
+        ),
+        (&ReadError::Io(failed()), "no disk"),
+        (&TableReadError::Io(failed()), "no disk"),
+    ];
+    for (error, text) in chains {
+        assert_eq!(error.to_string(), text);
+        let source = error.source().map(|source| source.to_string());
+        assert_ne!(source.as_deref(), Some(text));
+    }
 }
 
 #[test]

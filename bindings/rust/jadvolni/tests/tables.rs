@@ -120,6 +120,9 @@ fn a_row_that_no_block_holds_is_told() {
     assert_eq!(rows, [1]);
     assert!(matches!(told[..], [TableReadError::LongRow(4)]));
     assert_eq!(told[0].to_string(), "the row at byte 4 has more bytes than a block");
+    let device = Device { text: b"1,a\n2,bbbbbb", most: 99, place: 0, failure: None };
+    let (rows, told) = rows_of(device, comma(), 8, 4);
+    assert_eq!((rows, told.len()), (vec![1, 2], 0));
 }
 
 #[test]
@@ -238,5 +241,5 @@ fn records_from_a_reader() {
         assert!(matches!(told[..], [TableReadError::Table { error, .. }] if error == short));
     }
     let device = Device { text: b"12a", most: 9, place: 0, failure: None };
-    assert!(matches!(rows_of(device, records, 2, 4).1[..], [TableReadError::LongRow(0)]));
+    assert!(matches!(rows_of(device, records, 1, 4).1[..], [TableReadError::LongRow(0)]));
 }
