@@ -47,7 +47,8 @@ export class Format {
   constructor(given = {}) {
     askFields("a format", given, NAMES);
     for (const [name, value] of DEFAULTS) {
-      this[name] = given[name] === undefined ? value : given[name];
+      const { [name]: own = value } = given;
+      this[name] = own;
     }
     this.#bytes = bytesOfFields(this);
     putFormat(this.#bytes);
