@@ -187,7 +187,7 @@ def by_programs(comparison: Comparison, library: str, seed: int) -> None:
             done = subprocess.run([program, *words], input=given, stdout=subprocess.PIPE)
             said = done.stdout.decode(errors="replace").strip()
             print(f"fuzz_c: {said}", flush=True)
-            if done.returncode != 0:
+            if done.returncode or not said:
                 comparison.wrong.append(f"{name}: {said}")
 
 
