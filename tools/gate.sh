@@ -39,13 +39,15 @@ total() {
 
 # setup.cfg says what flake8 asks of all Python, and mypy of that under tools/ and bench/.
 lint() {
+    lacking=''
     for checker in "flake8 tools bench bindings examples" mypy; do
         if command -v "${checker%% *}" > /dev/null; then
             $checker || return 1
         else
-            echo "skipped: there is no ${checker%% *}"
+            lacking="$lacking ${checker%% *}"
         fi
     done
+    test -z "$lacking" || echo "skipped: there is no$lacking"
 }
 
 # In the copy `rt fmt` finds nothing to lay out anew, and every edit can be applied.
