@@ -36,12 +36,14 @@ export function ofTable(table, name, value) {
   return found;
 }
 
-/** Asks that what was given for a format or a table has no field but those that there are. */
-export function askFields(whose, given, names) {
+/** The own fields that were given for a format, a table or a column, each read once. Others than there
+ * are it refuses, and none is taken from a prototype. */
+export function ownFields(whose, given, names) {
   if (Object.prototype.toString.call(given) !== "[object Object]") {
     throw new TypeError(`the fields of ${whose} have to be an object, and not ${told(given)}`);
   }
   for (const name of Object.keys(given)) {
     if (!names.includes(name)) throw new TypeError(`${whose} has no field ${told(name)}`);
   }
+  return { __proto__: null, ...given };
 }

@@ -1,7 +1,7 @@
 // Tables: the rows of a text, each column into an array of its own. A text of any length goes through
 // memory piece by piece.
 
-import { askFields, byteOf, ofTable, told } from "./arguments.js";
+import { byteOf, ofTable, ownFields, told } from "./arguments.js";
 import { ARRAYS, joined, numbersPlace, PIECE } from "./columns.js";
 import { ParseError } from "./errors.js";
 import { bytesOfFormat, STANDARD } from "./format.js";
@@ -43,12 +43,11 @@ function flagOf(name, value = false) {
 /** What is read of a column: the constructor of its array, its format's bytes, and where they go. */
 function readOf(column) {
   if (column === null) return null;
-  const given = typeof column === "string" ? { type: column } : Object(column);
-  const { type, format = STANDARD, may_miss } = given;
-  const NumberArray = ofTable(ARRAYS_OF_TYPES, "type", type);
-  askFields("a column", given, FIELDS_OF_COLUMN);
+  const { type, format = STANDARD, may_miss } = typeof column === "object"
+    ? ownFields("a column", column, FIELDS_OF_COLUMN)
+    : { __proto__: null, type: column };
   return {
-    NumberArray,
+    NumberArray: ofTable(ARRAYS_OF_TYPES, "type", type),
     format: bytesOfFormat(format),
     place: FIRST_ARRAY + 2 * TYPES.indexOf(type),
     mayMiss: flagOf("may_miss", may_miss),
@@ -80,11 +79,11 @@ function widthsOf({ separator, is_records, widths }, count) {
 
 /** How a table of so many columns is written, and the bytes that stand for a missing number. */
 function tableOf(given, count) {
-  askFields("a table", given, FIELDS);
-  const flags = FLAGS.map((name) => Number(flagOf(name, given[name])));
-  const { separator = ",", missing = "" } = given;
+  const fields = ownFields("a table", given, FIELDS);
+  const flags = FLAGS.map((name) => Number(flagOf(name, fields[name])));
+  const { separator = ",", missing = "" } = fields;
   const bytes = [byteOf("separator", separator), ...flags];
-  return { bytes, widths: widthsOf(given, count), missing: memory.bytesOf(missing, "missing") };
+  return { bytes, widths: widthsOf(fields, count), missing: memory.bytesOf(missing, "missing") };
 }
 
 /** How many rows there is memory for. An array may begin some bytes behind the end of another. */
