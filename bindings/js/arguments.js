@@ -1,14 +1,16 @@
 // What is asked of arguments, and said of wrong ones.
 
-// So many characters of a string are told.
+// So many characters of a string or a number are told.
 const TOLD = 40;
 
 /** What a wrong argument is, in a message. */
 export function told(value) {
-  if (typeof value === "string") {
-    return `${JSON.stringify(value.slice(0, TOLD))}${value.length > TOLD ? " .." : ""}`;
+  if (["string", "bigint"].includes(typeof value)) {
+    const text = String(value);
+    const front = text.slice(0, TOLD);
+    const rest = text.length > TOLD ? " .." : "";
+    return typeof value === "string" ? `${JSON.stringify(front)}${rest}` : `${front}${rest || "n"}`;
   }
-  if (typeof value === "bigint") return `${value}n`;
   if (value === null || !["object", "function", "symbol"].includes(typeof value)) {
     return String(value);
   }

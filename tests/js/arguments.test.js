@@ -75,6 +75,7 @@ test("types", () => {
   const columns = "u8, u16, u32, u64, i8, i16, i32, i64";
   refuses(() => parseColumn("1", "u128"), `type has to be one of ${columns}, and not "u128"`);
   refuses(() => parse("1", "u".repeat(1e6)), new RegExp(`, and not "${"u".repeat(40)}" ..$`));
+  refuses(() => parse("1", 10n ** 40n), new RegExp(`, and not 1${"0".repeat(39)} ..$`));
 });
 
 test("formats", () => {
