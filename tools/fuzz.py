@@ -138,7 +138,9 @@ class Comparison:
         questions: List[Question] = []
         for number, line in enumerate(lines):
             expected.append(session.answer(line))
-            if line.startswith(b"c ") and is_plain(session):
+            # (a valid format, and the standard one but for its radix)
+            is_plain = session.form == PLAIN.get(session.form.mantissa_radix)
+            if is_plain and line.startswith(b"c "):
                 questions += question_of(number, line, session, expected[-1])
         output = self.run(self.program, source_of(lines))
         if output != "".join(expected):
@@ -169,11 +171,6 @@ class Comparison:
             if not question.answer.startswith(wanted):
                 return Difference(question.number, judge, wanted, question.answer)
         return None
-
-
-def is_plain(session: Session) -> bool:
-    """Whether the format is valid, and the standard one but for its radix."""
-    return session.form == PLAIN.get(session.form.mantissa_radix)
 
 
 def question_of(number: int, line: bytes, session: Session, answer: str) -> List[Question]:
