@@ -28,6 +28,7 @@ from pathlib import Path
 from types import ModuleType
 from typing import Callable, Iterable
 
+import drivers
 import page
 
 HERE = os.path.dirname(os.path.abspath(__file__))
@@ -66,18 +67,18 @@ ABOUT = "The numbers are of `u64`, with a line feed after each."
 
 def built(folder: str, name: str) -> list[list[str]]:
     """The drivers of a name in C++ and, where rustc is there, in Rust."""
-    subprocess.run(["make", "-s", "lib"], cwd=TOP, check=True, stdout=subprocess.DEVNULL)
+    drivers.run(["make", "-s", "lib"], TOP)
     library = os.path.join(TOP, "build", "libjadvolni.a")
     source = os.path.join(HERE, "driver", name)
     found = []
     for skipped in range(16, 80, 16):
         driver = os.path.join(folder, f"cpp_{skipped}")
         words = [*FLAGS, f'-DSKIPPED="{skipped}"', f"{source}.cpp", library, "-o", driver]
-        subprocess.run(["c++", *words], check=True)
+        drivers.run(["c++", *words], folder)
         found.append([driver])
     if shutil.which("rustc"):
         peer, flags = os.path.join(folder, "rs"), ["-O", "-Ctarget-cpu=x86-64-v2"]
-        subprocess.run(["rustc", *flags, f"{source}.rs", "-o", peer], check=True)
+        drivers.run(["rustc", *flags, f"{source}.rs", "-o", peer], folder)
         found.append([peer])
     return found
 
@@ -123,11 +124,11 @@ def readers(jadvolni: ModuleType, text: bytes) -> Readers:
     return found
 
 
-def measured(drivers: list[list[str]], peers: Readers, text: bytes, numbers: list[list[int]],
+def measured(programs: list[list[str]], peers: Readers, text: bytes, numbers: list[list[int]],
              rounds: int) -> dict[str, float]:
     """Nanoseconds a number of each reader of a text, whose columns these are."""
     found: dict[str, float] = {}
-    for driver in drivers:
+    for driver in programs:
         ran = subprocess.run([*driver, str(rounds)], input=text, capture_output=True, check=True)
         for line in ran.stdout.decode().splitlines():
             peer, taken, total = line.split("\t")
@@ -168,8 +169,7 @@ def write(kind: str, seen: Seen, asked: page.Asked, lacking: list[str], about: s
     head = [f"# {kind.capitalize()}, measured by make bench on {on}",
             *(f"# {one}" for one in left_out),
             "\t".join((asked.unit, "reader", f"ns a {asked.unit[:-1]}", "to from_chars"))]
-    with open(os.path.join(HERE, f"{kind}.tsv"), "w", encoding="utf-8") as file:
-        file.write("\n".join([*head, *lines_of(seen)]) + "\n")
+    page.put(os.path.join(HERE, f"{kind}.tsv"), "\n".join([*head, *lines_of(seen)]) + "\n")
     about += (" In the table a loop of `from_chars` takes 1. "
               f"[{kind}.tsv](../bench/{kind}.tsv) has the nanoseconds.")
     said = [f"Measured on {on}", *left_out, "", about, "", *table(seen, asked.unit), ""]
@@ -183,13 +183,13 @@ def measure(kind: str, asked: page.Asked, sets: dict[str, list[Number]],
     page.need("make", "cc", "c++")
     seen: Seen = {}
     with tempfile.TemporaryDirectory() as folder:
-        drivers, jadvolni = built(folder, kind), binding(folder)
+        programs, jadvolni = built(folder, kind), binding(folder)
         for name, columns in sets.items():
-            random_, rows = random.Random(asked.seed), range(asked.size // len(columns))
+            random_, rows = random.Random(asked.seed), range(max(asked.size // len(columns), 1))
             numbers = [[number(random_) for _ in rows] for number in columns]
             text = "".join(",".join(map(str, row)) + "\n" for row in zip(*numbers)).encode()
             peers = readers_of(jadvolni, text)
-            seen[name] = measured(drivers, peers, text, numbers, asked.rounds)
+            seen[name] = measured(programs, peers, text, numbers, asked.rounds)
             print("\n".join(lines_of({name: seen[name]})), flush=True)
     write(kind, seen, asked, [name for name in packages if not is_installed(name)], about)
 

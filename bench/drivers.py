@@ -1,6 +1,8 @@
 """Builds the drivers: the measured library, proved in a tree of its own, that for C, and peers."""
 from __future__ import annotations
 
+import fcntl
+import functools
 import glob
 import os
 import shutil
@@ -72,10 +74,20 @@ def run(words: list[str], folder: str, **more: str) -> None:
         sys.exit(f"bench: {' '.join(words)} failed")
 
 
+@functools.cache
 def room() -> str:
-    """The folder that the build takes: outside of the repository, whose gate reads its files."""
+    """The folder that the build takes: outside of the repository, whose gate reads its files. Two
+    runs at once would measure each other's programs."""
     ours = os.path.join(tempfile.gettempdir(), f"jadvolni-bench-{os.getuid()}")
-    return os.environ.get("BENCH_ROOM") or ours
+    taken = os.environ.get("BENCH_ROOM") or ours
+    os.makedirs(taken, mode=0o700, exist_ok=True)
+    if taken == ours and os.stat(taken).st_uid != os.getuid():
+        sys.exit(f"bench: {taken} is another user's: BENCH_ROOM names another folder")
+    try:
+        fcntl.flock(os.open(taken, os.O_RDONLY), fcntl.LOCK_EX | fcntl.LOCK_NB)
+    except BlockingIOError:
+        sys.exit(f"bench: another run takes {taken}")
+    return taken
 
 
 def library(room: str, sites: int) -> None:

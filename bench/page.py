@@ -32,11 +32,18 @@ def instructions(words: list[str], path: str = os.devnull) -> int:
     return int(found[1])
 
 
+def positive(word: str) -> int:
+    """How much a command line asks for: nothing can't be measured."""
+    if int(word) < 1:
+        raise ValueError
+    return int(word)
+
+
 def options(about: str, rounds: int) -> argparse.ArgumentParser:
     """The options that all scripts have: how often each reads, and what its texts come from."""
     parser = argparse.ArgumentParser(
         description=about, formatter_class=argparse.RawDescriptionHelpFormatter)
-    parser.add_argument("--rounds", type=int, default=rounds, help="how often each text is read")
+    parser.add_argument("--rounds", type=positive, default=rounds, help="how often a text is read")
     parser.add_argument("--seed", type=int, default=1, help="what the texts come from")
     return parser
 
@@ -61,7 +68,7 @@ class Asked:
 def asked(about: str, unit: str, size: int, rounds: int) -> Asked:
     """What the command line asks of a script, which else reads so many units so often."""
     parser = options(about, rounds)
-    parser.add_argument(f"--{unit}", type=int, default=size, help=f"how many {unit} a text has")
+    parser.add_argument(f"--{unit}", type=positive, default=size, help=f"{unit} of a text")
     found = parser.parse_args()
     return Asked(unit, getattr(found, unit), found.rounds, found.seed, os.getloadavg()[0])
 
@@ -72,10 +79,16 @@ def table(head: list[str], rows: list[list[str]]) -> list[str]:
     return [head_line, "|---" * len(head) + "|", *lines]
 
 
+def put(path: str, text: str) -> None:
+    """Writes a file. Where that fails, the one of before stays."""
+    with open(f"{path}.new", "w", encoding="utf-8") as file:
+        file.write(text)
+    os.replace(f"{path}.new", path)
+
+
 def write(script: str, lines: list[str]) -> None:
     """Writes the part of a script, and leaves the others as they are."""
     with open(PAGE, encoding="utf-8") as file:
         text = file.read()
     part = re.compile(PART.format(re.escape(script)))
-    with open(PAGE, "w", encoding="utf-8") as file:
-        file.write(part.sub(lambda found: found[1] + "\n".join(lines) + "\n" + found[2], text))
+    put(PAGE, part.sub(lambda found: found[1] + "\n".join(lines) + "\n" + found[2], text))

@@ -20,6 +20,7 @@ import subprocess
 import sys
 import tempfile
 
+import drivers
 import page
 from columns import SETS
 
@@ -35,10 +36,10 @@ Programs = dict[str, list[str]]
 
 def programs(folder: str) -> Programs:
     """The programs by their names, ours first."""
-    subprocess.run(["make", "-s", "lexint"], cwd=TOP, check=True, stdout=subprocess.DEVNULL)
+    drivers.run(["make", "-s", "lexint"], TOP)
     peer = os.path.join(folder, "program")
     source = os.path.join(HERE, "driver", "program.rs")
-    subprocess.run(["rustc", "-O", "-Ctarget-cpu=x86-64-v2", source, "-o", peer], check=True)
+    drivers.run(["rustc", "-O", "-Ctarget-cpu=x86-64-v2", source, "-o", peer], folder)
     ours = os.path.join(TOP, "crates", "lexint", "out", "lexint")
     return {OURS: [ours], "writeln!": [peer, "writeln"], "own digits": [peer, "digits"]}
 
@@ -93,9 +94,8 @@ def write(rows: list[str], asked: page.Asked) -> None:
     on = asked.measured_on()
     head = ["lines", "lexint, s", "to writeln!", "to own digits", "instructions to writeln!",
             "instructions to own digits"]
-    with open(os.path.join(HERE, "program.tsv"), "w", encoding="utf-8") as file:
-        first = f"# The program, measured by bench/program.py on {on}"
-        file.write("\n".join([first, "\t".join(head), *rows]) + "\n")
+    first = f"# The program, measured by bench/program.py on {on}"
+    page.put(os.path.join(HERE, "program.tsv"), "\n".join([first, "\t".join(head), *rows]) + "\n")
     table = page.table(head, [one.split("\t") for one in rows])
     page.write("bench/program.py", [f"Measured on {on}", "", *table, ""])
 

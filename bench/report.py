@@ -195,6 +195,5 @@ def cost_of_call(seen: Seen) -> str:
 def write_all(seen: Seen) -> None:
     """Writes the numbers, the picture and the page."""
     for name, text in (("results.tsv", numbers(seen)), ("results.svg", picture(seen))):
-        with open(os.path.join(HERE, name), "w", encoding="utf-8") as file:
-            file.write(text)
+        page.put(os.path.join(HERE, name), text)
     page.write("make bench", part(seen))

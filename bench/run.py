@@ -90,8 +90,8 @@ def machine() -> str:
 def main() -> int:
     """The command line."""
     parser = page.options(__doc__, rounds=400)
-    parser.add_argument("--small", type=int, default=4096, help="texts in a small set")
-    parser.add_argument("--large", type=int, default=60000, help="texts in a large set")
+    parser.add_argument("--small", type=page.positive, default=4096, help="texts in a small set")
+    parser.add_argument("--large", type=page.positive, default=60000, help="texts in a large set")
     parser.add_argument("--no-counts", action="store_true", help="count no instructions")
     asked = parser.parse_args()
     page.need(*drivers.NEEDED)

@@ -11,6 +11,8 @@ set -eu
 cd "$(dirname "$0")/.."
 rt=${RT:-rt}
 exec 1>&2
+# What runs beside a shell passes over Ctrl-C, so all that began with it is ended by another signal.
+trap 'trap "" TERM; kill 0; exit 130' INT
 command -v "$rt" > /dev/null || {
     echo "there is no \`$rt\` on the PATH: install the Rattle toolchain, or name its command," \
         "as in make RT=/path/to/rt"

@@ -332,7 +332,7 @@ def python(place: Place) -> str:
     tests = ["-m", "unittest", "discover", "-s", os.path.join(binding, "tests")]
     done = subprocess.run([sys.executable, "-W", "error", *tests], capture_output=True, text=True,
                           timeout=900, env=where)
-    if done.returncode:
+    if done.returncode or "Ran 0 tests" in done.stderr:
         raise Failed(done.stderr)
     return "; ".join(done.stderr.strip().splitlines()[-3::2])
 
@@ -370,7 +370,8 @@ def steps(place: Place) -> Iterator[Step]:
 def outcome_of(name: str, step: Callable[[], str]) -> str:
     """Runs a step, and says how it ended."""
     try:
-        outcome, said = "passed", step()
+        said = step()
+        outcome = "failed" if said in ("", "0 tests") else "passed"
     except Skipped as why:
         outcome, said = "skipped", str(why)
     except (Failed, OSError, subprocess.SubprocessError) as why:

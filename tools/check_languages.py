@@ -25,7 +25,7 @@ from dataclasses import dataclass
 import formats_page
 import language_judges as judges
 from language_judges import Answers, Judge, c_compiler, postgres
-from row_data import BUILT, LANGUAGES, Group, groups_of
+from row_data import BUILT, LANGUAGES, Group, groups_of, positive
 from run_rows import field_line
 
 
@@ -205,7 +205,7 @@ def main() -> int:
     parser = argparse.ArgumentParser(
         description=__doc__, formatter_class=argparse.RawDescriptionHelpFormatter)
     parser.add_argument("--seed", type=int, default=1)
-    parser.add_argument("--literals", type=int, default=2000, help="how many of each language")
+    parser.add_argument("--literals", type=positive, default=2000, help="how many of each language")
     parser.add_argument("languages", nargs="*")
     told = parser.parse_args()
     groups = {group.name: group for group in groups_of(LANGUAGES)}

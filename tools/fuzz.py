@@ -28,7 +28,7 @@ from typing import Callable, Iterable, Iterator, List, NamedTuple, Optional, Typ
 from fuzz_edges import edge_runs
 from fuzz_lines import Lines
 from fuzz_short import short_runs
-from row_data import TOP
+from row_data import TOP, positive
 from reference import STANDARD, TYPES
 from reference_lines import Session
 
@@ -37,6 +37,7 @@ DRIVER = os.path.join(TOP, "tests", "from_str_radix.rs")
 # How many lines a run gets: those of a line or two meet the ends of reads, long ones full buffers.
 LINES_OF_RUNS = (1, 2, 5, 50, 1000, 20000, 20000)
 SECONDS = 20
+TOLD = 1000  # characters of a wrong answer
 DIGITS = b"0123456789abcdefghijklmnopqrstuvwxyz"
 PLAIN = {radix: replace(STANDARD, mantissa_radix=radix) for radix in range(2, 37)}
 LONGEST_INT = 4000  # digits; newer Pythons refuse more
@@ -137,18 +138,17 @@ class Comparison:
         questions: List[Question] = []
         for number, line in enumerate(lines):
             expected.append(session.answer(line))
-            if line.startswith(b"c ") and is_plain(session):
+            # (a valid format, and the standard one but for its radix)
+            is_plain = session.form == PLAIN.get(session.form.mantissa_radix)
+            if is_plain and line.startswith(b"c "):
                 questions += question_of(number, line, session, expected[-1])
         output = self.run(self.program, source_of(lines))
         if output != "".join(expected):
             return first_difference(expected, output)
-        found = self.by_int(questions) or self.by_rust(questions)
+        by_int = self.unexpected("int", questions, map(int_expects, questions))
+        found = by_int or self.by_rust(questions)
         self.compared["reference"] += 0 if found else len(lines)
         return found
-
-    def by_int(self, questions: List[Question]) -> Optional[Difference]:
-        """The first answer that isn't that of `int`."""
-        return self.unexpected("int", questions, map(int_expects, questions))
 
     def by_rust(self, questions: List[Question]) -> Optional[Difference]:
         """The first answer that isn't that of `from_str_radix`."""
@@ -173,11 +173,6 @@ class Comparison:
         return None
 
 
-def is_plain(session: Session) -> bool:
-    """Whether the format is valid, and the standard one but for its radix."""
-    return session.form == PLAIN.get(session.form.mantissa_radix)
-
-
 def question_of(number: int, line: bytes, session: Session, answer: str) -> List[Question]:
     """The question of a `c` line, where it is no bad line."""
     if answer == "bad line\n":
@@ -192,9 +187,9 @@ def first_difference(expected: List[str], output: str) -> Difference:
     for number, wanted in enumerate(expected):
         if not output.startswith(wanted, place):
             lines = output[place:].splitlines(True)[:max(1, wanted.count("\n"))]
-            return Difference(number, "reference", wanted, "".join(lines))
+            return Difference(number, "reference", wanted, "".join(lines)[:TOLD])
         place += len(wanted)
-    return Difference(len(expected) - 1, "reference", "no more lines\n", output[place:])
+    return Difference(len(expected) - 1, "reference", "no more lines\n", output[place:][:TOLD])
 
 
 # ---- lines
@@ -221,7 +216,6 @@ def random_runs(seed: int, wanted: int) -> Iterator[List[bytes]]:
 # ---- the smallest lines at which a difference stays
 
 Items = TypeVar("Items", bytes, List[bytes])
-Stays = Callable[[List[bytes]], bool]
 
 
 def without_stretches(items: Items, size: int, stays: Callable[[Items], bool]) -> Items:
@@ -245,7 +239,7 @@ def fewest(items: Items, stays: Callable[[Items], bool]) -> Items:
     return items
 
 
-def smallest(lines: List[bytes], stays: Stays) -> List[bytes]:
+def smallest(lines: List[bytes], stays: Callable[[List[bytes]], bool]) -> List[bytes]:
     """Lines of which the difference needs each, and then of each line the bytes that it needs."""
     lines = fewest(lines, stays)
     for number, line in enumerate(lines):
@@ -306,22 +300,20 @@ def compare_all(runs: Iterable[List[bytes]], comparison: Comparison) -> int:
     return 0
 
 
-def arguments() -> argparse.Namespace:
+def main() -> int:
     """The command line."""
     parser = argparse.ArgumentParser(
         description=__doc__, formatter_class=argparse.RawDescriptionHelpFormatter)
     parser.add_argument("--program", default=PROGRAM)
     parser.add_argument("--seed", type=int, default=random.SystemRandom().randrange(10 ** 9))
-    parser.add_argument("--lines", type=int, default=200000)
-    parser.add_argument("--all", action="store_true", help="all short texts")
-    parser.add_argument("--edges", action="store_true", help="the edges of lengths and types")
-    parser.add_argument("--longest", type=int, default=5, help="how long the short texts are")
-    return parser.parse_args()
-
-
-def main() -> int:
-    """The run that the command line asks for."""
-    given = arguments()
+    kinds = parser.add_mutually_exclusive_group()
+    kinds.add_argument("--lines", type=positive, default=200000)
+    kinds.add_argument("--all", action="store_true", help="all short texts")
+    kinds.add_argument("--edges", action="store_true", help="the edges of lengths and types")
+    parser.add_argument("--longest", type=positive, default=5, help="how long short texts are")
+    given = parser.parse_args()
+    if not shutil.which(given.program):
+        sys.exit(f"fuzz: there is no program {given.program}: make lexint builds one")
     if given.all:
         print(f"fuzz: all texts of up to {given.longest} bytes", flush=True)
         runs = short_runs(given.longest, max(LINES_OF_RUNS))

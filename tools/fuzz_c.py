@@ -25,7 +25,7 @@ from typing import List, Optional, Tuple
 from c_calls import (BEFORE, NUL_BITS, NUMBERS, RESERVED, Answer, CFormat, Library, c_format,
                      compare_rows, expected)
 from fuzz_lines import CAPITALS, DOUBTFUL_BYTES, NAMES, ODD_RADIXES, RADIXES, SMALL, Lines
-from row_data import TOP
+from row_data import TOP, positive
 from reference import (BYTE_FIELDS, FLAG_FIELDS, JSON, STANDARD, TYPES, Format, format_fault,
                        number_in_front, parse)
 from reference_lines import LITERAL, Session
@@ -187,7 +187,7 @@ def by_programs(comparison: Comparison, library: str, seed: int) -> None:
             done = subprocess.run([program, *words], input=given, stdout=subprocess.PIPE)
             said = done.stdout.decode(errors="replace").strip()
             print(f"fuzz_c: {said}", flush=True)
-            if done.returncode != 0:
+            if done.returncode or not said:
                 comparison.wrong.append(f"{name}: {said}")
 
 
@@ -195,8 +195,8 @@ def main() -> int:
     """The command line."""
     parser = argparse.ArgumentParser(
         description=__doc__, formatter_class=argparse.RawDescriptionHelpFormatter)
-    parser.add_argument("--parses", type=int, default=1_000_000)
-    parser.add_argument("--formats", type=int, default=100_000)
+    parser.add_argument("--parses", type=positive, default=1_000_000)
+    parser.add_argument("--formats", type=positive, default=100_000)
     parser.add_argument("--seed", type=int, default=random.SystemRandom().randrange(10 ** 9))
     asked = parser.parse_args()
     print(f"fuzz_c: seed {asked.seed}", flush=True)

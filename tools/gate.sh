@@ -10,6 +10,8 @@ export RT="${RT:-rt}" PYTHONUNBUFFERED=1
 begin=$(date +%s) passed=0 failed=0 skipped=0
 copy=$(mktemp -d)
 trap 'rm -rf "$copy"' EXIT
+# What runs beside a shell passes over Ctrl-C, so all that began with it is ended by another signal.
+trap 'trap "" TERM; kill 0; wait; exit 130' INT
 mkdir -p build
 
 say() { printf '%5d s  %s\n' $(($(date +%s) - begin)) "$1"; }
@@ -37,13 +39,15 @@ total() {
 
 # setup.cfg says what flake8 asks of all Python, and mypy of that under tools/ and bench/.
 lint() {
+    lacking=''
     for checker in "flake8 tools bench bindings examples" mypy; do
         if command -v "${checker%% *}" > /dev/null; then
             $checker || return 1
         else
-            echo "skipped: there is no ${checker%% *}"
+            lacking="$lacking ${checker%% *}"
         fi
     done
+    test -z "$lacking" || echo "skipped: there is no$lacking"
 }
 
 # In the copy `rt fmt` finds nothing to lay out anew, and every edit can be applied.
@@ -125,6 +129,7 @@ part tests-of-documents python3 tools/test_documents.py
 part documents python3 tools/documents.py --check
 part house python3 tools/house.py
 part vendor vendor
+part break-off tests/break_off.py
 test "$failed" = 0 || { total; exit 1; }
 mkdir -p "$copy/build/wasm"
 for to in "$copy" "$copy/build/wasm"; do cp -a --parents -t "$to" crates/*/out/rlib; done 2> /dev/null

@@ -125,8 +125,7 @@ build/page: build/jadvolni.wasm docs/try/index.html docs/GRAMMAR.md packaging/gr
 	@awk -f packaging/grammar.awk docs/GRAMMAR.md > $@/GRAMMAR.html
 
 serve: build/page ## serves the page to try a format on, to this machine alone: PORT=8000
-	@echo "http://127.0.0.1:$(PORT)/"
-	@python3 -m http.server --bind 127.0.0.1 --directory build/page $(PORT)
+	@python3 -u -m http.server --bind 127.0.0.1 --directory build/page $(PORT)
 
 # What the page needs to be seen: a browser, and what drives it.
 BROWSER := $(if $(NODE),$(shell command -v chromium 2>/dev/null))

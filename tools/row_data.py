@@ -38,6 +38,13 @@ Fields = Tuple[Tuple[str, int], ...]
 Format = Union[str, Fields]
 
 
+def positive(word: str) -> int:
+    """How much a command line asks for: a run over nothing would find nothing wrong."""
+    if int(word) < 1:
+        raise ValueError
+    return int(word)
+
+
 class Bad(Exception):
     """A line of the data that can't be read."""
 

@@ -205,6 +205,8 @@ def all_files(files: List[File]) -> dict[str, str]:
 
 def main() -> None:
     """Writes or checks the files."""
+    if sys.argv[1:] not in ([], ["--check"]):
+        sys.exit(__doc__)
     files = read_data(DATA) + read_data(LANGUAGES)
     rows = [row for file in files for group in file.groups for row in group.rows]
     check_examples(GRAMMAR, rows)

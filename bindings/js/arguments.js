@@ -1,14 +1,16 @@
 // What is asked of arguments, and said of wrong ones.
 
-// So many characters of a string are told.
+// So many characters of a string or a number are told.
 const TOLD = 40;
 
 /** What a wrong argument is, in a message. */
 export function told(value) {
-  if (typeof value === "string") {
-    return `${JSON.stringify(value.slice(0, TOLD))}${value.length > TOLD ? " .." : ""}`;
+  if (["string", "bigint"].includes(typeof value)) {
+    const text = String(value);
+    const front = text.slice(0, TOLD);
+    const rest = text.length > TOLD ? " .." : "";
+    return typeof value === "string" ? `${JSON.stringify(front)}${rest}` : `${front}${rest || "n"}`;
   }
-  if (typeof value === "bigint") return `${value}n`;
   if (value === null || !["object", "function", "symbol"].includes(typeof value)) {
     return String(value);
   }
@@ -36,12 +38,14 @@ export function ofTable(table, name, value) {
   return found;
 }
 
-/** Asks that what was given for a format or a table has no field but those that there are. */
-export function askFields(whose, given, names) {
+/** The own fields that were given for a format, a table or a column, each read once. Others than there
+ * are it refuses, and none is taken from a prototype. */
+export function ownFields(whose, given, names) {
   if (Object.prototype.toString.call(given) !== "[object Object]") {
     throw new TypeError(`the fields of ${whose} have to be an object, and not ${told(given)}`);
   }
   for (const name of Object.keys(given)) {
     if (!names.includes(name)) throw new TypeError(`${whose} has no field ${told(name)}`);
   }
+  return { __proto__: null, ...given };
 }

@@ -1,6 +1,6 @@
 // Formats: what a text may look like.
 
-import { askFields, byteOf, told } from "./arguments.js";
+import { byteOf, ownFields, told } from "./arguments.js";
 import { FormatError } from "./errors.js";
 import { FIELDS, LANGUAGES } from "./lists.js";
 import { FORMAT, named, putFormat } from "./memory.js";
@@ -45,9 +45,9 @@ export class Format {
   #bytes;
 
   constructor(given = {}) {
-    askFields("a format", given, NAMES);
+    const fields = ownFields("a format", given, NAMES);
     for (const [name, value] of DEFAULTS) {
-      this[name] = given[name] === undefined ? value : given[name];
+      this[name] = fields[name] === undefined ? value : fields[name];
     }
     this.#bytes = bytesOfFields(this);
     putFormat(this.#bytes);

@@ -158,7 +158,7 @@ export interface Table {
  *
  * Throws `ParseError` for the first wrong cell in reading order, with its row and column.
  */
-export function parseTable<const C extends readonly TableColumn[]>(
+export function parseTable<C extends readonly TableColumn[] | []>(
   text: Text,
   columns: C,
   table?: Table,
@@ -223,6 +223,7 @@ export interface Fields {
 /** What a text may look like. A format can't be changed, and one that breaks a rule isn't made. */
 export interface Format extends Readonly<Fields> {}
 export class Format {
+  #private;
   /**
    * The standard format, changed by these fields: `new Format({ mantissa_radix: 16 })`. One that
    * begins with another is `new Format({ ...formats.RUST, base_suffix: "u" })`.

@@ -111,26 +111,37 @@ function putAscii(text) {
   return true;
 }
 
+// An array's own length, buffer and place there: what a class above Uint8Array has may be another.
+const { prototype } = Object.getPrototypeOf(Uint8Array);
+const getterOf = (name) => Object.getOwnPropertyDescriptor(prototype, name).get;
+const [LENGTH, BUFFER, OFFSET] = ["length", "buffer", "byteOffset"].map(getterOf);
+const lengthOf = (bytes) => LENGTH.call(bytes);
+
 /** Whether the buffer of an array was transferred, or cut before the array's end. */
 function hasLostBytes(bytes) {
   try {
-    bytes.slice(0, 0);
+    prototype.at.call(bytes, 0);
     return false;
   } catch {
     return true;
   }
 }
 
-/** The bytes of a text. An array of bytes may be another frame's or context's. */
-export function bytesOf(text, name = "text") {
-  if (typeof text === "string") return encoder.encode(text);
+/** Asks that a text that is no string has bytes. They may be another frame's or context's. */
+function askBytes(text, name) {
   if (!ArrayBuffer.isView(text) || text.BYTES_PER_ELEMENT !== 1) {
     throw new TypeError(`${name} has to be a string or a Uint8Array, and not ${told(text)}`);
   }
-  if (text.length === 0 && hasLostBytes(text)) {
+  if (lengthOf(text) === 0 && hasLostBytes(text)) {
     throw new TypeError(`${name} has lost its bytes: its buffer was transferred or cut`);
   }
-  return text;
+}
+
+/** The bytes of a text. */
+export function bytesOf(text, name = "text") {
+  if (typeof text === "string") return encoder.encode(text);
+  askBytes(text, name);
+  return new Uint8Array(BUFFER.call(text), OFFSET.call(text), lengthOf(text));
 }
 
 function tooLong() {
@@ -139,7 +150,7 @@ function tooLong() {
 
 /** Copies bytes, and answers how many they are. */
 export function putBytes(bytes) {
-  const { length } = bytes;
+  const length = lengthOf(bytes);
   if (length > LONGEST) throw tooLong();
   textBytes.set(bytes);
   return length;
@@ -147,7 +158,10 @@ export function putBytes(bytes) {
 
 /** Copies a text, and answers how many bytes it has. */
 export function putText(text) {
-  if (typeof text !== "string") return putBytes(bytesOf(text));
+  if (typeof text !== "string") {
+    askBytes(text, "text");
+    return putBytes(text);
+  }
   if (text.length <= SHORT && putAscii(text)) return text.length;
   const { read, written } = encoder.encodeInto(text, textBytes);
   if (read < text.length) throw tooLong();

@@ -1,7 +1,7 @@
 // Tables: the rows of a text, each column into an array of its own. A text of any length goes through
 // memory piece by piece.
 
-import { askFields, byteOf, ofTable, told } from "./arguments.js";
+import { byteOf, ofTable, ownFields, told } from "./arguments.js";
 import { ARRAYS, joined, numbersPlace, PIECE } from "./columns.js";
 import { ParseError } from "./errors.js";
 import { bytesOfFormat, STANDARD } from "./format.js";
@@ -24,6 +24,7 @@ const BITS = 20;
 const TYPES = ["i64", "u64", "i32", "u32", "i16", "u16", "i8", "u8"];
 const FLAGS = ["has_returns", "has_quotes", "allows_blanks", "skips_empty_rows", "is_records"];
 const FIELDS = ["separator", ...FLAGS, "missing", "widths"];
+const FIELDS_OF_COLUMN = ["type", "format", "may_miss"];
 
 const ANSWER = BigInt(numbersPlace);
 const TABLE = BigInt(tablePlace);
@@ -42,8 +43,9 @@ function flagOf(name, value = false) {
 /** What is read of a column: the constructor of its array, its format's bytes, and where they go. */
 function readOf(column) {
   if (column === null) return null;
-  const given = typeof column === "string" ? { type: column } : Object(column);
-  const { type, format = STANDARD, may_miss } = given;
+  const { type, format = STANDARD, may_miss } = typeof column === "object"
+    ? ownFields("a column", column, FIELDS_OF_COLUMN)
+    : { __proto__: null, type: column };
   return {
     NumberArray: ofTable(ARRAYS_OF_TYPES, "type", type),
     format: bytesOfFormat(format),
@@ -68,19 +70,20 @@ function widthsOf({ separator, is_records, widths }, count) {
   if (!Array.isArray(widths)) {
     throw new TypeError(`widths have to be an array, and not ${told(widths)}`);
   }
-  if (widths.length !== count || count === 0) {
-    throw new TypeError(`widths have to be one for each of ${count} columns, and not ${widths.length}`);
+  const sizes = Array.from(widths, widthOf);
+  if (sizes.length !== count || count === 0) {
+    throw new TypeError(`widths have to be one for each of ${count} columns, and not ${sizes.length}`);
   }
-  return Array.from(widths, widthOf);
+  return sizes;
 }
 
 /** How a table of so many columns is written, and the bytes that stand for a missing number. */
 function tableOf(given, count) {
-  askFields("a table", given, FIELDS);
-  const flags = FLAGS.map((name) => Number(flagOf(name, given[name])));
-  const { separator = ",", missing = "" } = given;
+  const fields = ownFields("a table", given, FIELDS);
+  const flags = FLAGS.map((name) => Number(flagOf(name, fields[name])));
+  const { separator = ",", missing = "" } = fields;
   const bytes = [byteOf("separator", separator), ...flags];
-  return { bytes, missing: memory.bytesOf(missing, "missing"), widths: widthsOf(given, count) };
+  return { bytes, widths: widthsOf(fields, count), missing: memory.bytesOf(missing, "missing") };
 }
 
 /** How many rows there is memory for. An array may begin some bytes behind the end of another. */
@@ -152,8 +155,9 @@ export function parseTable(text, columns, table = {}) {
     throw new TypeError(`columns have to be an array, and not ${told(columns)}`);
   }
   const reads = Array.from(columns, readOf);
-  const bytes = memory.bytesOf(text);
-  const { arrays, rows } = putTable(tableOf(table, reads.length), reads);
+  const how = tableOf(table, reads.length);
+  const bytes = memory.bytesOf(text); // (last, since what comes before may run code that takes them away)
+  const { arrays, rows } = putTable(how, reads);
   const parts = arrays.map(() => []);
   let start = 0;
   let row = 0;

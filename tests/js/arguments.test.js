@@ -46,6 +46,26 @@ test("bytes whose buffer was taken away are no empty text", () => {
   assert.deepEqual(parseColumn(new Uint8Array(buffer, 4, 0), "u8"), new Uint8Array());
 });
 
+test("bytes are those that an array has, whatever its class says", () => {
+  class Named extends Uint8Array {
+    constructor(name, bytes) {
+      if (typeof name !== "string") throw new Error("a name is missing");
+      super(bytes);
+    }
+
+    get length() {
+      return 8;
+    }
+  }
+  parse("12345678", "u32");
+  const named = new Named("a", [49, 50]);
+  for (const call of OF_ONE_NUMBER) assert.equal(call(named, "u8").value ?? call(named, "u8"), 12);
+  assert.equal(parseLiteral(named).stop, 2);
+  assert.deepEqual(parseColumn(named, "u8"), Uint8Array.of(12));
+  assert.deepEqual(parseColumn(new Named("a", []), "u8"), new Uint8Array());
+  assert.throws(() => parse(new Named("a", []), "u8"), { kind: "Empty" });
+});
+
 test("types", () => {
   for (const type of ["u7", "U8", "toString", undefined, null, {}]) {
     for (const call of OF_ONE_NUMBER) {
@@ -55,6 +75,7 @@ test("types", () => {
   const columns = "u8, u16, u32, u64, i8, i16, i32, i64";
   refuses(() => parseColumn("1", "u128"), `type has to be one of ${columns}, and not "u128"`);
   refuses(() => parse("1", "u".repeat(1e6)), new RegExp(`, and not "${"u".repeat(40)}" ..$`));
+  refuses(() => parse("1", 10n ** 40n), new RegExp(`, and not 1${"0".repeat(39)} ..$`));
 });
 
 test("formats", () => {
@@ -89,6 +110,12 @@ test("fields of formats", () => {
   refuses(() => new Format(16), "the fields of a format have to be an object, and not 16");
   refuses(() => new Format(null), "the fields of a format have to be an object, and not null");
   refuses(() => new Format(new Map([["mantissa_radix", 16]])), /^the fields .*, and not Map$/);
+});
+
+test("a field is read once", () => {
+  const radixes = [16, 10];
+  const format = new Format({ get mantissa_radix() { return radixes.shift(); } });
+  assert.equal(parse("FF", "u8", format), 255);
 });
 
 test("a format that breaks a rule isn't made", () => {

@@ -70,6 +70,18 @@ test("two copies have a memory each, and formats of their own", async () => {
   assert.equal(second.parse("1_0", "u8", new second.Format({ ...formats.RUST })), 10);
 });
 
+test("what is put into all objects is no field", async () => {
+  const fields = { mantissa_radix: 16, separator: ";", may_miss: true };
+  Object.assign(Object.prototype, fields);
+  try {
+    const third = await loadWith("third", MODULE);
+    assert.equal(third.parse("10", "u8", new third.Format()), 10);
+    assert.deepEqual(third.parseTable("1,2", ["u8", "u8"]), [Uint8Array.of(1), Uint8Array.of(2)]);
+  } finally {
+    for (const name of Object.keys(fields)) delete Object.prototype[name];
+  }
+});
+
 /** A worker that runs code which has the package's names, and its first message. */
 async function answerOf(code) {
   const url = new URL("../../bindings/js/index.js", import.meta.url);

@@ -264,6 +264,7 @@ test("wrong arguments", () => {
   refuses(() => parseTable("1", [{ type: "u8", may_miss: 1 }]), /^may_miss has to be true or false/);
   refuses(() => parseTable("1", ["u8"], { missing: null }), /^missing has to be a string or a Uint8/);
   refuses(() => parseTable("1", ["u8"], { seperator: ";" }), 'a table has no field "seperator"');
+  refuses(() => parseTable("1", [{ type: "u8", may_mis: true }]), 'a column has no field "may_mis"');
   refuses(() => parseTable("1", ["u8"], { is_records: 1 }), /^is_records has to be true or false/);
   refuses(() => parseTable("1", ["u8"], { is_records: true }), "a table that is_records has to have widths");
   refuses(() => parseTable("1", ["u8"], { widths: [1], separator: "," }), "a table with widths has no separator");
@@ -280,4 +281,10 @@ test("wrong arguments", () => {
   const many = Array(1e6).fill("u64");
   assert.throws(() => parseTable("1", many), { name: "RangeError", message: /^1000000 columns are/ });
   assert.deepEqual(parseTable("1,2", ["u8", "u8"]), [Uint8Array.of(1), Uint8Array.of(2)]);
+});
+
+test("bytes that are taken away as the table is read are no empty text", () => {
+  const text = Uint8Array.of(49, 50);
+  const table = { get separator() { return structuredClone(",", { transfer: [text.buffer] }); } };
+  assert.throws(() => parseTable(text, ["u8"], table), { message: /^text has lost its bytes/ });
 });

@@ -29,6 +29,7 @@ from reading import TOP, Read, Target
 sys.path.insert(0, os.path.join(TOP, "tools"))
 
 from c_calls import NUMBERS, CFormat, c_format  # noqa: E402
+from row_data import positive  # noqa: E402
 
 MOST_TOLD = 5
 # How many questions one run of the program answers.
@@ -139,8 +140,8 @@ def main() -> int:
     parser = argparse.ArgumentParser(
         description=__doc__, formatter_class=argparse.RawDescriptionHelpFormatter)
     parser.add_argument("--all", action="store_true")
-    parser.add_argument("--longest", type=int, default=4)
-    parser.add_argument("--tables", type=int, default=100_000)
+    parser.add_argument("--longest", type=positive, default=4)
+    parser.add_argument("--tables", type=positive, default=100_000)
     parser.add_argument("--seed", type=int, default=random.SystemRandom().randrange(10 ** 9))
     given = parser.parse_args()
     print(f"compare: all texts of up to {given.longest} bytes" if given.all

@@ -64,8 +64,12 @@ const page = read(new URL("page.html", import.meta.url))
   .replace('<link rel="stylesheet" href="try.css">', () => `<style>${styles}</style>`)
   .replace(' src="page.js">', () => `>${script}`);
 
-if (process.argv[2] !== "--check") {
+const asked = process.argv.slice(2).join(" ");
+if (asked === "") {
   writeFileSync(PAGE, page);
+} else if (asked !== "--check") {
+  console.error("usage: node docs/try/src/join.mjs [--check]");
+  process.exitCode = 2;
 } else if (read(PAGE) !== page) {
   console.error("docs/try/index.html isn't what node docs/try/src/join.mjs writes");
   process.exitCode = 1;
