@@ -621,7 +621,7 @@ typedef struct jadvolni_table {
      * is the separator parts cells. */
     uint8_t has_quotes;
 
-    /* Flag: spaces and tabs may stand around a number. */
+    /* Flag: spaces and tabs may stand around a number, or around what stands for a missing one. */
     uint8_t allows_blanks;
 
     /* Flag: a row without a byte is none. Else it is a row of one empty cell, or by widths of none. */

@@ -135,7 +135,7 @@ export interface Table {
   has_returns?: boolean;
   /** A cell may stand within quotes, '"', and then hold separators and line feeds. */
   has_quotes?: boolean;
-  /** Spaces and tabs may stand around a number. */
+  /** Spaces and tabs may stand around a number, or around what stands for a missing one. */
   allows_blanks?: boolean;
   /** A row without a byte is none. Else it is a row of one empty cell. */
   skips_empty_rows?: boolean;

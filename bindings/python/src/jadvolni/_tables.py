@@ -246,11 +246,11 @@ def parse_table(
     row.
 
     has_returns: a return stands before each line feed. has_quotes: a cell may stand within '"'.
-    allows_blanks: spaces and tabs may stand around a number. skips_empty_rows: a row without a
-    byte is none. missing: what stands for a missing number where a Column has may_miss, which then
-    is a Sparse: by default an empty cell. widths: how many bytes each column's cells have, in the
-    place of separators. is_records: rows have as many bytes as the widths together, at least one,
-    and no line feed behind them. threads: how many read the text, in parts.
+    allows_blanks: spaces and tabs may stand around a number or `missing`. skips_empty_rows: a row
+    without a byte is none. missing: what stands for a missing number where a Column has may_miss,
+    which then is a Sparse: by default an empty cell. widths: how many bytes each column's cells
+    have, in the place of separators. is_records: rows have as many bytes as the widths together,
+    at least one, and no line feed behind them. threads: how many read the text, in parts.
 
     ParseError has the first wrong cell in reading order, by `row`, `column` and `place`, from 0.
     """

@@ -71,7 +71,7 @@ impl<'a> Dialect<'a> {
         self
     }
 
-    /// Whether spaces and tabs may stand around a number.
+    /// Whether spaces and tabs may stand around a number, or around what stands for a missing one.
     pub const fn allows_blanks(mut self, flag: bool) -> Self {
         self.0.allows_blanks = flag as u8;
         self
