@@ -2,6 +2,8 @@
 
 import os
 import pathlib
+import random
+import re
 import shutil
 import stat
 import subprocess
@@ -10,6 +12,7 @@ import tempfile
 import textwrap
 import tomllib
 import unittest
+from unittest import mock
 
 import jadvolni
 
@@ -110,6 +113,21 @@ class Interpreters(unittest.TestCase):
             self.assertRaises(ours.ParseError, ours.parse, "x")
         finally:
             sys.modules["jadvolni._core"] = jadvolni._core = ours
+
+
+class Fuzzing(unittest.TestCase):
+    """The driver of the extension's target for libFuzzer, before a release runs it for minutes."""
+
+    def test_the_driver(self):
+        source = (BINDING.parents[1] / "tests" / "c" / "fuzz_python.c").read_text(encoding="utf-8")
+        driver = "".join(f"{line}\n" for line in re.findall(r'(?m)^    "(.*)\\n"', source))
+        chance, scope = random.Random(1), {}
+        with mock.patch.dict(sys.modules, {"_core": jadvolni._core}):
+            exec(driver, scope)
+        texts = b"12,3;\n-4", b" 7\r\n,\n", b'"1","2"\n'
+        for _ in range(300):
+            format = bytes([chance.randrange(2, 37)]).ljust(19, b"\0")
+            scope["one"](format + chance.randbytes(15) + chance.choice(texts))
 
 
 class Types(unittest.TestCase):
