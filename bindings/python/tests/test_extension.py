@@ -185,6 +185,12 @@ class Build(unittest.TestCase):
         project = tomllib.loads((BINDING / "pyproject.toml").read_text(encoding="utf-8"))["project"]
         self.assertEqual(jadvolni.__version__, project["version"])
 
+    def test_an_older_python_is_told(self):
+        program = "import sys; sys.version_info = (3, 10); import build_wheel"
+        run = subprocess.run([sys.executable, "-B", "-c", program], cwd=BINDING, timeout=60,
+                             capture_output=True, text=True)
+        self.assertRegex(run.stderr, "^the binding needs Python 3.11 or later, and this is ")
+
     def test_flags_of_the_environment(self):
         with tempfile.TemporaryDirectory() as folder:
             compiler, said = pathlib.Path(folder, "compiler"), pathlib.Path(folder, "said")
