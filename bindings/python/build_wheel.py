@@ -22,10 +22,14 @@ import subprocess
 import sys
 import sysconfig
 import tempfile
-import tomllib
 import zipfile
 from pathlib import Path
 from typing import Optional
+
+if sys.version_info < (3, 11):
+    sys.exit(f"the binding needs Python 3.11 or later, and this is {sys.version.split()[0]}")
+
+import tomllib
 
 HERE = Path(__file__).resolve().parent
 TOP = HERE.parent.parent

@@ -1,9 +1,9 @@
 /*
  * A target for libFuzzer: the extension for Python, whose calls are given any format, type and text.
  *
- * The first 32 bytes are a format, the next two a separator and a type, and the rest is the text. A
- * call answers, or raises one of its two exceptions; the sanitizers see what it touches. The type's byte
- * has the flags of a table too.
+ * The first 32 bytes are a format, and in place of what that reserves the widths of a table, the next
+ * two a separator and a type, and the rest is the text. A call answers, or raises one of its two
+ * exceptions; the sanitizers see what it touches. The type's byte has the flags of a table too.
  */
 #define PY_SSIZE_T_CLEAN
 #include <Python.h>
@@ -38,7 +38,8 @@ static const char DRIVER[] =
     "    rows, flags = len(text) + 1, (bool(data[33] & bit) for bit in (16, 32, 64, 128))\n"
     "    numbers = array.array(_core._array_code(kind), [0]) * rows\n"
     "    columns = ((numbers, bytearray(rows), kind, format), None)[:1 + data[33] % 2]\n"
-    "    how = (data[32:33], *flags, text[:1])\n"
+    "    widths = array.array('Q', list(data[20:20 + data[19] % 4]))\n"
+    "    how = (data[32:33], *flags, text[:1], widths, data[19] > 127)\n"
     "    read = answer(_core._parse_table, text, True, how, rows, columns, 0, 0)\n"
     "    assert read is None or read[0] < rows and read[1] == len(text), read\n";
 

@@ -2,6 +2,8 @@
 
 import os
 import pathlib
+import random
+import re
 import shutil
 import stat
 import subprocess
@@ -10,6 +12,7 @@ import tempfile
 import textwrap
 import tomllib
 import unittest
+from unittest import mock
 
 import jadvolni
 
@@ -112,6 +115,21 @@ class Interpreters(unittest.TestCase):
             sys.modules["jadvolni._core"] = jadvolni._core = ours
 
 
+class Fuzzing(unittest.TestCase):
+    """The driver of the extension's target for libFuzzer, before a release runs it for minutes."""
+
+    def test_the_driver(self):
+        source = (BINDING.parents[1] / "tests" / "c" / "fuzz_python.c").read_text(encoding="utf-8")
+        driver = "".join(f"{line}\n" for line in re.findall(r'(?m)^    "(.*)\\n"', source))
+        chance, scope = random.Random(1), {}
+        with mock.patch.dict(sys.modules, {"_core": jadvolni._core}):
+            exec(driver, scope)
+        texts = b"12,3;\n-4", b" 7\r\n,\n", b'"1","2"\n'
+        for _ in range(300):
+            format = bytes([chance.randrange(2, 37)]).ljust(19, b"\0")
+            scope["one"](format + chance.randbytes(15) + chance.choice(texts))
+
+
 class Types(unittest.TestCase):
     """What a checker of types says of callers."""
 
@@ -166,6 +184,12 @@ class Build(unittest.TestCase):
     def test_the_version_is_that_of_the_project(self):
         project = tomllib.loads((BINDING / "pyproject.toml").read_text(encoding="utf-8"))["project"]
         self.assertEqual(jadvolni.__version__, project["version"])
+
+    def test_an_older_python_is_told(self):
+        program = "import sys; sys.version_info = (3, 10); import build_wheel"
+        run = subprocess.run([sys.executable, "-B", "-c", program], cwd=BINDING, timeout=60,
+                             capture_output=True, text=True)
+        self.assertRegex(run.stderr, "^the binding needs Python 3.11 or later, and this is ")
 
     def test_flags_of_the_environment(self):
         with tempfile.TemporaryDirectory() as folder:

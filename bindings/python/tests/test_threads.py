@@ -202,6 +202,9 @@ class Threads(unittest.TestCase):
             held.release()
             return jadvolni._core._parse_table(text, is_last, how, rows, columns, *place)
 
+        # (In a shell's background it is ignored.)
+        before = signal.signal(signal.SIGINT, signal.default_int_handler)
+        self.addCleanup(signal.signal, signal.SIGINT, before)
         with mock.patch("jadvolni._tables._parse_table", parse):
             with self.assertRaises(KeyboardInterrupt):
                 parse_table(b"1\n" * 20, {"a": "u8"}, threads=4)
