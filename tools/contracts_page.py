@@ -136,9 +136,10 @@ def page(top: str, crates: list[str]) -> str:
         "# Contracts", "",
         "Each public call of each crate with its clauses, word for word as the source has them. "
         "`make docs` writes this page.", "",
-        "A clause names definitions of `specs/`. `x.now` is what `x` points to, `self.old` and "
-        "`self.new` are what it points to at the call and at the return, and `result` is the "
-        "answer. [PROOFS.md](PROOFS.md) says what the clauses come to.", "",
+        "A clause names definitions of `specs/`: `rt lemma NAME`, in a crate that uses them, shows "
+        "one. `x.now` is what `x` points to, `self.old` and `self.new` are that at the call and "
+        "at the return, `result` is the answer. "
+        "[PROOFS.md](PROOFS.md) says what the clauses come to.", "",
     ]
     for crate in crates:
         found += of_crate(top, crate)
