@@ -29,8 +29,8 @@ pub trait FromLexical: Integer {
     /// The integer that the front of the text stands for, and the place at which reading stopped.
     ///
     /// The place counts bytes from 0: of `1234 }` the answer is `Ok((1234, 4))`. A front without digits is no fault
-    /// unless the text ends there: `x` is `Ok((0, 0))`, and `+a` is `Ok((0, 1))`. If a number has to be there, ask
-    /// `stops_after_digit` of the place.
+    /// unless the text ends there: `x` is `Ok((0, 0))`, and `+a` is `Ok((0, 1))`. If a number has to be there, call
+    /// `number_in_front`.
     fn from_lexical_partial(bytes: &[u8]) -> Result<(Self, usize)>
         ensures { view_of (with_place Self.number) result ≡ partial standard Self.TYPE bytes.now }
     {

@@ -36,7 +36,7 @@ pub struct Dialect<'a> {
     pub has_returns: bool,
     /// Whether cells may stand within quotes, `"`, as RFC 4180 says. A quote that is the separator parts cells.
     pub has_quotes: bool,
-    /// Whether blanks, spaces and tabs, may stand around a number.
+    /// Whether blanks, spaces and tabs, may stand around a number, or around what stands for a missing one.
     pub allows_blanks: bool,
     /// Whether a row that has no byte beside its return is none.
     pub skips_empty_rows: bool,
