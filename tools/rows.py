@@ -48,7 +48,7 @@ def check_examples(path: str, rows: Iterable[Row]) -> None:
             except Bad as bad:
                 sys.exit(f"docs/{os.path.basename(path)}:{number}: {bad}: {line}")
             if answers.get(row.question()) != row.answer:
-                sys.exit(f"docs/{os.path.basename(path)}:{number}: no row of tools/rows.txt")
+                sys.exit(f"docs/{os.path.basename(path)}:{number}: no row of tools/rows.txt agrees")
 
 
 def check_answers(path: str, rows: Iterable[Row]) -> None:

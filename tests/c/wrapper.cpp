@@ -252,6 +252,10 @@ static void columns_in_parts()
     read = jadvolni::parse_column_part("1,x,", false, ',', &value, 1);
     CHECK(read && read.count() == 1 && read.place() == 2 && value == 1);
     CHECK(jadvolni::parse_column_part("x,", false, ',', &value, 1).status() == status::invalid_digit);
+    read = jadvolni::parse_column_part("0xF;0x", false, ';', &value, 1, jadvolni::literal);
+    CHECK(read && read.place() == 4 && value == 15);
+    std::vector<int> values(1);
+    CHECK(jadvolni::parse_column_part("0x1F", true, ';', values, jadvolni::literal) && values[0] == 31);
 }
 
 static void columns_beside_from_chars()
