@@ -7,6 +7,7 @@
 # doesn't have leaves that archive out, with a sentence. Two runs at one commit give the same bytes.
 set -eu
 export LC_ALL=C TZ=UTC PYTHONDONTWRITEBYTECODE=1 PIP_DISABLE_PIP_VERSION_CHECK=1
+unset CPPFLAGS INCLUDEDIR LIBDIR MANDIR MAKEFLAGS # which would lay out other archives
 umask 022
 cd "$(dirname "$0")/.."
 top=$PWD rt=${RT:-rt}
