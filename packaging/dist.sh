@@ -57,8 +57,8 @@ packaging/assembly.sh "$work/jadvolni.S" "$work/verdict"
 name=jadvolni-$version-linux-x86_64
 echo "$name"
 make -s install DESTDIR="$work/tree" PREFIX="/$name" > /dev/null
-# In the folder of a user pkg-config tells where it stands.
-sed -i "s|=/$name|=\${pcfiledir}/../..|" "$work/tree/$name/lib/pkgconfig/jadvolni.pc"
+# In the folder of a user pkg-config tells where it stands, with a backslash before each blank: quotes would double it.
+sed -i "s|=/$name|=\${pcfiledir}/../..|; s|\"||g" "$work/tree/$name/lib/pkgconfig/jadvolni.pc"
 mkdir "$work/tree/$name/src"
 cp "$work/jadvolni.S" "$work/tree/$name/src"
 cp dist/README.md "$work/tree/$name"
