@@ -56,6 +56,9 @@ callers() { # WHOSE [PREFIX]: in C, C++ and CMake, over what pkg-config and CMak
 
 if has pkg-config; then
     (export PKG_CONFIG_PATH="$tree/lib/pkgconfig" LD_LIBRARY_PATH="$tree/lib" && callers tarball "$tree")
+    ln -s "$tree" "a folder"
+    eval "cc $sources/examples/c/ten_lines.c -o ten $(PKG_CONFIG_PATH="$PWD/a folder/lib/pkgconfig" pkg-config --cflags --libs jadvolni)"
+    is "tarball in a folder with a blank: C by pkg-config" env LD_LIBRARY_PATH="$tree/lib" ./ten
 fi
 block c > "$tree/ten.c"
 block console | grep -v '^\$ ' > wanted

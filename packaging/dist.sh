@@ -7,6 +7,7 @@
 # doesn't have leaves that archive out, with a sentence. Two runs at one commit give the same bytes.
 set -eu
 export LC_ALL=C TZ=UTC PYTHONDONTWRITEBYTECODE=1 PIP_DISABLE_PIP_VERSION_CHECK=1
+unset CPPFLAGS INCLUDEDIR LIBDIR MANDIR MAKEFLAGS # which would lay out other archives
 umask 022
 cd "$(dirname "$0")/.."
 top=$PWD rt=${RT:-rt}
@@ -56,8 +57,8 @@ packaging/assembly.sh "$work/jadvolni.S" "$work/verdict"
 name=jadvolni-$version-linux-x86_64
 echo "$name"
 make -s install DESTDIR="$work/tree" PREFIX="/$name" > /dev/null
-# In the folder of a user pkg-config tells where it stands.
-sed -i "s|=/$name|=\${pcfiledir}/../..|" "$work/tree/$name/lib/pkgconfig/jadvolni.pc"
+# In the folder of a user pkg-config tells where it stands, with a backslash before each blank: quotes would double it.
+sed -i "s|=/$name|=\${pcfiledir}/../..|; s|\"||g" "$work/tree/$name/lib/pkgconfig/jadvolni.pc"
 mkdir "$work/tree/$name/src"
 cp "$work/jadvolni.S" "$work/tree/$name/src"
 cp dist/README.md "$work/tree/$name"

@@ -1,9 +1,9 @@
 /*
  * A target for libFuzzer: the extension for Python, whose calls are given any format, type and text.
  *
- * The first 32 bytes are a format, and in place of what that reserves the widths of a table, the next
- * two a separator and a type, and the rest is the text. A call answers, or raises one of its two
- * exceptions; the sanitizers see what it touches. The type's byte has the flags of a table too.
+ * The first 19 bytes are a format, the next four the widths of a table, byte 32 is a separator, byte 33 a
+ * type and a table's flags, and the rest is the text. A call answers, or raises one of its two exceptions;
+ * the sanitizers see what it touches.
  */
 #define PY_SSIZE_T_CLEAN
 #include <Python.h>
@@ -14,6 +14,7 @@ PyMODINIT_FUNC PyInit__core(void);
 
 static const char DRIVER[] =
     "import _core, array, types\n"
+    "MOST = 2 ** 63 - 1\n"
     "TYPES = ['u8', 'u16', 'u32', 'u64', 'usize', 'i8', 'i16', 'i32', 'i64', 'isize']\n"
     "def answer(call, text, *words):\n"
     "    try:\n"
@@ -35,13 +36,19 @@ static const char DRIVER[] =
     "    answer(_core.parse_partial, text, kind, format)\n"
     "    column = answer(_core.parse_column, text, kind, data[32:33], format)\n"
     "    assert column is None or len(column) <= len(text) + 1\n"
-    "    rows, flags = len(text) + 1, (bool(data[33] & bit) for bit in (16, 32, 64, 128))\n"
+    "    rows, flags = len(text) + 1, [bool(data[33] & bit) for bit in (16, 32, 64, 128)]\n"
     "    numbers = array.array(_core._array_code(kind), [0]) * rows\n"
     "    columns = ((numbers, bytearray(rows), kind, format), None)[:1 + data[33] % 2]\n"
-    "    widths = array.array('Q', list(data[20:20 + data[19] % 4]))\n"
-    "    how = (data[32:33], *flags, text[:1], widths, data[19] > 127)\n"
+    "    sizes = data[20:20 + data[19] % 4]\n"
+    "    widths = array.array('Q', [(0, 1, 2, 3, 5, 8, MOST)[size % 7] for size in sizes])\n"
+    "    is_records = bool(data[19] & 4)\n"
+    "    how = (data[32:33], *flags, text[:1], widths, is_records)\n"
     "    read = answer(_core._parse_table, text, True, how, rows, columns, 0, 0)\n"
-    "    assert read is None or read[0] < rows and read[1] == len(text), read\n";
+    "    assert read is None or read[0] < rows and read[1] == len(text), read\n"
+    "    record = min(max(sum(widths), 1), MOST) if is_records else 0\n"
+    "    assert _core._row_count(text, record) <= rows\n"
+    "    stops = _core._row_stops(text, 1 + data[33] % 8, flags[1], record)\n"
+    "    assert stops == sorted(set(stops)) and [0, *stops][-1] == len(text), stops\n";
 
 static PyObject *one;
 
