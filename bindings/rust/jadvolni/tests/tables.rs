@@ -193,6 +193,15 @@ fn slices_without_room_get_no_row() {
 }
 
 #[test]
+fn a_block_has_one_byte_at_least() {
+    for text in ["", "7", "7,8\n"] {
+        let device = || Device { text: text.as_bytes(), most: 9, place: 0, failure: None };
+        let by = |size| format!("{:?}", rows_of(device(), comma(), size, 4));
+        assert_eq!(by(0), by(1), "{text}");
+    }
+}
+
+#[test]
 fn each_type_has_columns_and_the_shortest_says_how_many_rows() {
     macro_rules! two_of {
         ($($type:ident)*) => {$(
