@@ -115,5 +115,12 @@ for shell in sh dash bash ksh zsh; do
         esac
     done
 done
+# A line that reads a port takes it as one text, whatever that is.
+for line in 1 2; do
+    runs=$((runs + 1)) status=0
+    sed -n "${line}p" "$room/script" > "$room/line"
+    PORT='-- 80' PATH=$room:$PATH sh "$room/line" > "$room/output" 2> "$room/error" || status=$?
+    [ "$status" = 1 ] || wrong "line $line of the page for -- 80"
+done
 echo "jad: $runs runs, $failed failed"
 [ "$failed" = 0 ]

@@ -106,7 +106,8 @@ devices() {
 vendor() {
     user="$copy/a user"
     set -- make -s vendor DEST="$user" WITH="lexical_fields lexical_formats lexical_laws lexical_literals lexical_tables"
-    mkdir "$user" && "$@" || return 1
+    mkdir -p "$user" crates/lexical_util/out
+    "$@" && test ! -e "$user/crates/lexical_util/out" || return 1
     echo >> "$user/crates/lexical_util/README.md"
     "$@" 2>&1 | grep 'crates/lexical_util has other contents' || return 1
     cp crates/lexical_util/README.md "$user/crates/lexical_util"

@@ -113,6 +113,11 @@ static void tables_in_blocks()
         auto from = told.find("reading has failed");
         CHECK(from != told.npos && told.erase(from, told.find('\n', from) + 1 - from) == all);
     }
+    // A step is one wherever its sign stands.
+    jadvolni::table_blocks rest(reader{"1;2;3\n4;5;6\n", 99, never}, bytes, ledger_of_lines(), 1, unread);
+    auto at = rest.begin();
+    at++;
+    CHECK(at->first_row() == 1);
 }
 
 // Bits of a column, and those of rows that no number was read for, which stay.

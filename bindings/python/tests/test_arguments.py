@@ -9,7 +9,7 @@ import tracemalloc
 import unittest
 
 from jadvolni import (Format, FormatError, ParseError, parse, parse_column, parse_front,
-                      parse_partial)
+                      parse_partial, parse_table)
 
 CALLS = (parse, parse_front, parse_partial, parse_column)
 
@@ -151,6 +151,11 @@ class Arguments(unittest.TestCase):
         for separator in (44, None, array.array("H", [44])):
             wanted = "^separator has to be a str or contiguous bytes, and not "
             self.assertRaisesRegex(TypeError, wanted, parse_column, "1", "u8", separator)
+
+    def test_rooms_of_several_dimensions(self):
+        for shape in ([2, 2], [4, 1]):
+            room = memoryview(bytearray(4)).cast("B", shape)
+            self.assertRaises(ValueError, parse_table, "1\n2\n", {"a": "u8"}, out={"a": room})
 
     def test_formats(self):
         wanted = "^format has to be a jadvolni.Format or None, and not "

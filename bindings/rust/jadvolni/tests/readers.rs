@@ -84,6 +84,14 @@ fn empty_fields_are_numbers_where_no_digit_is_required() {
 }
 
 #[test]
+fn a_block_has_one_byte_at_least() {
+    for text in ["", "7", "7,8"] {
+        let by = |size| format!("{:?}", read(device(text.as_bytes(), 9, None), size));
+        assert_eq!(by(0), by(1), "{text}");
+    }
+}
+
+#[test]
 fn failures_are_told_and_lose_nothing() {
     let text = b"12,345,6,78,9";
     for at in 0..text.len() {

@@ -184,15 +184,38 @@ fn room_formats_and_returns() {
 }
 
 #[test]
-fn each_type_has_a_column() {
-    macro_rules! alone {
+fn slices_without_room_get_no_row() {
+    let mut reader = TableReader::with_capacity(4, &b"1,a\n2,b\n"[..], comma());
+    let (mut none, mut one): ([u8; 0], [u8; 1]) = ([], [0]);
+    for number in [1, 2] {
+        let count = reader.read(&mut [TableColumn::of(&mut none), TableColumn::UNREAD]);
+        assert_eq!(count.unwrap(), 0);
+        let count = reader.read(&mut [TableColumn::of(&mut one), TableColumn::UNREAD]);
+        assert_eq!((count.unwrap(), one), (1, [number]));
+    }
+}
+
+#[test]
+fn a_block_has_one_byte_at_least() {
+    for text in ["", "7", "7,8\n"] {
+        let device = || Device { text: text.as_bytes(), most: 9, place: 0, failure: None };
+        let by = |size| format!("{:?}", rows_of(device(), comma(), size, 4));
+        assert_eq!(by(0), by(1), "{text}");
+    }
+}
+
+#[test]
+fn each_type_has_columns_and_the_shortest_says_how_many_rows() {
+    macro_rules! two_of {
         ($($type:ident)*) => {$(
-            let mut numbers = [0 as $type; 2];
-            let read = parse_table("7\n8\n9\n", &comma(), &mut [TableColumn::of(&mut numbers)]);
-            assert_eq!((read, numbers), (Ok(Table { rows: 2, stop: 4 }), [7, 8]));
+            let (mut long, mut short): ([$type; 3], [$type; 2]) = ([0; 3], [0; 2]);
+            let mut columns = [TableColumn::of(&mut long), TableColumn::of(&mut short)];
+            let read = parse_table("7,1\n8,2\n9,3\n", &comma(), &mut columns);
+            assert_eq!(read, Ok(Table { rows: 2, stop: 8 }));
+            assert_eq!((long, short), ([7, 8, 0], [1, 2]));
         )*};
     }
-    alone! { u8 u16 u32 u64 i8 i16 i32 i64 }
+    two_of! { u8 u16 u32 u64 i8 i16 i32 i64 }
 }
 
 #[test]
