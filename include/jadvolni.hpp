@@ -152,12 +152,13 @@ public:
     // Whether there is a number.
     bool has_value() const noexcept { return bool(*this); }
 
-    // The number. There has to be one.
-    const T &operator*() const noexcept
+    // The number. There has to be one. Of a temporary it is a copy.
+    const T &operator*() const & noexcept
     {
         assert(has_value());
         return number_;
     }
+    T operator*() && noexcept { return *std::as_const(*this); }
 
     // A part of it.
     const T *operator->() const noexcept { return &**this; }
