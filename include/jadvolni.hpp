@@ -509,8 +509,9 @@ private:
 //         else std::cerr << block.message() << " at byte " << block.place() << '\n';
 //
 // `read` puts bytes to where it is told, and answers how many: 0 at the end, a negative number where it
-// fails. Nothing follows a block that is wrong. Another loop goes on where the last one stopped, and
-// reads again where that failed.
+// fails, also over std::fread or a std::istream, which say nothing else at a fault than at the end.
+// Nothing follows a block that is wrong. Another loop goes on where the last one stopped, and reads
+// again where that failed.
 template <class Read>
 class table_blocks {
 public:
