@@ -872,7 +872,7 @@ static inline jadvolni_native_uint128 jadvolni_u128_number(jadvolni_uint128 halv
     return high << 64 | halves.low;
 }
 
-/* The number of two halves, of which the high one has the sign. */
+/* The number of two halves, high * 2^64 + low, of which the high one has the sign. */
 static inline jadvolni_native_int128 jadvolni_i128_number(jadvolni_int128 halves)
 {
     jadvolni_native_int128 high = halves.high;
