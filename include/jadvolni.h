@@ -310,7 +310,7 @@ typedef struct jadvolni_format {
 static inline jadvolni_format jadvolni_format_of_radix(int radix)
 {
     jadvolni_format format = JADVOLNI_FORMAT_STANDARD;
-    format.mantissa_radix = radix >= 2 && radix <= 36 ? (uint8_t)radix : 0;
+    format.mantissa_radix = radix >= 2 && radix <= 36 ? radix & 63 : 0;
     return format;
 }
 
@@ -868,14 +868,15 @@ __extension__ typedef __int128 jadvolni_native_int128;
 /* The number of two halves. */
 static inline jadvolni_native_uint128 jadvolni_u128_number(jadvolni_uint128 halves)
 {
-    return (jadvolni_native_uint128)halves.high << 64 | halves.low;
+    jadvolni_native_uint128 high = halves.high;
+    return high << 64 | halves.low;
 }
 
-/* The number of two halves, of which the high one has the sign. */
+/* The number of two halves, high * 2^64 + low, of which the high one has the sign. */
 static inline jadvolni_native_int128 jadvolni_i128_number(jadvolni_int128 halves)
 {
-    return (jadvolni_native_int128)((jadvolni_native_uint128)(uint64_t)halves.high << 64
-                                    | halves.low);
+    jadvolni_native_int128 high = halves.high;
+    return high * 4294967296 * 4294967296 + halves.low;
 }
 #endif
 

@@ -152,12 +152,13 @@ public:
     // Whether there is a number.
     bool has_value() const noexcept { return bool(*this); }
 
-    // The number. There has to be one.
-    const T &operator*() const noexcept
+    // The number. There has to be one. Of a temporary it is a copy.
+    const T &operator*() const & noexcept
     {
         assert(has_value());
         return number_;
     }
+    T operator*() && noexcept { return *std::as_const(*this); }
 
     // A part of it.
     const T *operator->() const noexcept { return &**this; }
@@ -508,8 +509,9 @@ private:
 //         else std::cerr << block.message() << " at byte " << block.place() << '\n';
 //
 // `read` puts bytes to where it is told, and answers how many: 0 at the end, a negative number where it
-// fails. Nothing follows a block that is wrong. Another loop goes on where the last one stopped, and
-// reads again where that failed.
+// fails, also over std::fread or a std::istream, which say nothing else at a fault than at the end.
+// Nothing follows a block that is wrong. Another loop goes on where the last one stopped, and reads
+// again where that failed.
 template <class Read>
 class table_blocks {
 public:

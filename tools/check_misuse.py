@@ -12,15 +12,15 @@ from typing import Iterator
 
 from callers import C_COMPILERS, CXX17, OPTIMISED, Failed, Place, Step, needs, source, text_of
 
-FILES = {"misuse.c": ["-std=c99"], "misuse.cpp": [CXX17]}
+FILES = {"misuse.c": ["-std=c99"], "misuse.cpp": [CXX17, "-Wold-style-cast"]}
 OLD = [("misuse.c", ["-std=c89"], "needs C99"), ("misuse.cpp", ["-std=c++14"], r"needs C\+\+17"),
        ("misuse.c", ["-xc++", "-std=c++98"], r"needs C\+\+11")]
 
 
 def said_of(place: Place, compiler: str, file: str, misuse: str, how: list[str]) -> str:
     """What a compiler says of the call with that number."""
-    command = [compiler, *how, *OPTIMISED, f"-DMISUSE={misuse}", f"-I{source('include')}",
-               "-c", source("tests", "c", file), "-o", place.path("misuse.o")]
+    command = [compiler, *how, *OPTIMISED, "-Wconversion", f"-DMISUSE={misuse}",
+               f"-I{source('include')}", "-c", source("tests", "c", file), "-o", place.path("x.o")]
     return subprocess.run(command, capture_output=True, text=True, timeout=60).stderr
 
 

@@ -71,6 +71,9 @@ static void texts_of_statuses()
 
 static void numbers()
 {
+    const auto &kept = *parse<int>("42"); // a copy, since what was read has ended
+    static_assert(!std::is_reference_v<decltype(*parse<int>("42"))>);
+    CHECK(kept == 42);
     CHECK(parse<std::uint16_t>("8080") && *parse<std::uint16_t>("8080") == 8080);
     CHECK(*parse<long>("-12") == -12 && *parse<long long>("-12") == -12 && *parse<unsigned long>("12") == 12);
     CHECK(*parse<char>("65") == 'A' && *parse<unsigned char>("255") == 255 && *parse<std::size_t>("7") == 7);
