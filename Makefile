@@ -16,7 +16,7 @@ help:
 
 # What needs the toolchain fails at once, and with a sentence, where there is none.
 toolchain:
-	@RT=$(RT) tools/build.sh
+	@RT="$(RT)" tools/build.sh
 
 run: $(PROGRAM) ## proves and builds the program where needed, and gives it standard input
 	@./$(PROGRAM)
@@ -29,13 +29,13 @@ jad: $(FOR_SHELLS) ## proves and builds the program for shells, as crates/jad/ou
 $(PROGRAM): $(call SOURCES,lexint)
 $(FOR_SHELLS): $(call SOURCES,jad)
 $(PROGRAM) $(FOR_SHELLS):
-	@RT=$(RT) tools/build.sh $(@F)
+	@RT="$(RT)" tools/build.sh $(@F)
 	@touch $@
 
 check: answers test-c ## proves and builds what one uses, and runs the test vectors and the callers of the library
 
 test: | toolchain ## the gate: proves everything from nothing, has every must-fail edit refused, runs every test
-	@RT=$(RT) tools/gate.sh
+	@RT="$(RT)" tools/gate.sh
 
 devices: $(PROGRAM) ## runs the program over devices that refuse; a part of the gate
 	@tools/devices.py $(PROGRAM)
@@ -77,7 +77,7 @@ include tools/lib.mk
 
 rows: | toolchain ## writes the theorems of the test vectors from tools/rows.txt and tools/languages.txt
 	@python3 tools/rows.py
-	@cd crates/rows && $(RT) fmt
+	@cd crates/rows && "$(RT)" fmt
 
 docs: ## writes what documents have from the source: docs/CONTRACTS.md, docs/FORMATS.md, code blocks, the page
 	@python3 tools/documents.py
@@ -88,7 +88,7 @@ check-docs: ## checks these, and every link, file name and word count; a part of
 	@python3 tools/documents.py --check
 
 must-not-compile: | toolchain ## checks that wrong programs over the libraries are refused; a part of the gate
-	@RT=$(RT) tools/must_not_compile.py
+	@RT="$(RT)" tools/must_not_compile.py
 
 check-languages: $(PROGRAM) build/libjadvolni.so ## compares the formats of languages with the compilers and interpreters that are there
 	@python3 tools/check_languages.py $(LANGUAGES)
@@ -115,8 +115,8 @@ fuzz-tables: $(LIBRARIES) ## runs tables through the C call, beside a slow readi
 BENCH ?=
 
 bench: | toolchain ## measures the parsers beside others, and writes bench/results.tsv and docs/SPEED.md
-	@RT=$(RT) bench/run.py $(BENCH)
-	@RT=$(RT) bench/columns.py
-	@RT=$(RT) bench/tables.py
-	@RT=$(RT) bench/tokens.py
-	@RT=$(RT) bench/program.py
+	@RT="$(RT)" bench/run.py $(BENCH)
+	@RT="$(RT)" bench/columns.py
+	@RT="$(RT)" bench/tables.py
+	@RT="$(RT)" bench/tokens.py
+	@RT="$(RT)" bench/program.py

@@ -104,7 +104,7 @@ done
     sed -n '/^```sh$/,/^```$/{/^```/d;p;}' "$top/crates/jad/README.md"
     echo 'echo "$port $mask $offset"'
 } > "$room/script"
-for shell in sh dash bash ksh zsh; do
+for shell in sh dash bash ksh mksh posh yash zsh; do
     command -v "$shell" > "$room/error" || continue
     for port in 80 65536; do
         runs=$((runs + 1)) status=0

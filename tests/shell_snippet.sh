@@ -65,7 +65,7 @@ all_texts() {
 '
 }
 
-for shell in sh dash bash ksh zsh; do
+for shell in sh dash bash ksh mksh posh yash zsh; do
     if command -v "$shell" > "$room/reason"; then
         all_texts
     fi

@@ -22,7 +22,7 @@ lib: build/libjadvolni.a $(SHARED) ## proves and builds the library for C, as bu
 
 build/libjadvolni.a: $(LIBRARY_SOURCES)
 	@mkdir -p build
-	@RT=$(RT) tools/build.sh jadvolni
+	@RT="$(RT)" tools/build.sh jadvolni
 	@cp crates/jadvolni/out/libjadvolni.a $@
 
 # What the archive exports, each call behind the version in which it came.
@@ -58,7 +58,7 @@ build/jadvolni.wasm: $(LIBRARY_SOURCES)
 	@cp --parents -t build/wasm tools/build.sh $(LIBRARY_SOURCES)
 	@for crate in $(LIBRARY_CRATES); do grep "^$$crate[ :]" crates.txt; done | \
 	    sed 's/^jadvolni staticlib:/jadvolni wasm64 memory=33554432:/' > build/wasm/crates.txt
-	@RT=$(RT) build/wasm/tools/build.sh jadvolni
+	@RT="$(RT)" build/wasm/tools/build.sh jadvolni
 	@cp build/wasm/crates/jadvolni/out/jadvolni.wasm $@
 
 # Each call has a page, which shows jadvolni(3): so `man jadvolni_parse_u64` finds what it looks for.

@@ -154,7 +154,7 @@ export interface Table {
  * bytes but the separator and a line feed, or these too within quotes. A row is a line, and has one
  * cell more than separators, as many as there are columns, unless the table has widths. The text may
  * be of any length; a row of more than `LONGEST_ROW` bytes is a `RangeError`. A header is no row: hand
- * over what follows it.
+ * over what follows it. Careful: the end of a text ends its last row. So cut a file only behind rows.
  *
  * Throws `ParseError` for the first wrong cell in reading order, with its row and column.
  */

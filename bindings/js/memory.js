@@ -25,7 +25,7 @@ async function load() {
   if (new Uint16Array(Uint8Array.of(1, 0).buffer)[0] !== 1) {
     throw new JadvolniError("this machine keeps the high byte of a number first");
   }
-  if (!WebAssembly.validate(MODULE_OF_64_BITS)) {
+  if (!globalThis.WebAssembly?.validate(MODULE_OF_64_BITS)) {
     throw new JadvolniError(
       "this engine has no 64-bit WebAssembly memory: Chromium has it from 133 on, Firefox from" +
         " 134, Node from 24, and Node from 20 with --experimental-wasm-memory64",

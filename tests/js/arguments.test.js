@@ -156,7 +156,11 @@ test("errors have one class above them", () => {
 });
 
 test("an engine without 64-bit memory is told which have it", async ({ mock }) => {
+  const lacking = { name: "JadvolniError", message: /Chromium has it from 133 on/ };
   mock.method(WebAssembly, "validate", () => false);
-  const loaded = import("../../bindings/js/memory.js?without");
-  await assert.rejects(loaded, { name: "JadvolniError", message: /Chromium has it from 133 on/ });
+  await assert.rejects(import("../../bindings/js/memory.js?without"), lacking);
+  const { WebAssembly: kept } = globalThis;
+  globalThis.WebAssembly = undefined; // (as where it is forbidden)
+  const loaded = import("../../bindings/js/memory.js?forbidden");
+  await assert.rejects(loaded, lacking).finally(() => (globalThis.WebAssembly = kept));
 });

@@ -12,6 +12,9 @@ const TYPES = {
   ".wasm": "application/wasm",
 };
 
+const ENDED = "the browser has ended";
+const START = 60_000; // ms until it has to answer
+
 /** Serves a folder to this machine alone. `missing` lists what was asked for and isn't there. */
 export async function serve(folder) {
   const missing = [];
@@ -45,6 +48,7 @@ export class Browser {
   #waiting = new Map();
   #loaded = () => {};
   #rest = "";
+  #hasEnded = false;
 
   /** What the page said wrong: errors of its console, exceptions, failed loads. */
   errors = [];
@@ -59,8 +63,12 @@ export class Browser {
       "--disable-ipc-flooding-protection", // (else 200 changes of the address are the most in 10 s)
       `--user-data-dir=${browser.#folder}`, "about:blank",
     ], { stdio: ["ignore", "ignore", "ignore", "pipe", "pipe"] });
+    browser.#process.once("exit", () => browser.#end());
+    browser.#process.stdio[3].on("error", () => {}); // (it has ended, which is told)
     browser.#process.stdio[4].setEncoding("utf8").on("data", (data) => browser.#read(data));
+    const late = setTimeout(() => browser.#process.kill(), START).unref();
     const { targetInfos } = await browser.send("Target.getTargets");
+    clearTimeout(late);
     const { targetId } = targetInfos.find((it) => it.type === "page");
     const { sessionId } = await browser.send("Target.attachToTarget", { targetId, flatten: true });
     browser.#session = sessionId;
@@ -75,7 +83,15 @@ export class Browser {
     const id = this.#sent;
     const command = JSON.stringify({ id, method, params, sessionId: this.#session });
     this.#process.stdio[3].write(`${command}\0`);
-    return new Promise((resolve, reject) => this.#waiting.set(id, { resolve, reject }));
+    return new Promise((resolve, reject) => {
+      if (this.#hasEnded) reject(new Error(ENDED));
+      else this.#waiting.set(id, { resolve, reject });
+    });
+  }
+
+  #end() {
+    this.#hasEnded = true;
+    for (const { reject } of this.#waiting.values()) reject(new Error(ENDED));
   }
 
   #read(data) {
@@ -139,8 +155,8 @@ export class Browser {
 
   async close() {
     const ended = new Promise((resolve) => this.#process.once("exit", resolve));
-    await this.send("Browser.close");
-    await ended;
+    this.send("Browser.close").catch(() => {}); // (it may end before it answers)
+    if (!this.#hasEnded) await ended;
     await rm(this.#folder, { recursive: true, force: true });
   }
 }

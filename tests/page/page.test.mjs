@@ -29,7 +29,7 @@ before(async () => {
 });
 
 after(async () => {
-  await browser.close();
+  await browser?.close();
   server.close();
 });
 
