@@ -58,8 +58,9 @@ fn read(text: &[u8], has_returns: bool) -> (Answer, [i16; 3]) {
 // How many rows a table had room for, none of which is read, and what it leaves of the text: the rows behind them.
 fn left_behind<'a>(text: &'a [u8], dialect: &Dialect<'_>, room: usize) -> Option<(usize, &'a [u8])>
     ensures room { IfSome result (λ left. left.0 ≤ room) }
-    ensures rows { IfSome result (λ left. rows_from dialect.now
-        (length text.now - length left.1.now) left.1.now ≡ drop left.0 (rows dialect.now text.now)) }
+    ensures rows { IfSome result (λ left.
+        rows_from dialect.now (length text.now - length left.1.now) left.1.now
+        ≡ drop left.0 (rows dialect.now text.now)) }
 {
     let mut target: Option<Target<'_>> = None;
     let targets = slice::from_mut(&mut target);

@@ -43,8 +43,9 @@ fn total(text: &[u8], separator: u8, values: &mut [u64]) -> Result<u128, ColumnE
 // How many numbers a column had room for, and what it leaves of the text: the fields behind them.
 fn left_behind<'a>(text: &'a [u8], separator: u8, values: &mut [u64]) -> Option<(usize, &'a [u8])>
     ensures room { IfSome result (λ left. left.0 ≤ length values.old) }
-    ensures fields { IfSome result (λ left. fields_from separator
-        (length text.now - length left.1.now) left.1.now ≡ drop left.0 (fields separator text.now)) }
+    ensures fields { IfSome result (λ left.
+        fields_from separator (length text.now - length left.1.now) left.1.now
+        ≡ drop left.0 (fields separator text.now)) }
 {
     let format = &format::STANDARD;
     match read_column::<u64>(text, separator, format, &options::LARGE_NUMBERS, values) {
