@@ -13,7 +13,7 @@ language stands between; tools/formats_page.py makes docs/FORMATS.md of it.
 
 The rows of a group that ask one parser become a theorem, as GROUP_complete, which lists them with
 their answers and has the proof `refl`; so do the formats of a group, as GROUP_fault. A line of
-fields becomes `LANGUAGE ≡ FORMAT`. The check computes the definitions on those texts, so it refuses
+fields becomes `LANGUAGE ≡ FORMAT`, with what its name finds. The check computes them, and refuses
 a theorem of which a row and the definitions disagree. tools/run_rows.py has the built program
 answer the rows, and names the row that is wrong. The files are crates/rows/proofs/rows/FILE.antt,
 and proofs/rows.antt, which declares them; proofs/Tables.antt has the words of the theorems. The

@@ -1,5 +1,8 @@
 // Tables, as callers have them. proofs/ColumnRows.antt of the crate has more texts.
 
+ghost use Rattle.std.specs.Prelude.{◌≡◌, ◌-◌, ◌≤◌, drop, length, IfSome};
+ghost use Rattle.lexical_tables.specs.Rows.{rows, rows_from};
+
 use crate::tests::answers;
 use lexical_parse_integer::format::STANDARD;
 use lexical_parse_integer::{Error, options};
@@ -50,6 +53,27 @@ fn read(text: &[u8], has_returns: bool) -> (Answer, [i16; 3]) {
     let targets = slice::from_mut(&mut target);
     let answer = read_columns(text, &pairs(has_returns), &options::STANDARD, 3, targets);
     (answer, numbers)
+}
+
+// How many rows a table had room for, none of which is read, and what it leaves of the text: the rows behind them.
+fn left_behind<'a>(text: &'a [u8], dialect: &Dialect<'_>, room: usize) -> Option<(usize, &'a [u8])>
+    ensures room { IfSome result (λ left. left.0 ≤ room) }
+    ensures rows { IfSome result (λ left.
+        rows_from dialect.now (length text.now - length left.1.now) left.1.now
+        ≡ drop left.0 (rows dialect.now text.now)) }
+{
+    let mut target: Option<Target<'_>> = None;
+    let targets = slice::from_mut(&mut target);
+    match read_columns(text, dialect, &options::STANDARD, room, targets) {
+        Ok(table) => Some((table.rows, &text[table.stop..])),
+        Err(_) => None,
+    }
+}
+
+#[test]
+fn a_table_leaves_the_rows_behind_its_room(rt: HostRuntime) {
+    let left = left_behind(b"1,2\n3,4\nx", &pairs(false), 2);
+    answers(&rt, left, Some((2, b"x".as_slice())));
 }
 
 #[test]

@@ -1,6 +1,6 @@
 // Callers of the tokenizer by `for` and by the adapters of std's iterators, proved and run.
 
-ghost use Rattle.std.specs.Prelude.{◌≡◌, count_by};
+ghost use Rattle.std.specs.Prelude.{◌≡◌, ◌<◌, count_by, length, IfSome};
 ghost use Rattle.lexical_literals.specs.TokenCallers.{first_fault_place, is_number_token};
 ghost use Rattle.lexical_literals.specs.Tokens.{tokens, tokens_if_valid};
 ghost use Rattle.lexical_parse_integer.specs.Answer.{view_of};
@@ -43,11 +43,20 @@ fn first_fault(source: &[u8]) -> Option<usize>
     None
 }
 
+// The bytes of the first token, cut from its source: some, and none beyond the source's end.
+fn first_bytes(source: &[u8]) -> Option<&[u8]>
+    ensures { IfSome result (λ bytes. 0 < length bytes.now) }
+{
+    let token = Tokens::new(source).next()?;
+    Some(&source[token.start..token.stop])
+}
+
 #[test]
 fn callers(rt: HostRuntime) {
     let source = b"x1 = 0x1F + 12_3; 0x";
     answers(&rt, number_count(source), 2);
     answers(&rt, number_count_under(b"[1, 02, -3]", &JSON), Ok(2));
+    answers(&rt, first_bytes(source), Some(b"x1".as_slice()));
     let faults = [first_fault(source), first_fault(b"12 x")];
     answers(&rt, faults, [Some(18), None]);
 }
