@@ -173,7 +173,7 @@ def read_row(line: str, language: str = "json") -> Row:
         return Row(parser, form, "", b"", answer, remark.strip(), is_long)
     if parser in ("complete", "partial") and len(asked) == 2 and asked[0] in TYPES:
         return Row(parser, form, asked[0], read_text(asked[1]), answer, remark.strip(), is_long)
-    raise Bad("no row")
+    raise Bad("no row of a parser and a type that there are")
 
 
 class Reader:
