@@ -12,7 +12,7 @@ SOURCES = $(shell find crates/$(1) crates/answer_lines crates/lexical_* -name ou
 # A target is listed by the words after its two number signs.
 help:
 	@echo "make TARGET, where TARGET is"
-	@awk -F ':.*## ' '/^[a-z-]+:.*## / { printf "  %-17s %s\n", $$1, $$2 }' $(MAKEFILE_LIST)
+	@awk -F ':.*## ' '/^[a-z-]+:.*## / { printf "  %-18s %s\n", $$1, $$2 }' $(MAKEFILE_LIST)
 
 # What needs the toolchain fails at once, and with a sentence, where there is none.
 toolchain:
@@ -47,13 +47,13 @@ install: install-programs install-lib ## puts the programs and the library where
 
 uninstall: uninstall-programs uninstall-lib ## takes them away
 
-install-programs: paths $(PROGRAM) $(FOR_SHELLS)
+install-programs: paths $(PROGRAM) $(FOR_SHELLS) ## puts the programs alone there
 	install -d "$(DESTDIR)$(PREFIX)/bin" "$(DESTDIR)$(MANDIR)/man1"
 	install -m 755 $(PROGRAM) $(FOR_SHELLS) "$(DESTDIR)$(PREFIX)/bin"
 	for program in lexint jad; do \
 	    $(FILL) packaging/$$program.1.in > "$(DESTDIR)$(MANDIR)/man1/$$program.1" || exit 1; done
 
-uninstall-programs: paths
+uninstall-programs: paths ## takes the programs away
 	for program in lexint jad; do \
 	    rm -f "$(DESTDIR)$(PREFIX)/bin/$$program" "$(DESTDIR)$(MANDIR)/man1/$$program.1" || exit 1; done
 
