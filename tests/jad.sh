@@ -11,7 +11,7 @@ top=$(dirname "$0")/..
 room=$(mktemp -d)
 trap 'rm -r "$room"' EXIT
 ln -s "$program" "$room/jad"
-usage='usage: jad TYPE [--format NAME | --radix N] [--] TEXT; man jad lists each TYPE and NAME'
+usage='usage: jad TYPE [--format NAME | --radix N] [--] TEXT; man jad lists TYPE and NAME'
 runs=0 failed=0
 
 wrong() { # WHAT

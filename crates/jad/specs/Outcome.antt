@@ -17,7 +17,7 @@ pub record Outcome : Type 0 where
 
 -- how the program is called
 abbrev pub usage : List ℕ
-usage = codes "usage: jad TYPE [--format NAME | --radix N] [--] TEXT; man jad lists each TYPE and NAME"
+usage = codes "usage: jad TYPE [--format NAME | --radix N] [--] TEXT; man jad lists TYPE and NAME"
 
 -- a number goes to standard output, and a fault to standard error, each with a line feed
 abbrev pub outcome_of : Result ℤ Error → Outcome

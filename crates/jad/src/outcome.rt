@@ -13,7 +13,7 @@ use std::marker::Model;
 
 /// How the program is called.
 const USAGE: &str =
-    "usage: jad TYPE [--format NAME | --radix N] [--] TEXT; man jad lists each TYPE and NAME";
+    "usage: jad TYPE [--format NAME | --radix N] [--] TEXT; man jad lists TYPE and NAME";
 
 /// What goes to standard output and to standard error, and the exit status.
 #[derive(Drop)]
