@@ -310,6 +310,7 @@ typedef struct jadvolni_format {
 static inline jadvolni_format jadvolni_format_of_radix(int radix)
 {
     jadvolni_format format = JADVOLNI_FORMAT_STANDARD;
+    /* (the mask shows that it fits a byte: of a cast C++ may warn) */
     format.mantissa_radix = radix >= 2 && radix <= 36 ? radix & 63 : 0;
     return format;
 }
