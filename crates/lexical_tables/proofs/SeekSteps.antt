@@ -1,5 +1,5 @@
 -- A byte outside quotes that is sought, one byte after another.
-use Rattle.std.proofs.Common.{◌≡◌, ◌≢◌, ◌∙◌, ℕ, suc, ◌+◌, ◌<◌, ◌≤◌, ◌==◌, not, List, [], length, drop, get_or, Bool, true, false, cond, eq-eqb, ap, ap₂, sym, arith, inl, inr, ◌⊎◌}
+use Rattle.std.proofs.Common.{◌≡◌, ◌≢◌, ◌∙◌, ℕ, zero, suc, ◌+◌, ◌<◌, ◌≤◌, ◌==◌, not, List, [], length, drop, get_or, Bool, true, false, cond, eq-eqb, refl, subst, ap, ap₂, sym, arith, inl, inr, ◌⊎◌}
 use Rattle.std.proofs.lemmas.Bool.{cases_lt, eqb-true}
 use Rattle.std.proofs.lemmas.List.{drop_all}
 use Rattle.std.proofs.Math.Seq.{drop-cons}
@@ -78,3 +78,28 @@ module _ (s : ℕ) (text : List ℕ) (place : ℕ) (within : Bool) (reading : Is
         ∙ ap (λ t. place + cond (not t) (1 + m) 0) (eq-eqb byte s found.1)
         ∙ add_zero place)
   ]
+
+-- no quote and no byte that is sought stands among so many
+pub seek_passes : (s : ℕ) (text : List ℕ) (place n : ℕ) (within : Bool) → IsSought s text place within
+    → place + n ≤ length text → ((k : ℕ) → k < n → get_or text (place + k) 0 ≢ 34)
+    → (within ≡ false → (k : ℕ) → k < n → get_or text (place + k) 0 ≢ s) → IsSought s text (place + n) within
+seek_passes s text place zero within reading low unquoted other =
+    let same : place ≡ place + 0 = omega arith in
+    subst (λ p. IsSought s text p within) same reading
+seek_passes s text place (suc n) within reading low unquoted other =
+    let before = seek_passes s text place n within reading (omega arith) (λ k below. unquoted k (omega arith))
+    (λ outside k below. other outside k (omega arith)) in
+    let next : place + n + 1 ≡ place + suc n = omega arith in
+    let byte = get_or text (place + n) 0 in
+    let plain : (byte == 34) ≡ false = elim (either (byte == 34)) [
+      | inl e ↦ absurd (unquoted n (omega arith) (eqb-true byte 34 e))
+      | inr e ↦ e
+    ] in
+    subst (λ p. IsSought s text p within) next
+    (seek_goes s text (place + n) within before (omega arith) (by_within within other) within
+    (ap (λ t. cond t (not within) within) (sym plain)))
+  where
+    by_within : (w : Bool) → (w ≡ false → (k : ℕ) → k < suc n → get_or text (place + k) 0 ≢ s)
+        → (w ≡ true) ⊎ (get_or text (place + n) 0 ≢ s)
+    by_within true other = inl refl
+    by_within false other = inr (other refl n (omega arith))

@@ -1,7 +1,7 @@
 // Where a byte first stands outside quotes.
-ghost use Rattle.std.specs.Prelude.{◌≡◌, ◌≤◌, length};
+ghost use Rattle.std.specs.Prelude.{◌≡◌, ◌≢◌, ◌<◌, ◌≤◌, ℕ, false, length, slice_index};
 ghost use Rattle.lexical_fields.specs.Fields.{field_length};
-ghost use Rattle.lexical_tables.specs.Quotes.{hidden, length_outside};
+ghost use Rattle.lexical_tables.specs.Quotes.{hidden, length_outside, quote};
 
 use lexical_fields::field_length;
 
@@ -18,7 +18,24 @@ pub(crate) fn length_outside(text: &[u8], separator: u8, has_quotes: bool) -> us
     }
 }
 
-// How many they are where quotes have a meaning.
+// How many of a text's first sixteen bytes stand before a quote, and outside quotes before a separator too.
+#[inline(always)]
+fn plain_length(text: &[u8], separator: u8, is_within: bool) -> usize
+    ensures quotes { (k : ℕ) → k < result → slice_index text.now k ≢ quote }
+    ensures separators { is_within ≡ false → (k : ℕ) → k < result
+        → slice_index text.now k ≢ separator }
+    ensures within { result ≤ length text.now }
+{
+    let near = &text[..text.len().min(16)];
+    let unquoted = field_length(near, b'"');
+    if is_within {
+        unquoted
+    } else {
+        unquoted.min(field_length(near, separator))
+    }
+}
+
+// How many they are where quotes have a meaning: byte by byte where a quote stands, and else by sixteen at once.
 fn quoted_length(text: &[u8], separator: u8) -> usize
     ensures value { result ≡ field_length separator (hidden separator text.now) }
     ensures within { result ≤ length text.now }
@@ -28,6 +45,7 @@ fn quoted_length(text: &[u8], separator: u8) -> usize
     while place < text.len() && (within || text[place] != separator) {
         within = within != (text[place] == b'"');
         place += 1;
+        place += plain_length(&text[place..], separator, within);
     }
     place
 }
