@@ -1,14 +1,15 @@
 //! The columns of a table, as C writes them.
 
-ghost use Rattle.std.specs.Prelude.{◌≡◌, ◌+◌, ◌<◌, ◌^◌, length, take, option_map};
+ghost use Rattle.std.specs.Prelude.{◌≡◌, ◌+◌, ◌<◌, ◌≤◌, ◌^◌, ℕ, IsTrue, None, false, length, take, option_map};
 ghost use Rattle.lexical_tables.specs.ByColumn.{IsUsable};
 ghost use Rattle.lexical_tables.specs.Targets.{text_fault};
 ghost use Rattle.jadvolni.specs.FormatFields.{format_of};
 ghost use Rattle.jadvolni.specs.Tables.{bits_of, column_status, lacks_bits, number_type, put_number, put_presence, put_zero, target_of};
 
 use crate::format::FormatFields;
+use lexical_parse_integer::format::STANDARD;
 use lexical_parse_integer::{Error, Options};
-use lexical_tables::{TableColumn, put_bit, put_cell, put_standard_cell, put_zero};
+use lexical_tables::{TableColumn, put_at_once, put_bit, put_cell, put_standard_cell, put_zero};
 
 /// The status of a table that no text can be read by.
 pub const INVALID_TABLE: u32 = 17;
@@ -182,6 +183,35 @@ impl ColumnFields<'_> {
         }
     }
 
+    // Puts the number of a text's first bytes, so many, into a row's place, where it is had at once under the standard
+    // format, as most columns have it. Why out of line: docs/DECISIONS.md, code.
+    #[inline(never)]
+    fn put_number_at_once(&mut self, row: usize, ahead: &[u8], size: usize) -> bool
+        requires usable { IsUsable (row + 1) (target_of self.old) }
+        requires within { size ≤ length ahead.now }
+        ensures fault { IsTrue result → (start : ℕ) → text_fault (target_of self.old)
+            (record { start = start; text = take size ahead.now }) ≡ None }
+        ensures target { IsTrue result → (start : ℕ) → target_of self.new
+            ≡ option_map (put_number row (record { start = start; text = take size ahead.now }))
+            (target_of self.old) }
+        ensures kept { result ≡ false → target_of self.new ≡ target_of self.old }
+    {
+        if !self.format.is_standard() {
+            return false;
+        }
+        match self.number_type() {
+            None => false,
+            Some(NumberType::I64) => put_at_once(self.i64s, row, ahead, size, &STANDARD),
+            Some(NumberType::U64) => put_at_once(self.u64s, row, ahead, size, &STANDARD),
+            Some(NumberType::I32) => put_at_once(self.i32s, row, ahead, size, &STANDARD),
+            Some(NumberType::U32) => put_at_once(self.u32s, row, ahead, size, &STANDARD),
+            Some(NumberType::I16) => put_at_once(self.i16s, row, ahead, size, &STANDARD),
+            Some(NumberType::U16) => put_at_once(self.u16s, row, ahead, size, &STANDARD),
+            Some(NumberType::I8) => put_at_once(self.i8s, row, ahead, size, &STANDARD),
+            Some(NumberType::U8) => put_at_once(self.u8s, row, ahead, size, &STANDARD),
+        }
+    }
+
     /// What is wrong with the column, if so many rows are asked for.
     pub fn status(&self, rows: usize) -> u32
         ensures { result ≡ column_status rows self.now }
@@ -240,5 +270,14 @@ impl TableColumn for ColumnFields<'_> {
         }
         self.put_presence(row, true);
         None
+    }
+
+    #[inline(always)]
+    fn read_at_once(&mut self, row: usize, ahead: &[u8], size: usize) -> bool {
+        if !self.put_number_at_once(row, ahead, size) {
+            return false;
+        }
+        self.put_presence(row, true);
+        true
     }
 }

@@ -109,10 +109,20 @@ pub fn value_in_front<T: ParseInteger>(text: &[u8], size: usize, format: &Number
     ensures { IfSome result
         (λ value. complete format.now T.TYPE (take size text.now) ≡ Ok (T.number value)) }
 {
-    if text.len() < 17 || size > text.len() - 17 {
+    if size > text.len() {
         return None;
     }
-    if !is_separated(format, b' ') {
+    value_of_front::<T>(text, size, format)
+}
+
+/// The same of a text that has so many bytes.
+#[inline(always)]
+pub fn value_of_front<T: ParseInteger>(text: &[u8], size: usize, format: &NumberFormat) -> Option<T>
+    requires within { size ≤ length text.now }
+    ensures { IfSome result
+        (λ value. complete format.now T.TYPE (take size text.now) ≡ Ok (T.number value)) }
+{
+    if text.len() - size < 17 || !is_separated(format, b' ') {
         return None;
     }
     value_with_room::<T>(text, size, b' ', format)

@@ -1,4 +1,5 @@
 -- The proofs beside the functions, a file for each idea.
+pub mod AtOnce
 pub mod CellRows
 pub mod CellSteps
 pub mod CellsAlone
@@ -9,6 +10,7 @@ pub mod ColumnTables
 pub mod ColumnsInParts
 pub mod LineSteps
 pub mod MarkedCells
+pub mod MarkedRows
 pub mod OutsideInParts
 pub mod OutsideSteps
 pub mod PutSteps

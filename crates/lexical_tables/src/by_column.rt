@@ -4,15 +4,38 @@ ghost use Rattle.std.specs.Prelude.{◌≡◌, ◌+◌, ◌-◌, ◌<◌, ◌≤
 ghost use Rattle.lexical_tables.specs.ByColumn.{AreUsable, IsUsable, StopsAt, answer_at, column_count, columns_answer, columns_put, end_fault, fault_in, kind_of, kinds_of, marked_separator, put_read, put_read_at, put_row, row_fault, row_values};
 ghost use Rattle.lexical_tables.specs.Cells.{answer_as, view_of_cell};
 ghost use Rattle.lexical_tables.specs.Rows.{view_of_row};
+ghost use Rattle.lexical_tables.specs.Targets.{put_text, text_fault};
 
 use crate::answers::{CellFault, Table, TableError};
 use crate::cells::{Shape, lacks_cell, next_cell, shape_of};
 use crate::content::{Cell, content};
 use crate::dialect::Dialect;
+use crate::marked::read_marked_rows;
 use crate::misplaced::quote_fault;
 use crate::rows::{Row, first_row, without_empty_rows};
 use crate::targets::TableColumn;
-use lexical_parse_integer::Options;
+use lexical_parse_integer::{Error, Options};
+
+// The number of what a cell holds goes to the row's place, or its fault is told.
+#[inline(always)]
+fn read_held<C: TableColumn>(
+    target: &mut C,
+    row: usize,
+    held: Cell<'_>,
+    options: &Options,
+) -> Option<Error>
+    requires usable { IsUsable (row + 1) (C.target target.old) }
+    requires front { held.text.now ≡ take (length held.text.now) held.ahead.now }
+    requires fits { held.start + length held.text.now < 2 ^ 64 }
+    ensures fault { result ≡ text_fault (C.target target.old) (view_of_cell held.entry) }
+    ensures target { C.target target.new
+        ≡ option_map (put_text row (view_of_cell held.entry)) (C.target target.old) }
+{
+    if target.read_at_once(row, held.ahead, held.text.len()) {
+        return None;
+    }
+    target.read(row, held.start, held.text, held.ahead, options)
+}
 
 // Reads a cell in its column, if its quotes are in place: it holds the mark or a number, which goes to the row's place.
 #[inline(always)]
@@ -41,7 +64,7 @@ fn read_number<C: TableColumn>(
         target.put_missing(row);
         return None;
     }
-    match target.read(row, held.start, held.text, held.ahead, options) {
+    match read_held(target, row, held, options) {
         Some(error) => Some(CellFault::NotNumber(error)),
         None => None,
     }
@@ -49,7 +72,7 @@ fn read_number<C: TableColumn>(
 
 // Reads the cell of a column, if that has a target: what is read goes to the row's place there.
 #[inline(always)]
-fn read_cell<C: TableColumn>(
+pub(crate) fn read_cell<C: TableColumn>(
     targets: &mut [C],
     column: usize,
     row: usize,
@@ -76,7 +99,7 @@ fn read_cell<C: TableColumn>(
 }
 
 // What is wrong with the number of a row's cells, or with its end, if so many have a column, and one more starts there.
-fn end_fault(
+pub(crate) fn end_fault(
     row: &Row<'_>,
     index: usize,
     columns: usize,
@@ -159,6 +182,41 @@ fn read_cells<C: TableColumn>(
     end_fault(row, index, shape.columns, column, extra)
 }
 
+// `read_columns` of any table.
+fn read_rows<C: TableColumn>(
+    text: &[u8],
+    shape: Shape,
+    dialect: &Dialect<'_>,
+    options: &Options,
+    rows: usize,
+    targets: &mut [C],
+) -> Result<Table, TableError>
+    requires columns { shape.columns ≡ column_count dialect.now.layout }
+    requires marked { shape.marked
+        ≡ marked_separator dialect.now.layout dialect.now.has_quotes }
+    requires usable { AreUsable rows (map C.target targets.old) }
+    ensures answer { result ≡ columns_answer (kinds_of (map C.target targets.old)) dialect.now rows
+        text.now }
+    ensures targets { map C.target targets.new ≡ columns_put dialect.now rows text.now
+        (map C.target targets.old) }
+    ensures goes_on { IfOk result (StopsAt dialect.now rows text.now) }
+{
+    let mut rest = without_empty_rows(text, dialect);
+    let mut count = 0;
+    while count < rows && !rest.is_empty() {
+        let (row, behind) = first_row(text.len() - rest.len(), rest, dialect);
+        if let Some(error) = read_cells(&row, rest, count, shape, dialect, options, targets) {
+            return Err(error);
+        }
+        rest = without_empty_rows(behind, dialect);
+        count += 1;
+    }
+    Ok(Table {
+        rows: count,
+        stop: text.len() - rest.len(),
+    })
+}
+
 /// Reads a table's columns into slices of their own, for as many rows as are asked for at most.
 ///
 /// Each cell of a row has a target, or none: then it isn't read, and may hold any bytes. So it is with cells
@@ -187,18 +245,19 @@ pub fn read_columns<C: TableColumn>(
     ensures goes_on { IfOk result (StopsAt dialect.now rows text.now) }
 {
     let shape = shape_of(dialect);
-    let mut rest = without_empty_rows(text, dialect);
-    let mut count = 0;
-    while count < rows && !rest.is_empty() {
-        let (row, behind) = first_row(text.len() - rest.len(), rest, dialect);
-        if let Some(error) = read_cells(&row, rest, count, shape, dialect, options, targets) {
-            return Err(error);
-        }
-        rest = without_empty_rows(behind, dialect);
-        count += 1;
+    if dialect.has_quotes || dialect.allows_blanks {
+        return read_rows(text, shape, dialect, options, rows, targets);
     }
-    Ok(Table {
-        rows: count,
-        stop: text.len() - rest.len(),
-    })
+    match shape.marked {
+        Some(separator) => read_marked_rows(
+            text,
+            shape.columns,
+            separator,
+            dialect,
+            options,
+            rows,
+            targets,
+        ),
+        None => read_rows(text, shape, dialect, options, rows, targets),
+    }
 }

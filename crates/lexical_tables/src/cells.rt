@@ -6,6 +6,7 @@ ghost use Rattle.lexical_tables.specs.ByColumn.{AreCellMarks, cells_by_width, ce
 ghost use Rattle.lexical_tables.specs.Quotes.{length_outside};
 
 use crate::dialect::{Dialect, Layout};
+use crate::quotes::length_outside;
 use crate::rows::split;
 use lexical_fields::{next_marks, split_marked};
 
@@ -36,8 +37,8 @@ pub(crate) fn shape_of(dialect: &Dialect<'_>) -> Shape
 }
 
 // Whether what is left of a row has no cell of the next width: the cell isn't wholly there, or none is to come, and no
-// byte is left. What widths need is out of line, so that the loop over cells between separators keeps its registers.
-#[inline(never)]
+// byte is left.
+#[inline(always)]
 fn lacks_width(text: &[u8], column: usize, widths: &[usize]) -> bool
     ensures { result ≡ lacks_width (drop column widths.now) text.now }
 {
@@ -69,7 +70,7 @@ pub(crate) struct NextCell<'a> {
 }
 
 // The first cell of what is left of a row behind so many cells that have widths, if it has one.
-#[inline(never)]
+#[inline(always)]
 fn wide_cell<'a>(rest: &'a [u8], column: usize, widths: &[usize]) -> NextCell<'a>
     requires column { column < length widths.now }
     requires there { lacks_width (drop column widths.now) rest.now ≡ false }
@@ -96,7 +97,12 @@ fn wide_cell<'a>(rest: &'a [u8], column: usize, widths: &[usize]) -> NextCell<'a
 
 // The first cell of what is left of a row, whose separators marks find. What is ahead begins with that.
 #[inline(always)]
-fn marked_cell<'a>(rest: &'a [u8], ahead: &[u8], marks: u64, separator: u8) -> NextCell<'a>
+pub(crate) fn marked_cell<'a>(
+    rest: &'a [u8],
+    ahead: &[u8],
+    marks: u64,
+    separator: u8,
+) -> NextCell<'a>
     requires rest { rest.now ≡ take (length rest.now) ahead.now }
     requires marks { AreMarks separator ahead.now marks }
     ensures front { result.text.now ≡ take (length_outside false separator rest.now) rest.now }
@@ -105,13 +111,15 @@ fn marked_cell<'a>(rest: &'a [u8], ahead: &[u8], marks: u64, separator: u8) -> N
     ensures within { length result.text.now ≤ length rest.now }
     ensures size { length result.text.now ≡ length_outside false separator rest.now }
     ensures left { length result.behind.now ≤ length rest.now }
+    ensures tail { result.behind.now
+        ≡ drop (length rest.now - length result.behind.now) rest.now }
     ensures ended { result.ended ≡ (length result.text.now == length rest.now) }
     ensures marks { AreMarks separator
         (drop (length rest.now - length result.behind.now) ahead.now) result.marks }
 {
     let known = next_marks(ahead, marks, separator);
     if known == 0 {
-        return parted_cell(rest, separator, false);
+        return unmarked_cell(rest, separator);
     }
     let (size, _, more) = split_marked(ahead, known, separator);
     if size >= rest.len() {
@@ -126,6 +134,45 @@ fn marked_cell<'a>(rest: &'a [u8], ahead: &[u8], marks: u64, separator: u8) -> N
         text: &rest[..size],
         behind: &rest[size + 1..],
         marks: more,
+        ended: false,
+    }
+}
+
+// How many bytes the first cell of what is left of a row has, where no mark is ahead: at a text's end, and where a cell is
+// long. Why out of line: docs/DECISIONS.md, code.
+#[inline(never)]
+fn unmarked_length(rest: &[u8], separator: u8) -> usize
+    ensures value { result ≡ length_outside false separator rest.now }
+    ensures within { result ≤ length rest.now }
+{
+    length_outside(rest, separator, false)
+}
+
+// The first cell of what is left of a row, where no mark is ahead.
+#[inline(always)]
+fn unmarked_cell(rest: &[u8], separator: u8) -> NextCell<'_>
+    ensures front { result.text.now ≡ take (length_outside false separator rest.now) rest.now }
+    ensures behind { result.behind.now
+        ≡ drop (length_outside false separator rest.now + 1) rest.now }
+    ensures within { length result.text.now ≤ length rest.now }
+    ensures size { length result.text.now ≡ length_outside false separator rest.now }
+    ensures left { length result.behind.now ≤ length rest.now }
+    ensures ended { result.ended ≡ (length result.text.now == length rest.now) }
+    ensures marks { result.marks ≡ 0 }
+{
+    let size = unmarked_length(rest, separator);
+    if size == rest.len() {
+        return NextCell {
+            text: rest,
+            behind: &rest[size..],
+            marks: 0,
+            ended: true,
+        };
+    }
+    NextCell {
+        text: &rest[..size],
+        behind: &rest[size + 1..],
+        marks: 0,
         ended: false,
     }
 }

@@ -15,6 +15,7 @@ pub(crate) struct Cell<'a> {
 }
 
 // Whether a byte is a space or a tab.
+#[inline(always)]
 fn is_blank(byte: u8) -> bool
     ensures { result ≡ is_blank byte }
 {
@@ -22,6 +23,7 @@ fn is_blank(byte: u8) -> bool
 }
 
 // How many blanks a text begins with.
+#[inline(always)]
 fn blanks_in_front(text: &[u8]) -> usize
     ensures count { result ≡ prefix_len is_blank text.now }
     ensures within { result ≤ length text.now }
@@ -34,6 +36,7 @@ fn blanks_in_front(text: &[u8]) -> usize
 }
 
 // How many bytes of a text stand in front of the blanks that it ends with.
+#[inline(always)]
 fn end_of_content(text: &[u8]) -> usize
     ensures count { result + suffix_len is_blank text.now ≡ length text.now }
     ensures within { result ≤ length text.now }
@@ -46,6 +49,7 @@ fn end_of_content(text: &[u8]) -> usize
 }
 
 // A cell without the blanks on both sides.
+#[inline(always)]
 #[tactic(auto, using(crate::proofs::MarkedCells::begins_ahead, crate::proofs::MarkedCells::ahead_long))]
 fn without_blanks(cell: Cell<'_>) -> Cell<'_>
     requires fits { cell.start + length cell.text.now < 2 ^ 64 }

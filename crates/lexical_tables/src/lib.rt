@@ -10,11 +10,13 @@
 
 mod alone;
 mod answers;
+mod at_once;
 mod by_column;
 mod cells;
 mod content;
 mod dialect;
 mod header;
+mod marked;
 mod misplaced;
 mod parts;
 mod quotes;
@@ -23,6 +25,7 @@ mod targets;
 
 pub use alone::columns_alone;
 pub use answers::{CellFault, Table, TableError};
+pub use at_once::put_at_once;
 pub use by_column::read_columns;
 pub use dialect::{Dialect, Layout};
 pub use header::after_lines;

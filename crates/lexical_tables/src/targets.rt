@@ -1,6 +1,6 @@
 //! Where the numbers of a table's columns go.
 
-ghost use Rattle.std.specs.Prelude.{◌≡◌, ◌+◌, ◌*◌, ◌<◌, ◌≤◌, ◌^◌, Ok, Option, None, Some, length, take, map, set, is_some, option_map, pos, IfSome, IsNone};
+ghost use Rattle.std.specs.Prelude.{◌≡◌, ◌+◌, ◌*◌, ◌<◌, ◌≤◌, ◌^◌, ℕ, Ok, Option, None, Some, false, length, take, map, set, is_some, option_map, pos, IfSome, IsNone, IsTrue};
 ghost use Rattle.lexical_util.specs.Format.{standard};
 ghost use Rattle.lexical_util.specs.Validity.{fault};
 ghost use Rattle.lexical_parse_integer.specs.Grammar.{complete};
@@ -223,6 +223,22 @@ pub trait TableColumn {
             (record { start = start; text = text.now }) }
         ensures target { target self.new ≡ option_map (put_text row
             (record { start = start; text = text.now })) (target self.old) };
+
+    /// Puts the number that a text's first bytes, so many, stand for into a row's place, and sets the row's bit, where that
+    /// is had at once, and tells whether it did. Else it puts nothing, and says nothing of them: `read` has to be asked.
+    ///
+    /// A column that doesn't write it is read by `read` alone.
+    fn read_at_once(&mut self, row: usize, ahead: &[u8], size: usize) -> bool
+        requires usable { IsUsable (row + 1) (target self.old) }
+        requires within { size ≤ length ahead.now }
+        ensures fault { IsTrue result → (start : ℕ) → text_fault (target self.old)
+            (record { start = start; text = take size ahead.now }) ≡ None }
+        ensures target { IsTrue result → (start : ℕ) → target self.new ≡ option_map (put_text row
+            (record { start = start; text = take size ahead.now })) (target self.old) }
+        ensures kept { result ≡ false → target self.new ≡ target self.old }
+    {
+        false
+    }
 }
 
 impl TableColumn for Option<Target<'_>> {
@@ -258,8 +274,16 @@ impl TableColumn for Option<Target<'_>> {
         options: &Options,
     ) -> Option<Error> {
         match self {
-            Some(target) => target.read(row, start, text, ahead, options),
+            Some(target) => target.read(row, start, text, options),
             None => None,
+        }
+    }
+
+    #[inline(always)]
+    fn read_at_once(&mut self, row: usize, ahead: &[u8], size: usize) -> bool {
+        match self {
+            Some(target) => target.read_at_once(row, ahead, size),
+            None => false,
         }
     }
 }
@@ -295,7 +319,7 @@ impl Target<'_> {
 
     // Sets a row's bit, or clears it, if the column has bits.
     #[inline(always)]
-    fn put_presence(&mut self, row: usize, is_there: bool)
+    pub(crate) fn put_presence(&mut self, row: usize, is_there: bool)
         requires room { IfSome (view_of_target self.old).present
             (λ bytes. row + 1 ≤ 8 * length bytes) }
         ensures { view_of_target self.new ≡ record (view_of_target self.old) {
@@ -307,25 +331,17 @@ impl Target<'_> {
         }
     }
 
-    // Puts the number of a text into a row's place, and sets the row's bit, or tells the text's fault.
-    #[inline(always)]
-    fn read(
-        &mut self,
-        row: usize,
-        start: usize,
-        text: &[u8],
-        ahead: &[u8],
-        options: &Options,
-    ) -> Option<Error>
+    // Puts the number of a text into a row's place, and sets the row's bit, or tells the text's fault: by the parser, since
+    // `read_at_once` was asked before.
+    fn read(&mut self, row: usize, start: usize, text: &[u8], options: &Options) -> Option<Error>
         requires usable { IsUsable (row + 1) (Some (view_of_target self.old)) }
-        requires front { text.now ≡ take (length text.now) ahead.now }
         requires fits { start + length text.now < 2 ^ 64 }
         ensures fault { result ≡ error_in (text_answer (view_of_target self.old)
             (record { start = start; text = text.now })) }
         ensures target { view_of_target self.new ≡ put_text row
             (record { start = start; text = text.now }) (view_of_target self.old) }
     {
-        if let Some(error) = self.put_number(row, start, text, ahead, options) {
+        if let Some(error) = self.put_number(row, start, text, options) {
             return Some(error);
         }
         self.put_presence(row, true);
@@ -339,11 +355,9 @@ impl Target<'_> {
         row: usize,
         start: usize,
         text: &[u8],
-        ahead: &[u8],
         options: &Options,
     ) -> Option<Error>
         requires valid { IsNone (fault self.old.format) }
-        requires front { text.now ≡ take (length text.now) ahead.now }
         requires room { row < length (view_of_target self.old).numbers }
         requires fits { start + length text.now < 2 ^ 64 }
         ensures fault { result ≡ error_in (text_answer (view_of_target self.old)
@@ -355,26 +369,14 @@ impl Target<'_> {
     {
         let format = &self.format;
         match &mut self.numbers {
-            Numbers::U8(values) => put_cell::<u8>(values, row, start, text, ahead, format, options),
-            Numbers::U16(values) => put_cell::<u16>(
-                values, row, start, text, ahead, format, options,
-            ),
-            Numbers::U32(values) => put_cell::<u32>(
-                values, row, start, text, ahead, format, options,
-            ),
-            Numbers::U64(values) => put_cell::<u64>(
-                values, row, start, text, ahead, format, options,
-            ),
-            Numbers::I8(values) => put_cell::<i8>(values, row, start, text, ahead, format, options),
-            Numbers::I16(values) => put_cell::<i16>(
-                values, row, start, text, ahead, format, options,
-            ),
-            Numbers::I32(values) => put_cell::<i32>(
-                values, row, start, text, ahead, format, options,
-            ),
-            Numbers::I64(values) => put_cell::<i64>(
-                values, row, start, text, ahead, format, options,
-            ),
+            Numbers::U8(values) => put_parsed::<u8>(values, row, start, text, format, options),
+            Numbers::U16(values) => put_parsed::<u16>(values, row, start, text, format, options),
+            Numbers::U32(values) => put_parsed::<u32>(values, row, start, text, format, options),
+            Numbers::U64(values) => put_parsed::<u64>(values, row, start, text, format, options),
+            Numbers::I8(values) => put_parsed::<i8>(values, row, start, text, format, options),
+            Numbers::I16(values) => put_parsed::<i16>(values, row, start, text, format, options),
+            Numbers::I32(values) => put_parsed::<i32>(values, row, start, text, format, options),
+            Numbers::I64(values) => put_parsed::<i64>(values, row, start, text, format, options),
         }
     }
 }

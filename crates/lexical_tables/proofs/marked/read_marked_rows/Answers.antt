@@ -3,8 +3,8 @@ use Rattle.std.proofs.lemmas.Bool.Decides.{nat_tests}
 use Rattle.lexical_tables.specs.Rows.{view_of_row}
 use Rattle.lexical_tables.proofs.ColumnTables.{row_usable, table_ends, table_fault, table_goes, table_starts}
 use Rattle.lexical_tables.proofs.RowSteps.{skip_starts}
-use Rattle.lexical_tables.proofs.by_column.read_columns.Goals.{then-loop-count-test+else-not-is_empty, else-loop-count-test}
-use Rattle.lexical_tables.proofs.by_column.read_columns.Goals as goal
+use Rattle.lexical_tables.proofs.marked.read_marked_rows.Goals.{then-loop-count-test+else-not-is_empty, else-loop-count-test}
+use Rattle.lexical_tables.proofs.marked.read_marked_rows.Goals as goal
 
 pub loop-count-init : goal.loop-count-init
 loop-count-init g c =
@@ -15,8 +15,8 @@ loop-count-init g c =
       rows_are = c.without_empty_rows-rest.ensures.rows;
     }) c.without_empty_rows-rest.ensures.first
 
-pub read_cells-requires-clause-usable : goal.read_cells-requires-clause-usable
-read_cells-requires-clause-usable g c =
+pub read_marked_cells-requires-clause-usable : goal.read_marked_cells-requires-clause-usable
+read_marked_cells-requires-clause-usable g c =
     row_usable c.args.dialect.now c.args.rows c.args.text.now (map g.C.TableColumn.target c.args.targets.now)
     (map g.C.TableColumn.target c.loop-count.targets) c.loop-count.count c.loop-count.rest.now c.loop-count.invariant
     (grind (arith, nat_tests))
@@ -28,7 +28,7 @@ returns-in-Some g c =
     (map g.C.TableColumn.target c.loop-count.targets) c.loop-count.count c.loop-count.rest.now c.loop-count.invariant
     (view_of_row c.first_row.result.0) c.first_row.result.1.now c.first_row.result.1.now (grind (arith, nat_tests)) some
     c.first_row.ensures.behind c.first_row.ensures.shorter c.first_row.ensures.row
-    (skip_starts c.args.dialect.now c.first_row.result.1.now) (map g.C.TableColumn.target c.read_cells.new.targets) c.in-Some.ensures.targets c.in-Some.error (sym c.in-Some.ensures.fault) in
+    (skip_starts c.args.dialect.now c.first_row.result.1.now) (map g.C.TableColumn.target c.read_marked_cells.new.targets) c.in-Some.ensures.targets c.in-Some.error (sym c.in-Some.ensures.fault) in
     record { answer = done.answer_is; targets = done.targets_are; goes_on = tt }
 
 pub loop-count-preserved : goal.loop-count-preserved
@@ -42,7 +42,7 @@ loop-count-preserved g c =
       within = c.without_empty_rows-rest-in-loop-count.ensures.within;
       tail = c.without_empty_rows-rest-in-loop-count.ensures.tail;
       rows_are = c.without_empty_rows-rest-in-loop-count.ensures.rows;
-    }) (map g.C.TableColumn.target c.read_cells.new.targets) c.in_default.ensures.targets (sym c.in_default.ensures.fault)
+    }) (map g.C.TableColumn.target c.read_marked_cells.new.targets) c.in_default.ensures.targets (sym c.in_default.ensures.fault)
     c.without_empty_rows-rest-in-loop-count.ensures.first
 
 pub returns : goal.returns

@@ -1,6 +1,6 @@
 use Rattle.std.proofs.Common.{◌-◌, map}
 use Rattle.lexical_tables.proofs.ColumnTables.{IsTablePut}
-use Rattle.lexical_tables.proofs.by_column.read_columns.Given as goal
+use Rattle.lexical_tables.proofs.by_column.read_rows.Given as goal
 
 -- so many rows were read
 abbrev pub invariant-loop-count : goal.invariant-loop-count

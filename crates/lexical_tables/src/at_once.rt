@@ -1,0 +1,94 @@
+//! Numbers of cells that are had at once: as nearly all are.
+
+ghost use Rattle.std.specs.Prelude.{◌≡◌, ◌<◌, ◌≤◌, ◌+◌, ℕ, IsNone, IsTrue, None, Some, false, length, map, take};
+ghost use Rattle.lexical_util.specs.Validity.{fault};
+ghost use Rattle.lexical_fields.specs.ReadFields.{field_answer};
+ghost use Rattle.lexical_tables.specs.ByColumn.{IsUsable};
+ghost use Rattle.lexical_tables.specs.Targets.{error_in, put_text, text_answer, text_fault, view_of_target, with_number};
+
+use crate::targets::{Numbers, Target};
+use lexical_fields::value_of_front;
+use lexical_parse_integer::NumberFormat;
+use lexical_parse_integer::parse::ParseInteger;
+
+/// Puts the number of a text's first bytes, so many, into a row's place of a slice, and tells whether it did: it does where
+/// they are decimal digits alone or behind a minus, the format has no punctuation, and seventeen bytes follow. Else it puts
+/// nothing, and says nothing of them.
+///
+/// It is for a [`TableColumn`](crate::TableColumn) of one's own. The format has to be valid, and the slice has to have that
+/// place.
+#[inline(always)]
+pub fn put_at_once<T: ParseInteger>(
+    values: &mut [T],
+    row: usize,
+    ahead: &[u8],
+    size: usize,
+    format: &NumberFormat,
+) -> bool
+    requires valid { IsNone (fault format.now) }
+    requires room { row < length values.old }
+    requires within { size ≤ length ahead.now }
+    ensures fault { IsTrue result → (start : ℕ) → error_in (field_answer format.now T.TYPE
+        (record { start = start; text = take size ahead.now })) ≡ None }
+    ensures numbers { IsTrue result → (start : ℕ) → map T.number values.new
+        ≡ with_number row (field_answer format.now T.TYPE
+        (record { start = start; text = take size ahead.now })) (map T.number values.old) }
+    ensures kept { result ≡ false → values.new ≡ values.old }
+{
+    match value_of_front::<T>(ahead, size, format) {
+        Some(value) => {
+            values[row] = value;
+            true
+        }
+        None => false,
+    }
+}
+
+impl Target<'_> {
+    /// Puts the number of a text's first bytes, so many, into a row's place, and sets the row's bit, where
+    /// [`put_at_once`] has it, and tells whether it did.
+    #[inline(always)]
+    pub(crate) fn read_at_once(&mut self, row: usize, ahead: &[u8], size: usize) -> bool
+        requires usable { IsUsable (row + 1) (Some (view_of_target self.old)) }
+        requires within { size ≤ length ahead.now }
+        ensures fault { IsTrue result → (start : ℕ) → text_fault (Some (view_of_target self.old))
+            (record { start = start; text = take size ahead.now }) ≡ None }
+        ensures target { IsTrue result → (start : ℕ) → view_of_target self.new ≡ put_text row
+            (record { start = start; text = take size ahead.now }) (view_of_target self.old) }
+        ensures kept { result ≡ false → view_of_target self.new ≡ view_of_target self.old }
+    {
+        if !self.put_number_at_once(row, ahead, size) {
+            return false;
+        }
+        self.put_presence(row, true);
+        true
+    }
+
+    // Puts the number of a text's first bytes, so many, into a row's place, where it is had at once.
+    #[inline(always)]
+    fn put_number_at_once(&mut self, row: usize, ahead: &[u8], size: usize) -> bool
+        requires valid { IsNone (fault self.old.format) }
+        requires room { row < length (view_of_target self.old).numbers }
+        requires within { size ≤ length ahead.now }
+        ensures fault { IsTrue result → (start : ℕ) → text_fault (Some (view_of_target self.old))
+            (record { start = start; text = take size ahead.now }) ≡ None }
+        ensures target { IsTrue result → (start : ℕ) → view_of_target self.new
+            ≡ record (view_of_target self.old) {
+              numbers = with_number row (text_answer (view_of_target self.old)
+                  (record { start = start; text = take size ahead.now })) (view_of_target self.old).numbers;
+            } }
+        ensures kept { result ≡ false → view_of_target self.new ≡ view_of_target self.old }
+    {
+        let format = &self.format;
+        match &mut self.numbers {
+            Numbers::U8(values) => put_at_once::<u8>(values, row, ahead, size, format),
+            Numbers::U16(values) => put_at_once::<u16>(values, row, ahead, size, format),
+            Numbers::U32(values) => put_at_once::<u32>(values, row, ahead, size, format),
+            Numbers::U64(values) => put_at_once::<u64>(values, row, ahead, size, format),
+            Numbers::I8(values) => put_at_once::<i8>(values, row, ahead, size, format),
+            Numbers::I16(values) => put_at_once::<i16>(values, row, ahead, size, format),
+            Numbers::I32(values) => put_at_once::<i32>(values, row, ahead, size, format),
+            Numbers::I64(values) => put_at_once::<i64>(values, row, ahead, size, format),
+        }
+    }
+}
