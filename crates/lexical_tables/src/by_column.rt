@@ -182,7 +182,8 @@ fn read_cells<C: TableColumn>(
     end_fault(row, index, shape.columns, column, extra)
 }
 
-// `read_columns` of any table.
+// `read_columns` of any table. Why out of line: docs/DECISIONS.md, code.
+#[inline(never)]
 fn read_rows<C: TableColumn>(
     text: &[u8],
     shape: Shape,

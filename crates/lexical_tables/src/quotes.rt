@@ -35,7 +35,9 @@ fn plain_length(text: &[u8], separator: u8, is_within: bool) -> usize
     }
 }
 
-// How many they are where quotes have a meaning: byte by byte where a quote stands, and else by sixteen at once.
+// How many they are where quotes have a meaning: byte by byte where a quote stands, and else by sixteen at once. Why out of
+// line: docs/DECISIONS.md, code.
+#[inline(never)]
 fn quoted_length(text: &[u8], separator: u8) -> usize
     ensures value { result ≡ field_length separator (hidden separator text.now) }
     ensures within { result ≤ length text.now }
