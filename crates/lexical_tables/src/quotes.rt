@@ -3,7 +3,7 @@ ghost use Rattle.std.specs.Prelude.{◌≡◌, ◌≢◌, ◌<◌, ◌≤◌, �
 ghost use Rattle.lexical_fields.specs.Fields.{field_length};
 ghost use Rattle.lexical_tables.specs.Quotes.{hidden, length_outside, quote};
 
-use lexical_fields::field_length;
+use lexical_fields::{field_length, next_marks, split_marked};
 
 // How many bytes stand before the first separator outside quotes, or in the text where there is none.
 #[inline(always)]
@@ -14,8 +14,21 @@ pub(crate) fn length_outside(text: &[u8], separator: u8, has_quotes: bool) -> us
     if has_quotes && separator != b'"' {
         quoted_length(text, separator)
     } else {
-        field_length(text, separator)
+        marked_length(text, separator)
     }
+}
+
+// How many they are where quotes have no meaning: by one look at 64 bytes, as most lines end among these.
+#[inline(always)]
+fn marked_length(text: &[u8], separator: u8) -> usize
+    ensures value { result ≡ field_length separator text.now }
+    ensures within { result ≤ length text.now }
+{
+    let marks = next_marks(text, 0, separator);
+    if marks == 0 {
+        return field_length(text, separator);
+    }
+    split_marked(text, marks, separator).0
 }
 
 // How many of a text's first sixteen bytes stand before a quote, and outside quotes before a separator too.
