@@ -59,11 +59,11 @@ fn tell<W: Write>(
     match command {
         None => put(b"bad line", batch, out),
         Some(Command::Complete(name, text)) => {
-            let answer = parse::complete(name, text, &settings.format(), settings.options());
+            let answer = parse::complete(name, text, settings.format(), settings.options());
             put_complete(answer, batch, out)
         }
         Some(Command::Partial(name, text)) => {
-            let answer = parse::partial(name, text, &settings.format(), settings.options());
+            let answer = parse::partial(name, text, settings.format(), settings.options());
             put_partial(answer, batch, out)
         }
         Some(Command::Tokens(text)) => put_tokens(text, batch, out),
