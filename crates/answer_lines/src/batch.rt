@@ -1,12 +1,16 @@
 //! Bytes that are gathered before they go out.
 
-ghost use Rattle.std.specs.Prelude.{◌≡◌, ◌+◌, ◌≤◌, ℕ, List, [], ◌++◌, take, length, OnOk, OnErr, IsOkUnless};
+ghost use Rattle.std.specs.Prelude.{◌≡◌, ◌+◌, ◌^◌, ◌<◌, ◌≤◌, ℕ, List, [], ◌∷◌, ◌++◌, Some, codes, take, length, unsigned_abs, OnOk, OnErr, IsOkUnless};
 ghost use Rattle.std.specs.Io.KnownBytes.{Appends};
-ghost use Rattle.answer_lines.specs.Decimal.{decimal_text};
+ghost use Rattle.lexical_util.specs.Ascii.{line_feed};
+ghost use Rattle.answer_lines.specs.Decimal.{decimal_text, signed_text};
 ghost use Rattle.answer_lines.specs.Gather.{GainsFront, Gathers, Sends};
+ghost use Rattle.answer_lines.specs.Output.{place_text};
 
-use crate::decimal::{self, digit_count, write_before};
+use crate::append::{add_found_line, add_number, add_value_line};
+use crate::decimal;
 use crate::fault::RunError;
+use crate::number::Number;
 use std::io::Write;
 use std::marker::Model;
 
@@ -44,7 +48,7 @@ impl Batch {
 
     /// How many more bytes it can take.
     #[inline(always)]
-    fn room(&self) -> usize
+    pub(crate) fn room(&self) -> usize
         ensures { result + length self.now ≡ 65536 }
     {
         SIZE - self.count
@@ -67,9 +71,30 @@ impl Batch {
         requires { length self.old + 20 ≤ 65536 }
         ensures { self.new ≡ self.old ++ decimal_text number }
     {
-        let end = self.count + digit_count(number);
-        write_before(number, &mut self.held, end);
-        self.count = end;
+        self.count = add_number(number, &mut self.held, self.count);
+    }
+
+    /// Adds `ok V` and a line feed, where it has room for the longest that a number of 64 bits makes.
+    #[inline(always)]
+    pub(crate) fn add_value_line(&mut self, value: &Number)
+        requires small { unsigned_abs value.now < 2 ^ 64 }
+        requires room { length self.old + 25 ≤ 65536 }
+        ensures { self.new
+            ≡ self.old ++ (codes "ok " ++ signed_text value.now ++ line_feed ∷ []) }
+    {
+        self.count = add_value_line(value, &mut self.held, self.count);
+    }
+
+    /// Adds `ok V PLACE` and a line feed, where it has room for the longest that a number of 64 bits
+    /// makes.
+    #[inline(always)]
+    pub(crate) fn add_found_line(&mut self, value: &Number, stop: usize)
+        requires small { unsigned_abs value.now < 2 ^ 64 }
+        requires room { length self.old + 46 ≤ 65536 }
+        ensures { self.new ≡ self.old
+            ++ (codes "ok " ++ signed_text value.now ++ place_text (Some stop) ++ line_feed ∷ []) }
+    {
+        self.count = add_found_line(value, stop, &mut self.held, self.count);
     }
 
     /// Its bytes.
