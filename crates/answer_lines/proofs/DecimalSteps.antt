@@ -12,7 +12,7 @@ use Rattle.std.specs.Prelude.{nat_lt, ◌<ℤ◌, unsigned_abs}
 use lib.IntN.{ℤ}
 use Rattle.lexical_parse_integer.proofs.ForCallers.{digits_text, digits_text_is}
 use Rattle.lexical_parse_integer.specs.Laws.{IsNumeralOf, WritesShortest}
-use Rattle.answer_lines.specs.Decimal.{decimal_text, signed_text}
+use Rattle.answer_lines.specs.Decimal.{decimal_text, eight_digits, four_digits, signed_text, sixteen_digits, two_digits}
 
 decimal_some : (n : ℕ) → 0 < n → decimal_text n ≡ map (λ d. 48 + d) (digits_of 10 n)
 decimal_some n some = grind arith
@@ -84,6 +84,69 @@ decimal_pair whole left at place next big e w =
     ((48 + left % 100 / 10) ∷ (48 + left % 100 % 10) ∷ []) (drop at place)
     ∙ ap (λ t. decimal_text (left / 100) ++ t) (sym w)
 
+-- the last four digits, and the digits in front of them
+decimal_four_step : (n : ℕ) → 10 ^ 4 ≤ n → decimal_text n ≡ decimal_text (n / 10 ^ 4) ++ four_digits (n % 10 ^ 4)
+decimal_four_step n big =
+    let a : n / 100 / 100 ≡ n / 10 ^ 4 = omega arith in
+    let b : n / 100 % 100 ≡ n % 10 ^ 4 / 100 = omega arith in
+    let d : n % 100 ≡ n % 10 ^ 4 % 100 = omega arith in
+    decimal_pair_step n (omega arith) ∙ ap (λ t. t ++ two_digits (n % 100)) (decimal_pair_step (n / 100) (omega arith))
+    ∙ append_assoc (decimal_text (n / 100 / 100)) (two_digits (n / 100 % 100)) (two_digits (n % 100))
+    ∙ rw (a, b, d) refl
+
+-- the last eight digits, and the digits in front of them
+decimal_eight_step : (n : ℕ) → 10 ^ 8 ≤ n → decimal_text n ≡ decimal_text (n / 10 ^ 8) ++ eight_digits (n % 10 ^ 8)
+unfolding eight_digits
+decimal_eight_step n big =
+    let a : n / 10 ^ 4 / 10 ^ 4 ≡ n / 10 ^ 8 = omega arith in
+    let b : n / 10 ^ 4 % 10 ^ 4 ≡ n % 10 ^ 8 / 10 ^ 4 = omega arith in
+    let d : n % 10 ^ 4 ≡ n % 10 ^ 8 % 10 ^ 4 = omega arith in
+    decimal_four_step n (omega arith)
+    ∙ ap (λ t. t ++ four_digits (n % 10 ^ 4)) (decimal_four_step (n / 10 ^ 4) (omega arith))
+    ∙ append_assoc (decimal_text (n / 10 ^ 4 / 10 ^ 4)) (four_digits (n / 10 ^ 4 % 10 ^ 4)) (four_digits (n % 10 ^ 4))
+    ∙ rw (a, b, d) refl
+
+-- the last sixteen digits, and the digits in front of them
+decimal_sixteen_step : (n : ℕ) → 10 ^ 16 ≤ n
+    → decimal_text n ≡ decimal_text (n / 10 ^ 16) ++ sixteen_digits (n % 10 ^ 16)
+unfolding sixteen_digits
+decimal_sixteen_step n big =
+    let a : n / 10 ^ 8 / 10 ^ 8 ≡ n / 10 ^ 16 = omega arith in
+    let b : n / 10 ^ 8 % 10 ^ 8 ≡ n % 10 ^ 16 / 10 ^ 8 = omega arith in
+    let d : n % 10 ^ 8 ≡ n % 10 ^ 16 % 10 ^ 8 = omega arith in
+    decimal_eight_step n (omega arith)
+    ∙ ap (λ t. t ++ eight_digits (n % 10 ^ 8)) (decimal_eight_step (n / 10 ^ 8) (omega arith))
+    ∙ append_assoc (decimal_text (n / 10 ^ 8 / 10 ^ 8)) (eight_digits (n / 10 ^ 8 % 10 ^ 8)) (eight_digits (n % 10 ^ 8))
+    ∙ rw (a, b, d) refl
+
+-- more digits in front of those that stand
+digits_in_front : (whole front digits behind next : List ℕ) (left : ℕ) → whole ≡ decimal_text left ++ behind
+    → decimal_text left ≡ front ++ digits → next ≡ digits ++ behind → whole ≡ front ++ next
+digits_in_front whole front digits behind next left e step w =
+    e ∙ ap (λ t. t ++ behind) step ∙ append_assoc front digits behind ∙ ap (λ t. front ++ t) (sym w)
+
+-- four more digits in front of those that stand
+pub decimal_four : (whole : List ℕ) (left at : ℕ) (place next : List ℕ) → 10 ^ 4 ≤ left
+    → whole ≡ decimal_text left ++ drop at place
+    → drop (at - 4) next ≡ four_digits (left % 10 ^ 4) ++ drop at place
+    → whole ≡ decimal_text (left / 10 ^ 4) ++ drop (at - 4) next
+decimal_four whole left at place next big e w =
+    digits_in_front whole _ _ (drop at place) _ left e (decimal_four_step left big) w
+
+-- sixteen more digits in front of those that stand
+pub decimal_sixteen : (whole : List ℕ) (left at : ℕ) (place next : List ℕ) → 10 ^ 16 ≤ left
+    → whole ≡ decimal_text left ++ drop at place
+    → drop (at - 16) next ≡ sixteen_digits (left % 10 ^ 16) ++ drop at place
+    → whole ≡ decimal_text (left / 10 ^ 16) ++ drop (at - 16) next
+decimal_sixteen whole left at place next big e w =
+    digits_in_front whole _ _ (drop at place) _ left e (decimal_sixteen_step left big) w
+
+-- digits in front of digits
+pub digits_behind : (first second before between behind : List ℕ) → between ≡ second ++ behind
+    → before ≡ first ++ between → before ≡ (first ++ second) ++ behind
+digits_behind first second before between behind e f =
+    f ∙ ap (λ t. first ++ t) e ∙ sym (append_assoc first second behind)
+
 -- the first two digits
 pub decimal_pair_last : (whole : List ℕ) (left at : ℕ) (place next : List ℕ) → 10 ≤ left
     → left < 100 → whole ≡ decimal_text left ++ drop at place
@@ -100,6 +163,24 @@ room_pair n at lt big =
     let a : n / 10 / 10 ≡ n / 100 = omega arith in
     let b : at - 1 - 1 ≡ at - 2 = omega arith in
     (rw (a, b) at two, omega arith)
+
+pub room_four : (n at : ℕ) → n < 10 ^ at → 10 ^ 4 ≤ n → (n / 10 ^ 4 < 10 ^ (at - 4)) × (5 ≤ at)
+room_four n at lt big =
+    let (one, some) = room_pair n at lt (omega arith) in
+    let (two, more) = room_pair (n / 100) (at - 2) one (omega arith) in
+    let a : n / 100 / 100 ≡ n / 10 ^ 4 = omega arith in
+    let b : at - 2 - 2 ≡ at - 4 = omega arith in
+    (rw (a, b) at two, omega arith)
+
+pub room_sixteen : (n at : ℕ) → n < 10 ^ at → 10 ^ 16 ≤ n → (n / 10 ^ 16 < 10 ^ (at - 16)) × (17 ≤ at)
+room_sixteen n at lt big =
+    let (one, some) = room_four n at lt (omega arith) in
+    let (two, more) = room_four (n / 10 ^ 4) (at - 4) one (omega arith) in
+    let (three, many) = room_four (n / 10 ^ 4 / 10 ^ 4) (at - 4 - 4) two (omega arith) in
+    let (four, most) = room_four (n / 10 ^ 4 / 10 ^ 4 / 10 ^ 4) (at - 4 - 4 - 4) three (omega arith) in
+    let a : n / 10 ^ 4 / 10 ^ 4 / 10 ^ 4 / 10 ^ 4 ≡ n / 10 ^ 16 = omega arith in
+    let b : at - 4 - 4 - 4 - 4 ≡ at - 16 = omega arith in
+    (rw (a, b) at four, omega arith)
 
 -- ---- how many digits
 

@@ -190,7 +190,7 @@ fn put_value_line<W: Write>(value: &Number, batch: &mut Batch, out: &mut W) -> R
     ensures fault { IsOkUnless result RunError.Write }
 {
     if value.magnitude() > u64::MAX as u128 || batch.room() < MOST_OF_VALUE_LINE {
-        return put_value_in_parts(value, batch, out);
+        return put_value_in_parts(&value.copied(), batch, out);
     }
     batch.add_value_line(value);
     Ok(())
@@ -228,7 +228,7 @@ fn put_found_line<W: Write>(
     ensures fault { IsOkUnless result RunError.Write }
 {
     if value.magnitude() > u64::MAX as u128 || batch.room() < MOST_OF_FOUND_LINE {
-        return put_found_in_parts(value, stop, batch, out);
+        return put_found_in_parts(&value.copied(), stop, batch, out);
     }
     batch.add_found_line(value, stop);
     Ok(())

@@ -1,7 +1,7 @@
-use Rattle.std.proofs.Common.{ℕ, ◌-◌, ◌∙◌, arith, refl, sym}
-use Rattle.std.proofs.lemmas.List.{drop_all, append-nil, length-set, take-set}
+use Rattle.std.proofs.Common.{◌≡◌, ◌-◌, ◌*◌, ◌/◌, ◌%◌, ◌^◌, ◌∙◌, arith, refl, sym}
+use Rattle.std.proofs.lemmas.List.{drop_all, append-nil}
 use Rattle.answer_lines.specs.Decimal.{decimal_text}
-use Rattle.answer_lines.proofs.DecimalSteps.{kept_less, decimal_more, leaves_room, room_some, room_next}
+use Rattle.answer_lines.proofs.DecimalSteps.{kept_less, decimal_sixteen, leaves_room, room_sixteen}
 use Rattle.answer_lines.proofs.decimal.write_decimal.Goals as goal
 
 pub loop-rest-init : goal.loop-rest-init
@@ -17,18 +17,19 @@ loop-rest-init c = record {
 pub loop-rest-preserved : goal.loop-rest-preserved
 loop-rest-preserved c =
     let l = c.loop-rest in
-    let big = room_some l.rest l.start l.invariant.room (omega arith) in
+    let (room, some) = room_sixteen l.rest l.start l.invariant.room (omega arith) in
+    let group : l.rest - l.rest / 10 ^ 16 * 10 ^ 16 ≡ l.rest % 10 ^ 16 = omega arith in
     record {
       within = omega arith;
       some = omega arith;
-      size = omega (arith, length-set {A = ℕ});
-      room = room_next l.rest l.start l.invariant.room (omega arith);
+      size = omega arith;
+      room = room;
       written =
-          decimal_more (decimal_text c.args.n) l.rest l.start l.place (omega arith) (omega arith)
-          (omega arith) l.invariant.written;
+          decimal_sixteen (decimal_text c.args.n) l.rest l.start l.place c.put_sixteen.new.place (omega arith)
+          l.invariant.written (rw group at c.put_sixteen.ensures.written);
       kept =
-          kept_less _ l.place _ (l.start - 1) l.start (omega arith) l.invariant.kept
-          (take-set l.place (l.start - 1) _);
+          kept_less _ l.place _ (l.start - 16) l.start (omega arith) l.invariant.kept
+          c.put_sixteen.ensures.kept;
     }
 
 pub returns-clause-room : goal.returns-clause-room
