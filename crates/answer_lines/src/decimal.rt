@@ -1,149 +1,210 @@
-//! Numbers as text, in an array of the caller.
+//! Numbers as text, added behind other text in a place of the caller that has room.
 
-ghost use Rattle.std.specs.Prelude.{◌≡◌, ◌≤◌, ◌<◌, ◌+◌, ◌-◌, ◌/◌, ◌%◌, ◌^◌, ◌∷◌, ◌++◌, drop, length, take};
-ghost use Rattle.lexical_util.specs.Ascii.{digit_zero};
-ghost use Rattle.answer_lines.specs.Decimal.{decimal_text, eight_digits, four_digits, sixteen_digits};
+ghost use Rattle.std.specs.Prelude.{◌≡◌, ◌+◌, ◌^◌, ◌<◌, ◌≤◌, ◌∷◌, [], ◌++◌, length, take};
+ghost use Rattle.answer_lines.specs.Decimal.{decimal_text, eight_digits, four_digits, sixteen_digits, two_digits};
 
-/// The room that the longest text takes.
+/// The room that the longest number asks for.
 pub const MOST_DIGITS: usize = 40;
 
-/// Sixteen digits, which a `u64` holds, make a group.
+/// What splits off the last sixteen digits, which a `u64` holds.
 const GROUP: u128 = 10_000_000_000_000_000;
 
-/// Writes the digits so that they end where the array does, and answers where they start. What is
-/// before them in the array stays.
-pub fn write_decimal(n: u128, place: &mut [u8; MOST_DIGITS]) -> usize
-    ensures within { result ≤ 40 }
-    ensures room { 1 ≤ result }
-    ensures written { drop result place.new ≡ decimal_text n }
-    ensures kept { take result place.new ≡ take result place.old }
+/// Adds the digits of a number, and answers where they end.
+#[inline(always)]
+pub fn add_decimal(n: u128, place: &mut [u8], end: usize) -> usize
+    requires room { end + 40 ≤ length place.old }
+    ensures size { length place.new ≡ length place.old }
+    ensures within { result ≤ end + 40 }
+    ensures written { take result place.new ≡ take end place.old ++ decimal_text n }
 {
-    let mut rest = n;
-    let mut start = MOST_DIGITS;
-    while rest > u64::MAX as u128 {
-        let front = rest / GROUP;
-        put_sixteen((rest - front * GROUP) as u64, place, start);
-        rest = front;
-        start -= 16;
+    if n > u64::MAX as u128 {
+        return add_wide(n, place, end);
     }
-    write_before(rest as u64, place, start)
+    add_number(n as u64, place, end)
 }
 
-/// How many digits a number has.
+/// Adds the digits of a number of 64 bits, and answers where they end.
 #[inline(always)]
-pub fn digit_count(n: u64) -> usize
-    ensures size { result ≡ length (decimal_text n) }
-    ensures some { 1 ≤ result }
-    ensures most { result ≤ 20 }
-    ensures room { n < 10 ^ result }
+pub fn add_number(n: u64, place: &mut [u8], end: usize) -> usize
+    requires room { end + 20 ≤ length place.old }
+    ensures size { length place.new ≡ length place.old }
+    ensures within { result ≤ end + 20 }
+    ensures written { take result place.new ≡ take end place.old ++ decimal_text n }
 {
-    if n == 0 {
-        return 1;
+    if n < 10_000 {
+        return add_few(n as u32, place, end);
     }
-    n.ilog10() as usize + 1
+    add_many(n, place, end)
 }
 
-/// Writes the digits before a place, four a division, and answers where they start.
-#[inline(always)]
-pub fn write_before(n: u64, place: &mut [u8], end: usize) -> usize
-    requires some { 1 ≤ end }
-    requires high { end ≤ length place.old }
-    requires room { n < 10 ^ end }
+// Adds the digits of a number of more than 64 bits: a wide division splits off sixteen.
+#[inline(never)]
+fn add_wide(n: u128, place: &mut [u8], end: usize) -> usize
+    requires wide { 2 ^ 64 ≤ n }
+    requires room { end + 40 ≤ length place.old }
     ensures size { length place.new ≡ length place.old }
-    ensures within { result ≤ end }
-    ensures written { drop result place.new ≡ decimal_text n ++ drop end place.old }
-    ensures kept { take result place.new ≡ take result place.old }
+    ensures within { result ≤ end + 40 }
+    ensures written { take result place.new ≡ take end place.old ++ decimal_text n }
 {
-    let mut rest = n;
-    let mut start = end;
-    while rest >= 10_000 {
-        put_four((rest % 10_000) as u32, place, start);
-        rest /= 10_000;
-        start -= 4;
+    let front = n / GROUP;
+    let start = add_front(front, place, end);
+    add_sixteen((n - front * GROUP) as u64, place, start)
+}
+
+// Adds the digits of what is in front of those sixteen.
+#[inline(always)]
+fn add_front(n: u128, place: &mut [u8], end: usize) -> usize
+    requires few { n < 10 ^ 23 }
+    requires room { end + 24 ≤ length place.old }
+    ensures size { length place.new ≡ length place.old }
+    ensures within { result ≤ end + 24 }
+    ensures written { take result place.new ≡ take end place.old ++ decimal_text n }
+{
+    if n <= u64::MAX as u128 {
+        return add_number(n as u64, place, end);
     }
-    write_few(rest as u32, place, start)
+    let front = n / GROUP;
+    let start = add_to_eight(front as u32, place, end);
+    add_sixteen((n - front * GROUP) as u64, place, start)
 }
 
-// Writes the digits of a number of few digits before a place, and answers where they start.
-#[inline(always)]
-fn write_few(n: u32, place: &mut [u8], end: usize) -> usize
-    requires some { 1 ≤ end }
-    requires high { end ≤ length place.old }
-    requires room { n < 10 ^ end }
+// Adds the digits of a number of any length. It stays out of line: most numbers have few digits.
+#[inline(never)]
+fn add_many(n: u64, place: &mut [u8], end: usize) -> usize
+    requires room { end + 20 ≤ length place.old }
     ensures size { length place.new ≡ length place.old }
-    ensures within { result ≤ end }
-    ensures written { drop result place.new ≡ decimal_text n ++ drop end place.old }
-    ensures kept { take result place.new ≡ take result place.old }
+    ensures within { result ≤ end + 20 }
+    ensures written { take result place.new ≡ take end place.old ++ decimal_text n }
 {
-    let mut rest = n;
-    let mut start = end;
-    while rest >= 100 {
-        put_pair((rest % 100) as u8, place, start);
-        rest /= 100;
-        start -= 2;
+    if n < 100_000_000 {
+        return add_to_eight(n as u32, place, end);
     }
-    if rest >= 10 {
-        put_pair(rest as u8, place, start);
-        return start - 2;
+    let start = add_to_twelve(n / 100_000_000, place, end);
+    add_eight((n % 100_000_000) as u32, place, start)
+}
+
+// Adds one to twelve digits.
+#[inline(always)]
+fn add_to_twelve(n: u64, place: &mut [u8], end: usize) -> usize
+    requires few { n < 10 ^ 12 }
+    requires room { end + 12 ≤ length place.old }
+    ensures size { length place.new ≡ length place.old }
+    ensures within { result ≤ end + 12 }
+    ensures written { take result place.new ≡ take end place.old ++ decimal_text n }
+{
+    if n < 100_000_000 {
+        return add_to_eight(n as u32, place, end);
     }
-    start -= 1;
-    place[start] = b'0' + rest as u8;
-    start
+    let start = add_few((n / 100_000_000) as u32, place, end);
+    add_eight((n % 100_000_000) as u32, place, start)
 }
 
-// Writes sixteen digits in front of a place.
-#[inline(always)]
-fn put_sixteen(group: u64, place: &mut [u8], end: usize)
-    requires small { group < 10 ^ 16 }
-    requires low { 16 ≤ end }
-    requires high { end ≤ length place.old }
+// Adds one to eight digits.
+fn add_to_eight(n: u32, place: &mut [u8], end: usize) -> usize
+    requires few { n < 10 ^ 8 }
+    requires room { end + 8 ≤ length place.old }
     ensures size { length place.new ≡ length place.old }
-    ensures written { drop (end - 16) place.new ≡ sixteen_digits group ++ drop end place.old }
-    ensures kept { take (end - 16) place.new ≡ take (end - 16) place.old }
+    ensures within { result ≤ end + 8 }
+    ensures written { take result place.new ≡ take end place.old ++ decimal_text n }
 {
-    put_eight((group % 100_000_000) as u32, place, end);
-    put_eight((group / 100_000_000) as u32, place, end - 8);
+    if n < 10_000 {
+        return add_few(n, place, end);
+    }
+    let start = add_few(n / 10_000, place, end);
+    add_four(n % 10_000, place, start)
 }
 
-// Writes eight digits in front of a place.
+// Adds one to four digits.
 #[inline(always)]
-fn put_eight(eight: u32, place: &mut [u8], end: usize)
-    requires small { eight < 10 ^ 8 }
-    requires low { 8 ≤ end }
-    requires high { end ≤ length place.old }
+fn add_few(n: u32, place: &mut [u8], end: usize) -> usize
+    requires few { n < 10 ^ 4 }
+    requires room { end + 4 ≤ length place.old }
     ensures size { length place.new ≡ length place.old }
-    ensures written { drop (end - 8) place.new ≡ eight_digits eight ++ drop end place.old }
-    ensures kept { take (end - 8) place.new ≡ take (end - 8) place.old }
+    ensures within { result ≤ end + 4 }
+    ensures written { take result place.new ≡ take end place.old ++ decimal_text n }
 {
-    put_four(eight % 10_000, place, end);
-    put_four(eight / 10_000, place, end - 4);
+    if n < 100 {
+        return add_one_or_two(n as u8, place, end);
+    }
+    let start = add_one_or_two((n / 100) as u8, place, end);
+    add_two((n % 100) as u8, place, start)
 }
 
-// Writes four digits in front of a place.
+// Adds one digit or two.
 #[inline(always)]
-fn put_four(four: u32, place: &mut [u8], end: usize)
-    requires small { four < 10 ^ 4 }
-    requires low { 4 ≤ end }
-    requires high { end ≤ length place.old }
+fn add_one_or_two(n: u8, place: &mut [u8], end: usize) -> usize
+    requires few { n < 100 }
+    requires room { end + 2 ≤ length place.old }
     ensures size { length place.new ≡ length place.old }
-    ensures written { drop (end - 4) place.new ≡ four_digits four ++ drop end place.old }
-    ensures kept { take (end - 4) place.new ≡ take (end - 4) place.old }
+    ensures within { result ≤ end + 2 }
+    ensures written { take result place.new ≡ take end place.old ++ decimal_text n }
 {
-    put_pair((four % 100) as u8, place, end);
-    put_pair((four / 100) as u8, place, end - 2);
+    if n < 10 {
+        return add_byte(b'0' + n, place, end);
+    }
+    add_two(n, place, end)
 }
 
-// Writes two digits in front of a place.
+// Adds sixteen digits.
 #[inline(always)]
-fn put_pair(pair: u8, place: &mut [u8], end: usize)
-    requires small { pair < 100 }
-    requires low { 2 ≤ end }
-    requires high { end ≤ length place.old }
+fn add_sixteen(n: u64, place: &mut [u8], end: usize) -> usize
+    requires small { n < 10 ^ 16 }
+    requires room { end + 16 ≤ length place.old }
     ensures size { length place.new ≡ length place.old }
-    ensures written { drop (end - 2) place.new
-        ≡ (digit_zero + pair / 10) ∷ (digit_zero + pair % 10) ∷ drop end place.old }
-    ensures kept { take (end - 2) place.new ≡ take (end - 2) place.old }
+    ensures end { result ≡ end + 16 }
+    ensures written { take result place.new ≡ take end place.old ++ sixteen_digits n }
 {
-    place[end - 1] = b'0' + pair % 10;
-    place[end - 2] = b'0' + pair / 10;
+    let start = add_eight((n / 100_000_000) as u32, place, end);
+    add_eight((n % 100_000_000) as u32, place, start)
+}
+
+// Adds eight digits.
+#[inline(always)]
+fn add_eight(n: u32, place: &mut [u8], end: usize) -> usize
+    requires small { n < 10 ^ 8 }
+    requires room { end + 8 ≤ length place.old }
+    ensures size { length place.new ≡ length place.old }
+    ensures end { result ≡ end + 8 }
+    ensures written { take result place.new ≡ take end place.old ++ eight_digits n }
+{
+    let start = add_four(n / 10_000, place, end);
+    add_four(n % 10_000, place, start)
+}
+
+// Adds four digits.
+#[inline(always)]
+fn add_four(n: u32, place: &mut [u8], end: usize) -> usize
+    requires small { n < 10 ^ 4 }
+    requires room { end + 4 ≤ length place.old }
+    ensures size { length place.new ≡ length place.old }
+    ensures end { result ≡ end + 4 }
+    ensures written { take result place.new ≡ take end place.old ++ four_digits n }
+{
+    let start = add_two((n / 100) as u8, place, end);
+    add_two((n % 100) as u8, place, start)
+}
+
+// Adds two digits.
+#[inline(always)]
+fn add_two(n: u8, place: &mut [u8], end: usize) -> usize
+    requires small { n < 100 }
+    requires room { end + 2 ≤ length place.old }
+    ensures size { length place.new ≡ length place.old }
+    ensures end { result ≡ end + 2 }
+    ensures written { take result place.new ≡ take end place.old ++ two_digits n }
+{
+    let start = add_byte(b'0' + n / 10, place, end);
+    add_byte(b'0' + n % 10, place, start)
+}
+
+/// Adds a byte.
+#[inline(always)]
+pub fn add_byte(byte: u8, place: &mut [u8], end: usize) -> usize
+    requires room { end < length place.old }
+    ensures size { length place.new ≡ length place.old }
+    ensures end { result ≡ end + 1 }
+    ensures written { take result place.new ≡ take end place.old ++ byte ∷ [] }
+{
+    place[end] = byte;
+    end + 1
 }

@@ -180,7 +180,7 @@ where
     }
 }
 
-// `ok V` and a line feed: in one piece, where the number has 64 bits and the batch has room for it.
+// `ok V` and a line feed: in one piece, where the batch has room for the longest.
 #[inline(always)]
 fn put_value_line<W: Write>(value: &Number, batch: &mut Batch, out: &mut W) -> Result<(), RunError>
     ensures ok { OnOk result (Gathers (W.contents out.old) batch.old (W.contents out.new) batch.new
@@ -189,7 +189,7 @@ fn put_value_line<W: Write>(value: &Number, batch: &mut Batch, out: &mut W) -> R
         (batch.old ++ (codes "ok " ++ signed_text value.now ++ line_feed ∷ [])) }
     ensures fault { IsOkUnless result RunError.Write }
 {
-    if value.magnitude() > u64::MAX as u128 || batch.room() < MOST_OF_VALUE_LINE {
+    if batch.room() < MOST_OF_VALUE_LINE {
         return put_value_in_parts(&value.copied(), batch, out);
     }
     batch.add_value_line(value);
@@ -213,7 +213,7 @@ fn put_value_in_parts<W: Write>(
     put(b"\n", batch, out)
 }
 
-// `ok V PLACE` and a line feed: in one piece, where the number has 64 bits and the batch has room for it.
+// `ok V PLACE` and a line feed: in one piece, where the batch has room for the longest.
 #[inline(always)]
 fn put_found_line<W: Write>(
     value: &Number,
@@ -227,7 +227,7 @@ fn put_found_line<W: Write>(
         ++ (codes "ok " ++ signed_text value.now ++ place_text (Some stop) ++ line_feed ∷ [])) }
     ensures fault { IsOkUnless result RunError.Write }
 {
-    if value.magnitude() > u64::MAX as u128 || batch.room() < MOST_OF_FOUND_LINE {
+    if batch.room() < MOST_OF_FOUND_LINE {
         return put_found_in_parts(&value.copied(), stop, batch, out);
     }
     batch.add_found_line(value, stop);
