@@ -70,7 +70,8 @@ fn complete_line<W: Write>(
     out: &mut W,
 ) -> Result<(), RunError>
     ensures ok { OnOk result (Gathers (W.contents out.old) batch.old (W.contents out.new) batch.new
-        (complete_text (complete_if_valid settings.now.format (type_of name) text.now) ++ line_feed ∷ [])) }
+        (complete_text (complete_if_valid settings.now.format (type_of name) text.now)
+        ++ line_feed ∷ [])) }
     ensures front { GainsFront (W.contents out.old) (W.contents out.new) (batch.old
         ++ (complete_text (complete_if_valid settings.now.format (type_of name) text.now)
         ++ line_feed ∷ [])) }
@@ -104,7 +105,8 @@ fn partial_line<W: Write>(
     out: &mut W,
 ) -> Result<(), RunError>
     ensures ok { OnOk result (Gathers (W.contents out.old) batch.old (W.contents out.new) batch.new
-        (partial_text (partial_if_valid settings.now.format (type_of name) text.now) ++ line_feed ∷ [])) }
+        (partial_text (partial_if_valid settings.now.format (type_of name) text.now)
+        ++ line_feed ∷ [])) }
     ensures front { GainsFront (W.contents out.old) (W.contents out.new) (batch.old
         ++ (partial_text (partial_if_valid settings.now.format (type_of name) text.now)
         ++ line_feed ∷ [])) }
