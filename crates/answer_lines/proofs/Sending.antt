@@ -150,6 +150,11 @@ pub gathers_more : (a b c : Option (List ℕ)) (waited between waits xs ys : Lis
 gathers_more a b c waited between waits xs ys s t =
     rw (← append_assoc waited xs ys) (sends_more a b c _ _ waits (sends_wider a b (waited ++ xs) between ys s) t)
 
+-- the bytes behind what waited are told another way
+pub sends_as : (a b : Option (List ℕ)) (waited waits xs ys : List ℕ) → xs ≡ ys
+    → Sends a b (waited ++ xs) waits → Sends a b (waited ++ ys) waits
+sends_as a b waited waits xs ys e s = subst (λ l. Sends a b (waited ++ l) waits) e s
+
 -- a piece of what is left goes out, behind what waited
 pub sends_piece : (a b c : Option (List ℕ)) (bytes waited waits piece rest : List ℕ)
     → Sends a b bytes (waited ++ (piece ++ rest)) → Sends b c (waited ++ piece) waits

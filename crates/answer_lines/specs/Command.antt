@@ -6,8 +6,6 @@ use Rattle.lexical_util.specs.Number.{IntegerType, integer_type}
 use Rattle.answer_lines.specs.Field.{change_in, field_named}
 use Rattle.answer_lines.specs.declared.command.TypeName.{TypeName}
 use Rattle.answer_lines.specs.declared.command.TypeName.TheVariants.{U8, U16, U32, U64, U128, Usize, I8, I16, I32, I64, I128, Isize}
-use Rattle.answer_lines.specs.declared.command.Command.{Command as Asked}
-use Rattle.answer_lines.specs.declared.command.Command.TheVariants as asks
 use Rattle.answer_lines.specs.declared.field.Change.{Change}
 
 -- ---- the integer types
@@ -98,13 +96,3 @@ command_of (letter, text) =
 abbrev pub command_in : List ℕ → Option Command
 command_in line =
     if bytes_eq line (codes "r") then Some reset else option_and_then command_of (parts line)
-
--- ---- the program's commands
-
--- a command as the program has it, with its text
-abbrev pub view_of_command : Asked → Command
-view_of_command (asks.Complete type text) = parse_complete type text.now
-view_of_command (asks.Partial type text) = parse_partial type text.now
-view_of_command (asks.Tokens text) = list_tokens text.now
-view_of_command (asks.Change setting) = change setting
-view_of_command asks.Reset = reset

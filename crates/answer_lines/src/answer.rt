@@ -3,21 +3,24 @@
 ghost use Rattle.std.specs.Prelude.{◌≡◌, ◌<ℤ◌, ◌∷◌, [], Some, ◌++◌, codes, pos, OnOk, OnErr, IsOkUnless, option_map};
 ghost use Rattle.lexical_util.specs.Ascii.{line_feed, minus};
 ghost use Rattle.lexical_util.specs.Faults.{place_of};
-ghost use Rattle.answer_lines.specs.Command.{view_of_command};
+ghost use Rattle.answer_lines.specs.Command.{change, change_named};
 ghost use Rattle.answer_lines.specs.Gather.{GainsFront, Gathers};
 ghost use Rattle.answer_lines.specs.Decimal.{decimal_text, signed_text};
-ghost use Rattle.answer_lines.specs.Output.{answer_to, command_answer, command_effect, complete_text, fault_name, partial_text, place_text, settings_after};
+ghost use Rattle.answer_lines.specs.Output.{answer_to, command_answer, command_effect, fault_name, place_text, settings_after, tokens_text};
+ghost use Rattle.answer_lines.specs.Settings.{standard_settings};
+ghost use Rattle.lexical_literals.specs.Tokens.{tokens};
 
 mod tokens;
+mod values;
 
 use crate::answer::tokens::put_tokens;
+use crate::answer::values::{answer_complete, answer_partial};
 use crate::batch::{Batch, put, put_decimal};
-use crate::command::Command;
+use crate::command::change_in;
 use crate::fault::RunError;
 use crate::number::Number;
-use crate::parse;
 use crate::settings::Settings;
-use lexical_parse_integer::{Error, Result as Parse};
+use lexical_parse_integer::Error;
 use std::io::Write;
 
 /// Writes a line's answer and a line feed, and sets what the line sets. A line that asks for
@@ -36,87 +39,85 @@ pub fn answer<W: Write>(
     ensures kept { OnErr result (settings.new ≡ settings.old) }
     ensures fault { IsOkUnless result RunError.Write }
 {
-    let command = Command::of(line);
-    tell(command, settings, batch, out)?;
-    put(b"\n", batch, out)?;
-    apply_command(command, settings);
+    match line {
+        [b'c', b' ', text @ ..] => answer_complete(text, settings, batch, out),
+        [b'p', b' ', text @ ..] => answer_partial(text, settings, batch, out),
+        [b't', b' ', text @ ..] => answer_tokens(text, batch, out),
+        [b'f', b' ', text @ ..] => answer_change(text, settings, batch, out),
+        b"r" => answer_reset(settings, batch, out),
+        _ => put_line(b"bad line", batch, out),
+    }
+}
+
+// The answer to `t`, a space and the text, and a line feed.
+fn answer_tokens<W: Write>(text: &[u8], batch: &mut Batch, out: &mut W) -> Result<(), RunError>
+    ensures ok { OnOk result (Gathers (W.contents out.old) batch.old (W.contents out.new) batch.new
+        (tokens_text (tokens text.now) ++ line_feed ∷ [])) }
+    ensures front { GainsFront (W.contents out.old) (W.contents out.new)
+        (batch.old ++ (tokens_text (tokens text.now) ++ line_feed ∷ [])) }
+    ensures fault { IsOkUnless result RunError.Write }
+{
+    put_tokens(text, batch, out)?;
+    put(b"\n", batch, out)
+}
+
+// The answer to `f`, a space and the text, and a line feed. Then the field has its new value.
+fn answer_change<W: Write>(
+    text: &[u8],
+    settings: &mut Settings,
+    batch: &mut Batch,
+    out: &mut W,
+) -> Result<(), RunError>
+    ensures ok { OnOk result (Gathers (W.contents out.old) batch.old (W.contents out.new) batch.new
+        (command_answer settings.old (option_map change (change_named text.now))
+        ++ line_feed ∷ [])) }
+    ensures front { GainsFront (W.contents out.old) (W.contents out.new) (batch.old
+        ++ (command_answer settings.old (option_map change (change_named text.now))
+        ++ line_feed ∷ [])) }
+    ensures settings { OnOk result (settings.new
+        ≡ command_effect settings.old (option_map change (change_named text.now))) }
+    ensures kept { OnErr result (settings.new ≡ settings.old) }
+    ensures fault { IsOkUnless result RunError.Write }
+{
+    match change_in(text) {
+        None => put_line(b"bad line", batch, out),
+        Some(change) => {
+            put_line(b"ok", batch, out)?;
+            settings.apply(change);
+            Ok(())
+        }
+    }
+}
+
+// The answer to `r`, and a line feed. Then the settings are the standard ones.
+fn answer_reset<W: Write>(
+    settings: &mut Settings,
+    batch: &mut Batch,
+    out: &mut W,
+) -> Result<(), RunError>
+    ensures ok { OnOk result (Gathers (W.contents out.old) batch.old (W.contents out.new) batch.new
+        (codes "ok" ++ line_feed ∷ [])) }
+    ensures front { GainsFront (W.contents out.old) (W.contents out.new)
+        (batch.old ++ (codes "ok" ++ line_feed ∷ [])) }
+    ensures settings { OnOk result (settings.new ≡ standard_settings) }
+    ensures kept { OnErr result (settings.new ≡ settings.old) }
+    ensures fault { IsOkUnless result RunError.Write }
+{
+    put_line(b"ok", batch, out)?;
+    *settings = Settings::standard();
     Ok(())
 }
 
-// Writes the answer to a command, and `bad line` where there is none.
-fn tell<W: Write>(
-    command: Option<Command<'_>>,
-    settings: &Settings,
-    batch: &mut Batch,
-    out: &mut W,
-) -> Result<(), RunError>
+// A text and a line feed.
+fn put_line<W: Write>(text: &[u8], batch: &mut Batch, out: &mut W) -> Result<(), RunError>
     ensures ok { OnOk result (Gathers (W.contents out.old) batch.old (W.contents out.new) batch.new
-        (command_answer settings.now (option_map view_of_command command.entry))) }
+        (text.now ++ line_feed ∷ [])) }
     ensures front { GainsFront (W.contents out.old) (W.contents out.new)
-        (batch.old ++ command_answer settings.now (option_map view_of_command command.entry)) }
+        (batch.old ++ (text.now ++ line_feed ∷ [])) }
     ensures fault { IsOkUnless result RunError.Write }
 {
-    match command {
-        None => put(b"bad line", batch, out),
-        Some(Command::Complete(name, text)) => {
-            let answer = parse::complete(name, text, &settings.format(), settings.options());
-            put_complete(answer, batch, out)
-        }
-        Some(Command::Partial(name, text)) => {
-            let answer = parse::partial(name, text, &settings.format(), settings.options());
-            put_partial(answer, batch, out)
-        }
-        Some(Command::Tokens(text)) => put_tokens(text, batch, out),
-        Some(Command::Change(_)) | Some(Command::Reset) => put(b"ok", batch, out),
-    }
-}
-
-// Sets what a command sets.
-fn apply_command(command: Option<Command<'_>>, settings: &mut Settings)
-    ensures { settings.new
-        ≡ command_effect settings.old (option_map view_of_command command.entry) }
-{
-    match command {
-        Some(Command::Change(change)) => settings.apply(change),
-        Some(Command::Reset) => *settings = Settings::standard(),
-        _ => {}
-    }
-}
-
-// `ok V`, or a fault.
-fn put_complete<W: Write>(
-    answer: Parse<Number>,
-    batch: &mut Batch,
-    out: &mut W,
-) -> Result<(), RunError>
-    ensures ok { OnOk result (Gathers (W.contents out.old) batch.old (W.contents out.new) batch.new
-        (complete_text answer)) }
-    ensures front { GainsFront (W.contents out.old) (W.contents out.new)
-        (batch.old ++ complete_text answer) }
-    ensures fault { IsOkUnless result RunError.Write }
-{
-    match answer {
-        Ok(value) => put_value(&value, batch, out),
-        Err(fault) => put_fault(b"err ", fault, batch, out),
-    }
-}
-
-// `ok V PLACE`, or a fault.
-fn put_partial<W: Write>(
-    answer: Parse<(Number, usize)>,
-    batch: &mut Batch,
-    out: &mut W,
-) -> Result<(), RunError>
-    ensures ok { OnOk result (Gathers (W.contents out.old) batch.old (W.contents out.new) batch.new
-        (partial_text answer)) }
-    ensures front { GainsFront (W.contents out.old) (W.contents out.new)
-        (batch.old ++ partial_text answer) }
-    ensures fault { IsOkUnless result RunError.Write }
-{
-    match answer {
-        Ok((value, stop)) => put_found(&value, stop, batch, out),
-        Err(fault) => put_fault(b"err ", fault, batch, out),
-    }
+    put(text, batch, out)?;
+    put(b"\n", batch, out)
 }
 
 // `ok V`.

@@ -1,20 +1,21 @@
 //! Bytes that are gathered before they go out.
 
-ghost use Rattle.std.specs.Prelude.{◌≡◌, ◌+◌, ◌≤◌, ℕ, List, [], ◌++◌, take, length, OnOk, OnErr, IsOkUnless};
+ghost use Rattle.std.specs.Prelude.{◌≡◌, ◌+◌, ◌≤◌, ℕ, List, [], ◌∷◌, ◌++◌, Some, codes, take, length, OnOk, OnErr, IsOkUnless};
 ghost use Rattle.std.specs.Io.KnownBytes.{Appends};
-ghost use Rattle.answer_lines.specs.Decimal.{decimal_text};
+ghost use Rattle.lexical_util.specs.Ascii.{line_feed};
+ghost use Rattle.answer_lines.specs.Decimal.{decimal_text, signed_text};
 ghost use Rattle.answer_lines.specs.Gather.{GainsFront, Gathers, Sends};
+ghost use Rattle.answer_lines.specs.Output.{place_text};
 
-use crate::decimal::{self, digit_count, write_before};
+use crate::append::{add_found_line, add_value_line};
+use crate::decimal::{MOST_DIGITS, add_decimal};
 use crate::fault::RunError;
+use crate::number::Number;
 use std::io::Write;
 use std::marker::Model;
 
 /// How many bytes go out at once.
 pub const SIZE: usize = 65536;
-
-/// The most digits that a number of 64 bits has.
-const MOST_OF_64_BITS: usize = 20;
 
 /// Bytes that wait to go out. A clause sees them as their list.
 #[derive(Drop)]
@@ -44,7 +45,7 @@ impl Batch {
 
     /// How many more bytes it can take.
     #[inline(always)]
-    fn room(&self) -> usize
+    pub(crate) fn room(&self) -> usize
         ensures { result + length self.now ≡ 65536 }
     {
         SIZE - self.count
@@ -61,15 +62,33 @@ impl Batch {
         self.count = end;
     }
 
-    /// Adds the digits of a number, where it has room for the most that a `u64` has.
+    /// Adds the digits of a number, where it has room for the longest.
     #[inline(always)]
-    fn add_decimal(&mut self, number: u64)
-        requires { length self.old + 20 ≤ 65536 }
+    fn add_decimal(&mut self, number: u128)
+        requires { length self.old + 40 ≤ 65536 }
         ensures { self.new ≡ self.old ++ decimal_text number }
     {
-        let end = self.count + digit_count(number);
-        write_before(number, &mut self.held, end);
-        self.count = end;
+        self.count = add_decimal(number, &mut self.held, self.count);
+    }
+
+    /// Adds `ok V` and a line feed, where it has room for the longest.
+    #[inline(always)]
+    pub(crate) fn add_value_line(&mut self, value: &Number)
+        requires { length self.old + 45 ≤ 65536 }
+        ensures { self.new
+            ≡ self.old ++ (codes "ok " ++ signed_text value.now ++ line_feed ∷ []) }
+    {
+        self.count = add_value_line(value, &mut self.held, self.count);
+    }
+
+    /// Adds `ok V PLACE` and a line feed, where it has room for the longest.
+    #[inline(always)]
+    pub(crate) fn add_found_line(&mut self, value: &Number, stop: usize)
+        requires { length self.old + 66 ≤ 65536 }
+        ensures { self.new ≡ self.old
+            ++ (codes "ok " ++ signed_text value.now ++ place_text (Some stop) ++ line_feed ∷ []) }
+    {
+        self.count = add_found_line(value, stop, &mut self.held, self.count);
     }
 
     /// Its bytes.
@@ -183,23 +202,23 @@ pub fn put_decimal<W: Write>(number: u128, batch: &mut Batch, out: &mut W) -> Re
         (batch.old ++ decimal_text number) }
     ensures fault { IsOkUnless result RunError.Write }
 {
-    if number > u64::MAX as u128 || batch.room() < MOST_OF_64_BITS {
-        return put_long(number, batch, out);
+    if batch.room() < MOST_DIGITS {
+        return put_apart(number, batch, out);
     }
-    batch.add_decimal(number as u64);
+    batch.add_decimal(number);
     Ok(())
 }
 
-// For a number that takes more than 64 bits, or where the batch may have no room.
+// Where the batch may have no room.
 #[inline(never)]
-fn put_long<W: Write>(number: u128, batch: &mut Batch, out: &mut W) -> Result<(), RunError>
+fn put_apart<W: Write>(number: u128, batch: &mut Batch, out: &mut W) -> Result<(), RunError>
     ensures ok { OnOk result (Gathers (W.contents out.old) batch.old (W.contents out.new) batch.new
         (decimal_text number)) }
     ensures front { GainsFront (W.contents out.old) (W.contents out.new)
         (batch.old ++ decimal_text number) }
     ensures fault { IsOkUnless result RunError.Write }
 {
-    let mut digits = [0u8; decimal::MOST_DIGITS];
-    let start = decimal::write_decimal(number, &mut digits);
-    put(&digits[start..], batch, out)
+    let mut digits = [0u8; MOST_DIGITS];
+    let end = add_decimal(number, &mut digits, 0);
+    put(&digits[..end], batch, out)
 }

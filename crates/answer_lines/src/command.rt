@@ -1,7 +1,7 @@
-//! What a line asks for.
+//! The words of a line.
 
-ghost use Rattle.std.specs.Prelude.{◌≡◌, ◌<◌, codes, length, IfSome, Some, option_map, position};
-ghost use Rattle.answer_lines.specs.Command.{change_named, command_in, command_of, is_space, parts, view_of_command, type_named, type_and_text};
+ghost use Rattle.std.specs.Prelude.{◌≡◌, ◌<◌, length, IfSome, Some, option_map, position};
+ghost use Rattle.answer_lines.specs.Command.{change_named, is_space, parts, type_named, type_and_text};
 
 use crate::field::{Change, Field};
 
@@ -45,43 +45,6 @@ impl TypeName {
     }
 }
 
-/// What a line asks for.
-#[derive(Debug, Clone, Copy)]
-pub enum Command<'a> {
-    /// `c TYPE TEXT`: the complete parse of the text.
-    Complete(TypeName, &'a [u8]),
-    /// `p TYPE TEXT`: the partial parse of the text.
-    Partial(TypeName, &'a [u8]),
-    /// `t TEXT`: the tokens of the text.
-    Tokens(&'a [u8]),
-    /// `f FIELD VALUE`: a new value of a field.
-    Change(Change),
-    /// `r`: the standard settings.
-    Reset,
-}
-
-impl<'a> Command<'a> {
-    /// What the line asks for, and `None` where it is none of the kinds of line.
-    pub fn of(line: &'a [u8]) -> Option<Command<'a>>
-        ensures { option_map view_of_command result ≡ command_in line.now }
-    {
-        match line {
-            [b'c', b' ', text @ ..] => {
-                let (name, text) = type_and_text(text)?;
-                Some(Command::Complete(name, text))
-            }
-            [b'p', b' ', text @ ..] => {
-                let (name, text) = type_and_text(text)?;
-                Some(Command::Partial(name, text))
-            }
-            [b't', b' ', text @ ..] => Some(Command::Tokens(text)),
-            [b'f', b' ', text @ ..] => change_command(text),
-            b"r" => Some(Command::Reset),
-            _ => None,
-        }
-    }
-}
-
 // The text cut at its first space.
 fn parts(text: &[u8]) -> Option<(&[u8], &[u8])>
     ensures { option_map (λ cut. (cut.0.now, cut.1.now)) result ≡ parts text.now }
@@ -100,9 +63,9 @@ fn space_in(text: &[u8]) -> Option<usize>
     text.iter().position(|b| *b == b' ')
 }
 
-// The integer type that a text names, and what comes after the name and a space.
+/// The integer type that a text names, and what comes after the name and a space.
 #[inline(always)]
-fn type_and_text(text: &[u8]) -> Option<(TypeName, &[u8])>
+pub fn type_and_text(text: &[u8]) -> Option<(TypeName, &[u8])>
     ensures { option_map (λ found. (found.0, found.1.now)) result ≡ type_and_text text.now }
 {
     match short_type_and_text(text) {
@@ -137,15 +100,8 @@ fn any_type_and_text(text: &[u8]) -> Option<(TypeName, &[u8])>
     Some((TypeName::of_name(name)?, text))
 }
 
-// What `f`, a space and the text ask for.
-fn change_command<'a>(text: &[u8]) -> Option<Command<'a>>
-    ensures { option_map view_of_command result ≡ command_of (codes "f", text.now) }
-{
-    Some(Command::Change(change(text)?))
-}
-
-// The change that the text asks for: a field's name, a space, and its new value.
-fn change(text: &[u8]) -> Option<Change>
+/// The change that the text asks for: a field's name, a space, and its new value.
+pub fn change_in(text: &[u8]) -> Option<Change>
     ensures { result ≡ change_named text.now }
 {
     let (name, value) = parts(text)?;

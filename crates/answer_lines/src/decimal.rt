@@ -1,82 +1,210 @@
-//! Numbers as text, in an array of the caller.
+//! Numbers as text, added behind other text in a place of the caller that has room.
 
-ghost use Rattle.std.specs.Prelude.{◌≡◌, ◌≤◌, ◌<◌, ◌+◌, ◌-◌, ◌/◌, ◌%◌, ◌^◌, ◌∷◌, ◌++◌, drop, length, take};
-ghost use Rattle.lexical_util.specs.Ascii.{digit_zero};
-ghost use Rattle.answer_lines.specs.Decimal.{decimal_text};
+ghost use Rattle.std.specs.Prelude.{◌≡◌, ◌+◌, ◌^◌, ◌<◌, ◌≤◌, ◌∷◌, [], ◌++◌, length, take};
+ghost use Rattle.answer_lines.specs.Decimal.{decimal_text, eight_digits, four_digits, sixteen_digits, two_digits};
 
-/// The room that the longest text takes.
+/// The room that the longest number asks for.
 pub const MOST_DIGITS: usize = 40;
 
-/// Writes the digits so that they end where the array does, and answers where they start. What is
-/// before them in the array stays.
-pub fn write_decimal(n: u128, place: &mut [u8; MOST_DIGITS]) -> usize
-    ensures within { result ≤ 40 }
-    ensures room { 1 ≤ result }
-    ensures written { drop result place.new ≡ decimal_text n }
-    ensures kept { take result place.new ≡ take result place.old }
-{
-    let mut rest = n;
-    let mut start = MOST_DIGITS;
-    while rest > u64::MAX as u128 {
-        start -= 1;
-        place[start] = b'0' + (rest % 10) as u8;
-        rest /= 10;
-    }
-    write_before(rest as u64, place, start)
-}
+/// What splits off the last sixteen digits, which a `u64` holds.
+const GROUP: u128 = 10_000_000_000_000_000;
 
-/// How many digits a number has.
+/// Adds the digits of a number, and answers where they end.
 #[inline(always)]
-pub fn digit_count(n: u64) -> usize
-    ensures size { result ≡ length (decimal_text n) }
-    ensures some { 1 ≤ result }
-    ensures most { result ≤ 20 }
-    ensures room { n < 10 ^ result }
-{
-    if n == 0 {
-        return 1;
-    }
-    n.ilog10() as usize + 1
-}
-
-/// Writes the digits before a place, two digits a division, and answers where they start.
-#[inline(always)]
-pub fn write_before(n: u64, place: &mut [u8], end: usize) -> usize
-    requires some { 1 ≤ end }
-    requires high { end ≤ length place.old }
-    requires room { n < 10 ^ end }
+pub fn add_decimal(n: u128, place: &mut [u8], end: usize) -> usize
+    requires room { end + 40 ≤ length place.old }
     ensures size { length place.new ≡ length place.old }
-    ensures within { result ≤ end }
-    ensures written { drop result place.new ≡ decimal_text n ++ drop end place.old }
-    ensures kept { take result place.new ≡ take result place.old }
+    ensures within { result ≤ end + 40 }
+    ensures written { take result place.new ≡ take end place.old ++ decimal_text n }
 {
-    let mut rest = n;
-    let mut start = end;
-    while rest >= 100 {
-        put_pair((rest % 100) as u8, place, start);
-        rest /= 100;
-        start -= 2;
+    if n > u64::MAX as u128 {
+        return add_wide(n, place, end);
     }
-    if rest >= 10 {
-        put_pair(rest as u8, place, start);
-        return start - 2;
-    }
-    start -= 1;
-    place[start] = b'0' + rest as u8;
-    start
+    add_number(n as u64, place, end)
 }
 
-// Writes two digits in front of a place.
+/// Adds the digits of a number of 64 bits, and answers where they end.
 #[inline(always)]
-fn put_pair(pair: u8, place: &mut [u8], end: usize)
-    requires small { pair < 100 }
-    requires low { 2 ≤ end }
-    requires high { end ≤ length place.old }
+pub fn add_number(n: u64, place: &mut [u8], end: usize) -> usize
+    requires room { end + 20 ≤ length place.old }
     ensures size { length place.new ≡ length place.old }
-    ensures written { drop (end - 2) place.new
-        ≡ (digit_zero + pair / 10) ∷ (digit_zero + pair % 10) ∷ drop end place.old }
-    ensures kept { take (end - 2) place.new ≡ take (end - 2) place.old }
+    ensures within { result ≤ end + 20 }
+    ensures written { take result place.new ≡ take end place.old ++ decimal_text n }
 {
-    place[end - 1] = b'0' + pair % 10;
-    place[end - 2] = b'0' + pair / 10;
+    if n < 10_000 {
+        return add_few(n as u32, place, end);
+    }
+    add_many(n, place, end)
+}
+
+// Adds the digits of a number of more than 64 bits: a wide division splits off sixteen.
+#[inline(never)]
+fn add_wide(n: u128, place: &mut [u8], end: usize) -> usize
+    requires wide { 2 ^ 64 ≤ n }
+    requires room { end + 40 ≤ length place.old }
+    ensures size { length place.new ≡ length place.old }
+    ensures within { result ≤ end + 40 }
+    ensures written { take result place.new ≡ take end place.old ++ decimal_text n }
+{
+    let front = n / GROUP;
+    let start = add_front(front, place, end);
+    add_sixteen((n - front * GROUP) as u64, place, start)
+}
+
+// Adds the digits of what is in front of those sixteen.
+#[inline(always)]
+fn add_front(n: u128, place: &mut [u8], end: usize) -> usize
+    requires few { n < 10 ^ 23 }
+    requires room { end + 24 ≤ length place.old }
+    ensures size { length place.new ≡ length place.old }
+    ensures within { result ≤ end + 24 }
+    ensures written { take result place.new ≡ take end place.old ++ decimal_text n }
+{
+    if n <= u64::MAX as u128 {
+        return add_number(n as u64, place, end);
+    }
+    let front = n / GROUP;
+    let start = add_to_eight(front as u32, place, end);
+    add_sixteen((n - front * GROUP) as u64, place, start)
+}
+
+// Adds the digits of a number of any length. It stays out of line: most numbers have few digits.
+#[inline(never)]
+fn add_many(n: u64, place: &mut [u8], end: usize) -> usize
+    requires room { end + 20 ≤ length place.old }
+    ensures size { length place.new ≡ length place.old }
+    ensures within { result ≤ end + 20 }
+    ensures written { take result place.new ≡ take end place.old ++ decimal_text n }
+{
+    if n < 100_000_000 {
+        return add_to_eight(n as u32, place, end);
+    }
+    let start = add_to_twelve(n / 100_000_000, place, end);
+    add_eight((n % 100_000_000) as u32, place, start)
+}
+
+// Adds one to twelve digits.
+#[inline(always)]
+fn add_to_twelve(n: u64, place: &mut [u8], end: usize) -> usize
+    requires few { n < 10 ^ 12 }
+    requires room { end + 12 ≤ length place.old }
+    ensures size { length place.new ≡ length place.old }
+    ensures within { result ≤ end + 12 }
+    ensures written { take result place.new ≡ take end place.old ++ decimal_text n }
+{
+    if n < 100_000_000 {
+        return add_to_eight(n as u32, place, end);
+    }
+    let start = add_few((n / 100_000_000) as u32, place, end);
+    add_eight((n % 100_000_000) as u32, place, start)
+}
+
+// Adds one to eight digits.
+fn add_to_eight(n: u32, place: &mut [u8], end: usize) -> usize
+    requires few { n < 10 ^ 8 }
+    requires room { end + 8 ≤ length place.old }
+    ensures size { length place.new ≡ length place.old }
+    ensures within { result ≤ end + 8 }
+    ensures written { take result place.new ≡ take end place.old ++ decimal_text n }
+{
+    if n < 10_000 {
+        return add_few(n, place, end);
+    }
+    let start = add_few(n / 10_000, place, end);
+    add_four(n % 10_000, place, start)
+}
+
+// Adds one to four digits.
+#[inline(always)]
+fn add_few(n: u32, place: &mut [u8], end: usize) -> usize
+    requires few { n < 10 ^ 4 }
+    requires room { end + 4 ≤ length place.old }
+    ensures size { length place.new ≡ length place.old }
+    ensures within { result ≤ end + 4 }
+    ensures written { take result place.new ≡ take end place.old ++ decimal_text n }
+{
+    if n < 100 {
+        return add_one_or_two(n as u8, place, end);
+    }
+    let start = add_one_or_two((n / 100) as u8, place, end);
+    add_two((n % 100) as u8, place, start)
+}
+
+// Adds one digit or two.
+#[inline(always)]
+fn add_one_or_two(n: u8, place: &mut [u8], end: usize) -> usize
+    requires few { n < 100 }
+    requires room { end + 2 ≤ length place.old }
+    ensures size { length place.new ≡ length place.old }
+    ensures within { result ≤ end + 2 }
+    ensures written { take result place.new ≡ take end place.old ++ decimal_text n }
+{
+    if n < 10 {
+        return add_byte(b'0' + n, place, end);
+    }
+    add_two(n, place, end)
+}
+
+// Adds sixteen digits.
+#[inline(always)]
+fn add_sixteen(n: u64, place: &mut [u8], end: usize) -> usize
+    requires small { n < 10 ^ 16 }
+    requires room { end + 16 ≤ length place.old }
+    ensures size { length place.new ≡ length place.old }
+    ensures end { result ≡ end + 16 }
+    ensures written { take result place.new ≡ take end place.old ++ sixteen_digits n }
+{
+    let start = add_eight((n / 100_000_000) as u32, place, end);
+    add_eight((n % 100_000_000) as u32, place, start)
+}
+
+// Adds eight digits.
+#[inline(always)]
+fn add_eight(n: u32, place: &mut [u8], end: usize) -> usize
+    requires small { n < 10 ^ 8 }
+    requires room { end + 8 ≤ length place.old }
+    ensures size { length place.new ≡ length place.old }
+    ensures end { result ≡ end + 8 }
+    ensures written { take result place.new ≡ take end place.old ++ eight_digits n }
+{
+    let start = add_four(n / 10_000, place, end);
+    add_four(n % 10_000, place, start)
+}
+
+// Adds four digits.
+#[inline(always)]
+fn add_four(n: u32, place: &mut [u8], end: usize) -> usize
+    requires small { n < 10 ^ 4 }
+    requires room { end + 4 ≤ length place.old }
+    ensures size { length place.new ≡ length place.old }
+    ensures end { result ≡ end + 4 }
+    ensures written { take result place.new ≡ take end place.old ++ four_digits n }
+{
+    let start = add_two((n / 100) as u8, place, end);
+    add_two((n % 100) as u8, place, start)
+}
+
+// Adds two digits.
+#[inline(always)]
+fn add_two(n: u8, place: &mut [u8], end: usize) -> usize
+    requires small { n < 100 }
+    requires room { end + 2 ≤ length place.old }
+    ensures size { length place.new ≡ length place.old }
+    ensures end { result ≡ end + 2 }
+    ensures written { take result place.new ≡ take end place.old ++ two_digits n }
+{
+    let start = add_byte(b'0' + n / 10, place, end);
+    add_byte(b'0' + n % 10, place, start)
+}
+
+/// Adds a byte.
+#[inline(always)]
+pub fn add_byte(byte: u8, place: &mut [u8], end: usize) -> usize
+    requires room { end < length place.old }
+    ensures size { length place.new ≡ length place.old }
+    ensures end { result ≡ end + 1 }
+    ensures written { take result place.new ≡ take end place.old ++ byte ∷ [] }
+{
+    place[end] = byte;
+    end + 1
 }

@@ -2,6 +2,7 @@
 #![tactic(auto)]
 
 mod answer;
+mod append;
 pub mod batch;
 mod buffer;
 mod command;

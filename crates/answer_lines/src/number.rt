@@ -78,4 +78,15 @@ impl Number {
     {
         self.magnitude
     }
+
+    // The same number in a place of its own.
+    #[inline(always)]
+    pub(crate) fn copied(&self) -> Number
+        ensures { result ≡ self.now }
+    {
+        Number {
+            is_negative: self.is_negative,
+            magnitude: self.magnitude,
+        }
+    }
 }

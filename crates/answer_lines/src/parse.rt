@@ -1,7 +1,7 @@
 //! Texts as numbers of the type that a line names.
 
 ghost use Rattle.std.specs.Prelude.{◌≡◌};
-ghost use Rattle.lexical_parse_integer.specs.Grammar.{complete_if_valid, partial_if_valid};
+ghost use Rattle.lexical_parse_integer.specs.Grammar.{complete_if_valid};
 ghost use Rattle.answer_lines.specs.Command.{type_of};
 ghost use Rattle.answer_lines.specs.Number.{Widens};
 
@@ -10,9 +10,9 @@ use crate::number::Number;
 use lexical_parse_integer::{FromLexicalWithOptions, NumberFormat, Options, Result};
 use lexical_util::num::Integer;
 
-// The value as a number, by way of the widest type of its sign.
+/// The value as a number, by way of the widest type of its sign.
 #[inline(always)]
-fn number_of<T: Integer + Into<W>, W: Into<Number>>(value: T) -> Number
+pub fn number_of<T: Integer + Into<W>, W: Into<Number>>(value: T) -> Number
     requires widens { Widens T.number T.converts W.converts }
     ensures { result ≡ T.number value }
 {
@@ -32,24 +32,6 @@ where
 {
     let value = T::from_lexical_with_options(text, format, options)?;
     Ok(number_of::<T, W>(value))
-}
-
-// The number that the front of the text stands for as one of type `T`, which `W` holds, and the place at
-// which reading stopped.
-#[inline(never)]
-fn partial_as<T, W>(
-    text: &[u8],
-    format: &NumberFormat,
-    options: &Options,
-) -> Result<(Number, usize)>
-where
-    T: FromLexicalWithOptions<Options = Options> + Into<W>,
-    W: Into<Number>,
-    requires widens { Widens T.number T.converts W.converts }
-    ensures { result ≡ partial_if_valid format.now T.TYPE text.now }
-{
-    let (value, stop) = T::from_lexical_partial_with_options(text, format, options)?;
-    Ok((number_of::<T, W>(value), stop))
 }
 
 /// The number that the whole text stands for as one of the named type. `usize` and `isize` are 64 bits wide, and read
@@ -75,31 +57,5 @@ pub fn complete(
         TypeName::I64 => complete_as::<i64, i128>(text, format, options),
         TypeName::I128 => complete_as::<i128, i128>(text, format, options),
         TypeName::Isize => complete_as::<i64, i128>(text, format, options),
-    }
-}
-
-/// The number that the front of the text stands for as one of the named type, and the place at
-/// which reading stopped.
-pub fn partial(
-    name: TypeName,
-    text: &[u8],
-    format: &NumberFormat,
-    options: &Options,
-) -> Result<(Number, usize)>
-    ensures { result ≡ partial_if_valid format.now (type_of name) text.now }
-{
-    match name {
-        TypeName::U8 => partial_as::<u8, u128>(text, format, options),
-        TypeName::U16 => partial_as::<u16, u128>(text, format, options),
-        TypeName::U32 => partial_as::<u32, u128>(text, format, options),
-        TypeName::U64 => partial_as::<u64, u128>(text, format, options),
-        TypeName::U128 => partial_as::<u128, u128>(text, format, options),
-        TypeName::Usize => partial_as::<u64, u128>(text, format, options),
-        TypeName::I8 => partial_as::<i8, i128>(text, format, options),
-        TypeName::I16 => partial_as::<i16, i128>(text, format, options),
-        TypeName::I32 => partial_as::<i32, i128>(text, format, options),
-        TypeName::I64 => partial_as::<i64, i128>(text, format, options),
-        TypeName::I128 => partial_as::<i128, i128>(text, format, options),
-        TypeName::Isize => partial_as::<i64, i128>(text, format, options),
     }
 }

@@ -14,15 +14,20 @@ use std::marker::Model;
 #[derive(Drop)]
 pub struct Settings {
     format: NumberFormatBuilder,
+    // What that builds, so that a line which changes nothing builds nothing.
+    built: NumberFormat,
     options: Options,
 }
 
 impl Model for Settings {
+    ghost use Rattle.std.specs.Prelude.{◌≡◌};
     ghost use Rattle.answer_lines.specs.Settings.{Settings};
 
     ghost Value = { Settings };
 
     ghost view = { λ s. record { format = s.format; no_multi_digit = s.options.no_multi_digit } };
+
+    ghost invariant = { λ s. s.built ≡ s.format };
 }
 
 impl Settings {
@@ -30,17 +35,19 @@ impl Settings {
     pub fn standard() -> Settings
         ensures { result ≡ standard_settings }
     {
+        let format = NumberFormatBuilder::new();
         Settings {
-            format: NumberFormatBuilder::new(),
+            format,
+            built: format.build_unchecked(),
             options: Options::new(),
         }
     }
 
     /// The format, which may be invalid.
-    pub fn format(&self) -> NumberFormat
-        ensures { result ≡ self.now.format }
+    pub fn format(&self) -> &NumberFormat
+        ensures { result.now ≡ self.now.format }
     {
-        self.format.build_unchecked()
+        &self.built
     }
 
     /// The options.
@@ -67,6 +74,7 @@ impl Settings {
             Change::RequiredDigits(value) => self.format = format.required_digits(value),
             Change::NoMultiDigit(value) => self.options.set_no_multi_digit(value),
         }
+        self.built = self.format.build_unchecked();
     }
 }
 

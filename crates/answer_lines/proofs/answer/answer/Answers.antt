@@ -1,52 +1,97 @@
-use Rattle.std.proofs.Common.{◌≡◌, ℕ, List, [], ◌∷◌, ◌++◌, ◌∙◌, Option, ap, subst}
-use Rattle.answer_lines.specs.Command.{Command, command_in}
-use Rattle.answer_lines.specs.Gather.{GainsFront, Sends}
-use Rattle.answer_lines.specs.Output.{answer_to, command_answer, command_effect, settings_after}
-use Rattle.answer_lines.specs.Settings.{Settings}
-use Rattle.answer_lines.proofs.Sending.{front_first, front_of_sent, front_second, gathers_more}
+use Rattle.std.proofs.Common.{◌≡◌, ◌-◌, None, Some, length, take, drop, refl, arith, rules}
+use Rattle.std.proofs.lemmas.Grind.{common_steps}
+use Rattle.std.proofs.lemmas.Result.{on_ok_weaker}
+use Rattle.std.specs.Prelude.{option_map}
+use Rattle.answer_lines.specs.Command.{command_in, change, change_named, list_tokens, parse_complete, parse_in, parse_partial, reset}
+use Rattle.answer_lines.proofs.CommandLines.{change_in_line, complete_in_line, complete_sets_nothing, effect_of_line, front_answer, keeps_settings, partial_in_line, partial_sets_nothing, sends_answer, tokens_in_line}
 use Rattle.answer_lines.proofs.answer.answer.Goals as goal
 
--- the answer to the command of a line is the answer to the line
-answer-of_command : (settings : Settings) (line : List ℕ) (command : Option Command)
-    → command ≡ command_in line → command_answer settings command ≡ answer_to settings line
-unfolding answer_to
-answer-of_command settings line command e = ap (command_answer settings) e
+pub returns-in-99-clause-ok : goal.returns-in-99-clause-ok
+returns-in-99-clause-ok g c =
+    let e : parse_in parse_complete (take (length c.args.line.now - 2) (drop 2 c.args.line.now)) ≡ command_in c.args.line.now = complete_in_line c.args.line.now c.in-99.len_at_least (search rules) (search rules) in
+    on_ok_weaker _ (sends_answer _ _ _ c.args.line.now _ _ _ e) c.answer_complete.ensures.ok
 
-pub returns-in_err-tell-clause-front : goal.returns-in_err-tell-clause-front
-returns-in_err-tell-clause-front g c =
-    let gains : List ℕ → Type 0 = λ text. GainsFront (g.W.Write.contents c.args.out.now)
-    (g.W.Write.contents c.tell.new.out) (c.args.batch.now ++ (text ++ 10 ∷ [])) in
-    subst gains (answer-of_command _ _ _ c.of-command.ensures)
-    (front_first _ _ _ _ (10 ∷ []) c.in_err-tell.ensures.front)
+pub returns-in-99-clause-front : goal.returns-in-99-clause-front
+returns-in-99-clause-front g c =
+    let e : parse_in parse_complete (take (length c.args.line.now - 2) (drop 2 c.args.line.now)) ≡ command_in c.args.line.now = complete_in_line c.args.line.now c.in-99.len_at_least (search rules) (search rules) in
+    front_answer _ _ _ c.args.line.now _ _ e c.answer_complete.ensures.front
 
-pub returns-in_err-put-clause-front : goal.returns-in_err-put-clause-front
-returns-in_err-put-clause-front g c =
-    let gains : List ℕ → Type 0 = λ text. GainsFront (g.W.Write.contents c.args.out.now)
-    (g.W.Write.contents c.put.new.out) (c.args.batch.now ++ (text ++ 10 ∷ [])) in
-    subst gains (answer-of_command _ _ _ c.of-command.ensures)
-    (front_second _ _ _ _ _ _ (10 ∷ []) c.in_ok-tell.ensures.ok c.in_err-put.ensures.front)
+pub returns-in-99-clause-settings : goal.returns-in-99-clause-settings
+returns-in-99-clause-settings g c =
+    let e : parse_in parse_complete (take (length c.args.line.now - 2) (drop 2 c.args.line.now)) ≡ command_in c.args.line.now = complete_in_line c.args.line.now c.in-99.len_at_least (search rules) (search rules) in
+    on_ok_weaker _ (keeps_settings _ _ _ c.args.line.now _ _ _ e (complete_sets_nothing _ (take (length c.args.line.now - 2) (drop 2 c.args.line.now)))) c.answer_complete.ensures.ok
 
-pub returns-clause-ok : goal.returns-clause-ok
-returns-clause-ok g c =
-    let sends : List ℕ → Type 0 = λ text. Sends (g.W.Write.contents c.args.out.now)
-    (g.W.Write.contents c.put.new.out) (c.args.batch.now ++ (text ++ 10 ∷ [])) c.put.new.batch in
-    subst sends (answer-of_command _ _ _ c.of-command.ensures)
-    (gathers_more _ _ _ _ _ _ _ (10 ∷ []) c.in_ok-tell.ensures.ok c.in_ok-put.ensures.ok)
+pub returns-in-112-clause-ok : goal.returns-in-112-clause-ok
+returns-in-112-clause-ok g c =
+    let e : parse_in parse_partial (take (length c.args.line.now - 2) (drop 2 c.args.line.now)) ≡ command_in c.args.line.now = partial_in_line c.args.line.now c.in-112.len_at_least (search rules) (search rules) in
+    on_ok_weaker _ (sends_answer _ _ _ c.args.line.now _ _ _ e) c.answer_partial.ensures.ok
 
-pub returns-clause-front : goal.returns-clause-front
-returns-clause-front g c =
-    let gains : List ℕ → Type 0 = λ text. GainsFront (g.W.Write.contents c.args.out.now)
-    (g.W.Write.contents c.put.new.out) (c.args.batch.now ++ (text ++ 10 ∷ [])) in
-    subst gains (answer-of_command _ _ _ c.of-command.ensures)
-    (front_of_sent _ _ _ _ (gathers_more _ _ _ _ _ _ _ (10 ∷ []) c.in_ok-tell.ensures.ok
-    c.in_ok-put.ensures.ok))
+pub returns-in-112-clause-front : goal.returns-in-112-clause-front
+returns-in-112-clause-front g c =
+    let e : parse_in parse_partial (take (length c.args.line.now - 2) (drop 2 c.args.line.now)) ≡ command_in c.args.line.now = partial_in_line c.args.line.now c.in-112.len_at_least (search rules) (search rules) in
+    front_answer _ _ _ c.args.line.now _ _ e c.answer_partial.ensures.front
 
--- what a line's command sets is what the line sets
-effect-of_command : (settings after : Settings) (line : List ℕ) (command : Option Command)
-    → after ≡ command_effect settings command → command ≡ command_in line
-    → after ≡ settings_after settings line
-unfolding settings_after
-effect-of_command settings after line command e f = e ∙ ap (command_effect settings) f
+pub returns-in-112-clause-settings : goal.returns-in-112-clause-settings
+returns-in-112-clause-settings g c =
+    let e : parse_in parse_partial (take (length c.args.line.now - 2) (drop 2 c.args.line.now)) ≡ command_in c.args.line.now = partial_in_line c.args.line.now c.in-112.len_at_least (search rules) (search rules) in
+    on_ok_weaker _ (keeps_settings _ _ _ c.args.line.now _ _ _ e (partial_sets_nothing _ (take (length c.args.line.now - 2) (drop 2 c.args.line.now)))) c.answer_partial.ensures.ok
 
-pub returns-clause-settings : goal.returns-clause-settings
-returns-clause-settings g c = effect-of_command _ _ _ _ c.apply_command.ensures c.of-command.ensures
+pub returns-in-116-clause-ok : goal.returns-in-116-clause-ok
+returns-in-116-clause-ok g c =
+    let e : Some (list_tokens (take (length c.args.line.now - 2) (drop 2 c.args.line.now))) ≡ command_in c.args.line.now = tokens_in_line c.args.line.now c.in-116.len_at_least (search rules) (search rules) in
+    on_ok_weaker _ (sends_answer _ _ _ c.args.line.now _ _ _ e) c.answer_tokens.ensures.ok
+
+pub returns-in-116-clause-front : goal.returns-in-116-clause-front
+returns-in-116-clause-front g c =
+    let e : Some (list_tokens (take (length c.args.line.now - 2) (drop 2 c.args.line.now))) ≡ command_in c.args.line.now = tokens_in_line c.args.line.now c.in-116.len_at_least (search rules) (search rules) in
+    front_answer _ _ _ c.args.line.now _ _ e c.answer_tokens.ensures.front
+
+pub returns-in-116-clause-settings : goal.returns-in-116-clause-settings
+returns-in-116-clause-settings g c =
+    let e : Some (list_tokens (take (length c.args.line.now - 2) (drop 2 c.args.line.now))) ≡ command_in c.args.line.now = tokens_in_line c.args.line.now c.in-116.len_at_least (search rules) (search rules) in
+    on_ok_weaker _ (keeps_settings _ _ _ c.args.line.now _ _ _ e refl) c.answer_tokens.ensures.ok
+
+pub returns-in-102-clause-ok : goal.returns-in-102-clause-ok
+returns-in-102-clause-ok g c =
+    let e : option_map change (change_named (take (length c.args.line.now - 2) (drop 2 c.args.line.now))) ≡ command_in c.args.line.now = change_in_line c.args.line.now c.in-102.len_at_least (search rules) (search rules) in
+    on_ok_weaker _ (sends_answer _ _ _ c.args.line.now _ _ _ e) c.answer_change.ensures.ok
+
+pub returns-in-102-clause-front : goal.returns-in-102-clause-front
+returns-in-102-clause-front g c =
+    let e : option_map change (change_named (take (length c.args.line.now - 2) (drop 2 c.args.line.now))) ≡ command_in c.args.line.now = change_in_line c.args.line.now c.in-102.len_at_least (search rules) (search rules) in
+    front_answer _ _ _ c.args.line.now _ _ e c.answer_change.ensures.front
+
+pub returns-in-102-clause-settings : goal.returns-in-102-clause-settings
+returns-in-102-clause-settings g c =
+    let e : option_map change (change_named (take (length c.args.line.now - 2) (drop 2 c.args.line.now))) ≡ command_in c.args.line.now = change_in_line c.args.line.now c.in-102.len_at_least (search rules) (search rules) in
+    on_ok_weaker _ (effect_of_line _ _ c.args.line.now _ e) c.answer_change.ensures.settings
+
+pub returns-in-r-clause-ok : goal.returns-in-r-clause-ok
+returns-in-r-clause-ok g c =
+    let e : Some reset ≡ command_in c.args.line.now = grind (arith, common_steps) in
+    on_ok_weaker _ (sends_answer _ _ _ c.args.line.now _ _ _ e) c.answer_reset.ensures.ok
+
+pub returns-in-r-clause-front : goal.returns-in-r-clause-front
+returns-in-r-clause-front g c =
+    let e : Some reset ≡ command_in c.args.line.now = grind (arith, common_steps) in
+    front_answer _ _ _ c.args.line.now _ _ e c.answer_reset.ensures.front
+
+pub returns-in-r-clause-settings : goal.returns-in-r-clause-settings
+returns-in-r-clause-settings g c =
+    let e : Some reset ≡ command_in c.args.line.now = grind (arith, common_steps) in
+    on_ok_weaker _ (effect_of_line _ _ c.args.line.now _ e) c.answer_reset.ensures.settings
+
+pub returns-in_default-clause-ok : goal.returns-in_default-clause-ok
+returns-in_default-clause-ok g c =
+    let e : None ≡ command_in c.args.line.now = grind (arith, common_steps) in
+    on_ok_weaker _ (sends_answer _ _ _ c.args.line.now _ _ _ e) c.put_line.ensures.ok
+
+pub returns-in_default-clause-front : goal.returns-in_default-clause-front
+returns-in_default-clause-front g c =
+    let e : None ≡ command_in c.args.line.now = grind (arith, common_steps) in
+    front_answer _ _ _ c.args.line.now _ _ e c.put_line.ensures.front
+
+pub returns-in_default-clause-settings : goal.returns-in_default-clause-settings
+returns-in_default-clause-settings g c =
+    let e : None ≡ command_in c.args.line.now = grind (arith, common_steps) in
+    on_ok_weaker _ (keeps_settings _ _ _ c.args.line.now _ _ _ e refl) c.put_line.ensures.ok

@@ -1,0 +1,17 @@
+use Rattle.std.proofs.lemmas.Result.{on_ok_weaker}
+use Rattle.std.proofs.Common.{[], ◌∷◌}
+use Rattle.answer_lines.proofs.Sending.{front_first, front_second, gathers_more}
+use Rattle.answer_lines.proofs.answer.put_line.Goals as goal
+
+pub returns-in_err-put-clause-front : goal.returns-in_err-put-clause-front
+returns-in_err-put-clause-front g c = front_first _ _ _ (c.args.text.now) (10 ∷ []) c.in_err-put.ensures.front
+
+pub returns-clause-ok : goal.returns-clause-ok
+returns-clause-ok g c =
+    on_ok_weaker _ (gathers_more _ _ _ _ _ _ (c.args.text.now) (10 ∷ [])
+    c.in_ok-put.ensures.ok) c.put-2.ensures.ok
+
+pub returns-clause-front : goal.returns-clause-front
+returns-clause-front g c =
+    front_second _ _ _ _ _ (c.args.text.now) (10 ∷ []) c.in_ok-put.ensures.ok
+    c.put-2.ensures.front

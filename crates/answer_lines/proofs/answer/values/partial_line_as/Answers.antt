@@ -1,0 +1,15 @@
+use Rattle.std.proofs.Common.{[], ◌∷◌, ◌++◌, rules}
+use Rattle.lexical_parse_integer.specs.Grammar.{partial_if_valid}
+use Rattle.answer_lines.specs.Output.{partial_text}
+use Rattle.answer_lines.proofs.Sending.{front_as}
+use Rattle.answer_lines.proofs.answer.values.partial_line_as.Goals as goal
+
+pub returns-in-Ok-clause-front : goal.returns-in-Ok-clause-front
+returns-in-Ok-clause-front g c =
+    let text = partial_text (partial_if_valid c.args.format.now g.T.Integer.TYPE c.args.text.now) ++ 10 ∷ [] in
+    front_as _ _ _ _ text (search rules) c.put_found_line.ensures.front
+
+pub returns-in-Err-clause-front : goal.returns-in-Err-clause-front
+returns-in-Err-clause-front g c =
+    let text = partial_text (partial_if_valid c.args.format.now g.T.Integer.TYPE c.args.text.now) ++ 10 ∷ [] in
+    front_as _ _ _ _ text (search rules) c.put_fault_line.ensures.front
