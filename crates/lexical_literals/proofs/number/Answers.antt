@@ -7,6 +7,12 @@ pub returns-then-count-gt0 : goal.returns-then-count-gt0
 unfolding number_of
 returns-then-count-gt0 c = sym (ap (number_by c.args.text.now) (c.front_of_decimal-value.ensures c.if-count-gt0.true))
 
+pub returns-then-count-gt0-2 : goal.returns-then-count-gt0-2
+unfolding number_of
+returns-then-count-gt0-2 c =
+    sym (ap (number_by c.args.text.now) (c.front_of_groups-value.ensures c.if-count-gt0-2.true c.args.format.now
+    (c.requires.grouped c.if-grouped.true)))
+
 pub returns-then-length-gt0 : goal.returns-then-length-gt0
 unfolding number_of
 returns-then-length-gt0 c =
