@@ -2,6 +2,7 @@
 pub mod ByteKinds
 pub mod DecimalFronts
 pub mod GroupedFronts
+pub mod KindLanes
 pub mod LiteralFronts
 pub mod LiteralRows
 pub mod TokenLists

@@ -15,6 +15,7 @@
 mod bytes;
 mod decimal;
 mod groups;
+mod lanes;
 mod literal;
 
 ghost use Rattle.std.specs.Prelude.{◌≡◌, ◌+◌, ◌<◌, ◌≤◌, ◌^◌, List, All, IfOk, IsNone, IsTrue, Ok, false, is_some, length, pos, slice_index, true};
