@@ -305,7 +305,7 @@ wide n low = omega arith
 
 -- behind the letter of a prefix
 named_head : (f : Format) (t : IntegerType) (letter r : ℕ) (rest : List ℕ) → IsGrouped f
-    → ((exact : Bool) → literal_radix exact (Some letter) ≡ Some r)
+    → literal_radix f.case_sensitive_base_prefix (Some letter) ≡ Some r
     → head_of f t (48 ∷ letter ∷ rest)
     ≡ Ok (record { is_negative = false; is_prefixed = true; is_octal = false; start = 2; radix = r })
 unfolding head_of prefix_radix named_radix is_affix are_same
@@ -313,18 +313,28 @@ named_head f t letter r rest g named =
     let sign_is = sign_of_digit_under f t 10 48 0 (letter ∷ rest) g.decimal.no_sign refl in
     let none = g.decimal.no_prefix in
     let asked = g.prefixes in
-    let radix = named f.case_sensitive_base_prefix in
-    rw (sign_is, none, asked, radix) refl
+    rw (sign_is, none, asked, named) refl
 
-pub named_front : (text : List ℕ) (letter r n number : ℕ) → slice_index text 0 ≡ 48 → slice_index text 1 ≡ letter
-    → 2 < length text → ((exact : Bool) → literal_radix exact (Some letter) ≡ Some r) → 1 ≤ r
+-- what is known of a format that reads prefixes in any case
+abbrev pub HasCase : Bool → Format → Type 0
+HasCase any f = any ≡ true → f.case_sensitive_base_prefix ≡ false
+
+-- a byte and a letter tell the same radix
+abbrev pub TellSame : Bool → ℕ → ℕ → Type 0
+TellSame any byte letter =
+    (exact : Bool) → (any ≡ true → exact ≡ false) → literal_radix exact (Some byte) ≡ literal_radix exact (Some letter)
+
+pub named_front : (text : List ℕ) (any : Bool) (letter r n number : ℕ) → slice_index text 0 ≡ 48
+    → TellSame any (slice_index text 1) letter → 2 < length text
+    → ((exact : Bool) → literal_radix exact (Some letter) ≡ Some r) → 1 ≤ r
     → (0 < n → EndsGroups r text 2 n number) → number < 2 ^ 64 → 0 < n
-    → (f : Format) → IsGrouped f → partial f (integer_type 128 false) text ≡ Ok (pos number, n)
-named_front [] letter r n number zero_is letter_is long named positive e low some f g = absurd (omega arith)
-named_front (c ∷ []) letter r n number zero_is letter_is long named positive e low some f g = absurd (omega arith)
-named_front (c ∷ b ∷ rest) letter r n number zero_is letter_is long named positive e low some f g =
+    → (f : Format) → IsGrouped f → HasCase any f → partial f (integer_type 128 false) text ≡ Ok (pos number, n)
+named_front [] any letter r n number zero_is same long named positive e low some f g case = absurd (omega arith)
+named_front (c ∷ []) any letter r n number zero_is same long named positive e low some f g case = absurd (omega arith)
+named_front (c ∷ b ∷ rest) any letter r n number zero_is same long named positive e low some f g case =
+    let exact = f.case_sensitive_base_prefix in
     groups_read f r (c ∷ b ∷ rest) g true 2 n number (e some) positive (wide number low)
-    (rw (zero_is, letter_is) (named_head f (integer_type 128 false) letter r rest g named))
+    (rw zero_is (named_head f (integer_type 128 false) b r rest g (same exact case ∙ named exact)))
 
 pub bare_front : (text : List ℕ) (n number : ℕ) → is_some (digit 10 (slice_index text 0)) ≡ true
     → ((exact : Bool) → literal_radix exact (slice_get text 1) ≡ None)
@@ -339,6 +349,11 @@ bare_front (c ∷ cs) n number first none e low some f g = by_digit (digit 10 c)
     by_digit (Some d) is told =
         groups_read f 10 (c ∷ cs) g false 0 n number (e some) (omega arith) (wide number low)
         (head_is_bare f (integer_type 128 false) c d cs g.decimal is (none f.case_sensitive_base_prefix))
+
+-- a capital letter for a small one
+pub same_letter : (b : ℕ) → 65 ≤ b → b ≤ 90 → literal_radix false (Some b) ≡ literal_radix false (Some (b + 32))
+unfolding literal_radix is_affix matches
+same_letter b low high = grind (arith, nat_tests)
 
 -- a byte that is the letter of no prefix
 pub no_letter : (b : ℕ) → b ≢ 120 → b ≢ 88 → b ≢ 111 → b ≢ 79 → b ≢ 98 → b ≢ 66

@@ -136,15 +136,32 @@ fn is_letter_of_prefix(byte: u8) -> bool
     byte == b'x' || byte == b'X' || byte == b'o' || byte == b'O' || byte == b'b' || byte == b'B'
 }
 
+// A byte that tells the same radix as another: a small letter for a capital, where case doesn't matter.
+#[inline(always)]
+#[tactic(auto, using(crate::proofs::GroupedFronts::same_letter))]
+fn letter_of_prefix(byte: u8, any_case: bool) -> u8
+    ensures { (exact : Bool) → (IsTrue any_case → exact ≡ false)
+        → literal_radix exact (Some byte) ≡ literal_radix exact (Some result) }
+{
+    if any_case && byte >= b'A' && byte <= b'Z' {
+        byte + 32
+    } else {
+        byte
+    }
+}
+
 // The number that a text begins with under each such format, and how many bytes it has, or 0 where that isn't sure.
+// Capital letters are read in prefixes where the format is known to take any case. Why out of line: docs/DECISIONS.md,
+// code.
 #[inline(never)]
-pub(crate) fn front_of_groups(text: &[u8]) -> (u64, usize)
+pub(crate) fn front_of_groups(text: &[u8], any_case: bool) -> (u64, usize)
     requires { is_some (digit 10 (slice_index text.now 0)) ≡ true }
     ensures { 0 < result.1 → (format : Format) → IsGrouped format
+        → (IsTrue any_case → format.case_sensitive_base_prefix ≡ false)
         → partial format (integer_type 128 false) text.now ≡ Ok (pos result.0, result.1) }
 {
     if text.len() > 2 && text[0] == b'0' {
-        match text[1] {
+        match letter_of_prefix(text[1], any_case) {
             b'x' => return number_of_groups(text, 16, 2),
             b'o' => return number_of_groups(text, 8, 2),
             b'b' => return number_of_groups(text, 2, 2),

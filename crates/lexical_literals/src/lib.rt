@@ -100,10 +100,12 @@ fn number(text: &[u8], format: &NumberFormat, decimal: bool, grouped: bool) -> (
         }
     }
     if grouped {
-        let (value, count) = front_of_groups(text);
+        let any_case = !format.case_sensitive_base_prefix();
+        let (value, count) = front_of_groups(text, any_case);
         if count > 0 {
             return (Kind::Number(value as u128), count);
         }
+        return wide_number(text, format);
     }
     wider_types();
     let (value, length) = punctuated_number(text, format);
