@@ -105,38 +105,38 @@ fn number(text: &[u8], format: &NumberFormat, decimal: bool, grouped: bool) -> (
         if count > 0 {
             return (Kind::Number(value as u128), count);
         }
-        return wide_number(text, format);
+        return wide_number(text, *format);
     }
     wider_types();
-    let (value, length) = punctuated_number(text, format);
+    let (value, length) = punctuated_number(text, *format);
     if length > 0 {
         return (Kind::Number(value as u128), length);
     }
-    wide_number(text, format)
+    wide_number(text, *format)
 }
 
 // The number of 64 bits that a text begins with, as most are, and 0 bytes where that isn't sure. Why out of line:
 // docs/DECISIONS.md, code.
 #[inline(never)]
-fn punctuated_number(text: &[u8], format: &NumberFormat) -> (u64, usize)
-    requires valid { IsNone (fault format.now) }
+fn punctuated_number(text: &[u8], format: NumberFormat) -> (u64, usize)
+    requires valid { IsNone (fault format) }
     ensures { 0 < result.1
-        → partial format.now (integer_type 64 false) text.now ≡ Ok (pos result.0, result.1) }
+        → partial format (integer_type 64 false) text.now ≡ Ok (pos result.0, result.1) }
 {
     match format.digit_separator() {
-        Some(_) => short_number(text, format),
+        Some(_) => short_number(text, &format),
         None => number_without_separator(text, format),
     }
 }
 
 // Such a number under a format without a separator. Why out of line: docs/DECISIONS.md, code.
 #[inline(never)]
-fn number_without_separator(text: &[u8], format: &NumberFormat) -> (u64, usize)
-    requires valid { IsNone (fault format.now) }
+fn number_without_separator(text: &[u8], format: NumberFormat) -> (u64, usize)
+    requires valid { IsNone (fault format) }
     ensures { 0 < result.1
-        → partial format.now (integer_type 64 false) text.now ≡ Ok (pos result.0, result.1) }
+        → partial format (integer_type 64 false) text.now ≡ Ok (pos result.0, result.1) }
 {
-    short_number(text, format)
+    short_number(text, &format)
 }
 
 // Such a number under any format, in place.
@@ -154,11 +154,11 @@ fn short_number(text: &[u8], format: &NumberFormat) -> (u64, usize)
 
 // A number of up to 128 bits that a text begins with, or its fault, and how many bytes that has.
 #[inline(never)]
-fn wide_number(text: &[u8], format: &NumberFormat) -> (Kind, usize)
-    requires valid { IsNone (fault format.now) }
-    ensures { result ≡ number_of format.now text.now }
+fn wide_number(text: &[u8], format: NumberFormat) -> (Kind, usize)
+    requires valid { IsNone (fault format) }
+    ensures { result ≡ number_of format text.now }
 {
-    match u128::parse_partial(text, format, &options::LARGE_NUMBERS) {
+    match u128::parse_partial(text, &format, &options::LARGE_NUMBERS) {
         Ok((value, length)) => (Kind::Number(value), length),
         Err(fault) => (Kind::Fault(fault), word_length(text)),
     }
