@@ -125,18 +125,18 @@ fn punctuated_number(text: &[u8], format: NumberFormat) -> (u64, usize)
 {
     match format.digit_separator() {
         Some(_) => short_number(text, &format),
-        None => number_without_separator(text, format),
+        None => number_without_separator(text, &format),
     }
 }
 
 // Such a number under a format without a separator. Why out of line: docs/DECISIONS.md, code.
 #[inline(never)]
-fn number_without_separator(text: &[u8], format: NumberFormat) -> (u64, usize)
-    requires valid { IsNone (fault format) }
+fn number_without_separator(text: &[u8], format: &NumberFormat) -> (u64, usize)
+    requires valid { IsNone (fault format.now) }
     ensures { 0 < result.1
-        → partial format (integer_type 64 false) text.now ≡ Ok (pos result.0, result.1) }
+        → partial format.now (integer_type 64 false) text.now ≡ Ok (pos result.0, result.1) }
 {
-    short_number(text, &format)
+    short_number(text, format)
 }
 
 // Such a number under any format, in place.
