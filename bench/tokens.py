@@ -105,7 +105,7 @@ def driver() -> str:
         drivers.copy(os.path.join(drivers.TOP, of_crate), os.path.join(room, of_crate))
     drivers.write(
         os.path.join(room, "crates.txt"),
-        drivers.LINES + "lexical_literals: lexical_util lexical_parse_integer\n"
+        drivers.LINES + "lexical_literals: lexical_util lexical_digits lexical_parse_integer\n"
         "bench_tokens staticlib: lexical_util lexical_parse_integer lexical_literals\n")
     drivers.write(os.path.join(folder, "src", "lib.rt"), CALLERS)
     drivers.run([os.environ.get("RT", "rt"), "lib"], folder)

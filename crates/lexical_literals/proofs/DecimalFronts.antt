@@ -24,11 +24,11 @@ use Rattle.lexical_literals.specs.Tokens.{is_word_byte}
 -- ---- the head
 
 -- a head without sign and prefix
-abbrev bare : Head
+abbrev pub bare : Head
 bare = record { is_negative = false; is_prefixed = false; is_octal = false; start = 0; radix = 10 }
 
 -- no literal prefix goes on with this byte
-abbrev NoLetter : Format → Option ℕ → Type 0
+abbrev pub NoLetter : Format → Option ℕ → Type 0
 NoLetter f byte = literal_radix f.case_sensitive_base_prefix byte ≡ None
 
 no_letter : (s : Bool) (b : ℕ) → is_word_byte b ≡ false → literal_radix s (Some b) ≡ None
@@ -52,7 +52,7 @@ no_prefix_read f c cs decimal letter =
     by_tests true false = refl
     by_tests false asked = refl
 
-head_is_bare : (f : Format) (t : IntegerType) (c d : ℕ) (cs : List ℕ) → IsDecimal f
+pub head_is_bare : (f : Format) (t : IntegerType) (c d : ℕ) (cs : List ℕ) → IsDecimal f
     → digit 10 c ≡ Some d → NoLetter f (slice_get cs 0) → head_of f t (c ∷ cs) ≡ Ok bare
 unfolding head_of
 head_is_bare f t c d cs decimal first letter =

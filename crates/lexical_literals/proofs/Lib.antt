@@ -1,6 +1,8 @@
 -- The lemmas of the proofs, a file for each subject.
 pub mod ByteKinds
 pub mod DecimalFronts
+pub mod GroupedFronts
+pub mod KindLanes
 pub mod LiteralFronts
 pub mod LiteralRows
 pub mod TokenLists

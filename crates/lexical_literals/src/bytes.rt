@@ -3,6 +3,8 @@ ghost use Rattle.std.specs.Prelude.{◌≡◌, ◌≤◌, length};
 ghost use Rattle.std.specs.List.{prefix_len};
 ghost use Rattle.lexical_literals.specs.Tokens.{is_skipped, is_word_byte, word_length};
 
+use crate::lanes::{skipped_length_of_16, word_length_of_16};
+
 // 1 for each byte of a word, 2 for each that is skipped between tokens, and 0 for any other: one table for the two
 // tests.
 #[rattlefmt::skip]
@@ -43,20 +45,84 @@ pub(crate) fn is_word_byte(byte: u8) -> bool
     KINDS[byte as usize] == 1
 }
 
-// How many bytes are skipped in front of a token.
+// How many bytes are skipped in front of a token, one by one.
 #[inline(always)]
-pub(crate) fn skipped_length(text: &[u8]) -> usize
+fn short_skipped_length(text: &[u8]) -> usize
     ensures value { result ≡ prefix_len is_skipped text.now }
     ensures within { result ≤ length text.now }
 {
     text.iter().take_while(|byte| is_skipped(**byte)).count()
 }
 
-// How many bytes of a word a text begins with.
+// How many bytes are skipped in front of a token, sixteen by sixteen as long as so many are left.
+#[inline(always)]
+fn long_skipped_length(text: &[u8]) -> usize
+    ensures value { result ≡ prefix_len is_skipped text.now }
+    ensures within { result ≤ length text.now }
+{
+    let mut place = 0;
+    while text.len() - place >= 16 {
+        let count = skipped_length_of_16(&text[place..place + 16]);
+        if count < 16 {
+            return place + count;
+        }
+        place += 16;
+    }
+    place + short_skipped_length(&text[place..])
+}
+
+// How many bytes are skipped in front of a token: none or one most often, and many at the beginning of a line.
+#[inline(always)]
+pub(crate) fn skipped_length(text: &[u8]) -> usize
+    ensures value { result ≡ prefix_len is_skipped text.now }
+    ensures within { result ≤ length text.now }
+{
+    if text.is_empty() || !is_skipped(text[0]) {
+        return 0;
+    }
+    if text.len() < 2 || !is_skipped(text[1]) {
+        return 1;
+    }
+    long_skipped_length(text)
+}
+
+// How many bytes of a word a text begins with, one by one.
+#[inline(always)]
+fn short_word_length(text: &[u8]) -> usize
+    ensures value { result ≡ word_length text.now }
+    ensures within { result ≤ length text.now }
+{
+    text.iter().take_while(|byte| is_word_byte(**byte)).count()
+}
+
+// How many bytes of a word a text begins with, sixteen by sixteen as long as so many are left.
+#[inline(always)]
+fn long_word_length(text: &[u8]) -> usize
+    ensures value { result ≡ word_length text.now }
+    ensures within { result ≤ length text.now }
+{
+    let mut place = 0;
+    while text.len() - place >= 16 {
+        let count = word_length_of_16(&text[place..place + 16]);
+        if count < 16 {
+            return place + count;
+        }
+        place += 16;
+    }
+    place + short_word_length(&text[place..])
+}
+
+// How many bytes of a word a text begins with: one is soon told.
 #[inline(always)]
 pub(crate) fn word_length(text: &[u8]) -> usize
     ensures value { result ≡ word_length text.now }
     ensures within { result ≤ length text.now }
 {
-    text.iter().take_while(|byte| is_word_byte(**byte)).count()
+    if text.is_empty() || !is_word_byte(text[0]) {
+        return 0;
+    }
+    if text.len() < 2 || !is_word_byte(text[1]) {
+        return 1;
+    }
+    long_word_length(text)
 }

@@ -14,6 +14,8 @@
 
 mod bytes;
 mod decimal;
+mod groups;
+mod lanes;
 mod literal;
 
 ghost use Rattle.std.specs.Prelude.{◌≡◌, ◌+◌, ◌<◌, ◌≤◌, ◌^◌, List, All, IfOk, IsNone, IsTrue, Ok, false, is_some, length, pos, slice_index, true};
@@ -23,10 +25,12 @@ ghost use Rattle.lexical_util.specs.Number.{integer_type};
 ghost use Rattle.lexical_util.specs.Validity.{fault};
 ghost use Rattle.lexical_parse_integer.specs.Grammar.{partial};
 ghost use Rattle.lexical_literals.specs.Decimal.{IsDecimal};
+ghost use Rattle.lexical_literals.specs.Groups.{IsGrouped};
 ghost use Rattle.lexical_literals.specs.Tokens.{FollowInTurn, FollowUnder, IsPartOf, TokenView, front_of, literals, number_of, view_of_token, tokens, tokens_from, tokens_if_valid};
 
 use bytes::{is_word_byte, skipped_length, word_length};
 use decimal::{front_of_decimal, is_decimal, seems_punctuated};
+use groups::{front_of_groups, is_grouped};
 use lexical_parse_integer::algorithm::algorithm_partial;
 use lexical_parse_integer::laws::grammar::{front_end, wider_types};
 use lexical_parse_integer::parse::ParseInteger;
@@ -82,10 +86,11 @@ pub fn literal_format() -> NumberFormat
 
 // The number that a text begins with, or its fault, and how many bytes that has.
 #[inline(always)]
-fn number(text: &[u8], format: &NumberFormat, decimal: bool) -> (Kind, usize)
+fn number(text: &[u8], format: &NumberFormat, decimal: bool, grouped: bool) -> (Kind, usize)
     requires first { is_some (digit format.now.mantissa_radix (slice_index text.now 0)) ≡ true }
     requires valid { IsNone (fault format.now) }
     requires decimal { IsTrue decimal → IsDecimal format.now }
+    requires grouped { IsTrue grouped → IsGrouped format.now }
     ensures { result ≡ number_of format.now text.now }
 {
     if decimal && !seems_punctuated(text) {
@@ -94,25 +99,33 @@ fn number(text: &[u8], format: &NumberFormat, decimal: bool) -> (Kind, usize)
             return (Kind::Number(value as u128), count);
         }
     }
+    if grouped {
+        let any_case = !format.case_sensitive_base_prefix();
+        let (value, count) = front_of_groups(text, any_case);
+        if count > 0 {
+            return (Kind::Number(value as u128), count);
+        }
+        return wide_number(text, *format);
+    }
     wider_types();
-    let (value, length) = punctuated_number(text, format);
+    let (value, length) = punctuated_number(text, *format);
     if length > 0 {
         return (Kind::Number(value as u128), length);
     }
-    wide_number(text, format)
+    wide_number(text, *format)
 }
 
 // The number of 64 bits that a text begins with, as most are, and 0 bytes where that isn't sure. Why out of line:
 // docs/DECISIONS.md, code.
 #[inline(never)]
-fn punctuated_number(text: &[u8], format: &NumberFormat) -> (u64, usize)
-    requires valid { IsNone (fault format.now) }
+fn punctuated_number(text: &[u8], format: NumberFormat) -> (u64, usize)
+    requires valid { IsNone (fault format) }
     ensures { 0 < result.1
-        → partial format.now (integer_type 64 false) text.now ≡ Ok (pos result.0, result.1) }
+        → partial format (integer_type 64 false) text.now ≡ Ok (pos result.0, result.1) }
 {
     match format.digit_separator() {
-        Some(_) => short_number(text, format),
-        None => number_without_separator(text, format),
+        Some(_) => short_number(text, &format),
+        None => number_without_separator(text, &format),
     }
 }
 
@@ -141,11 +154,11 @@ fn short_number(text: &[u8], format: &NumberFormat) -> (u64, usize)
 
 // A number of up to 128 bits that a text begins with, or its fault, and how many bytes that has.
 #[inline(never)]
-fn wide_number(text: &[u8], format: &NumberFormat) -> (Kind, usize)
-    requires valid { IsNone (fault format.now) }
-    ensures { result ≡ number_of format.now text.now }
+fn wide_number(text: &[u8], format: NumberFormat) -> (Kind, usize)
+    requires valid { IsNone (fault format) }
+    ensures { result ≡ number_of format text.now }
 {
-    match u128::parse_partial(text, format, &options::LARGE_NUMBERS) {
+    match u128::parse_partial(text, &format, &options::LARGE_NUMBERS) {
         Ok((value, length)) => (Kind::Number(value), length),
         Err(fault) => (Kind::Fault(fault), word_length(text)),
     }
@@ -153,14 +166,21 @@ fn wide_number(text: &[u8], format: &NumberFormat) -> (Kind, usize)
 
 // What a text begins with, by its first byte, and how many bytes that has.
 #[inline(always)]
-fn front(first: u8, text: &[u8], format: &NumberFormat, decimal: bool) -> (Kind, usize)
+fn front(
+    first: u8,
+    text: &[u8],
+    format: &NumberFormat,
+    decimal: bool,
+    grouped: bool,
+) -> (Kind, usize)
     requires first { slice_index text.now 0 ≡ first }
     requires valid { IsNone (fault format.now) }
     requires decimal { IsTrue decimal → IsDecimal format.now }
+    requires grouped { IsTrue grouped → IsGrouped format.now }
     ensures { result ≡ front_of format.now text.now }
 {
     if char_is_digit(first, format.radix()) {
-        number(text, format, decimal)
+        number(text, format, decimal, grouped)
     } else if is_word_byte(first) {
         (Kind::Word, word_length(text))
     } else {
@@ -174,9 +194,11 @@ fn front(first: u8, text: &[u8], format: &NumberFormat, decimal: bool) -> (Kind,
 /// It allocates nothing. How long it takes is in no contract.
 #[derive(Drop)]
 pub struct Tokens<'a> {
-    // What the numbers look like, and whether decimal digits alone are read as under the standard format.
+    // What the numbers look like; whether decimal digits alone are read as under the standard format; and whether they may
+    // have `_` between them, or a literal prefix.
     format: NumberFormat,
     decimal: bool,
+    grouped: bool,
     // The source behind the last token, and the place in the source at which it begins.
     rest: &'a [u8],
     place: usize,
@@ -188,7 +210,7 @@ impl<'a> Model for Tokens<'a> {
     ghost view = { λ t. tokens_from t.format t.place 0 t.rest.now };
 
     ghost invariant = { λ t. (t.place + length t.rest.now < 2 ^ 64) × IsNone (fault t.format)
-        × (IsTrue t.decimal → IsDecimal t.format) };
+        × (IsTrue t.decimal → IsDecimal t.format) × (IsTrue t.grouped → IsGrouped t.format) };
 }
 
 impl<'a> Tokens<'a> {
@@ -207,8 +229,10 @@ impl<'a> Tokens<'a> {
         // The law by which no number is empty, and each ends within the source.
         front_end();
         let format = literal_format();
+        let decimal = is_decimal(&format);
         Tokens {
-            decimal: is_decimal(&format),
+            grouped: is_grouped(&format, decimal),
+            decimal,
             format,
             rest: source,
             place: 0,
@@ -234,9 +258,11 @@ impl<'a> Tokens<'a> {
         if let Some(fault) = format.error() {
             return Err(fault);
         }
+        let decimal = is_decimal(format);
         Ok(Tokens {
             format: *format,
-            decimal: is_decimal(format),
+            decimal,
+            grouped: is_grouped(format, decimal),
             rest: source,
             place: 0,
         })
@@ -257,7 +283,7 @@ impl<'a> Iterator for Tokens<'a> {
         front_end();
         let (skipped, rest) = self.rest.split_at(skipped_length(self.rest));
         let first = *rest.first()?;
-        let (kind, length) = front(first, rest, &self.format, self.decimal);
+        let (kind, length) = front(first, rest, &self.format, self.decimal, self.grouped);
         let (text, behind) = rest.split_at(length);
         let start = self.place + skipped.len();
         let stop = start + length;
