@@ -26,7 +26,7 @@ use crate::algorithm::head::{is_prefix_alone, read_head};
 use crate::algorithm::numeral::read_numeral;
 use crate::algorithm::plain::faults::{fault_after_many, place_after_few};
 use crate::algorithm::plain::{front_if_plain, value_behind_plus};
-use crate::algorithm::whole::value_for_format;
+use crate::algorithm::whole::{complete_if_left, value_for_format};
 use crate::cursor::Cursor;
 use crate::options::Options;
 pub use head::parse_sign;
@@ -160,7 +160,7 @@ pub fn algorithm_complete<T: Integer>(
 {
     match value_for_format::<T>(bytes, format) {
         Some(value) => Ok(value),
-        None => complete_from_front::<T>(bytes, format),
+        None => complete_if_left::<T>(bytes, format),
     }
 }
 

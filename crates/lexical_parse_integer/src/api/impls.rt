@@ -3,10 +3,10 @@ ghost use Rattle.std.specs.Prelude.{◌≡◌};
 ghost use Rattle.lexical_parse_integer.specs.Answer.{with_place, view_of};
 ghost use Rattle.lexical_parse_integer.specs.Grammar.{complete_if_valid, partial_if_valid};
 
-use crate::algorithm::front::{complete_from_front, partial_from_front};
+use crate::algorithm::front::partial_from_front;
 use crate::algorithm::plain::{front_if_plain, value_if_short};
 use crate::algorithm::punctuated::validity::fault_of;
-use crate::algorithm::whole::{value_for_format, value_if_not_short};
+use crate::algorithm::whole::{complete_if_left, value_for_format, value_if_not_short};
 use crate::algorithm::{standard_complete, standard_partial};
 use crate::api::{FromLexical, FromLexicalWithOptions};
 use crate::options::Options;
@@ -30,7 +30,7 @@ fn complete_if_valid<T: Integer>(call: &Call<'_>) -> Result<T>
 {
     match fault_of(call.format) {
         Some(invalid) => Err(invalid),
-        None => complete_from_front::<T>(call.bytes, call.format),
+        None => complete_if_left::<T>(call.bytes, call.format),
     }
 }
 
