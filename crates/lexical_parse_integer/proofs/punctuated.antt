@@ -3,5 +3,4 @@ pub mod DigitsAmong
 pub mod GroupedNumerals
 pub mod PunctuatedAnswers
 pub mod PartedFronts
-pub mod RowAnswers
 pub mod Threes

@@ -18,13 +18,15 @@ mod multi;
 mod numeral;
 pub(crate) mod plain;
 pub(crate) mod punctuated;
+pub(crate) mod whole;
 mod zeros;
 
 use crate::algorithm::front::{complete_from_front, partial_from_front};
 use crate::algorithm::head::{is_prefix_alone, read_head};
 use crate::algorithm::numeral::read_numeral;
 use crate::algorithm::plain::faults::{fault_after_many, place_after_few};
-use crate::algorithm::plain::{front_if_plain, value_behind_plus, value_if_plain};
+use crate::algorithm::plain::{front_if_plain, value_behind_plus};
+use crate::algorithm::whole::{complete_if_left, value_for_format};
 use crate::cursor::Cursor;
 use crate::options::Options;
 pub use head::parse_sign;
@@ -156,9 +158,9 @@ pub fn algorithm_complete<T: Integer>(
     requires valid { IsNone (fault format.now) }
     ensures { view_of T.number result ≡ complete format.now T.TYPE bytes.now }
 {
-    match value_if_plain::<T>(bytes, format) {
+    match value_for_format::<T>(bytes, format) {
         Some(value) => Ok(value),
-        None => complete_from_front::<T>(bytes, format),
+        None => complete_if_left::<T>(bytes, format),
     }
 }
 

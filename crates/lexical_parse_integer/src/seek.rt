@@ -1,6 +1,6 @@
 // Where the next digit stands. These functions take plain values, so that the compiler can keep a cursor in
 // registers.
-ghost use Rattle.std.specs.Prelude.{◌≡◌, ◌≤◌, ◌<◌, None, length};
+ghost use Rattle.std.specs.Prelude.{◌≡◌, ◌≤◌, ◌<◌, None, length, true};
 ghost use Rattle.lexical_util.specs.Digit.{IsRadix};
 ghost use Rattle.lexical_parse_integer.specs.Runs.{admits_leading, digit_at, end_of, flag_for, run_passes, run_stop, separator_at};
 ghost use Rattle.lexical_parse_integer.specs.Seeking.{Finds, IsAtRunStart, IsSeparatorNoDigit, starts_behind_prefix};
@@ -99,8 +99,8 @@ fn run_passes(
         && flag_for(format, start, before, after)
 }
 
-// What stands behind the run of separators at `position`, where there is one and no digit stands there. A run is
-// looked over once: where it passes, what is sought stands behind it, and else the numeral ends before it.
+// What stands behind the run of separators that starts at `position`. A run is looked over once: where it passes, what
+// is sought stands behind it, and else the numeral ends before it.
 //
 // Why out of line, and the format by value: docs/DECISIONS.md, code.
 #[inline(never)]
@@ -118,12 +118,10 @@ fn seek_behind_run(
     requires before_end { position
         ≤ end_of format (starts_behind_prefix start) radix bytes.now start }
     requires at_run_start { IsAtRunStart format bytes.now start position }
+    requires run { separator_at format bytes.now position ≡ true }
     requires no_digit { digit_at radix bytes.now position ≡ None }
     ensures { Finds format (starts_behind_prefix start) radix bytes.now start position result }
 {
-    if !separator_at(bytes, &format, position) {
-        return Found::End(position);
-    }
     let stop = run_stop(bytes, &format, position);
     if !run_passes(bytes, &format, radix, start, position, stop) {
         return Found::End(position);
@@ -134,7 +132,7 @@ fn seek_behind_run(
     }
 }
 
-// What stands ahead where no digit stands at `position`. Why by another call: docs/DECISIONS.md, code.
+// What stands ahead where no digit stands at `position`: without a separator there it is the numeral's end. Why by another call: docs/DECISIONS.md, code.
 #[inline(always)]
 fn seek_behind_separator(
     bytes: &[u8],
@@ -153,7 +151,7 @@ fn seek_behind_separator(
     requires no_digit { digit_at radix bytes.now position ≡ None }
     ensures { Finds format.now (starts_behind_prefix start) radix bytes.now start position result }
 {
-    if format.digit_separator().is_none() {
+    if !separator_at(bytes, format, position) {
         return Found::End(position);
     }
     seek_behind_run(bytes, *format, radix, start, position)

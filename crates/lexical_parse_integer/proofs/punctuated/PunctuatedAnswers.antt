@@ -1,6 +1,6 @@
 -- What the parsers answer where a numeral of digits, with separators between them, stands behind sign and prefix.
 use Rattle.std.proofs.Common.{◌≡◌, ℕ, ◌+◌, ◌-◌, ◌<◌, ◌≤◌, Bool, true, false, not, ◌&&◌, ◌||◌, cond, List, [], ◌∷◌, ◌++◌, length, refl, sym, ap, ◌∙◌, subst, arith, Option, Some, None, IsNone, is_some, Ok, Err, Result}
-use Rattle.std.specs.Prelude.{◌==◌, nat_le, nat_lt, slice_get, slice_index, slice_range, ℤ, IfSome}
+use Rattle.std.specs.Prelude.{◌==◌, nat_le, nat_lt, slice_index, slice_range, ℤ, IfSome}
 use Rattle.std.proofs.Math.Bool.{and-false}
 use Rattle.std.proofs.lemmas.Bool.{eqb-true, false≢true, le-ltb, lt-ltb, ne_eqb}
 use Rattle.std.proofs.lemmas.Bool.Decides.{nat_tests}
@@ -12,13 +12,13 @@ use Rattle.lexical_util.specs.Digit.{digit}
 use Rattle.lexical_util.specs.Format.{Format}
 use Rattle.lexical_util.specs.Number.{IntegerType, is_number}
 use Rattle.lexical_util.specs.Validity.{fault}
-use Rattle.lexical_parse_integer.specs.Affixes.{is_affix, named_radix, numeral_stop, octal_zero_at, prefix_radix, suffix_at}
+use Rattle.lexical_parse_integer.specs.Affixes.{is_affix, numeral_stop, octal_zero_at, prefix_radix, suffix_at}
 use Rattle.lexical_parse_integer.specs.Grammar.{common_faults, complete, complete_faults, fault_if, first_fault_or, prefix_fault, range_fault, zero_fault}
 use Rattle.lexical_parse_integer.specs.Head.{Head, head_after, head_behind, head_of, sign, chooses_radix}
 use Rattle.lexical_parse_integer.specs.Grouped.{AreGrouped, AreWorth, digits_among, is_digit_in, stop_after}
 use Rattle.lexical_parse_integer.specs.Numeral.{Numeral, digit_count, numeral_in, numeral_value, numeral_behind}
 use Rattle.lexical_parse_integer.specs.Plain.{keeps_zero_rule}
-use Rattle.lexical_parse_integer.specs.Runs.{are_same, digits_between, end_of, is_in_numeral, places}
+use Rattle.lexical_parse_integer.specs.Runs.{digits_between, end_of, is_in_numeral, places}
 use Rattle.lexical_digits.specs.Value.{positional_value, with_sign}
 use Rattle.lexical_digits.specs.WrittenNumbers.{StandsFor}
 use Rattle.lexical_parse_integer.proofs.grammar.FrontValues.{fitting_fault}
@@ -270,20 +270,6 @@ no_suffix_past f text = rw (slice_get_past text (length text) (omega arith)) (by
 pub if_both : {X : Type 0} {P Q R : X → Type 0} (found : Option X) → ((x : X) → P x → Q x → R x) → IfSome found P → IfSome found Q → IfSome found R
 if_both None step p q = tt
 if_both (Some x) step p q = step x p q
-
--- a format that has none lets no prefix and no octal zero stand
-pub no_prefix : (f : Format) (text : List ℕ) (place : ℕ) → f.base_prefix ≡ None → f.literal_prefixes ≡ false → None ≡ prefix_radix f text place
-unfolding prefix_radix named_radix is_affix
-no_prefix f text place none off = by_zero (are_same (Some 48) (slice_get text place)) (slice_get text (place + 1))
-  where
-    by_zero : (b : Bool) (c : Option ℕ) → None ≡ cond b (named_radix f c) None
-    by_zero false c = refl
-    by_zero true None = rw (none, off) refl
-    by_zero true (Some byte) = rw (none, off) refl
-
-pub no_octal_zero : (f : Format) (text : List ℕ) (place : ℕ) → f.literal_octal_zero ≡ false → false ≡ octal_zero_at f text place
-unfolding octal_zero_at
-no_octal_zero f text place off = rw off refl
 
 pub valid_from : (o : Option Error) → o ≡ None → IsNone o
 valid_from o e = rw e refl

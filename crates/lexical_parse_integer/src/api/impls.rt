@@ -1,15 +1,12 @@
 // Every integer type, read from bytes.
-ghost use Rattle.std.specs.Prelude.{◌≡◌, IfSome, IsNone, Ok};
-ghost use Rattle.lexical_util.specs.Validity.{fault};
+ghost use Rattle.std.specs.Prelude.{◌≡◌};
 ghost use Rattle.lexical_parse_integer.specs.Answer.{with_place, view_of};
-ghost use Rattle.lexical_parse_integer.specs.Grammar.{complete, complete_if_valid, partial_if_valid};
+ghost use Rattle.lexical_parse_integer.specs.Grammar.{complete_if_valid, partial_if_valid};
 
-use crate::algorithm::front::{complete_from_front, partial_from_front};
-use crate::algorithm::plain::{
-    front_if_plain, is_plain, value_if_plain, value_if_short, value_of_plain,
-};
+use crate::algorithm::front::partial_from_front;
+use crate::algorithm::plain::{front_if_plain, value_if_short};
 use crate::algorithm::punctuated::validity::fault_of;
-use crate::algorithm::punctuated::{value_of_groups, value_of_row};
+use crate::algorithm::whole::{complete_if_left, value_for_format, value_if_not_short};
 use crate::algorithm::{standard_complete, standard_partial};
 use crate::api::{FromLexical, FromLexicalWithOptions};
 use crate::options::Options;
@@ -25,23 +22,6 @@ struct Call<'a> {
     format: &'a NumberFormat,
 }
 
-// The value of the whole text, by the reader for its format, where `value_if_short` has left it. Why each answers in
-// registers: docs/DECISIONS.md, code.
-#[inline(always)]
-fn value_for_format<T: Integer>(bytes: &[u8], format: &NumberFormat) -> Option<T>
-    ensures valid { IfSome result (λ value. IsNone (fault format.now)) }
-    ensures answer { IfSome result
-        (λ value. complete format.now T.TYPE bytes.now ≡ Ok (T.number value)) }
-{
-    if !is_plain(format) {
-        return match format.digit_separator() {
-            Some(separator) => value_of_groups::<T>(bytes, format, separator),
-            None => value_of_row::<T>(bytes, format),
-        };
-    }
-    value_of_plain::<T>(bytes, format)
-}
-
 // The complete answer for every text, in one call. Why out of line: docs/DECISIONS.md, code.
 #[inline(never)]
 fn complete_if_valid<T: Integer>(call: &Call<'_>) -> Result<T>
@@ -50,7 +30,7 @@ fn complete_if_valid<T: Integer>(call: &Call<'_>) -> Result<T>
 {
     match fault_of(call.format) {
         Some(invalid) => Err(invalid),
-        None => complete_from_front::<T>(call.bytes, call.format),
+        None => complete_if_left::<T>(call.bytes, call.format),
     }
 }
 
@@ -62,7 +42,7 @@ pub fn complete_under_if_not_short<T: Integer>(bytes: &[u8], format: &NumberForm
     ensures { view_of T.number result ≡ complete_if_valid format.now T.TYPE bytes.now }
 {
     let call = Call { bytes, format };
-    match value_for_format::<T>(bytes, format) {
+    match value_if_not_short::<T>(bytes, format) {
         Some(value) => Ok(value),
         None => complete_if_valid::<T>(&call),
     }
@@ -82,7 +62,7 @@ fn partial_if_valid<T: Integer>(bytes: &[u8], format: &NumberFormat) -> Result<(
 impl<T: Integer> FromLexical for T {
     #[inline(always)]
     fn from_lexical(bytes: &[u8]) -> Result<T> {
-        match value_if_plain::<T>(bytes, &format::STANDARD) {
+        match value_for_format::<T>(bytes, &format::STANDARD) {
             Some(value) => Ok(value),
             None => standard_complete::<T>(bytes),
         }

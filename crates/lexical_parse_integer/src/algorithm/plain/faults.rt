@@ -1,4 +1,4 @@
-// Faults of decimal texts under the standard format: most faults.
+// Faults of decimal texts under formats without punctuation: most faults.
 //
 // `None` says nothing. Why each is a call of its own: docs/DECISIONS.md, code.
 ghost use Rattle.std.specs.Prelude.{◌≡◌, ◌<◌, ◌≤◌, Err, IfSome, IsNone, get_or, length, take};
@@ -7,14 +7,16 @@ ghost use Rattle.lexical_util.specs.Format.{standard};
 ghost use Rattle.lexical_util.specs.declared.error.Error.TheVariants.{Empty, InvalidDigit};
 ghost use Rattle.lexical_digits.specs.Words.{AreDigits};
 ghost use Rattle.lexical_parse_integer.specs.Grammar.{complete};
+ghost use Rattle.lexical_parse_integer.specs.Plain.{IsPlain};
 
 use crate::algorithm::digits::join_checked;
 use crate::algorithm::front::sign_of;
+use crate::algorithm::plain::keeps_zero_rule;
 use crate::seek::digit_at;
 use lexical_digits::fronts::{number_behind, number_in_front, value_of_digits};
 use lexical_util::digit::char_to_digit;
 use lexical_util::error::Error;
-use lexical_util::format;
+use lexical_util::format::{self, NumberFormat};
 use lexical_util::num::Integer;
 
 // How many digits a text begins with: counted by words, whose numbers nobody asks for.
@@ -39,7 +41,45 @@ fn digits_in_front(text: &[u8]) -> usize
 }
 
 // The place at which reading stops, where no digit stands behind the sign, or a byte behind digits for which their type
-// has room, whatever they are.
+// has room, whatever they are. Those of a longer text than is asked for aren't counted.
+#[inline(always)]
+pub(in crate::algorithm) fn place_after_digits<T: Integer>(
+    bytes: &[u8],
+    format: &NumberFormat,
+    longest: usize,
+) -> Option<usize>
+    requires plain { IsPlain format.now }
+    requires decimal { format.now.mantissa_radix ≡ 10 }
+    ensures byte { IfSome result (λ place. place < length bytes.now
+        → complete format.now T.TYPE bytes.now ≡ Err (InvalidDigit place)) }
+    ensures end { IfSome result (λ place. length bytes.now ≤ place
+        → complete format.now T.TYPE bytes.now ≡ Err (Empty place)) }
+{
+    let Ok((_, start)) = sign_of::<T>(bytes, format) else {
+        return None;
+    };
+    if bytes.len() <= start {
+        return if format.required_digits() {
+            Some(start)
+        } else {
+            None
+        };
+    }
+    if digit_at(bytes, 10, start).is_none() {
+        return Some(start);
+    }
+    let digits = &bytes[start..];
+    if digits.len() > longest || !keeps_zero_rule(format, digits) {
+        return None;
+    }
+    let count = digits_in_front(digits);
+    if count == digits.len() || count > T::overflow_digits(10) {
+        return None;
+    }
+    Some(start + count)
+}
+
+// That place under the standard format.
 #[inline(never)]
 pub(in crate::algorithm) fn place_after_few<T: Integer>(bytes: &[u8]) -> Option<usize>
     ensures byte { IfSome result (λ place. place < length bytes.now
@@ -47,18 +87,7 @@ pub(in crate::algorithm) fn place_after_few<T: Integer>(bytes: &[u8]) -> Option<
     ensures end { IfSome result (λ place. length bytes.now ≤ place
         → complete standard T.TYPE bytes.now ≡ Err (Empty place)) }
 {
-    let Ok((_, start)) = sign_of::<T>(bytes, &format::STANDARD) else {
-        return None;
-    };
-    if digit_at(bytes, 10, start).is_none() {
-        return Some(start);
-    }
-    let digits = &bytes[start..];
-    let count = digits_in_front(digits);
-    if count == digits.len() || count > T::overflow_digits(10) {
-        return None;
-    }
-    Some(start + count)
+    place_after_digits::<T>(bytes, &format::STANDARD, usize::MAX)
 }
 
 // The fault behind as many digits as the type has room for: at the digit with which the number leaves the type, or at

@@ -1,54 +1,54 @@
-// Which formats are valid, by few tests for those with one byte of punctuation at most.
-ghost use Rattle.std.specs.Prelude.{◌≡◌, IsTrue, None, Some, false};
+// Which formats are valid, by few tests for those with a separator or a prefix at most, and literal ones.
+ghost use Rattle.std.specs.Prelude.{◌≡◌, ◌||◌, IsTrue, None, Some};
 ghost use Rattle.lexical_util.specs.Validity.{fault};
 
 use lexical_util::error::Error;
 use lexical_util::format::NumberFormat;
 
-// Whether a format with a separator is surely valid: it is decimal, and has no other punctuation.
+// Whether a format with a separator is surely valid: it is decimal, has no prefix of its own and no suffix, and no letter
+// stands between digits where letters make literal prefixes.
 #[inline(always)]
 pub(super) fn is_valid_with_separator(format: &NumberFormat, separator: u8) -> bool
     requires { format.now.digit_separator ≡ Some separator }
     ensures valid { IsTrue result → fault format.now ≡ None }
     ensures decimal { IsTrue result → format.now.mantissa_radix ≡ 10 }
-    ensures no_prefix { IsTrue result → format.now.base_prefix ≡ None }
-    ensures no_literals { IsTrue result → format.now.literal_prefixes ≡ false }
-    ensures no_octal_zeros { IsTrue result → format.now.literal_octal_zero ≡ false }
 {
     if format.base_suffix().is_some()
         | format.base_prefix().is_some()
-        | format.literal_prefixes()
-        | format.literal_octal_zero()
         | (format.mantissa_radix() != 10)
     {
         return false;
     }
     if separator > b'9' {
-        return separator < 128;
+        return separator == b'_' || (separator < 128 && !format.literal_prefixes());
     }
     separator < b'0' && separator != b'+' && separator != b'-'
 }
 
-// Whether a format without separator is surely valid: it has a prefix beside hexadecimal digits, or none.
+// Whether a prefix or a zero in front may choose the radix, beside the format's own prefix.
+#[inline(always)]
+fn has_literals(format: &NumberFormat) -> bool
+    ensures { result ≡ (format.now.literal_prefixes || format.now.literal_octal_zero) }
+{
+    format.literal_prefixes() | format.literal_octal_zero()
+}
+
+// Whether a format without separator is surely valid: it has no suffix, and it is decimal without a prefix of its own, or
+// has one beside hexadecimal digits, or none beside those of any radix.
 #[inline(always)]
 pub(super) fn is_valid_without_separator(format: &NumberFormat) -> bool
     requires { format.now.digit_separator ≡ None }
     ensures valid { IsTrue result → fault format.now ≡ None }
-    ensures no_octal_zeros { IsTrue result → format.now.literal_octal_zero ≡ false }
 {
-    if format.base_suffix().is_some() | format.literal_octal_zero() {
+    if format.base_suffix().is_some() {
         return false;
     }
-    match format.base_prefix() {
-        Some(prefix) => {
-            let is_past_digits = prefix > b'f' && prefix < 128;
-            format.mantissa_radix() == 16 && !format.literal_prefixes() && is_past_digits
-        }
-        None => {
-            let radix = format.mantissa_radix();
-            radix == 10 || (!format.literal_prefixes() && radix >= 2 && radix <= 36)
-        }
-    }
+    let radix = format.mantissa_radix();
+    let Some(prefix) = format.base_prefix() else {
+        return radix == 10 || (radix >= 2 && radix <= 36 && !has_literals(format));
+    };
+    let is_past_digits = prefix > b'f' && prefix < 128;
+    radix == 16 && !has_literals(format) && is_past_digits
 }
 
 // The fault of a format, or none.

@@ -11,8 +11,8 @@ returns-then-radix-eq16-clause-answer g c =
     if_found c.value_of_nibbles.result
     (λ v s. table_read _ _ 16 _ c.args.bytes.now _ _ c.requires.plain (sym c.mantissa_radix-radix.ensures ∙ c.if-radix-eq16.true) (record { low = omega arith; high = omega arith }) c.behind_minus-is_negative.ensures.behind some rule s) c.value_of_nibbles.ensures
 
-pub returns-then-BITS-gt32-clause-answer : goal.returns-then-BITS-gt32-clause-answer
-returns-then-BITS-gt32-clause-answer g c =
+pub returns-then-radix-eq10-clause-answer : goal.returns-then-radix-eq10-clause-answer
+returns-then-radix-eq10-clause-answer g c =
     let some = some_bytes _ _ c.is_empty.ensures c.if-is_empty.false in
     let rule = sym c.keeps_zero_rule.ensures ∙ c.if-not-keeps_zero_rule.false in
     if_found c.value_from_17.result

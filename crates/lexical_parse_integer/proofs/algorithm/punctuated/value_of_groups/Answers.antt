@@ -2,7 +2,7 @@ use Rattle.std.proofs.Common.{◌≡◌, ℕ, None, refl, subst, sym, ◌∙◌}
 use Rattle.std.specs.Prelude.{IsNone}
 use Rattle.lexical_util.specs.Digit.{digit}
 use Rattle.lexical_util.specs.Validity.{fault}
-use Rattle.lexical_parse_integer.proofs.punctuated.PunctuatedAnswers.{groups_read, head_bare, if_both, no_octal_zero, no_prefix, signed_minus, valid_from}
+use Rattle.lexical_parse_integer.proofs.punctuated.PunctuatedAnswers.{groups_read, head_signed, if_both, valid_from}
 use Rattle.lexical_parse_integer.proofs.reading.FormatBytes.{fits}
 use Rattle.lexical_parse_integer.proofs.algorithm.punctuated.value_of_groups.Goals as goal
 
@@ -13,15 +13,13 @@ value_of_threes-requires-clause-no_digit g c =
     subst (λ (r : ℕ). digit r c.args.separator ≡ None) (told.decimal refl) (fit.separator c.args.separator c.requires)
 
 pub value_of_threes-requires-clause-minus : goal.value_of_threes-requires-clause-minus
-value_of_threes-requires-clause-minus g c = signed_minus _ _ c.args.bytes.now (c.in-Ok.is_negative, c.in-Ok.start) (sym c.in-Ok.ensures)
+value_of_threes-requires-clause-minus g c = head_signed _ _ c.args.bytes.now _ c.in-Ok.ensures.head
 
 pub returns-clause-answer : goal.returns-clause-answer
 returns-clause-answer g c =
     let told = c.if-not-is_valid_with_separator.ensures in
     let valid : IsNone (fault c.args.format.now) = valid_from _ (told.valid refl) in
-    let octal = no_octal_zero _ c.args.bytes.now c.in-Ok.start (told.no_octal_zeros refl) in
-    let head = head_bare _ _ c.args.bytes.now (c.in-Ok.is_negative, c.in-Ok.start) _ 10 (sym c.in-Ok.ensures) (no_prefix _ _ _ (told.no_prefix refl) (told.no_literals refl)) octal (sym (told.decimal refl)) in
-    let rule = sym c.keeps_zero_rule.ensures ∙ c.if-not-keeps_zero_rule.false in
+    let rule = sym c.keeps_rule_behind.ensures ∙ c.if-not-keeps_rule_behind.false in
     if_both c.value_of_threes.result
-    (λ v grouped worth. groups_read _ _ c.args.bytes.now _ _ 10 valid head refl c.if-bytes-start.false rule grouped worth)
+    (λ v grouped worth. groups_read _ _ c.args.bytes.now _ _ 10 valid c.in-Ok.ensures.head c.if-head-ne10.false c.if-bytes-head.false rule grouped worth)
     c.value_of_threes.ensures.grouped c.value_of_threes.ensures.worth

@@ -4,7 +4,7 @@ use Rattle.lexical_util.specs.declared.error.Error.{Error}
 use Rattle.lexical_util.specs.Format.{standard}
 use Rattle.lexical_digits.proofs.LongNumbers.{sign_of_value}
 use Rattle.lexical_parse_integer.proofs.punctuated.PunctuatedAnswers.{signed_minus}
-use Rattle.lexical_parse_integer.proofs.plain.DigitFaults.{byte_behind}
+use Rattle.lexical_parse_integer.proofs.plain.DigitFaults.{byte_behind, standard_plain}
 use Rattle.lexical_parse_integer.proofs.plain.LeavingNumbers.{leaves_after, next_value, signed_leaving_read}
 use Rattle.lexical_parse_integer.proofs.theorems.CompleteByPartial.{sign_within}
 use Rattle.lexical_parse_integer.proofs.algorithm.plain.faults.fault_after_many.Goals as goal
@@ -22,7 +22,7 @@ pub join_checked-requires-clause-sign : goal.join_checked-requires-clause-sign
 join_checked-requires-clause-sign g c = sign_of_value _ 10 c.in-Ok.is_negative _ _ c.loop-count.invariant.writes
 
 pub returns-in_default-char_to_digit : goal.returns-in_default-char_to_digit
-returns-in_default-char_to_digit g c = byte_behind g.T.Integer.TYPE c.args.bytes.now (c.in-Ok.is_negative, c.in-Ok.start) _ (sym c.in-Ok.ensures) _ c.loop-count.invariant.some c.loop-count-test.true (ap is_some (sym c.char_to_digit.ensures ∙ c.in_default-char_to_digit.is)) c.loop-count.invariant.writes
+returns-in_default-char_to_digit g c = byte_behind standard g.T.Integer.TYPE c.args.bytes.now (c.in-Ok.is_negative, c.in-Ok.start) _ standard_plain refl (sym c.in-Ok.ensures) _ c.loop-count.invariant.some c.loop-count-test.true (ap is_some (sym c.char_to_digit.ensures ∙ c.in_default-char_to_digit.is)) refl c.loop-count.invariant.writes
 
 pub returns-in-Err : goal.returns-in-Err
 returns-in-Err g c =
