@@ -66,3 +66,19 @@ pub(crate) fn first_of_16(bytes: &[u8], byte: u8) -> Option<usize>
         Some(lowest_mark(marks))
     }
 }
+
+/// How many of sixteen bytes stand before the first that is one of two, or all where none is.
+#[inline(always)]
+pub fn plain_of_16(bytes: &[u8], first: u8, second: u8) -> usize
+    requires { length bytes.now ≡ 16 }
+    ensures within { result ≤ 16 }
+    ensures no_first { (k : ℕ) → k < result → slice_index bytes.now k ≢ first }
+    ensures no_second { (k : ℕ) → k < result → slice_index bytes.now k ≢ second }
+{
+    let lanes = u8x16::from_slice(bytes);
+    let marks = marks_of_16(lanes, first) | marks_of_16(lanes, second);
+    if marks == 0 {
+        return 16;
+    }
+    lowest_mark(marks)
+}

@@ -3,7 +3,7 @@ ghost use Rattle.std.specs.Prelude.{◌≡◌, ◌≢◌, ◌<◌, ◌≤◌, �
 ghost use Rattle.lexical_fields.specs.Fields.{field_length};
 ghost use Rattle.lexical_tables.specs.Quotes.{hidden, length_outside, quote};
 
-use lexical_fields::{field_length, next_marks, split_marked};
+use lexical_fields::{field_length, next_marks, plain_of_16, split_marked};
 
 // How many bytes stand before the first separator outside quotes, or in the text where there is none.
 #[inline(always)]
@@ -31,7 +31,8 @@ fn marked_length(text: &[u8], separator: u8) -> usize
     split_marked(text, marks, separator).0
 }
 
-// How many of a text's first sixteen bytes stand before a quote, and outside quotes before a separator too.
+// How many of a text's first sixteen bytes stand before a quote, and outside quotes before a separator too; 0 where it has
+// fewer.
 #[inline(always)]
 fn plain_length(text: &[u8], separator: u8, is_within: bool) -> usize
     ensures quotes { (k : ℕ) → k < result → slice_index text.now k ≢ quote }
@@ -39,13 +40,14 @@ fn plain_length(text: &[u8], separator: u8, is_within: bool) -> usize
         → slice_index text.now k ≢ separator }
     ensures within { result ≤ length text.now }
 {
-    let near = &text[..text.len().min(16)];
-    let unquoted = field_length(near, b'"');
-    if is_within {
-        unquoted
-    } else {
-        unquoted.min(field_length(near, separator))
+    if text.len() < 16 {
+        return 0;
     }
+    let near = &text[..16];
+    if is_within {
+        return plain_of_16(near, b'"', b'"');
+    }
+    plain_of_16(near, b'"', separator)
 }
 
 // How many they are where quotes have a meaning: byte by byte where a quote stands, and else by sixteen at once. Why out of
