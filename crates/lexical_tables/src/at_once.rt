@@ -75,7 +75,8 @@ impl Target<'_> {
         ensures target { IsTrue result → (start : ℕ) → view_of_target self.new
             ≡ record (view_of_target self.old) {
               numbers = with_number row (text_answer (view_of_target self.old)
-                  (record { start = start; text = take size ahead.now })) (view_of_target self.old).numbers;
+                  (record { start = start; text = take size ahead.now }))
+                  (view_of_target self.old).numbers;
             } }
         ensures kept { result ≡ false → view_of_target self.new ≡ view_of_target self.old }
     {
