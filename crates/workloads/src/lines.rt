@@ -49,10 +49,10 @@ fn push_line(sample: &mut Sample, random: &mut Random) -> Result<(), AllocError>
             sample.push(b"c u8 12x")?;
         }
         97..=98 => {
-            sample.push(b"f radix=16\nc u64 ")?;
+            sample.push(b"f mantissa_radix 16\nc u64 ")?;
             let digits = random.between(1, 16);
             sample.push_hexadecimal(random, digits)?;
-            sample.push(b"\nf standard")?;
+            sample.push(b"\nr")?;
         }
         _ => sample.push(b"c u9 1")?,
     }

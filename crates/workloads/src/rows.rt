@@ -119,13 +119,19 @@ fn take_answer(digest: &mut Digest, answer: &Result<Table, TableError>) {
             digest.take_size(error.column);
             match error.fault {
                 CellFault::NotNumber(fault) => digest.take_error(fault),
-                CellFault::MisplacedQuote(place) => digest.take_size(place),
-                CellFault::TooFewCells(place) => digest.take_size(place),
-                CellFault::TooManyCells(place) => digest.take_size(place),
-                CellFault::MissingReturn(place) => digest.take_size(place),
+                CellFault::MisplacedQuote(place) => take_place(digest, 11, place),
+                CellFault::TooFewCells(place) => take_place(digest, 12, place),
+                CellFault::TooManyCells(place) => take_place(digest, 13, place),
+                CellFault::MissingReturn(place) => take_place(digest, 14, place),
             }
         }
     }
+}
+
+// Takes which fault it is, and its place.
+fn take_place(digest: &mut Digest, kind: u64, place: usize) {
+    digest.take(kind);
+    digest.take_size(place);
 }
 
 // How many rows were read.
@@ -195,7 +201,7 @@ impl Entries {
         digest.take_all(self.accounts.get(..rows).unwrap_or(&[]));
         digest.take_all(self.days.get(..rows).unwrap_or(&[]));
         digest.take_all(self.amounts.get(..rows).unwrap_or(&[]));
-        digest.take_bytes(self.present.get(..rows / 8).unwrap_or(&[]));
+        digest.take_bytes(self.present.get(..rows.div_ceil(8)).unwrap_or(&[]));
         digest.take_all(self.balances.get(..rows).unwrap_or(&[]));
         Ok(stop_of(&answer, text))
     }
