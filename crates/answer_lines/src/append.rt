@@ -8,10 +8,10 @@ ghost use Rattle.answer_lines.specs.Output.{place_text};
 use crate::decimal::{add_byte, add_decimal, add_number};
 use crate::number::Number;
 
-/// The most bytes that `ok V` and a line feed may be.
+/// The room that the longest `ok V` and a line feed ask for.
 pub const MOST_OF_VALUE_LINE: usize = 45;
 
-/// The most bytes that `ok V PLACE` and a line feed may be.
+/// The room that the longest `ok V PLACE` and a line feed ask for.
 pub const MOST_OF_FOUND_LINE: usize = 66;
 
 /// Adds `ok V` and a line feed, and answers where they end.

@@ -115,7 +115,7 @@ pub fn value_in_front<T: ParseInteger>(text: &[u8], size: usize, format: &Number
     value_of_front::<T>(text, size, format)
 }
 
-/// The same of a text that has so many bytes.
+/// The number of a text's first bytes, so many, as [`value_in_front`] has it, of a text that has them.
 #[inline(always)]
 pub fn value_of_front<T: ParseInteger>(text: &[u8], size: usize, format: &NumberFormat) -> Option<T>
     requires within { size ≤ length text.now }

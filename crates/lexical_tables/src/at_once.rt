@@ -11,9 +11,11 @@ use lexical_fields::value_of_front;
 use lexical_parse_integer::NumberFormat;
 use lexical_parse_integer::parse::ParseInteger;
 
-/// Puts the number of a text's first bytes, so many, into a row's place of a slice, and tells whether it did: it does where
-/// they are decimal digits alone or behind a minus, the format has no punctuation, and seventeen bytes follow. Else it puts
-/// nothing, and says nothing of them.
+/// Puts the number of a text's first bytes, so many, into a row's place of a slice, where that is had at once, and tells
+/// whether it did. Else it puts nothing, and says nothing of them.
+///
+/// It is had where they are up to twenty decimal digits alone or behind a minus, up to twelve in a type of at most 32 bits,
+/// the type has the number, the format has no punctuation, and at least seventeen bytes follow.
 ///
 /// It is for a [`TableColumn`](crate::TableColumn) of one's own. The format has to be valid, and the slice has to have that
 /// place.

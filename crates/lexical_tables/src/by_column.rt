@@ -16,12 +16,14 @@ use crate::rows::{Row, first_row, without_empty_rows};
 use crate::targets::TableColumn;
 use lexical_parse_integer::{Error, Options};
 
-// The number of what a cell holds goes to the row's place, or its fault is told.
+// The number of what a cell holds goes to the row's place, or its fault is told. Where it was tried at once and not had, it
+// isn't tried so again.
 #[inline(always)]
 fn read_held<C: TableColumn>(
     target: &mut C,
     row: usize,
     held: Cell<'_>,
+    was_tried: bool,
     options: &Options,
 ) -> Option<Error>
     requires usable { IsUsable (row + 1) (C.target target.old) }
@@ -31,6 +33,9 @@ fn read_held<C: TableColumn>(
     ensures target { C.target target.new
         ≡ option_map (put_text row (view_of_cell held.entry)) (C.target target.old) }
 {
+    if was_tried {
+        return target.read(row, held.start, held.text, held.ahead, options);
+    }
     if target.read_at_once(row, held.ahead, held.text.len()) {
         return None;
     }
@@ -43,6 +48,7 @@ fn read_number<C: TableColumn>(
     target: &mut C,
     row: usize,
     cell: Cell<'_>,
+    was_tried: bool,
     dialect: &Dialect<'_>,
     options: &Options,
 ) -> Option<CellFault>
@@ -64,7 +70,7 @@ fn read_number<C: TableColumn>(
         target.put_missing(row);
         return None;
     }
-    match read_held(target, row, held, options) {
+    match read_held(target, row, held, was_tried, options) {
         Some(error) => Some(CellFault::NotNumber(error)),
         None => None,
     }
@@ -77,6 +83,7 @@ pub(crate) fn read_cell<C: TableColumn>(
     column: usize,
     row: usize,
     cell: Cell<'_>,
+    was_tried: bool,
     dialect: &Dialect<'_>,
     options: &Options,
 ) -> Option<CellFault>
@@ -93,7 +100,7 @@ pub(crate) fn read_cell<C: TableColumn>(
         return quote_fault(dialect.has_quotes, false, cell);
     }
     if targets[column].is_read() {
-        return read_number(&mut targets[column], row, cell, dialect, options);
+        return read_number(&mut targets[column], row, cell, was_tried, dialect, options);
     }
     quote_fault(dialect.has_quotes, false, cell)
 }
@@ -165,7 +172,7 @@ fn read_cells<C: TableColumn>(
             text: next.text,
             ahead: left,
         };
-        if let Some(fault) = read_cell(targets, column, index, cell, dialect, options) {
+        if let Some(fault) = read_cell(targets, column, index, cell, false, dialect, options) {
             return Some(TableError {
                 row: index,
                 column,

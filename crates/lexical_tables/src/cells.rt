@@ -6,9 +6,8 @@ ghost use Rattle.lexical_tables.specs.ByColumn.{AreCellMarks, cells_by_width, ce
 ghost use Rattle.lexical_tables.specs.Quotes.{length_outside};
 
 use crate::dialect::{Dialect, Layout};
-use crate::quotes::length_outside;
 use crate::rows::split;
-use lexical_fields::{next_marks, split_marked};
+use lexical_fields::{field_length, next_marks, split_marked};
 
 // What all rows have in common: how many columns there are, and the separator, if marks find cells: these stand between
 // such, and quotes have no meaning.
@@ -145,7 +144,7 @@ fn unmarked_length(rest: &[u8], separator: u8) -> usize
     ensures value { result ≡ length_outside false separator rest.now }
     ensures within { result ≤ length rest.now }
 {
-    length_outside(rest, separator, false)
+    field_length(rest, separator)
 }
 
 // The first cell of what is left of a row, where no mark is ahead.

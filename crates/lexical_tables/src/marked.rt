@@ -76,7 +76,7 @@ fn read_number_at_once<C: TableColumn>(
     target.read_at_once(row, ahead, size)
 }
 
-// Reads the cell of a column out of line, so that the loop over cells keeps its registers.
+// Reads the cell of a column that wasn't had at once. Why out of line: docs/DECISIONS.md, code.
 #[inline(never)]
 fn read_other_cell<C: TableColumn>(
     targets: &mut [C],
@@ -95,7 +95,7 @@ fn read_other_cell<C: TableColumn>(
         (kinds_of (map C.target targets.old)) column (view_of_cell cell.entry))
         (map C.target targets.old) }
 {
-    read_cell(targets, column, row, cell, dialect, options)
+    read_cell(targets, column, row, cell, true, dialect, options)
 }
 
 // The numbers of a row go to its place in the targets, up to the row's fault, where marks find its cells and no blanks are

@@ -192,6 +192,7 @@ fn put_value_line<W: Write>(value: &Number, batch: &mut Batch, out: &mut W) -> R
     ensures fault { IsOkUnless result RunError.Write }
 {
     if batch.room() < MOST_OF_VALUE_LINE {
+        // A copy, so that the number of the quick way stays in registers.
         return put_value_in_parts(&value.copied(), batch, out);
     }
     batch.add_value_line(value);
@@ -230,6 +231,7 @@ fn put_found_line<W: Write>(
     ensures fault { IsOkUnless result RunError.Write }
 {
     if batch.room() < MOST_OF_FOUND_LINE {
+        // A copy, so that the number of the quick way stays in registers.
         return put_found_in_parts(&value.copied(), stop, batch, out);
     }
     batch.add_found_line(value, stop);
