@@ -251,6 +251,7 @@ impl TableColumn for ColumnFields<'_> {
         !self.present.is_empty() && self.number_type().is_some()
     }
 
+    #[inline(never)]
     fn put_missing(&mut self, row: usize) {
         self.put_zero(row);
         self.put_presence(row, false);

@@ -76,8 +76,9 @@ fn read_number<C: TableColumn>(
     }
 }
 
-// Reads the cell of a column, if that has a target: what is read goes to the row's place there.
-#[inline(always)]
+// Reads the cell of a column, if that has a target: what is read goes to the row's place there. Why out of line:
+// docs/DECISIONS.md, code.
+#[inline(never)]
 pub(crate) fn read_cell<C: TableColumn>(
     targets: &mut [C],
     column: usize,

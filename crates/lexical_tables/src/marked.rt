@@ -2,10 +2,10 @@
 
 ghost use Rattle.std.specs.Prelude.{◌≡◌, ◌+◌, ◌<◌, ◌≤◌, ◌^◌, ℕ, IfOk, IsTrue, None, Some, false, is_some, length, map, option_map, take, true};
 ghost use Rattle.lexical_tables.specs.ByColumn.{AreUsable, IsUsable, StopsAt, answer_at, column_count, columns_answer, columns_put, fault_in, kind_of, kinds_of, marked_separator, put_read, put_read_at, put_row, row_fault, row_values};
-ghost use Rattle.lexical_tables.specs.Cells.{answer_as, view_of_cell};
+ghost use Rattle.lexical_tables.specs.Cells.{answer_as};
 ghost use Rattle.lexical_tables.specs.Rows.{view_of_row};
 
-use crate::answers::{CellFault, Table, TableError};
+use crate::answers::{Table, TableError};
 use crate::by_column::{end_fault, read_cell};
 use crate::cells::marked_cell;
 use crate::content::Cell;
@@ -76,28 +76,6 @@ fn read_number_at_once<C: TableColumn>(
     target.read_at_once(row, ahead, size)
 }
 
-// Reads the cell of a column that wasn't had at once. Why out of line: docs/DECISIONS.md, code.
-#[inline(never)]
-fn read_other_cell<C: TableColumn>(
-    targets: &mut [C],
-    column: usize,
-    row: usize,
-    cell: Cell<'_>,
-    dialect: &Dialect<'_>,
-    options: &Options,
-) -> Option<CellFault>
-    requires usable { AreUsable (row + 1) (map C.target targets.old) }
-    requires front { cell.text.now ≡ take (length cell.text.now) cell.ahead.now }
-    requires fits { cell.start + length cell.text.now < 2 ^ 64 }
-    ensures fault { result ≡ fault_in (answer_at dialect.now (kinds_of (map C.target targets.old))
-        column (view_of_cell cell.entry)) }
-    ensures targets { map C.target targets.new ≡ put_read_at row column (answer_at dialect.now
-        (kinds_of (map C.target targets.old)) column (view_of_cell cell.entry))
-        (map C.target targets.old) }
-{
-    read_cell(targets, column, row, cell, true, dialect, options)
-}
-
 // The numbers of a row go to its place in the targets, up to the row's fault, where marks find its cells and no blanks are
 // left out. What is ahead begins with the row.
 #[inline(always)]
@@ -145,7 +123,7 @@ fn read_marked_cells<C: TableColumn>(
             text: next.text,
             ahead: left,
         };
-        if let Some(fault) = read_other_cell(targets, here, index, cell, dialect, options) {
+        if let Some(fault) = read_cell(targets, here, index, cell, true, dialect, options) {
             return Some(TableError {
                 row: index,
                 column: here,
