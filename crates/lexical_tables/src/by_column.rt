@@ -16,14 +16,12 @@ use crate::rows::{Row, first_row, without_empty_rows};
 use crate::targets::TableColumn;
 use lexical_parse_integer::{Error, Options};
 
-// The number of what a cell holds goes to the row's place, or its fault is told. Where it was tried at once and not had, it
-// isn't tried so again.
+// The number of what a cell holds goes to the row's place, or its fault is told.
 #[inline(always)]
 fn read_held<C: TableColumn>(
     target: &mut C,
     row: usize,
     held: Cell<'_>,
-    was_tried: bool,
     options: &Options,
 ) -> Option<Error>
     requires usable { IsUsable (row + 1) (C.target target.old) }
@@ -33,9 +31,6 @@ fn read_held<C: TableColumn>(
     ensures target { C.target target.new
         ≡ option_map (put_text row (view_of_cell held.entry)) (C.target target.old) }
 {
-    if was_tried {
-        return target.read(row, held.start, held.text, held.ahead, options);
-    }
     if target.read_at_once(row, held.ahead, held.text.len()) {
         return None;
     }
@@ -48,7 +43,6 @@ fn read_number<C: TableColumn>(
     target: &mut C,
     row: usize,
     cell: Cell<'_>,
-    was_tried: bool,
     dialect: &Dialect<'_>,
     options: &Options,
 ) -> Option<CellFault>
@@ -70,21 +64,19 @@ fn read_number<C: TableColumn>(
         target.put_missing(row);
         return None;
     }
-    match read_held(target, row, held, was_tried, options) {
+    match read_held(target, row, held, options) {
         Some(error) => Some(CellFault::NotNumber(error)),
         None => None,
     }
 }
 
-// Reads the cell of a column, if that has a target: what is read goes to the row's place there. Why out of line:
-// docs/DECISIONS.md, code.
-#[inline(never)]
-pub(crate) fn read_cell<C: TableColumn>(
+// Reads the cell of a column, if that has a target: what is read goes to the row's place there.
+#[inline(always)]
+fn read_cell<C: TableColumn>(
     targets: &mut [C],
     column: usize,
     row: usize,
     cell: Cell<'_>,
-    was_tried: bool,
     dialect: &Dialect<'_>,
     options: &Options,
 ) -> Option<CellFault>
@@ -101,7 +93,7 @@ pub(crate) fn read_cell<C: TableColumn>(
         return quote_fault(dialect.has_quotes, false, cell);
     }
     if targets[column].is_read() {
-        return read_number(&mut targets[column], row, cell, was_tried, dialect, options);
+        return read_number(&mut targets[column], row, cell, dialect, options);
     }
     quote_fault(dialect.has_quotes, false, cell)
 }
@@ -173,7 +165,7 @@ fn read_cells<C: TableColumn>(
             text: next.text,
             ahead: left,
         };
-        if let Some(fault) = read_cell(targets, column, index, cell, false, dialect, options) {
+        if let Some(fault) = read_cell(targets, column, index, cell, dialect, options) {
             return Some(TableError {
                 row: index,
                 column,

@@ -2,11 +2,11 @@
 
 ghost use Rattle.std.specs.Prelude.{◌≡◌, ◌+◌, ◌<◌, ◌≤◌, ◌^◌, ℕ, IfOk, IsTrue, None, Some, false, is_some, length, map, option_map, take, true};
 ghost use Rattle.lexical_tables.specs.ByColumn.{AreUsable, IsUsable, StopsAt, answer_at, column_count, columns_answer, columns_put, fault_in, kind_of, kinds_of, marked_separator, put_read, put_read_at, put_row, row_fault, row_values};
-ghost use Rattle.lexical_tables.specs.Cells.{answer_as};
+ghost use Rattle.lexical_tables.specs.Cells.{answer_as, view_of_cell};
 ghost use Rattle.lexical_tables.specs.Rows.{view_of_row};
 
-use crate::answers::{Table, TableError};
-use crate::by_column::{end_fault, read_cell};
+use crate::answers::{CellFault, Table, TableError};
+use crate::by_column::end_fault;
 use crate::cells::marked_cell;
 use crate::content::Cell;
 use crate::dialect::Dialect;
@@ -76,6 +76,67 @@ fn read_number_at_once<C: TableColumn>(
     target.read_at_once(row, ahead, size)
 }
 
+// Reads a cell that wasn't had at once: it holds the mark or a number, which goes to the row's place.
+#[inline(always)]
+fn read_number_by_parser<C: TableColumn>(
+    target: &mut C,
+    row: usize,
+    cell: Cell<'_>,
+    dialect: &Dialect<'_>,
+    options: &Options,
+) -> Option<CellFault>
+    requires no_quotes { dialect.now.has_quotes ≡ false }
+    requires no_blanks { dialect.now.allows_blanks ≡ false }
+    requires usable { IsUsable (row + 1) (C.target target.old) }
+    requires read { is_some (C.target target.old) ≡ true }
+    requires front { cell.text.now ≡ take (length cell.text.now) cell.ahead.now }
+    requires fits { cell.start + length cell.text.now < 2 ^ 64 }
+    ensures fault { result ≡ fault_in (answer_as dialect.now
+        (option_map kind_of (C.target target.old)) (view_of_cell cell.entry)) }
+    ensures target { C.target target.new ≡ option_map (put_read row (answer_as dialect.now
+        (option_map kind_of (C.target target.old)) (view_of_cell cell.entry)))
+        (C.target target.old) }
+{
+    if target.may_miss() && cell.text == dialect.missing {
+        target.put_missing(row);
+        return None;
+    }
+    match target.read(row, cell.start, cell.text, cell.ahead, options) {
+        Some(error) => Some(CellFault::NotNumber(error)),
+        None => None,
+    }
+}
+
+// Reads the cell of a column that wasn't had at once, if that has a target. Why out of line: docs/DECISIONS.md, code.
+#[inline(never)]
+fn read_cell_by_parser<C: TableColumn>(
+    targets: &mut [C],
+    column: usize,
+    row: usize,
+    cell: Cell<'_>,
+    dialect: &Dialect<'_>,
+    options: &Options,
+) -> Option<CellFault>
+    requires no_quotes { dialect.now.has_quotes ≡ false }
+    requires no_blanks { dialect.now.allows_blanks ≡ false }
+    requires usable { AreUsable (row + 1) (map C.target targets.old) }
+    requires front { cell.text.now ≡ take (length cell.text.now) cell.ahead.now }
+    requires fits { cell.start + length cell.text.now < 2 ^ 64 }
+    ensures fault { result ≡ fault_in (answer_at dialect.now (kinds_of (map C.target targets.old))
+        column (view_of_cell cell.entry)) }
+    ensures targets { map C.target targets.new ≡ put_read_at row column (answer_at dialect.now
+        (kinds_of (map C.target targets.old)) column (view_of_cell cell.entry))
+        (map C.target targets.old) }
+{
+    if column >= targets.len() {
+        return None;
+    }
+    if !targets[column].is_read() {
+        return None;
+    }
+    read_number_by_parser(&mut targets[column], row, cell, dialect, options)
+}
+
 // The numbers of a row go to its place in the targets, up to the row's fault, where marks find its cells and no blanks are
 // left out. What is ahead begins with the row.
 #[inline(always)]
@@ -123,7 +184,7 @@ fn read_marked_cells<C: TableColumn>(
             text: next.text,
             ahead: left,
         };
-        if let Some(fault) = read_cell(targets, here, index, cell, true, dialect, options) {
+        if let Some(fault) = read_cell_by_parser(targets, here, index, cell, dialect, options) {
             return Some(TableError {
                 row: index,
                 column: here,

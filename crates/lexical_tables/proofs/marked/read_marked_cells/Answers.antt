@@ -80,10 +80,10 @@ loop-column-preserved g c =
       after_cell (kinds_of (map g.C.TableColumn.target c.args.targets.now)) d c.args.index
           row (map g.C.TableColumn.target c.args.targets.now) (map g.C.TableColumn.target c.loop-column.targets) c.loop-column.column
           _ c.loop-column.invariant.2 _ _ at more
-          (map g.C.TableColumn.target c.read_cell.new.targets)
+          (map g.C.TableColumn.target c.read_cell_by_parser.new.targets)
           (subst (λ seen. None ≡ fault_in (answer_at d (kinds_of seen) c.loop-column.column cell)) same
           c.in_default.ensures.fault)
-          (subst (λ seen. map g.C.TableColumn.target c.read_cell.new.targets
+          (subst (λ seen. map g.C.TableColumn.target c.read_cell_by_parser.new.targets
           ≡ put_read_at c.args.index c.loop-column.column (answer_at d (kinds_of seen) c.loop-column.column cell) seen) same
           c.in_default.ensures.targets),
     )
@@ -107,10 +107,10 @@ returns-in-Some g c =
     let done = after_fault (kinds_of (map g.C.TableColumn.target c.args.targets.now)) d c.args.index
     row (map g.C.TableColumn.target c.args.targets.now) (map g.C.TableColumn.target c.loop-column.targets) c.loop-column.column
     _ c.loop-column.invariant.2 _ _ at more
-    (map g.C.TableColumn.target c.read_cell.new.targets) c.in-Some.fault
+    (map g.C.TableColumn.target c.read_cell_by_parser.new.targets) c.in-Some.fault
     (subst (λ seen. Some c.in-Some.fault ≡ fault_in (answer_at d (kinds_of seen) c.loop-column.column cell)) same
     c.in-Some.ensures.fault)
-    (subst (λ seen. map g.C.TableColumn.target c.read_cell.new.targets
+    (subst (λ seen. map g.C.TableColumn.target c.read_cell_by_parser.new.targets
     ≡ put_read_at c.args.index c.loop-column.column (answer_at d (kinds_of seen) c.loop-column.column cell) seen) same
     c.in-Some.ensures.targets) in
     record { fault = done.fault_is; targets = done.targets_are }
