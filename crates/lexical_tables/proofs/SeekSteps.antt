@@ -1,7 +1,7 @@
 -- A byte outside quotes that is sought, one byte after another.
-use Rattle.std.proofs.Common.{◌≡◌, ◌≢◌, ◌∙◌, ℕ, zero, suc, ◌+◌, ◌<◌, ◌≤◌, ◌==◌, not, List, [], length, drop, get_or, Bool, true, false, cond, eq-eqb, refl, subst, ap, ap₂, sym, arith, inl, inr, ◌⊎◌}
+use Rattle.std.proofs.Common.{◌≡◌, ◌≢◌, ◌∙◌, ℕ, zero, suc, ◌+◌, ◌<◌, ◌≤◌, ◌==◌, not, List, [], length, take, drop, get_or, Bool, true, false, cond, eq-eqb, refl, subst, ap, ap₂, sym, arith, inl, inr, ◌⊎◌}
 use Rattle.std.proofs.lemmas.Bool.{cases_lt, eqb-true}
-use Rattle.std.proofs.lemmas.List.{drop_all}
+use Rattle.std.proofs.lemmas.List.{drop_all, get_or-take}
 use Rattle.std.proofs.Math.Seq.{drop-cons}
 use Rattle.lexical_fields.specs.Fields.{field_length}
 use Rattle.lexical_fields.proofs.FieldsInParts.{either}
@@ -103,3 +103,25 @@ seek_passes s text place (suc n) within reading low unquoted other =
         → (w ≡ true) ⊎ (get_or text (place + n) 0 ≢ s)
     by_within true other = inl refl
     by_within false other = inr (other refl n (omega arith))
+
+-- where neither a quote nor the byte that is sought stands among so many, these are all before it, or all there are
+pub seek_near : (s : ℕ) (text : List ℕ) (n : ℕ) → n ≤ length text → ((k : ℕ) → k < n → get_or text k 0 ≢ 34)
+    → ((k : ℕ) → k < n → get_or text k 0 ≢ s) → (length text ≤ n) ⊎ (get_or text n 0 ≡ s)
+    → n ≡ field_length s (hidden s text)
+seek_near s text n low unquoted other ends =
+    let zero_add : (k : ℕ) → 0 + k ≡ k = λ k. omega arith in
+    let at = subst (λ p. IsSought s text p false) (zero_add n)
+    (seek_passes s text 0 n false (seek_starts s text) (omega (arith, low))
+    (λ k below same. unquoted k below (ap (λ p. get_or text p 0) (sym (zero_add k)) ∙ same))
+    (λ outside k below same. other k below (ap (λ p. get_or text p 0) (sym (zero_add k)) ∙ same))) in
+    seek_ends s text n false at (by_end ends)
+  where
+    by_end : (length text ≤ n) ⊎ (get_or text n 0 ≡ s)
+        → (length text ≤ n) ⊎ ((false ≡ false) × (get_or text n 0 ≡ s))
+    by_end (inl all) = inl all
+    by_end (inr found) = inr (refl, found)
+
+-- a byte of what begins a text
+pub as_ahead : (rest ahead : List ℕ) (k : ℕ) → rest ≡ take (length rest) ahead → k < length rest
+    → get_or rest k 0 ≡ get_or ahead k 0
+as_ahead rest ahead k front low = ap (λ l. get_or l k 0) front ∙ get_or-take (length rest) ahead k 0 low

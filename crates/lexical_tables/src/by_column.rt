@@ -1,8 +1,9 @@
 //! Tables whose columns go into slices of their own.
 
-ghost use Rattle.std.specs.Prelude.{◌≡◌, ◌+◌, ◌-◌, ◌<◌, ◌≤◌, ◌^◌, length, take, drop, map, is_some, option_map, true, IfOk};
+ghost use Rattle.std.specs.Prelude.{◌≡◌, ◌≢◌, ◌+◌, ◌-◌, ◌<◌, ◌≤◌, ◌^◌, ℕ, length, take, drop, map, is_some, option_map, slice_index, true, IfOk, IsTrue};
 ghost use Rattle.lexical_tables.specs.ByColumn.{AreUsable, IsUsable, StopsAt, answer_at, column_count, columns_answer, columns_put, end_fault, fault_in, kind_of, kinds_of, marked_separator, put_read, put_read_at, put_row, row_fault, row_values};
-ghost use Rattle.lexical_tables.specs.Cells.{answer_as, view_of_cell};
+ghost use Rattle.lexical_tables.specs.Cells.{answer_as, quote_fault, view_of_cell};
+ghost use Rattle.lexical_tables.specs.Quotes.{quote};
 ghost use Rattle.lexical_tables.specs.Rows.{view_of_row};
 ghost use Rattle.lexical_tables.specs.Targets.{put_text, text_fault};
 
@@ -37,12 +38,32 @@ fn read_held<C: TableColumn>(
     target.read(row, held.start, held.text, held.ahead, options)
 }
 
+// The fault of a cell's quotes, where these have a meaning: none where the cell was seen to have no quote.
+#[inline(always)]
+fn cell_fault(
+    dialect: &Dialect<'_>,
+    is_read: bool,
+    has_no_quote: bool,
+    cell: Cell<'_>,
+) -> Option<CellFault>
+    requires fits { cell.start + length cell.text.now < 2 ^ 64 }
+    requires no_quote { IsTrue has_no_quote → (k : ℕ) → k < length cell.text.now
+        → slice_index cell.text.now k ≢ quote }
+    ensures { result ≡ quote_fault dialect.now.has_quotes is_read (view_of_cell cell.entry) }
+{
+    if has_no_quote {
+        return None;
+    }
+    quote_fault(dialect.has_quotes, is_read, cell)
+}
+
 // Reads a cell in its column, if its quotes are in place: it holds the mark or a number, which goes to the row's place.
 #[inline(always)]
 fn read_number<C: TableColumn>(
     target: &mut C,
     row: usize,
     cell: Cell<'_>,
+    has_no_quote: bool,
     dialect: &Dialect<'_>,
     options: &Options,
 ) -> Option<CellFault>
@@ -50,13 +71,15 @@ fn read_number<C: TableColumn>(
     requires read { is_some (C.target target.old) ≡ true }
     requires front { cell.text.now ≡ take (length cell.text.now) cell.ahead.now }
     requires fits { cell.start + length cell.text.now < 2 ^ 64 }
+    requires no_quote { IsTrue has_no_quote → (k : ℕ) → k < length cell.text.now
+        → slice_index cell.text.now k ≢ quote }
     ensures fault { result ≡ fault_in (answer_as dialect.now
         (option_map kind_of (C.target target.old)) (view_of_cell cell.entry)) }
     ensures target { C.target target.new ≡ option_map (put_read row (answer_as dialect.now
         (option_map kind_of (C.target target.old)) (view_of_cell cell.entry)))
         (C.target target.old) }
 {
-    if let Some(fault) = quote_fault(dialect.has_quotes, true, cell) {
+    if let Some(fault) = cell_fault(dialect, true, has_no_quote, cell) {
         return Some(fault);
     }
     let held = content(cell, dialect.has_quotes, dialect.allows_blanks);
@@ -77,12 +100,15 @@ fn read_cell<C: TableColumn>(
     column: usize,
     row: usize,
     cell: Cell<'_>,
+    has_no_quote: bool,
     dialect: &Dialect<'_>,
     options: &Options,
 ) -> Option<CellFault>
     requires usable { AreUsable (row + 1) (map C.target targets.old) }
     requires front { cell.text.now ≡ take (length cell.text.now) cell.ahead.now }
     requires fits { cell.start + length cell.text.now < 2 ^ 64 }
+    requires no_quote { IsTrue has_no_quote → (k : ℕ) → k < length cell.text.now
+        → slice_index cell.text.now k ≢ quote }
     ensures fault { result ≡ fault_in (answer_at dialect.now (kinds_of (map C.target targets.old))
         column (view_of_cell cell.entry)) }
     ensures targets { map C.target targets.new ≡ put_read_at row column (answer_at dialect.now
@@ -90,12 +116,12 @@ fn read_cell<C: TableColumn>(
         (map C.target targets.old) }
 {
     if column >= targets.len() {
-        return quote_fault(dialect.has_quotes, false, cell);
+        return cell_fault(dialect, false, has_no_quote, cell);
     }
     if targets[column].is_read() {
-        return read_number(&mut targets[column], row, cell, dialect, options);
+        return read_number(&mut targets[column], row, cell, has_no_quote, dialect, options);
     }
-    quote_fault(dialect.has_quotes, false, cell)
+    cell_fault(dialect, false, has_no_quote, cell)
 }
 
 // What is wrong with the number of a row's cells, or with its end, if so many have a column, and one more starts there.
@@ -165,7 +191,15 @@ fn read_cells<C: TableColumn>(
             text: next.text,
             ahead: left,
         };
-        if let Some(fault) = read_cell(targets, column, index, cell, dialect, options) {
+        if let Some(fault) = read_cell(
+            targets,
+            column,
+            index,
+            cell,
+            next.has_no_quote,
+            dialect,
+            options,
+        ) {
             return Some(TableError {
                 row: index,
                 column,

@@ -1,13 +1,14 @@
 //! The cells of a row, found one after another.
 
-ghost use Rattle.std.specs.Prelude.{◌≡◌, ◌==◌, ◌+◌, ◌-◌, ◌<◌, ◌≤◌, ℕ, [], ◌∷◌, false, length, take, drop, if◌then◌else◌};
+ghost use Rattle.std.specs.Prelude.{◌≡◌, ◌≢◌, ◌==◌, ◌+◌, ◌-◌, ◌<◌, ◌≤◌, ℕ, [], ◌∷◌, IfSome, IsTrue, false, length, take, drop, slice_index, if◌then◌else◌};
+ghost use Rattle.lexical_fields.specs.Fields.{field_length};
 ghost use Rattle.lexical_fields.specs.Search.{AreMarks};
 ghost use Rattle.lexical_tables.specs.ByColumn.{AreCellMarks, cells_by_width, cells_left, column_count, lacks_cell, lacks_width, marked_separator};
-ghost use Rattle.lexical_tables.specs.Quotes.{length_outside};
+ghost use Rattle.lexical_tables.specs.Quotes.{hidden, length_outside, quote};
 
 use crate::dialect::{Dialect, Layout};
 use crate::rows::split;
-use lexical_fields::{field_length, next_marks, split_marked};
+use lexical_fields::{field_length, next_marks, plain_of_16, split_marked};
 
 // What all rows have in common: how many columns there are, and the separator, if marks find cells: these stand between
 // such, and quotes have no meaning.
@@ -59,13 +60,15 @@ pub(crate) fn lacks_cell(text: &[u8], column: usize, dialect: &Dialect<'_>) -> b
     }
 }
 
-// A cell, what is left of its row behind it, the marks of what is ahead there, and whether no cell is left.
+// A cell, what is left of its row behind it, the marks of what is ahead there, whether no cell is left, and whether the cell
+// was seen to have no quote.
 #[derive(Copy, Clone)]
 pub(crate) struct NextCell<'a> {
     pub text: &'a [u8],
     pub behind: &'a [u8],
     pub marks: u64,
     pub ended: bool,
+    pub has_no_quote: bool,
 }
 
 // The first cell of what is left of a row behind so many cells that have widths, if it has one.
@@ -84,6 +87,7 @@ fn wide_cell<'a>(rest: &'a [u8], column: usize, widths: &[usize]) -> NextCell<'a
     ensures left { length result.behind.now ≤ length rest.now }
     ensures tail { result.behind.now
         ≡ drop (length rest.now - length result.behind.now) rest.now }
+    ensures unseen { result.has_no_quote ≡ false }
 {
     let (text, behind) = rest.split_at(widths[column]);
     NextCell {
@@ -91,6 +95,7 @@ fn wide_cell<'a>(rest: &'a [u8], column: usize, widths: &[usize]) -> NextCell<'a
         behind,
         marks: 0,
         ended: lacks_width(behind, column + 1, widths),
+        has_no_quote: false,
     }
 }
 
@@ -115,6 +120,7 @@ pub(crate) fn marked_cell<'a>(
     ensures ended { result.ended ≡ (length result.text.now == length rest.now) }
     ensures marks { AreMarks separator
         (drop (length rest.now - length result.behind.now) ahead.now) result.marks }
+    ensures unseen { result.has_no_quote ≡ false }
 {
     let known = next_marks(ahead, marks, separator);
     if known == 0 {
@@ -127,6 +133,7 @@ pub(crate) fn marked_cell<'a>(
             behind: &rest[rest.len()..],
             marks: 0,
             ended: true,
+            has_no_quote: false,
         };
     }
     NextCell {
@@ -134,6 +141,7 @@ pub(crate) fn marked_cell<'a>(
         behind: &rest[size + 1..],
         marks: more,
         ended: false,
+        has_no_quote: false,
     }
 }
 
@@ -158,6 +166,7 @@ fn unmarked_cell(rest: &[u8], separator: u8) -> NextCell<'_>
     ensures left { length result.behind.now ≤ length rest.now }
     ensures ended { result.ended ≡ (length result.text.now == length rest.now) }
     ensures marks { result.marks ≡ 0 }
+    ensures unseen { result.has_no_quote ≡ false }
 {
     let size = unmarked_length(rest, separator);
     if size == rest.len() {
@@ -166,6 +175,7 @@ fn unmarked_cell(rest: &[u8], separator: u8) -> NextCell<'_>
             behind: &rest[size..],
             marks: 0,
             ended: true,
+            has_no_quote: false,
         };
     }
     NextCell {
@@ -173,12 +183,77 @@ fn unmarked_cell(rest: &[u8], separator: u8) -> NextCell<'_>
         behind: &rest[size + 1..],
         marks: 0,
         ended: false,
+        has_no_quote: false,
     }
 }
 
-// The first cell of what is left of a row, whose separators are searched for.
+// How many bytes the first cell of what is left of a row has, where sixteen bytes show its end and no quote: as they do of
+// most cells. What is ahead begins with that.
 #[inline(always)]
-fn parted_cell(rest: &[u8], separator: u8, has_quotes: bool) -> NextCell<'_>
+fn short_length(rest: &[u8], ahead: &[u8], separator: u8) -> Option<usize>
+    requires rest { rest.now ≡ take (length rest.now) ahead.now }
+    ensures value { IfSome result
+        (λ size. size ≡ field_length separator (hidden separator rest.now)) }
+    ensures within { IfSome result (λ size. size ≤ length rest.now) }
+    ensures no_quote { IfSome result
+        (λ size. (k : ℕ) → k < size → slice_index rest.now k ≢ quote) }
+{
+    if ahead.len() < 16 {
+        return None;
+    }
+    let size = plain_of_16(&ahead[..16], b'"', separator);
+    if size >= rest.len() {
+        return Some(rest.len());
+    }
+    if rest[size] == separator {
+        Some(size)
+    } else {
+        None
+    }
+}
+
+// The first cell of what is left of a row, if it has so many bytes and none of them is a quote.
+#[inline(always)]
+fn short_cell(rest: &[u8], size: usize) -> NextCell<'_>
+    requires within { size ≤ length rest.now }
+    requires no_quote { (k : ℕ) → k < size → slice_index rest.now k ≢ quote }
+    ensures front { result.text.now ≡ take size rest.now }
+    ensures behind { result.behind.now ≡ drop (size + 1) rest.now }
+    ensures within { length result.text.now ≤ length rest.now }
+    ensures size { length result.text.now ≡ size }
+    ensures left { length result.behind.now ≤ length rest.now }
+    ensures ended { result.ended ≡ (length result.text.now == length rest.now) }
+    ensures marks { result.marks ≡ 0 }
+    ensures no_quote { (k : ℕ) → k < length result.text.now
+        → slice_index result.text.now k ≢ quote }
+{
+    if size == rest.len() {
+        return NextCell {
+            text: rest,
+            behind: &rest[size..],
+            marks: 0,
+            ended: true,
+            has_no_quote: true,
+        };
+    }
+    NextCell {
+        text: &rest[..size],
+        behind: &rest[size + 1..],
+        marks: 0,
+        ended: false,
+        has_no_quote: true,
+    }
+}
+
+// The first cell of what is left of a row, whose separators are searched for. What is ahead begins with that.
+#[inline(always)]
+fn parted_cell<'a>(
+    rest: &'a [u8],
+    ahead: &[u8],
+    separator: u8,
+    has_quotes: bool,
+) -> NextCell<'a>
+    requires rest { rest.now ≡ take (length rest.now) ahead.now }
     ensures front { result.text.now
         ≡ take (length_outside has_quotes separator rest.now) rest.now }
     ensures behind { result.behind.now
@@ -188,13 +263,21 @@ fn parted_cell(rest: &[u8], separator: u8, has_quotes: bool) -> NextCell<'_>
     ensures left { length result.behind.now ≤ length rest.now }
     ensures ended { result.ended ≡ (length result.text.now == length rest.now) }
     ensures marks { result.marks ≡ 0 }
+    ensures no_quote { IsTrue result.has_no_quote → (k : ℕ) → k < length result.text.now
+        → slice_index result.text.now k ≢ quote }
 {
+    if has_quotes && separator != b'"' {
+        if let Some(size) = short_length(rest, ahead, separator) {
+            return short_cell(rest, size);
+        }
+    }
     let (text, behind) = split(rest, separator, has_quotes);
     NextCell {
         text,
         behind,
         marks: 0,
         ended: text.len() == rest.len(),
+        has_no_quote: false,
     }
 }
 
@@ -227,12 +310,16 @@ pub(crate) fn next_cell<'a>(
         ≡ drop (length rest.now - length result.behind.now) rest.now }
     ensures marks { AreCellMarks marked
         (drop (length rest.now - length result.behind.now) ahead.now) result.marks }
+    ensures no_quote { IsTrue result.has_no_quote → (k : ℕ) → k < length result.text.now
+        → slice_index result.text.now k ≢ quote }
 {
     if let Some(separator) = marked {
         return marked_cell(rest, ahead, marks, separator);
     }
     match dialect.layout {
-        Layout::Separated { separator, .. } => parted_cell(rest, separator, dialect.has_quotes),
+        Layout::Separated { separator, .. } => {
+            parted_cell(rest, ahead, separator, dialect.has_quotes)
+        }
         Layout::Widths { widths } | Layout::Records { widths } => wide_cell(rest, column, widths),
     }
 }

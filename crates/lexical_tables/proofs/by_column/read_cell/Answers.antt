@@ -19,7 +19,7 @@ returns-then-column-targets g c =
     omega (arith, above, length-map c.args.targets.now g.C.TableColumn.target) in
     let seen = map g.C.TableColumn.target c.args.targets.now in
     record {
-      fault = c.quote_fault.ensures ∙ beyond_fault c.args.dialect.now seen c.args.column (view_of_cell c.args.cell) high;
+      fault = c.cell_fault.ensures ∙ beyond_fault c.args.dialect.now seen c.args.column (view_of_cell c.args.cell) high;
       targets = beyond_same c.args.dialect.now seen c.args.column (view_of_cell c.args.cell) high c.args.row;
     }
 
@@ -39,7 +39,7 @@ pub returns : goal.returns
 returns g c =
     let low : c.args.column < length c.args.targets.now = grind (arith, nat_tests) in
     record {
-      fault = c.quote_fault-2.ensures ∙ unread_fault g.C.TableColumn.target c.args.dialect.now c.args.targets.now c.args.column
+      fault = c.cell_fault-2.ensures ∙ unread_fault g.C.TableColumn.target c.args.dialect.now c.args.targets.now c.args.column
           (view_of_cell c.args.cell) low _ (sym c.is_read.ensures ∙ c.if-is_read.false);
       targets = unread_same g.C.TableColumn.target c.args.dialect.now c.args.targets.now c.args.column
           (view_of_cell c.args.cell) low _ c.args.row (sym c.is_read.ensures ∙ c.if-is_read.false);
