@@ -3,6 +3,7 @@
 ghost use Rattle.std.specs.Prelude.{◌≡◌, length, take, drop, map, IfOk};
 ghost use Rattle.lexical_fields.specs.Columns.{GoesOn, answer_of, numbers_of};
 
+use crate::any_format::read_unless_separated;
 use crate::first::read_first;
 use crate::marked::read_marked;
 use lexical_parse_integer::parse::ParseInteger;
@@ -67,8 +68,9 @@ pub fn read_column<T: ParseInteger>(
         return Err(ColumnError::InvalidFormat(error));
     }
     let separated = is_separated(format, separator);
-    let mut rest = text;
-    let mut count = 0;
+    let (mut count, mut rest) = read_unless_separated::<T>(
+        text, separator, format, separated, values,
+    );
     while count < values.len() && !rest.is_empty() {
         let start = text.len() - rest.len();
         let (answer, behind, has_marks) = read_first::<T>(

@@ -8,6 +8,7 @@
 //! text is cut first, and then each field is read whole.
 #![tactic(auto)]
 
+mod any_format;
 mod columns;
 mod first;
 mod iterator;

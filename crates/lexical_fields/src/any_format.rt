@@ -1,0 +1,102 @@
+// Fields under formats of any kind, each cut by marks of the separators in front and read at once where that can be.
+ghost use Rattle.std.specs.Prelude.{◌≡◌, ◌≢◌, ◌+◌, ◌≤◌, ℕ, List, IfSome, IsNone, Ok, length, take, drop};
+ghost use Rattle.lexical_util.specs.Validity.{fault};
+ghost use Rattle.lexical_parse_integer.specs.Grammar.{complete};
+ghost use Rattle.lexical_fields.specs.Fields.{field_length};
+ghost use Rattle.lexical_fields.specs.ReadSoFar.{IsReadSoFar};
+ghost use Rattle.lexical_fields.specs.Search.{AreMarks};
+
+use crate::marked::{next_marks, split_marked};
+use crate::split::split_field;
+use lexical_parse_integer::NumberFormat;
+use lexical_parse_integer::parse::ParseInteger;
+use lexical_parse_integer::quick::{value_for_format, value_if_left};
+
+// The first field, what is behind its separator, and the marks of that: by the marks of the text, or by a look for the
+// field's end where it has none.
+#[inline(always)]
+fn cut_field(text: &[u8], marks: u64, separator: u8) -> (&[u8], &[u8], u64)
+    requires { AreMarks separator text.now marks }
+    ensures field { result.0.now ≡ take (field_length separator text.now) text.now }
+    ensures behind { result.1.now ≡ drop (field_length separator text.now + 1) text.now }
+    ensures shorter { length result.1.now ≤ length text.now }
+    ensures marks { AreMarks separator result.1.now result.2 }
+{
+    if marks == 0 {
+        let (field, behind) = split_field(text, separator);
+        return (field, behind, 0);
+    }
+    let (size, behind, more) = split_marked(text, marks, separator);
+    (&text[..size], behind, more)
+}
+
+// The number of a field, and `None` for one at fault: by the reader for the format's kind, or by the parser.
+#[inline(always)]
+fn value_of_field<T: ParseInteger>(field: &[u8], format: &NumberFormat) -> Option<T>
+    requires valid { IsNone (fault format.now) }
+    ensures { IfSome result (λ value. complete format.now T.TYPE field.now ≡ Ok (T.number value)) }
+{
+    if let Some(value) = value_for_format::<T>(field, format) {
+        return Some(value);
+    }
+    value_if_left::<T>(field, format)
+}
+
+// Reads fields into a slice from its front, up to one at fault: how many numbers it has then, and what is left of the text.
+// Why out of line: docs/DECISIONS.md, code.
+#[inline(never)]
+pub(crate) fn read_any_format<'a, T: ParseInteger>(
+    text: &'a [u8],
+    separator: u8,
+    format: &NumberFormat,
+    values: &mut [T],
+) -> (usize, &'a [u8])
+    requires valid { IsNone (fault format.now) }
+    ensures reading { (whole : List ℕ) (initial : List T)
+        → IsReadSoFar T T.number format.now T.TYPE separator whole initial values.old 0 text.now
+        → IsReadSoFar T T.number format.now T.TYPE separator whole initial values.new
+        result.0 result.1.now }
+    ensures room { result.0 ≤ length values.new }
+    ensures size { length values.new ≡ length values.old }
+{
+    let mut rest = text;
+    let mut marks = 0;
+    for i in 0..values.len() {
+        if rest.is_empty() {
+            return (i, rest);
+        }
+        marks = next_marks(rest, marks, separator);
+        let (field, behind, more) = cut_field(rest, marks, separator);
+        let Some(value) = value_of_field::<T>(field, format) else {
+            return (i, rest);
+        };
+        values[i] = value;
+        rest = behind;
+        marks = more;
+    }
+    (values.len(), rest)
+}
+
+// Reads as `read_any_format` does, or reads nothing where the fields are separated decimal numbers: those have loops of
+// their own.
+#[inline(always)]
+pub(crate) fn read_unless_separated<'a, T: ParseInteger>(
+    text: &'a [u8],
+    separator: u8,
+    format: &NumberFormat,
+    separated: bool,
+    values: &mut [T],
+) -> (usize, &'a [u8])
+    requires valid { IsNone (fault format.now) }
+    ensures reading { (whole : List ℕ) (initial : List T)
+        → IsReadSoFar T T.number format.now T.TYPE separator whole initial values.old 0 text.now
+        → IsReadSoFar T T.number format.now T.TYPE separator whole initial values.new
+        result.0 result.1.now }
+    ensures room { result.0 ≤ length values.new }
+    ensures size { length values.new ≡ length values.old }
+{
+    if separated {
+        return (0, text);
+    }
+    read_any_format::<T>(text, separator, format, values)
+}
