@@ -9,8 +9,7 @@ ghost use Rattle.lexical_parse_integer.specs.Grammar.{complete};
 
 pub use crate::algorithm::plain::fields::{field_in_front, is_separated};
 pub use crate::algorithm::plain::{front_if_plain, value_if_short};
-use crate::algorithm::standard_complete;
-use crate::algorithm::whole;
+use crate::algorithm::{standard_complete, whole};
 use crate::api::FromLexical;
 pub use crate::api::impls::complete_under_if_not_short;
 use lexical_util::format::NumberFormat;
@@ -44,6 +43,7 @@ pub fn value_for_format<T: Integer>(bytes: &[u8], format: &NumberFormat) -> Opti
 
 /// The integer that the whole text stands for under a valid format, for a text that `value_for_format` has left, and `None`
 /// for one at fault.
+// Why out of line: docs/DECISIONS.md, code.
 #[inline(never)]
 pub fn value_if_left<T: Integer>(bytes: &[u8], format: &NumberFormat) -> Option<T>
     requires valid { IsNone (fault format.now) }
