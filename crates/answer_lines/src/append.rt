@@ -3,16 +3,21 @@
 ghost use Rattle.std.specs.Prelude.{◌≡◌, ◌+◌, ◌≤◌, ◌∷◌, [], ◌++◌, Some, codes, length, take};
 ghost use Rattle.lexical_util.specs.Ascii.{line_feed};
 ghost use Rattle.answer_lines.specs.Decimal.{signed_text};
-ghost use Rattle.answer_lines.specs.Output.{place_text};
+ghost use Rattle.answer_lines.specs.Output.{fault_answer, fault_name, place_text};
+ghost use Rattle.lexical_util.specs.Faults.{place_of};
 
 use crate::decimal::{add_byte, add_decimal, add_number};
 use crate::number::Number;
+use lexical_parse_integer::Error;
 
 /// The room that the longest `ok V` and a line feed ask for.
 pub const MOST_OF_VALUE_LINE: usize = 45;
 
 /// The room that the longest `ok V PLACE` and a line feed ask for.
 pub const MOST_OF_FOUND_LINE: usize = 66;
+
+/// The room that the longest `err NAME PLACE` and a line feed ask for.
+pub const MOST_OF_FAULT_LINE: usize = 48;
 
 /// Adds `ok V` and a line feed, and answers where they end.
 #[inline(always)]
@@ -39,9 +44,88 @@ pub fn add_found_line(value: &Number, stop: usize, place: &mut [u8], end: usize)
 {
     let start = add_ok(place, end);
     let behind = add_value(value, place, start);
-    let blank = add_byte(b' ', place, behind);
-    let last = add_number(stop as u64, place, blank);
+    let last = add_place(stop, place, behind);
     add_byte(b'\n', place, last)
+}
+
+/// Adds `err NAME PLACE` and a line feed, and answers where they end. A fault without a place has its name alone.
+#[inline(always)]
+pub fn add_fault_line(fault: Error, place: &mut [u8], end: usize) -> usize
+    requires room { end + 48 ≤ length place.old }
+    ensures size { length place.new ≡ length place.old }
+    ensures within { result ≤ end + 48 }
+    ensures written { take result place.new
+        ≡ take end place.old ++ (fault_answer fault ++ line_feed ∷ []) }
+{
+    let start = add_text(b"err ", place, end);
+    let behind = add_name(fault, place, start);
+    let last = add_place_of(fault, place, behind);
+    add_byte(b'\n', place, last)
+}
+
+// Adds the name of a fault. Each has an arm of its own: so few bytes, of a number that is known, go without a call.
+#[inline(always)]
+fn add_name(fault: Error, place: &mut [u8], end: usize) -> usize
+    requires room { end + 22 ≤ length place.old }
+    ensures size { length place.new ≡ length place.old }
+    ensures within { result ≤ end + 22 }
+    ensures written { take result place.new ≡ take end place.old ++ fault_name fault }
+{
+    match fault {
+        Error::Overflow(_) => add_text(b"Overflow", place, end),
+        Error::Underflow(_) => add_text(b"Underflow", place, end),
+        Error::InvalidDigit(_) => add_text(b"InvalidDigit", place, end),
+        Error::Empty(_) => add_text(b"Empty", place, end),
+        Error::MissingSign(_) => add_text(b"MissingSign", place, end),
+        Error::InvalidPositiveSign(_) => add_text(b"InvalidPositiveSign", place, end),
+        Error::InvalidLeadingZeros(_) => add_text(b"InvalidLeadingZeros", place, end),
+        Error::InvalidMantissaRadix => add_text(b"InvalidMantissaRadix", place, end),
+        Error::InvalidDigitSeparator => add_text(b"InvalidDigitSeparator", place, end),
+        Error::InvalidBasePrefix => add_text(b"InvalidBasePrefix", place, end),
+        Error::InvalidBaseSuffix => add_text(b"InvalidBaseSuffix", place, end),
+        Error::InvalidPunctuation => add_text(b"InvalidPunctuation", place, end),
+        Error::InvalidLiteralPrefixes => add_text(b"InvalidLiteralPrefixes", place, end),
+    }
+}
+
+// Adds a space and the fault's place, where it has one.
+#[inline(always)]
+fn add_place_of(fault: Error, place: &mut [u8], end: usize) -> usize
+    requires room { end + 21 ≤ length place.old }
+    ensures size { length place.new ≡ length place.old }
+    ensures within { result ≤ end + 21 }
+    ensures written { take result place.new
+        ≡ take end place.old ++ place_text (place_of fault) }
+{
+    match fault.index() {
+        Some(at) => add_place(at, place, end),
+        None => end,
+    }
+}
+
+// Adds a space and a place.
+#[inline(always)]
+fn add_place(at: usize, place: &mut [u8], end: usize) -> usize
+    requires room { end + 21 ≤ length place.old }
+    ensures size { length place.new ≡ length place.old }
+    ensures within { result ≤ end + 21 }
+    ensures written { take result place.new ≡ take end place.old ++ place_text (Some at) }
+{
+    let start = add_byte(b' ', place, end);
+    add_number(at as u64, place, start)
+}
+
+// Adds bytes.
+#[inline(always)]
+fn add_text(text: &[u8], place: &mut [u8], end: usize) -> usize
+    requires room { end + length text.now ≤ length place.old }
+    ensures size { length place.new ≡ length place.old }
+    ensures end { result ≡ end + length text.now }
+    ensures written { take result place.new ≡ take end place.old ++ text.now }
+{
+    let behind = end + text.len();
+    place[end..behind].copy_from_slice(text);
+    behind
 }
 
 // Adds the digits of a number, behind a minus where it is below 0.

@@ -5,12 +5,13 @@ ghost use Rattle.std.specs.Io.KnownBytes.{Appends};
 ghost use Rattle.lexical_util.specs.Ascii.{line_feed};
 ghost use Rattle.answer_lines.specs.Decimal.{decimal_text, signed_text};
 ghost use Rattle.answer_lines.specs.Gather.{GainsFront, Gathers, Sends};
-ghost use Rattle.answer_lines.specs.Output.{place_text};
+ghost use Rattle.answer_lines.specs.Output.{fault_answer, place_text};
 
-use crate::append::{add_found_line, add_value_line};
+use crate::append::{add_fault_line, add_found_line, add_value_line};
 use crate::decimal::{MOST_DIGITS, add_decimal};
 use crate::fault::RunError;
 use crate::number::Number;
+use lexical_parse_integer::Error;
 use std::io::Write;
 use std::marker::Model;
 
@@ -89,6 +90,15 @@ impl Batch {
             ++ (codes "ok " ++ signed_text value.now ++ place_text (Some stop) ++ line_feed ∷ []) }
     {
         self.count = add_found_line(value, stop, &mut self.held, self.count);
+    }
+
+    /// Adds `err NAME PLACE` and a line feed, where it has room for the longest.
+    #[inline(always)]
+    pub(crate) fn add_fault_line(&mut self, fault: Error)
+        requires { length self.old + 48 ≤ 65536 }
+        ensures { self.new ≡ self.old ++ (fault_answer fault ++ line_feed ∷ []) }
+    {
+        self.count = add_fault_line(fault, &mut self.held, self.count);
     }
 
     /// Its bytes.

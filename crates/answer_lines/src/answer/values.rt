@@ -10,7 +10,7 @@ ghost use Rattle.answer_lines.specs.Number.{Widens};
 ghost use Rattle.answer_lines.specs.Output.{command_answer, complete_text, fault_answer, partial_text, place_text};
 
 use crate::answer::{put_fault, put_found, put_line, put_value};
-use crate::append::{MOST_OF_FOUND_LINE, MOST_OF_VALUE_LINE};
+use crate::append::{MOST_OF_FAULT_LINE, MOST_OF_FOUND_LINE, MOST_OF_VALUE_LINE};
 use crate::batch::{Batch, put};
 use crate::command::{TypeName, type_and_text};
 use crate::fault::RunError;
@@ -256,9 +256,29 @@ fn put_found_in_parts<W: Write>(
     put(b"\n", batch, out)
 }
 
-// A fault's answer, and a line feed.
+// A fault's answer, and a line feed: in one piece, where the batch has room for the longest.
 #[inline(never)]
 fn put_fault_line<W: Write>(fault: Error, batch: &mut Batch, out: &mut W) -> Result<(), RunError>
+    ensures ok { OnOk result (Gathers (W.contents out.old) batch.old (W.contents out.new) batch.new
+        (fault_answer fault ++ line_feed ∷ [])) }
+    ensures front { GainsFront (W.contents out.old) (W.contents out.new)
+        (batch.old ++ (fault_answer fault ++ line_feed ∷ [])) }
+    ensures fault { IsOkUnless result RunError.Write }
+{
+    if batch.room() < MOST_OF_FAULT_LINE {
+        return put_fault_in_parts(fault, batch, out);
+    }
+    batch.add_fault_line(fault);
+    Ok(())
+}
+
+// A fault's answer, and a line feed, part by part: a part that does not fit goes behind what the batch held.
+#[inline(never)]
+fn put_fault_in_parts<W: Write>(
+    fault: Error,
+    batch: &mut Batch,
+    out: &mut W,
+) -> Result<(), RunError>
     ensures ok { OnOk result (Gathers (W.contents out.old) batch.old (W.contents out.new) batch.new
         (fault_answer fault ++ line_feed ∷ [])) }
     ensures front { GainsFront (W.contents out.old) (W.contents out.new)
