@@ -2,6 +2,7 @@
 pub mod CommandLines
 pub mod LineSteps
 pub mod DecimalSteps
+pub mod DigitPairs
 pub mod Pieces
 pub mod AfterLast
 pub mod AnswerLines

@@ -1,7 +1,11 @@
 //! Numbers as text, added behind other text in a place of the caller that has room.
 
-ghost use Rattle.std.specs.Prelude.{◌≡◌, ◌+◌, ◌^◌, ◌<◌, ◌≤◌, ◌∷◌, [], ◌++◌, length, take};
+ghost use Rattle.std.specs.Prelude.{◌≡◌, ◌+◌, ◌/◌, ◌%◌, ◌^◌, ◌<◌, ◌≤◌, ◌∷◌, [], ◌++◌, length, take};
 ghost use Rattle.answer_lines.specs.Decimal.{decimal_text, eight_digits, four_digits, sixteen_digits, two_digits};
+
+mod pairs;
+
+use crate::decimal::pairs::PAIRS;
 
 /// The room that the longest number asks for.
 pub const MOST_DIGITS: usize = 40;
@@ -193,8 +197,21 @@ fn add_two(n: u8, place: &mut [u8], end: usize) -> usize
     ensures end { result ≡ end + 2 }
     ensures written { take result place.new ≡ take end place.old ++ two_digits n }
 {
-    let start = add_byte(b'0' + n / 10, place, end);
-    add_byte(b'0' + n % 10, place, start)
+    let (tens, ones) = two_digits(n);
+    let start = add_byte(tens, place, end);
+    add_byte(ones, place, start)
+}
+
+// The two digits of a number, out of a table: one word is moved, and nothing divided.
+#[inline(always)]
+#[tactic(auto, using(crate::proofs::DigitPairs::tens_by_table, crate::proofs::DigitPairs::ones_by_table))]
+fn two_digits(n: u8) -> (u8, u8)
+    requires small { n < 100 }
+    ensures tens { result.0 ≡ 48 + n / 10 }
+    ensures ones { result.1 ≡ 48 + n % 10 }
+{
+    let first = 2 * n as usize;
+    (PAIRS[first], PAIRS[first + 1])
 }
 
 /// Adds a byte.
