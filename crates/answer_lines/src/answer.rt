@@ -10,6 +10,7 @@ ghost use Rattle.answer_lines.specs.Output.{answer_to, command_answer, command_e
 ghost use Rattle.answer_lines.specs.Settings.{standard_settings};
 ghost use Rattle.lexical_literals.specs.Tokens.{tokens};
 
+mod standard;
 mod tokens;
 mod values;
 

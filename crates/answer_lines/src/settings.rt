@@ -2,7 +2,8 @@
 //!
 //! Its lists of fields are written from tools/fields.txt, by `make docs`.
 
-ghost use Rattle.std.specs.Prelude.{◌≡◌};
+ghost use Rattle.std.specs.Prelude.{◌≡◌, IsTrue};
+ghost use Rattle.lexical_util.specs.Format.{standard};
 ghost use Rattle.answer_lines.specs.Change.{with_change, with_flag, with_punctuation};
 ghost use Rattle.answer_lines.specs.Settings.{standard_settings};
 
@@ -16,18 +17,22 @@ pub struct Settings {
     format: NumberFormatBuilder,
     // What that builds, so that a line which changes nothing builds nothing.
     built: NumberFormat,
+    // Only where no line has set anything since the standard ones: then the parser needs no look at the format.
+    is_standard: bool,
     options: Options,
 }
 
 impl Model for Settings {
-    ghost use Rattle.std.specs.Prelude.{◌≡◌};
+    ghost use Rattle.std.specs.Prelude.{◌≡◌, IsTrue};
     ghost use Rattle.answer_lines.specs.Settings.{Settings};
+    ghost use Rattle.lexical_util.specs.Format.{standard};
 
     ghost Value = { Settings };
 
     ghost view = { λ s. record { format = s.format; no_multi_digit = s.options.no_multi_digit } };
 
-    ghost invariant = { λ s. s.built ≡ s.format };
+    ghost invariant = { λ s. (s.built ≡ s.format)
+        × (IsTrue s.is_standard → s.format ≡ standard) };
 }
 
 impl Settings {
@@ -39,6 +44,7 @@ impl Settings {
         Settings {
             format,
             built: format.build_unchecked(),
+            is_standard: true,
             options: Options::new(),
         }
     }
@@ -48,6 +54,13 @@ impl Settings {
         ensures { result.now ≡ self.now.format }
     {
         &self.built
+    }
+
+    /// Whether the format is the standard one, where that is known.
+    pub fn is_standard(&self) -> bool
+        ensures { IsTrue result → self.now.format ≡ standard }
+    {
+        self.is_standard
     }
 
     /// The options.
@@ -62,6 +75,7 @@ impl Settings {
     pub fn apply(&mut self, change: Change)
         ensures { self.new ≡ with_change change self.old }
     {
+        self.is_standard = false;
         let format = self.format;
         match change {
             Change::MantissaRadix(value) => self.format = format.mantissa_radix(value),

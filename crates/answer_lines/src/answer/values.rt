@@ -9,6 +9,7 @@ ghost use Rattle.answer_lines.specs.Decimal.{signed_text};
 ghost use Rattle.answer_lines.specs.Number.{Widens};
 ghost use Rattle.answer_lines.specs.Output.{command_answer, complete_text, fault_answer, partial_text, place_text};
 
+use crate::answer::standard::standard_line;
 use crate::answer::{put_fault, put_found, put_line, put_value};
 use crate::append::{MOST_OF_FAULT_LINE, MOST_OF_FOUND_LINE, MOST_OF_VALUE_LINE};
 use crate::batch::{Batch, put};
@@ -60,9 +61,33 @@ pub fn answer_partial<W: Write>(
     }
 }
 
-// The answer to the complete parse of a text as one of the named type, and a line feed.
+// The answer to the complete parse of a text as one of the named type, and a line feed. Most lines are read under the
+// standard format, and their parser knows it.
 #[inline(always)]
 fn complete_line<W: Write>(
+    name: TypeName,
+    text: &[u8],
+    settings: &Settings,
+    batch: &mut Batch,
+    out: &mut W,
+) -> Result<(), RunError>
+    ensures ok { OnOk result (Gathers (W.contents out.old) batch.old (W.contents out.new) batch.new
+        (complete_text (complete_if_valid settings.now.format (type_of name) text.now)
+        ++ line_feed ∷ [])) }
+    ensures front { GainsFront (W.contents out.old) (W.contents out.new) (batch.old
+        ++ (complete_text (complete_if_valid settings.now.format (type_of name) text.now)
+        ++ line_feed ∷ [])) }
+    ensures fault { IsOkUnless result RunError.Write }
+{
+    if settings.is_standard() {
+        return standard_line(name, text, batch, out);
+    }
+    complete_line_under(name, text, settings, batch, out)
+}
+
+// The answer to the complete parse of a text as one of the named type under the format that is set, and a line feed.
+#[inline(always)]
+fn complete_line_under<W: Write>(
     name: TypeName,
     text: &[u8],
     settings: &Settings,
@@ -182,9 +207,13 @@ where
     }
 }
 
-// `ok V` and a line feed: in one piece, where the batch has room for the longest.
+/// `ok V` and a line feed: in one piece, where the batch has room for the longest.
 #[inline(always)]
-fn put_value_line<W: Write>(value: &Number, batch: &mut Batch, out: &mut W) -> Result<(), RunError>
+pub(super) fn put_value_line<W: Write>(
+    value: &Number,
+    batch: &mut Batch,
+    out: &mut W,
+) -> Result<(), RunError>
     ensures ok { OnOk result (Gathers (W.contents out.old) batch.old (W.contents out.new) batch.new
         (codes "ok " ++ signed_text value.now ++ line_feed ∷ [])) }
     ensures front { GainsFront (W.contents out.old) (W.contents out.new)
@@ -256,9 +285,13 @@ fn put_found_in_parts<W: Write>(
     put(b"\n", batch, out)
 }
 
-// A fault's answer, and a line feed: in one piece, where the batch has room for the longest.
+/// A fault's answer, and a line feed: in one piece, where the batch has room for the longest.
 #[inline(never)]
-fn put_fault_line<W: Write>(fault: Error, batch: &mut Batch, out: &mut W) -> Result<(), RunError>
+pub(super) fn put_fault_line<W: Write>(
+    fault: Error,
+    batch: &mut Batch,
+    out: &mut W,
+) -> Result<(), RunError>
     ensures ok { OnOk result (Gathers (W.contents out.old) batch.old (W.contents out.new) batch.new
         (fault_answer fault ++ line_feed ∷ [])) }
     ensures front { GainsFront (W.contents out.old) (W.contents out.new)
