@@ -1,14 +1,17 @@
 -- Decimal numbers at the front of a text that leave their type: for the answers of `algorithm::plain::faults`.
-use Rattle.std.proofs.Common.{◌≡◌, ℕ, zero, suc, ◌+◌, ◌-◌, ◌*◌, ◌<◌, ◌≤◌, Bool, true, false, List, [], ◌∷◌, ◌++◌, length, get_or, map, take, drop, refl, sym, ap, ◌∙◌, subst, arith, Some, Ok, Err, pos}
-use Rattle.std.specs.Prelude.{is_some, slice_range, ℤ, neg_ℤ, if◌then◌else◌}
-use Rattle.std.proofs.lemmas.List.{length-drop, length-take-le, take_more}
+use Rattle.std.proofs.Common.{◌≡◌, ℕ, zero, suc, ◌+◌, ◌-◌, ◌*◌, ◌<◌, ◌≤◌, ◌&&◌, ◌==◌, Bool, true, false, not, List, [], ◌∷◌, ◌++◌, length, get_or, map, take, drop, refl, sym, ap, ◌∙◌, subst, arith, Some, None, Ok, Err, pos}
+use Rattle.std.specs.Prelude.{is_some, nat_le, slice_index, slice_range, ℤ, neg_ℤ, if◌then◌else◌}
+use Rattle.std.proofs.Math.Bool.{and-true}
+use Rattle.std.proofs.lemmas.Bool.{le-leb}
+use Rattle.std.proofs.lemmas.List.{get_or-take, length-drop, length-take-le, take_more}
 use Rattle.lexical_util.specs.Digit.{digit}
-use Rattle.lexical_util.specs.Format.{Format, standard}
+use Rattle.lexical_util.specs.declared.error.Error.TheVariants.{InvalidLeadingZeros}
+use Rattle.lexical_util.specs.Format.{Format}
 use Rattle.lexical_util.specs.Number.{IntegerType, is_number, mul_add}
-use Rattle.lexical_parse_integer.specs.Grammar.{complete, range_error, range_fault}
+use Rattle.lexical_parse_integer.specs.Grammar.{complete, fault_if, range_error, range_fault, zero_fault}
 use Rattle.lexical_parse_integer.specs.Head.{Head, sign}
 use Rattle.lexical_parse_integer.specs.Numeral.{Numeral, digit_count, front_value}
-use Rattle.lexical_parse_integer.specs.Plain.{LeavesAfter}
+use Rattle.lexical_parse_integer.specs.Plain.{IsPlain, LeavesAfter, keeps_zero_rule}
 use Rattle.lexical_digits.specs.WrittenNumbers.{StandsFor}
 use Rattle.lexical_digits.specs.Value.{positional_value, with_sign}
 use Rattle.lexical_digits.specs.Words.{AreDigits, word_value}
@@ -20,6 +23,8 @@ use Rattle.lexical_parse_integer.proofs.grammar.Stretches.{HoldsBetween, below_s
 use Rattle.lexical_digits.proofs.LongNumbers.{digit_worth, have_are, have_digits, have_values, stands}
 use Rattle.lexical_digits.proofs.ShiftedWords.{writes_text}
 use Rattle.std.proofs.Math.Seq.{take-length}
+use Rattle.lexical_parse_integer.proofs.plain.DigitFaults.{fewer_keep}
+use Rattle.lexical_parse_integer.proofs.plain.DigitsByTable.{rule_in}
 use Rattle.lexical_parse_integer.proofs.plain.DigitsInFront.{StandsFrom, at_front, from_place, front_between}
 use Rattle.lexical_digits.proofs.WordsInFront.{rest_is}
 use Rattle.lexical_parse_integer.proofs.theorems.CompleteByPartial.{sign_within}
@@ -92,16 +97,30 @@ values_at text digits start m on within all =
     let size : length ds ≡ m = let e = digits_size 10 (take m digits) ds have in omega arith in
     ap (row 10 text start) (sym size) ∙ row_is 10 text ds start (λ k l. at_front 10 text digits ds start m k on have l (omega arith))
 
+-- digits that keep the zero rule do so as values
+zeros_kept : (f : Format) (es ds : List ℕ) (place : ℕ) → 2 ≤ length ds → 2 ≤ length es → get_or es 0 0 ≡ get_or ds 0 0
+    → ((f.no_integer_leading_zeros && nat_le 2 (length ds)) && (slice_index ds 0 == 0)) ≡ false
+    → fault_if (((f.no_integer_leading_zeros && not false) && nat_le 2 (length es)) && (slice_index es 0 == 0)) (InvalidLeadingZeros place) ≡ None
+zeros_kept f es ds place long more same rule =
+    let a : Bool = f.no_integer_leading_zeros in
+    let kept : ((a && true) && (get_or ds 0 0 == 0)) ≡ false =
+    subst (λ (x : Bool). ((a && x) && (get_or ds 0 0 == 0)) ≡ false) (le-leb 2 (length ds) long) rule in
+    let told : (((a && true) && nat_le 2 (length es)) && (get_or es 0 0 == 0)) ≡ false =
+    ap (λ (x : Bool). ((a && true) && x) && (get_or es 0 0 == 0)) (le-leb 2 (length es) more)
+    ∙ ap (λ (x : Bool). x && (get_or es 0 0 == 0)) (and-true (a && true))
+    ∙ ap (λ (v : ℕ). (a && true) && (v == 0)) same ∙ kept in
+    ap (λ (b : Bool). fault_if b (InvalidLeadingZeros place)) told
+
 -- the number behind a sign leaves the type at the digit behind those that fit
-pub leaving_read : (t : IntegerType) (text digits : List ℕ) (s : Bool × ℕ) (count : ℕ) → sign standard t text ≡ Ok s → StandsFrom s.1 text digits → length text ≡ s.1 + length digits → LeavesAfter t s.0 digits count → complete standard t text ≡ Err (range_error s.0 (s.1 + count))
-leaving_read t text digits s count sign_is on size l =
-    let f : Format = standard in
+leaving_read : (f : Format) (t : IntegerType) (text digits : List ℕ) (s : Bool × ℕ) (count : ℕ) → IsPlain f → f.mantissa_radix ≡ 10 → sign f t text ≡ Ok s → StandsFrom s.1 text digits → length text ≡ s.1 + length digits →
+    1 ≤ count → keeps_zero_rule f digits ≡ true → LeavesAfter t s.0 digits count → complete f t text ≡ Err (range_error s.0 (s.1 + count))
+leaving_read f t text digits s count plain ten sign_is on size some rule l =
     let n : ℕ = row_count f false 10 text s.1 in
     let h : Head = record { is_negative = s.0; is_prefixed = false; is_octal = false; start = s.1; radix = 10 } in
     let x : Numeral = row_numeral f text s.1 10 n in
     let within = l.within in
     let low : s.1 ≤ length text = omega arith in
-    let ends : EndsRow 10 text s.1 (s.1 + n) = row_ends f false 10 text s.1 refl low in
+    let ends : EndsRow 10 text s.1 (s.1 + n) = row_ends f false 10 text s.1 plain.no_separator low in
     let ds : List ℕ = map (λ byte. byte - 48) (take (count + 1) digits) in
     let have : HaveDigits 10 (take (count + 1) digits) ds = have_digits 10 (take (count + 1) digits) (omega arith) (ascii_from_digits 10 (take (count + 1) digits) (omega arith) l.digits) in
     let taken = length-take-le (count + 1) digits (omega arith) in
@@ -117,12 +136,21 @@ leaving_read t text digits s count sign_is on size l =
     let fit = shorter_fronts_fit t s.0 x count (omega arith) (ap (is_number t) before ∙ l.fits) in
     let fault : range_fault t s.0 x ≡ Some (range_error s.0 (get_or x.places count 0)) = leaving_fault t s.0 x count there fit (ap (is_number t) behind ∙ l.leaves) in
     let place : get_or x.places count 0 ≡ s.1 + count = place_of_row s.1 n count inside in
-    let answer : complete_by f t text h x ≡ Err (range_error s.0 (get_or x.places count 0)) = rw fault refl in
-    complete_row f t text h n refl (head_is f t text s refl refl refl sign_is) low ends ∙ answer ∙ ap (λ (k : ℕ). Err (range_error s.0 k)) place
+    let front = front_of_row 10 text s.1 (count + 1) n (omega arith) ∙ values_at text digits s.1 (count + 1) on (omega arith) l.digits in
+    let first : get_or x.digits 0 0 ≡ get_or ds 0 0 = sym (get_or-take (count + 1) x.digits 0 0 (omega arith)) ∙ ap (λ (es : List ℕ). get_or es 0 0) front in
+    let kept = rule_in f 10 (take (count + 1) digits) ds have (fewer_keep f (count + 1) digits (omega arith) (omega arith) rule) in
+    let many : 2 ≤ length x.digits = let e = digits_of_row 10 text s.1 n in omega arith in
+    let zeros : zero_fault f false x ≡ None = zeros_kept f x.digits ds (get_or x.places 0 0) (omega arith) many first kept in
+    let answer : complete_by f t text h x ≡ Err (range_error s.0 (get_or x.places count 0)) = rw (zeros, fault) refl in
+    let head = head_is f t text s plain.no_prefix plain.no_literals plain.no_octal_zeros sign_is
+    ∙ ap (λ (r : ℕ). Ok (record { is_negative = s.0; is_prefixed = false; is_octal = false; start = s.1; radix = r })) ten in
+    complete_row f t text h n plain.no_separator head low ends ∙ answer ∙ ap (λ (k : ℕ). Err (range_error s.0 k)) place
 
 -- behind the sign
-pub signed_leaving_read : (t : IntegerType) (text : List ℕ) (s : Bool × ℕ) (is_negative : Bool) (count : ℕ) → sign standard t text ≡ Ok s → s.0 ≡ is_negative → LeavesAfter t s.0 (slice_range text s.1 (length text)) count → complete standard t text ≡ Err (range_error is_negative (s.1 + count))
-signed_leaving_read t text s is_negative count sign_is is l =
-    let within = sign_within standard t text s sign_is in
+pub signed_leaving_read : (f : Format) (t : IntegerType) (text : List ℕ) (s : Bool × ℕ) (is_negative : Bool) (count : ℕ) → IsPlain f → f.mantissa_radix ≡ 10 → sign f t text ≡ Ok s → s.0 ≡ is_negative → 1 ≤ count →
+    keeps_zero_rule f (slice_range text s.1 (length text)) ≡ true → LeavesAfter t s.0 (slice_range text s.1 (length text)) count → complete f t text ≡ Err (range_error is_negative (s.1 + count))
+signed_leaving_read f t text s is_negative count plain ten sign_is is some rule l =
+    let within = sign_within f t text s sign_is in
     let told : LeavesAfter t s.0 (drop s.1 text) count = subst (λ (ds : List ℕ). LeavesAfter t s.0 ds count) (rest_is text s.1) l in
-    leaving_read t text (drop s.1 text) s count sign_is (from_place s.1 text) (let size = length-drop s.1 text in omega arith) told ∙ ap (λ (b : Bool). Err (range_error b (s.1 + count))) is
+    let kept : keeps_zero_rule f (drop s.1 text) ≡ true = subst (λ (ds : List ℕ). keeps_zero_rule f ds ≡ true) (rest_is text s.1) rule in
+    leaving_read f t text (drop s.1 text) s count plain ten sign_is (from_place s.1 text) (let size = length-drop s.1 text in omega arith) some kept told ∙ ap (λ (b : Bool). Err (range_error b (s.1 + count))) is

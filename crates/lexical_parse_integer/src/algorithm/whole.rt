@@ -7,7 +7,7 @@ ghost use Rattle.lexical_parse_integer.specs.Grammar.{complete};
 ghost use Rattle.lexical_parse_integer.specs.Plain.{IsPlain};
 
 use crate::algorithm::front::complete_from_front;
-use crate::algorithm::plain::faults::place_after_digits;
+use crate::algorithm::plain::faults::{fault_after_digits, place_after_digits};
 use crate::algorithm::plain::{is_plain, keeps_zero_rule, value_of_decimal, value_of_plain};
 use crate::algorithm::punctuated::{value_of_groups, value_of_row};
 use lexical_util::error::Error;
@@ -67,6 +67,11 @@ fn complete_if_plain<T: Integer>(bytes: &[u8], format: &NumberFormat) -> Result<
     requires decimal { format.now.mantissa_radix ≡ 10 }
     ensures { view_of T.number result ≡ complete format.now T.TYPE bytes.now }
 {
+    if bytes.len() > T::overflow_digits(10) {
+        if let Some(fault) = fault_after_digits::<T>(bytes, format) {
+            return Err(fault);
+        }
+    }
     match place_after_digits::<T>(bytes, format, T::overflow_digits(10)) {
         Some(place) if place < bytes.len() => Err(Error::InvalidDigit(place)),
         Some(place) => Err(Error::Empty(place)),

@@ -92,16 +92,21 @@ pub(in crate::algorithm) fn place_after_few<T: Integer>(bytes: &[u8]) -> Option<
 
 // The fault behind as many digits as the type has room for: at the digit with which the number leaves the type, or at
 // the first byte that is no digit.
-#[inline(never)]
-pub(in crate::algorithm) fn fault_after_many<T: Integer>(bytes: &[u8]) -> Option<Error>
-    ensures { IfSome result (λ error. complete standard T.TYPE bytes.now ≡ Err error) }
+#[inline(always)]
+pub(in crate::algorithm) fn fault_after_digits<T: Integer>(
+    bytes: &[u8],
+    format: &NumberFormat,
+) -> Option<Error>
+    requires plain { IsPlain format.now }
+    requires decimal { format.now.mantissa_radix ≡ 10 }
+    ensures { IfSome result (λ error. complete format.now T.TYPE bytes.now ≡ Err error) }
 {
-    let Ok((is_negative, start)) = sign_of::<T>(bytes, &format::STANDARD) else {
+    let Ok((is_negative, start)) = sign_of::<T>(bytes, format) else {
         return None;
     };
     let digits = &bytes[start..];
     let mut count = T::overflow_digits(10);
-    if digits.len() <= count {
+    if digits.len() <= count || !keeps_zero_rule(format, digits) {
         return None;
     }
     let mut value = value_of_digits::<T>(&digits[..count], is_negative)?;
@@ -117,4 +122,12 @@ pub(in crate::algorithm) fn fault_after_many<T: Integer>(bytes: &[u8]) -> Option
         count += 1;
     }
     None
+}
+
+// That fault under the standard format.
+#[inline(never)]
+pub(in crate::algorithm) fn fault_after_many<T: Integer>(bytes: &[u8]) -> Option<Error>
+    ensures { IfSome result (λ error. complete standard T.TYPE bytes.now ≡ Err error) }
+{
+    fault_after_digits::<T>(bytes, &format::STANDARD)
 }

@@ -1,6 +1,6 @@
 use Rattle.std.proofs.Common.{◌-◌, ◌≤◌, length, take}
 use Rattle.lexical_digits.specs.WrittenNumbers.{StandsFor}
-use Rattle.lexical_parse_integer.proofs.algorithm.plain.faults.fault_after_many.Given as goal
+use Rattle.lexical_parse_integer.proofs.algorithm.plain.faults.fault_after_digits.Given as goal
 
 abbrev pub invariant-loop-count : goal.invariant-loop-count
 invariant-loop-count g l = record {
