@@ -1,8 +1,8 @@
--- The quotes of a text that begins with one, byte after byte.
-use Rattle.std.proofs.Common.{◌≡◌, ◌∙◌, ℕ, ◌+◌, ◌-◌, ◌==◌, ◌&&◌, ◌||◌, ◌<◌, ◌≤◌, List, [], ◌∷◌, length, take, get_or, Bool, true, false, not, cond, Some, None, ap, ap₂, sym, arith, inl, inr}
+-- The quotes of a text that begins with one, from quote to quote.
+use Rattle.std.proofs.Common.{◌≡◌, ◌≢◌, ◌∙◌, ℕ, zero, suc, ◌+◌, ◌-◌, ◌==◌, ◌&&◌, ◌||◌, ◌<◌, ◌≤◌, List, [], ◌∷◌, length, take, get_or, Bool, true, false, not, cond, eq-eqb, Some, None, refl, subst, ap, ap₂, sym, arith, inl, inr}
 use Rattle.std.specs.List.{position_or_len, range_with_len}
 use Rattle.std.specs.Prelude.{nat_lt}
-use Rattle.std.proofs.lemmas.Bool.{le-ltb, lt-ltb}
+use Rattle.std.proofs.lemmas.Bool.{le-ltb, lt-ltb, ne_eqb}
 use Rattle.std.proofs.lemmas.Bool.Decides.{eqb_tells}
 use Rattle.std.proofs.lemmas.List.{take_all, take_more}
 use Rattle.std.proofs.lemmas.List.FromFn.{get_or-range_with_len, length-range_with_len}
@@ -98,3 +98,42 @@ module _ (text : List ℕ) (place : ℕ) (is_within : Bool) (reading : IsUnbroke
       (position_or_len_is (λ k. not (is_in_place text (k + 1))) (range_with_len 0 (length text - 1)) (length text - 1) 0
       (omega (arith, size)) (λ k below. in_front k (omega (arith, reading.low))) (λ within. absurd (omega (arith, size))))
       (le-ltb (length text - 1) (length (range_with_len 0 (length text - 1))) (omega (arith, size))))
+
+-- ---- from quote to quote
+
+-- so many bytes within quotes are no quotes
+quotes_pass : (text : List ℕ) (place n : ℕ) → IsUnbroken text place true → place + n ≤ length text
+    → ((k : ℕ) → k < n → get_or text (place + k) 0 ≢ quote) → IsUnbroken text (place + n) true
+quotes_pass text place zero reading low none =
+    let same : place ≡ place + 0 = omega arith in
+    subst (λ p. IsUnbroken text p true) same reading
+quotes_pass text place (suc n) reading low none =
+    let before = quotes_pass text place n reading (omega arith) (λ k below. none k (omega arith)) in
+    let next : place + n + 1 ≡ place + suc n = omega arith in
+    subst (λ p. IsUnbroken text p true) next
+    (quotes_go text (place + n) true before true (omega arith) refl
+    (ap (λ t. cond t false true) (sym (ne_eqb (get_or text (place + n) 0) quote (none n (omega arith))))))
+
+-- up to the next quote all bytes are in place
+pub quotes_reach : (text : List ℕ) (place end : ℕ) → IsUnbroken text place true → place ≤ end → end ≤ length text
+    → ((k : ℕ) → place ≤ k → k < end → get_or text k 0 ≢ quote) → IsUnbroken text end true
+quotes_reach text place end reading from low none =
+    let is : place + (end - place) ≡ end = omega arith in
+    subst (λ p. IsUnbroken text p true) is
+    (quotes_pass text place (end - place) reading (omega arith) (λ k below. none (place + k) (omega arith) (omega arith)))
+
+-- that quote, behind which no byte stands within quotes
+pub quotes_close : (text : List ℕ) (end : ℕ) → IsUnbroken text end true → end < length text
+    → get_or text end 0 ≡ quote → IsUnbroken text (end + 1) false
+quotes_close text end reading low is =
+    quotes_go text end true reading false low refl
+    (ap (λ t. cond t false true) (sym (eq-eqb (get_or text end 0) quote is)))
+
+-- and one behind it
+pub quotes_double : (text : List ℕ) (end : ℕ) → IsUnbroken text (end + 1) false → end + 1 < length text
+    → get_or text (end + 1) 0 ≡ quote → IsUnbroken text (end + 2) true
+quotes_double text end reading low is =
+    let one = eq-eqb (get_or text (end + 1) 0) quote is in
+    let next : end + 1 + 1 ≡ end + 2 = omega arith in
+    subst (λ p. IsUnbroken text p true) next
+    (quotes_go text (end + 1) false reading true low one (ap (λ t. cond t true false) (sym one)))

@@ -1,7 +1,8 @@
 //! Whether the quotes of a cell are in place.
 
-ghost use Rattle.std.specs.Prelude.{◌≡◌, ◌+◌, ◌<◌, ◌^◌, length, drop, true, IfSome};
+ghost use Rattle.std.specs.Prelude.{◌≡◌, ◌≢◌, ◌+◌, ◌<◌, ◌≤◌, ◌^◌, ℕ, length, drop, slice_index, true, IfSome};
 ghost use Rattle.lexical_tables.specs.Cells.{begins_with_quote, fault_round_number, fault_round_text, first_quote, misplaced_quote, quote_fault, view_of_cell};
+ghost use Rattle.lexical_tables.specs.Quotes.{quote};
 
 use crate::answers::CellFault;
 use crate::content::Cell;
@@ -42,23 +43,40 @@ fn fault_round_number(text: &[u8]) -> Option<usize>
     }
 }
 
-// The quote out of place in a text that begins with one, if nothing is read of it.
+// The place of a text's first quote at or behind a place, or the text's length where there is none.
+#[inline(always)]
+fn next_quote(text: &[u8], place: usize) -> usize
+    requires place { place ≤ length text.now }
+    ensures from { place ≤ result }
+    ensures within { result ≤ length text.now }
+    ensures before { (k : ℕ) → place ≤ k → k < result → slice_index text.now k ≢ quote }
+    ensures found { result < length text.now → slice_index text.now result ≡ quote }
+{
+    place + field_length(&text[place..], b'"')
+}
+
+// The quote out of place in a text that begins with one, if nothing is read of it: from quote to quote, since most bytes
+// are none.
 fn fault_round_text(text: &[u8]) -> Option<usize>
     requires quoted { begins_with_quote text.now ≡ true }
     ensures place { result ≡ fault_round_text text.now }
     ensures within { IfSome result (λ place. place < length text.now) }
 {
-    let mut is_within = true;
     let mut place = 1;
     while place < text.len() {
-        let is_quote = text[place] == b'"';
-        if !is_within && !is_quote {
-            return Some(place - 1);
+        let end = next_quote(text, place);
+        if end == text.len() {
+            return Some(0);
         }
-        is_within = is_within != is_quote;
-        place += 1;
+        if end + 1 == text.len() {
+            return None;
+        }
+        if text[end + 1] != b'"' {
+            return Some(end);
+        }
+        place = end + 2;
     }
-    if is_within { Some(0) } else { None }
+    Some(0)
 }
 
 // The first quote out of place in a text.
