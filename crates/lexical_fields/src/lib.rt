@@ -24,5 +24,5 @@ pub use iterator::{Field, Fields};
 pub use marked::{next_marks, split_marked, value_in_front, value_of_front};
 pub use parts::{read_column_part, reads_in_parts, whole_fields};
 pub use places::error_in_text;
-pub use search::plain_of_16;
+pub use search::{lowest_mark, marks_among_16, plain_of_16};
 pub use split::field_length;

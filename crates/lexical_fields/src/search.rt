@@ -15,6 +15,17 @@ fn marks_of_16(lanes: u8x16, byte: u8) -> u64
     lanes.simd_eq(u8x16::splat(byte)).to_bitmask()
 }
 
+/// A bit for each of sixteen bytes, set where that is the byte.
+#[inline(always)]
+pub fn marks_among_16(bytes: &[u8], byte: u8) -> u64
+    requires { length bytes.now ≡ 16 }
+    ensures here { (k : ℕ) → k < 16
+        → bit_at result k ≡ (if slice_index bytes.now k == byte then 1 else 0) }
+    ensures beyond { (k : ℕ) → 16 ≤ k → bit_at result k ≡ 0 }
+{
+    marks_of_16(u8x16::from_slice(bytes), byte)
+}
+
 // A bit for each of 64 bytes, set where that is the byte.
 #[inline(always)]
 fn marks_of_64(bytes: &[u8], byte: u8) -> u64
@@ -42,9 +53,9 @@ pub(crate) fn marks_in_front(text: &[u8], separator: u8) -> u64
     marks_of_64(&text[..64], separator)
 }
 
-// The least bit that is set.
+/// The least bit that is set.
 #[inline(always)]
-pub(crate) fn lowest_mark(marks: u64) -> usize
+pub fn lowest_mark(marks: u64) -> usize
     requires { marks ≢ 0 }
     ensures set { bit_at marks result ≡ 1 }
     ensures below { (k : ℕ) → k < result → bit_at marks k ≡ 0 }

@@ -9,10 +9,14 @@ pub mod ColumnSteps
 pub mod ColumnTables
 pub mod ColumnsInParts
 pub mod LineSteps
+pub mod Looks
 pub mod MarkedCells
 pub mod MarkedRows
+pub mod NearCells
 pub mod OutsideInParts
 pub mod OutsideSteps
+pub mod Parities
+pub mod Passed
 pub mod PutSteps
 pub mod QuoteSteps
 pub mod QuotesUnread
@@ -21,7 +25,6 @@ pub mod RecordRows
 pub mod RecordSteps
 pub mod RowSteps
 pub mod RowsInParts
-pub mod SeekSteps
 pub mod SeenBytes
 pub mod WholeRows
 pub mod WidthRows

@@ -12,7 +12,7 @@ use Rattle.lexical_tables.specs.Quotes.{has_odd_quotes, quote}
 use Rattle.lexical_tables.proofs.SeenBytes.{odd_behind}
 
 -- whether a byte stands within quotes, by the byte in front of it
-next_within : (text : List ℕ) (place : ℕ) → place < length text → has_odd_quotes (take (place + 1) text)
+pub next_within : (text : List ℕ) (place : ℕ) → place < length text → has_odd_quotes (take (place + 1) text)
     ≡ cond (get_or text place 0 == quote) (not (has_odd_quotes (take place text))) (has_odd_quotes (take place text))
 next_within text place low =
     ap has_odd_quotes (take_more text place 0 low) ∙ odd_behind (take place text) (get_or text place 0)

@@ -32,7 +32,7 @@ next_rest (suc (suc r)) h = absurd (no_more r h)
 next_odd : (n : ℕ) → (suc n % 2 == 1) ≡ not (n % 2 == 1)
 next_odd n = ap (λ r. r == 1) (suc-mod n 2) ∙ next_rest (n % 2) (mod-lt n {m = 2} (omega arith))
 
-odd_by : (count : ℕ) (t : Bool) → ((count + (0 + cond t 1 0)) % 2 == 1) ≡ cond t (not (count % 2 == 1)) (count % 2 == 1)
+pub odd_by : (count : ℕ) (t : Bool) → ((count + (0 + cond t 1 0)) % 2 == 1) ≡ cond t (not (count % 2 == 1)) (count % 2 == 1)
 odd_by count true = ap (λ n. n % 2 == 1) (more count) ∙ next_odd count
   where
     more : (n : ℕ) → n + (0 + 1) ≡ suc n

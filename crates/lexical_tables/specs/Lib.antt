@@ -2,6 +2,7 @@
 pub mod ByColumn
 pub mod Cells
 pub mod Header
+pub mod Looks
 pub mod OneColumn
 pub mod Parts
 pub mod Quotes

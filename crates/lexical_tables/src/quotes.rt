@@ -1,9 +1,14 @@
 // Where a byte first stands outside quotes.
-ghost use Rattle.std.specs.Prelude.{◌≡◌, ◌≢◌, ◌<◌, ◌≤◌, ℕ, false, length, slice_index};
+ghost use Rattle.std.specs.Prelude.{◌≡◌, ◌≤◌, length};
 ghost use Rattle.lexical_fields.specs.Fields.{field_length};
-ghost use Rattle.lexical_tables.specs.Quotes.{hidden, length_outside, quote};
+ghost use Rattle.lexical_tables.specs.Quotes.{hidden, length_outside};
+ghost use Rattle.lexical_tables.specs.Looks.{IsPassed};
 
-use lexical_fields::{field_length, next_marks, plain_of_16, split_marked};
+mod looks;
+mod parities;
+
+use self::looks::look_at_16;
+use lexical_fields::{field_length, lowest_mark, next_marks, split_marked};
 
 // How many bytes stand before the first separator outside quotes, or in the text where there is none.
 #[inline(always)]
@@ -31,38 +36,55 @@ fn marked_length(text: &[u8], separator: u8) -> usize
     split_marked(text, marks, separator).0
 }
 
-// How many of a text's first sixteen bytes stand before a quote, and outside quotes before a separator too; 0 where it has
-// fewer.
-#[inline(always)]
-fn plain_length(text: &[u8], separator: u8, is_within: bool) -> usize
-    ensures quotes { (k : ℕ) → k < result → slice_index text.now k ≢ quote }
-    ensures separators { is_within ≡ false → (k : ℕ) → k < result
-        → slice_index text.now k ≢ separator }
-    ensures within { result ≤ length text.now }
-{
-    if text.len() < 16 {
-        return 0;
-    }
-    let near = &text[..16];
-    if is_within {
-        return plain_of_16(near, b'"', b'"');
-    }
-    plain_of_16(near, b'"', separator)
-}
-
-// How many they are where quotes have a meaning: byte by byte where a quote stands, and else by sixteen at once. Why out of
-// line: docs/DECISIONS.md, code.
+// How many they are where quotes have a meaning: by a look at sixteen bytes, as most cells end among these, and then by a
+// loop, which has more to keep. Why out of line: docs/DECISIONS.md, code.
 #[inline(never)]
 fn quoted_length(text: &[u8], separator: u8) -> usize
     ensures value { result ≡ field_length separator (hidden separator text.now) }
     ensures within { result ≤ length text.now }
 {
-    let mut place = 0;
-    let mut within = false;
-    while place < text.len() && (within || text[place] != separator) {
-        within = within != (text[place] == b'"');
+    if text.len() < 16 {
+        return length_by_bytes(text, separator, 0, false);
+    }
+    let (found, is_within) = look_at_16(text, 0, separator, false);
+    if found != 0 {
+        return lowest_mark(found);
+    }
+    length_by_16(text, separator, 16, is_within)
+}
+
+// How many they are, if so many bytes were passed: by sixteen at once.
+#[inline(always)]
+fn length_by_16(text: &[u8], separator: u8, passed: usize, was_within: bool) -> usize
+    requires passed { IsPassed separator text.now passed was_within }
+    ensures value { result ≡ field_length separator (hidden separator text.now) }
+    ensures within { result ≤ length text.now }
+{
+    let mut place = passed;
+    let mut is_within = was_within;
+    while text.len() - place >= 16 {
+        let (found, more) = look_at_16(text, place, separator, is_within);
+        if found != 0 {
+            return place + lowest_mark(found);
+        }
+        is_within = more;
+        place += 16;
+    }
+    length_by_bytes(text, separator, place, is_within)
+}
+
+// How many they are, if so many bytes were passed: byte by byte.
+#[inline(always)]
+fn length_by_bytes(text: &[u8], separator: u8, passed: usize, was_within: bool) -> usize
+    requires passed { IsPassed separator text.now passed was_within }
+    ensures value { result ≡ field_length separator (hidden separator text.now) }
+    ensures within { result ≤ length text.now }
+{
+    let mut place = passed;
+    let mut is_within = was_within;
+    while place < text.len() && (is_within || text[place] != separator) {
+        is_within = is_within != (text[place] == b'"');
         place += 1;
-        place += plain_length(&text[place..], separator, within);
     }
     place
 }

@@ -1,7 +1,7 @@
 use Rattle.std.proofs.Common.{◌≡◌, ◌≢◌, ◌∙◌, ℕ, ◌<◌, length, get_or, inl, inr, arith, rules, sym}
 use Rattle.std.proofs.lemmas.Bool.Decides.{nat_tests}
 use Rattle.std.proofs.lemmas.List.{get_or-take}
-use Rattle.lexical_tables.proofs.SeekSteps.{as_ahead, seek_near}
+use Rattle.lexical_tables.proofs.NearCells.{as_ahead, near_length}
 use Rattle.lexical_tables.proofs.cells.short_length.Goals as goal
 
 -- all that is left
@@ -20,7 +20,7 @@ returns-then-size-rest-clause-value c =
     c.plain_of_16-size.ensures.no_second k near
     (get_or-take 16 c.args.ahead.now k 0 (omega (arith, near, c.plain_of_16-size.ensures.within))
     ∙ sym (as_ahead rest c.args.ahead.now k c.requires.rest low) ∙ same) in
-    seek_near c.args.separator rest (length rest) (omega arith) (returns-then-size-rest-clause-no_quote c) no_other
+    near_length c.args.separator rest (length rest) (omega arith) (returns-then-size-rest-clause-no_quote c) no_other
     (inl (omega arith))
 
 -- a cell before a separator
@@ -40,5 +40,5 @@ returns-then-rest-size-clause-value c =
     c.plain_of_16-size.ensures.no_second k low
     (get_or-take 16 c.args.ahead.now k 0 (omega (arith, low, c.plain_of_16-size.ensures.within))
     ∙ sym (as_ahead rest c.args.ahead.now k c.requires.rest within) ∙ same) in
-    seek_near c.args.separator rest size (grind (arith, nat_tests)) (returns-then-rest-size-clause-no_quote c) no_other
+    near_length c.args.separator rest size (grind (arith, nat_tests)) (returns-then-rest-size-clause-no_quote c) no_other
     (inr (search rules))

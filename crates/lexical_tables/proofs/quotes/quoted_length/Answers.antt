@@ -1,27 +1,23 @@
-use Rattle.std.proofs.Common.{◌≡◌, ◌≢◌, ◌∙◌, ◌+◌, ◌<◌, length, length-drop, get_or, inl, inr, ◌⊎◌, true, ap, arith, rules}
-use Rattle.std.proofs.lemmas.Bool.Decides.{nat_tests}
-use Rattle.std.proofs.lemmas.List.{get_or-drop, take_rest}
-use Rattle.lexical_tables.proofs.SeekSteps.{seek_goes, seek_passes, seek_starts}
-use Rattle.lexical_tables.proofs.quotes.quoted_length.Goals.{then-within, else-within}
+use Rattle.std.proofs.Common.{◌≡◌, ◌∙◌, ◌+◌, false, arith}
+use Rattle.lexical_tables.proofs.Passed.{none_found, passes_more, passes_none, passes_to}
 use Rattle.lexical_tables.proofs.quotes.quoted_length.Goals as goal
 
-pub loop-place-init : goal.loop-place-init
-loop-place-init c = seek_starts c.args.separator c.args.text.now
-
-pub loop-place-preserved : goal.loop-place-preserved
-loop-place-preserved c =
+pub returns-then-found-ne0-clause-value : goal.returns-then-found-ne0-clause-value
+returns-then-found-ne0-clause-value c =
+    let s = c.args.separator in
     let text = c.args.text.now in
-    let place = c.loop-place.place in
-    let low : place < length text = grind (arith, nat_tests) in
-    let none : (c.loop-place.within ≡ true) ⊎ (get_or text place 0 ≢ c.args.separator) = elim c.if-within.branch [
-      | then-within w ↦ inl (search rules)
-      | else-within w ↦ inr (search rules)
-    ] in
-    let one = seek_goes c.args.separator text place c.loop-place.within c.loop-place.invariant low none _ (search rules) in
-    let from = take_rest text (place + 1) in
-    seek_passes c.args.separator text (place + 1) c.plain_length-place.result _ one
-    (omega (arith, c.plain_length-place.ensures.within, ap length from, length-drop (place + 1) text))
-    (λ k below same. c.plain_length-place.ensures.quotes k below
-    (ap (λ l. get_or l k 0) from ∙ get_or-drop (place + 1) text k 0 ∙ same))
-    (λ outside k below same. c.plain_length-place.ensures.separators outside k below
-    (ap (λ l. get_or l k 0) from ∙ get_or-drop (place + 1) text k 0 ∙ same))
+    let look = c.look_at_16-found in
+    let at : c.lowest_mark.result ≡ 0 + c.lowest_mark.result = omega arith in
+    at
+    ∙ (passes_to s text 0 false (passes_none s text) 16 look.result.0 c.lowest_mark.result (omega arith)
+    look.ensures.here look.ensures.beyond c.lowest_mark.ensures.set c.lowest_mark.ensures.below).0
+
+pub length_by_16-requires : goal.length_by_16-requires
+length_by_16-requires c =
+    let s = c.args.separator in
+    let text = c.args.text.now in
+    let look = c.look_at_16-found in
+    record {
+      passed = passes_more s text 0 false (passes_none s text) 16 look.result.0 (omega arith) look.ensures.here
+          (λ k low. none_found look.result.0 c.if-found-ne0.false k) look.result.1 look.ensures.within;
+    }

@@ -1,0 +1,27 @@
+// Whether an odd number of marks stands up to a place.
+ghost use Rattle.std.specs.Prelude.{◌≡◌, ◌+◌, ◌%◌, ◌<◌, ℕ};
+ghost use Rattle.std.specs.Int.{bit_at};
+ghost use Rattle.lexical_tables.specs.Looks.{bits_below};
+
+// Each mark and the one so many places below it, as one that is set where one of the two is and the other isn't.
+#[inline(always)]
+fn with_marks_below(marks: u64, by: u32) -> u64
+    requires { by < 64 }
+    ensures low { (k : ℕ) → k < by → bit_at result k ≡ bit_at marks k }
+    ensures high { (k : ℕ) → by + k < 64
+        → bit_at result (by + k) ≡ (bit_at marks (by + k) + bit_at marks k) % 2 }
+{
+    marks ^ (marks << by)
+}
+
+// Whether an odd number of marks stands up to a place, that counted, a bit for each of the first sixteen. By steps: among
+// two, four and eight marks up to each place, and then among sixteen, since these are the sums of two halves.
+#[inline(always)]
+pub(crate) fn odd_to_16(marks: u64) -> u64
+    ensures { (k : ℕ) → k < 16 → bit_at result k ≡ bits_below marks (k + 1) % 2 }
+{
+    let of_two = with_marks_below(marks, 1);
+    let of_four = with_marks_below(of_two, 2);
+    let of_eight = with_marks_below(of_four, 4);
+    with_marks_below(of_eight, 8)
+}
