@@ -43,7 +43,6 @@ pub fn value_for_format<T: Integer>(bytes: &[u8], format: &NumberFormat) -> Opti
 
 /// The integer that the whole text stands for under a valid format, for a text that `value_for_format` has left, and `None`
 /// for one at fault.
-// Why out of line: docs/DECISIONS.md, code.
 #[inline(never)]
 pub fn value_if_left<T: Integer>(bytes: &[u8], format: &NumberFormat) -> Option<T>
     requires valid { IsNone (fault format.now) }
