@@ -119,7 +119,14 @@ fn read_cell<C: TableColumn>(
         return cell_fault(dialect, false, has_no_quote, cell);
     }
     if targets[column].is_read() {
-        return read_number(&mut targets[column], row, cell, has_no_quote, dialect, options);
+        return read_number(
+            &mut targets[column],
+            row,
+            cell,
+            has_no_quote,
+            dialect,
+            options,
+        );
     }
     cell_fault(dialect, false, has_no_quote, cell)
 }

@@ -247,12 +247,7 @@ fn short_cell(rest: &[u8], size: usize) -> NextCell<'_>
 
 // The first cell of what is left of a row, whose separators are searched for. What is ahead begins with that.
 #[inline(always)]
-fn parted_cell<'a>(
-    rest: &'a [u8],
-    ahead: &[u8],
-    separator: u8,
-    has_quotes: bool,
-) -> NextCell<'a>
+fn parted_cell<'a>(rest: &'a [u8], ahead: &[u8], separator: u8, has_quotes: bool) -> NextCell<'a>
     requires rest { rest.now ≡ take (length rest.now) ahead.now }
     ensures front { result.text.now
         ≡ take (length_outside has_quotes separator rest.now) rest.now }

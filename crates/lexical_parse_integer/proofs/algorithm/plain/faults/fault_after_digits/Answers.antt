@@ -21,7 +21,7 @@ pub join_checked-requires-clause-sign : goal.join_checked-requires-clause-sign
 join_checked-requires-clause-sign g c = sign_of_value _ 10 c.in-Ok.is_negative _ _ c.loop-count.invariant.writes
 
 pub returns-in_default-char_to_digit : goal.returns-in_default-char_to_digit
-returns-in_default-char_to_digit g c = 
+returns-in_default-char_to_digit g c =
     byte_behind c.args.format.now g.T.Integer.TYPE c.args.bytes.now (c.in-Ok.is_negative, c.in-Ok.start) _ c.requires.plain c.requires.decimal (sym c.in-Ok.ensures) _ c.loop-count.invariant.some c.loop-count-test.true
     (ap is_some (sym c.char_to_digit.ensures ∙ c.in_default-char_to_digit.is))
     (fewer_keep c.args.format.now _ _ c.loop-count.invariant.some (omega (arith, c.loop-count-test.true)) (search rules)) c.loop-count.invariant.writes
