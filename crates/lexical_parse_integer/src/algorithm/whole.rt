@@ -67,7 +67,7 @@ fn complete_if_plain<T: Integer>(bytes: &[u8], format: &NumberFormat) -> Result<
     requires decimal { format.now.mantissa_radix ≡ 10 }
     ensures { view_of T.number result ≡ complete format.now T.TYPE bytes.now }
 {
-    if bytes.len() > T::overflow_digits(10) {
+    if bytes.len() > T::overflow_digits(10) && bytes[0] != b'0' {
         if let Some(fault) = fault_after_digits::<T>(bytes, format) {
             return Err(fault);
         }
@@ -79,12 +79,16 @@ fn complete_if_plain<T: Integer>(bytes: &[u8], format: &NumberFormat) -> Result<
     }
 }
 
-// The complete answer for a text that these readers leave. One with a zero too many in front is read from its front.
+// The complete answer for a text that these readers leave. One with a zero too many or a plus in front is read from there:
+// no fault is likely behind that.
 #[inline(always)]
 pub(crate) fn complete_if_left<T: Integer>(bytes: &[u8], format: &NumberFormat) -> Result<T>
     requires valid { IsNone (fault format.now) }
     ensures { view_of T.number result ≡ complete format.now T.TYPE bytes.now }
 {
+    if !bytes.is_empty() && bytes[0] == b'+' {
+        return complete_from_front::<T>(bytes, format);
+    }
     if format.mantissa_radix() == 10 && is_plain(format) && keeps_zero_rule(format, bytes) {
         return complete_if_plain::<T>(bytes, format);
     }
