@@ -1,5 +1,5 @@
 // Fields under formats of any kind, each cut by marks of the separators in front and read at once where that can be.
-ghost use Rattle.std.specs.Prelude.{◌≡◌, ◌≢◌, ◌+◌, ◌≤◌, ℕ, List, IfSome, IsNone, Ok, length, take, drop};
+ghost use Rattle.std.specs.Prelude.{◌≡◌, ◌+◌, ◌≤◌, ℕ, List, IfSome, IsNone, Ok, length, take, drop};
 ghost use Rattle.lexical_util.specs.Validity.{fault};
 ghost use Rattle.lexical_parse_integer.specs.Grammar.{complete};
 ghost use Rattle.lexical_fields.specs.Fields.{field_length};

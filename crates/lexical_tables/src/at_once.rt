@@ -10,12 +10,45 @@ use crate::targets::{Numbers, Target};
 use lexical_fields::value_of_front;
 use lexical_parse_integer::NumberFormat;
 use lexical_parse_integer::parse::ParseInteger;
+use lexical_parse_integer::quick::value_if_short;
+
+// How many bytes have to follow a number that is read as words.
+const ROOM_BEHIND: usize = 17;
+
+// `put_at_once` near the end of a text, as all of a row is that a caller reads alone. Why out of line: docs/DECISIONS.md,
+// code.
+#[inline(never)]
+fn put_near_end<T: ParseInteger>(
+    values: &mut [T],
+    row: usize,
+    ahead: &[u8],
+    size: usize,
+    format: &NumberFormat,
+) -> bool
+    requires valid { IsNone (fault format.now) }
+    requires room { row < length values.old }
+    requires within { size ≤ length ahead.now }
+    ensures fault { IsTrue result → (start : ℕ) → error_in (field_answer format.now T.TYPE
+        (record { start = start; text = take size ahead.now })) ≡ None }
+    ensures numbers { IsTrue result → (start : ℕ) → map T.number values.new
+        ≡ with_number row (field_answer format.now T.TYPE
+        (record { start = start; text = take size ahead.now })) (map T.number values.old) }
+    ensures kept { result ≡ false → values.new ≡ values.old }
+{
+    match value_if_short::<T>(&ahead[..size], format) {
+        Some(value) => {
+            values[row] = value;
+            true
+        }
+        None => false,
+    }
+}
 
 /// Puts the number of a text's first bytes, so many, into a row's place of a slice, where that is had at once, and tells
 /// whether it did. Else it puts nothing, and says nothing of them.
 ///
 /// It is had where they are up to twenty decimal digits alone or behind a minus, up to twelve in a type of at most 32 bits,
-/// the type has the number, the format has no punctuation, and at least seventeen bytes follow.
+/// up to sixteen where fewer than seventeen bytes follow, the type has the number, and the format has no punctuation.
 ///
 /// It is for a [`TableColumn`](crate::TableColumn) of one's own. The format has to be valid, and the slice has to have that
 /// place.
@@ -37,6 +70,9 @@ pub fn put_at_once<T: ParseInteger>(
         (record { start = start; text = take size ahead.now })) (map T.number values.old) }
     ensures kept { result ≡ false → values.new ≡ values.old }
 {
+    if ahead.len() - size < ROOM_BEHIND {
+        return put_near_end::<T>(values, row, ahead, size, format);
+    }
     match value_of_front::<T>(ahead, size, format) {
         Some(value) => {
             values[row] = value;

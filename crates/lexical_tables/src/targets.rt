@@ -332,6 +332,7 @@ impl Target<'_> {
     }
 
     // Puts the number of a text into a row's place, and sets the row's bit, or tells the text's fault.
+    #[inline(always)]
     fn read(
         &mut self,
         row: usize,
@@ -348,25 +349,23 @@ impl Target<'_> {
         ensures target { view_of_target self.new ≡ put_text row
             (record { start = start; text = text.now }) (view_of_target self.old) }
     {
-        if let Some(error) = self.put_number(row, start, text, ahead, options) {
+        if let Some(error) = self.put_number(row, start, text, options) {
             return Some(error);
         }
         self.put_presence(row, true);
         None
     }
 
-    // Puts the number of a text into a row's place, or tells the text's fault.
+    // Puts the number of a text that isn't had at once into a row's place, or tells the text's fault.
     #[inline(always)]
     fn put_number(
         &mut self,
         row: usize,
         start: usize,
         text: &[u8],
-        ahead: &[u8],
         options: &Options,
     ) -> Option<Error>
         requires valid { IsNone (fault self.old.format) }
-        requires front { text.now ≡ take (length text.now) ahead.now }
         requires room { row < length (view_of_target self.old).numbers }
         requires fits { start + length text.now < 2 ^ 64 }
         ensures fault { result ≡ error_in (text_answer (view_of_target self.old)
@@ -378,26 +377,14 @@ impl Target<'_> {
     {
         let format = &self.format;
         match &mut self.numbers {
-            Numbers::U8(values) => put_cell::<u8>(values, row, start, text, ahead, format, options),
-            Numbers::U16(values) => put_cell::<u16>(
-                values, row, start, text, ahead, format, options,
-            ),
-            Numbers::U32(values) => put_cell::<u32>(
-                values, row, start, text, ahead, format, options,
-            ),
-            Numbers::U64(values) => put_cell::<u64>(
-                values, row, start, text, ahead, format, options,
-            ),
-            Numbers::I8(values) => put_cell::<i8>(values, row, start, text, ahead, format, options),
-            Numbers::I16(values) => put_cell::<i16>(
-                values, row, start, text, ahead, format, options,
-            ),
-            Numbers::I32(values) => put_cell::<i32>(
-                values, row, start, text, ahead, format, options,
-            ),
-            Numbers::I64(values) => put_cell::<i64>(
-                values, row, start, text, ahead, format, options,
-            ),
+            Numbers::U8(values) => put_parsed::<u8>(values, row, start, text, format, options),
+            Numbers::U16(values) => put_parsed::<u16>(values, row, start, text, format, options),
+            Numbers::U32(values) => put_parsed::<u32>(values, row, start, text, format, options),
+            Numbers::U64(values) => put_parsed::<u64>(values, row, start, text, format, options),
+            Numbers::I8(values) => put_parsed::<i8>(values, row, start, text, format, options),
+            Numbers::I16(values) => put_parsed::<i16>(values, row, start, text, format, options),
+            Numbers::I32(values) => put_parsed::<i32>(values, row, start, text, format, options),
+            Numbers::I64(values) => put_parsed::<i64>(values, row, start, text, format, options),
         }
     }
 }
