@@ -2,7 +2,7 @@
 // as most languages have them.
 //
 // Only what is sure is answered: what is left is read under the format.
-ghost use Rattle.std.specs.Prelude.{◌≡◌, ◌+◌, ◌-◌, ◌<◌, ◌≤◌, ◌^◌, ℕ, Bool, IsTrue, None, Ok, Some, false, is_some, length, pos, slice_get, slice_index, true};
+ghost use Rattle.std.specs.Prelude.{◌≡◌, ◌+◌, ◌-◌, ◌*◌, ◌<◌, ◌≤◌, ℕ, Bool, IfSome, IsTrue, None, Ok, Some, false, is_some, length, pos, slice_get, slice_index, true};
 ghost use Rattle.lexical_util.specs.Ascii.{digit_zero, underscore};
 ghost use Rattle.lexical_util.specs.Digit.{digit};
 ghost use Rattle.lexical_util.specs.Format.{Format};
@@ -27,9 +27,6 @@ pub(crate) fn is_grouped(format: &NumberFormat, decimal: bool) -> bool
         && format.literal_prefixes()
 }
 
-// A number below this one has room for one more digit of any radix up to 16.
-const ROOM: u64 = 1 << 60;
-
 // Whether a digit of the radix stands at a place.
 #[inline(always)]
 #[tactic(auto, unfolding(lexical_parse_integer::specs::Runs::digit_at))]
@@ -41,8 +38,16 @@ fn has_digit(text: &[u8], radix: u32, place: usize) -> bool
     place < text.len() && char_is_digit(text[place], radix)
 }
 
+// The number with one digit more, where 64 bits have room for it.
+#[inline(always)]
+fn with_digit(number: u64, radix: u32, digit: u32) -> Option<u64>
+    ensures { IfSome result (λ next. next ≡ number * radix + digit) }
+{
+    number.checked_mul(radix as u64)?.checked_add(digit as u64)
+}
+
 // The number of digits in a row from a place on, behind those of another number, and where the row ends, or where a
-// number hasn't surely room for its next digit.
+// number has no room for its next digit.
 #[inline(always)]
 fn read_row(text: &[u8], radix: u32, before: u64, from: usize) -> (u64, usize)
     requires least { 2 ≤ radix }
@@ -55,11 +60,14 @@ fn read_row(text: &[u8], radix: u32, before: u64, from: usize) -> (u64, usize)
 {
     let mut number = before;
     let mut place = from;
-    while place < text.len() && number < ROOM {
+    while place < text.len() {
         let Some(digit) = char_to_digit(text[place], radix) else {
             return (number, place);
         };
-        number = number * radix as u64 + digit as u64;
+        let Some(next) = with_digit(number, radix, digit) else {
+            return (number, place);
+        };
+        number = next;
         place += 1;
     }
     (number, place)
