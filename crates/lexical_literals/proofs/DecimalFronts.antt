@@ -1,10 +1,10 @@
 -- Decimal digits at the front of a text, behind which neither a separator nor a word goes on: read as under the standard
 -- format.
-use Rattle.std.proofs.Common.{◌≡◌, ℕ, zero, suc, ◌+◌, ◌<◌, Bool, true, false, cond, List, [], ◌∷◌, length, refl, sym, ap, ◌∙◌, subst, arith, Option, Some, None, is_some, Ok}
-use Rattle.std.specs.Prelude.{◌==◌, slice_get, slice_index, ℤ}
+use Rattle.std.proofs.Common.{◌≡◌, ℕ, zero, suc, ◌+◌, ◌<◌, Bool, true, false, ◌&&◌, ◌||◌, cond, List, [], ◌∷◌, length, refl, sym, ap, ap₂, ◌∙◌, subst, arith, inl, inr, Option, Some, None, is_some, option_and_then, Ok}
+use Rattle.std.specs.Prelude.{◌==◌, nat_le, pos, slice_get, slice_index, ℤ}
 use Rattle.std.specs.Option.{unwrap_or}
 use Rattle.std.proofs.Math.Bool.{and-false}
-use Rattle.std.proofs.lemmas.Bool.{ne_eqb, false≢true}
+use Rattle.std.proofs.lemmas.Bool.{cases_lt, eqb-true, ne_eqb, false≢true}
 use Rattle.std.proofs.lemmas.Bool.Decides.{nat_tests}
 use Rattle.std.proofs.lemmas.Option.{slice_get-get_or}
 use Rattle.std.proofs.lemmas.List.FromFn.{length-map-range_with_len}
@@ -12,13 +12,13 @@ use Rattle.lexical_util.specs.declared.error.Error.{Error}
 use Rattle.lexical_util.specs.Digit.{digit}
 use Rattle.lexical_util.specs.Format.{Format, standard}
 use Rattle.lexical_util.specs.Number.{IntegerType, integer_type}
-use Rattle.lexical_parse_integer.specs.Affixes.{is_affix, literal_radix, named_radix, matches, numeral_stop, prefix_radix, suffix_at}
-use Rattle.lexical_parse_integer.specs.Grammar.{first_fault_or, partial, range_fault}
+use Rattle.lexical_parse_integer.specs.Affixes.{is_affix, literal_radix, named_radix, matches, numeral_stop, octal_zero_at, prefix_radix, suffix_at}
+use Rattle.lexical_parse_integer.specs.Grammar.{first_fault_or, partial, range_fault, zero_fault}
 use Rattle.lexical_parse_integer.specs.Head.{Head, head_of}
 use Rattle.lexical_parse_integer.specs.Numeral.{Numeral, digit_count, numeral_in, numeral_value}
-use Rattle.lexical_parse_integer.specs.Runs.{are_same, digit_at, end_of, is_in_numeral, separator_at}
-use Rattle.lexical_parse_integer.proofs.ForCallers.{EndsRow, end_of_row, has_digit, numeral_in_a_row, row_numeral, IsStop-end_of, IsStop-unique, sign_of_digit_under, not_asked, head_is}
-use Rattle.lexical_literals.specs.Decimal.{IsDecimal}
+use Rattle.lexical_parse_integer.specs.Runs.{are_same, digit_at, digits_between, end_of, is_in_numeral, separator_at}
+use Rattle.lexical_parse_integer.proofs.ForCallers.{EndsRow, end_of_row, has_digit, numeral_in_a_row, row_numeral, IsStop-end_of, IsStop-unique, fitting_fault, shorter_fronts_fit, zero_is_number, sign_of_digit_under, not_asked, head_is}
+use Rattle.lexical_literals.specs.Decimal.{IsDecimal, ReadsDecimals, zero_leads}
 use Rattle.lexical_literals.specs.Tokens.{is_word_byte}
 
 -- ---- the head
@@ -41,7 +41,7 @@ unfolding literal_radix is_affix matches
 no_digit_letter true b is = grind (arith, nat_tests)
 no_digit_letter false b is = grind (arith, nat_tests)
 
-no_prefix_read : (f : Format) (c : ℕ) (cs : List ℕ) → IsDecimal f → NoLetter f (slice_get cs 0)
+no_prefix_read : (f : Format) (c : ℕ) (cs : List ℕ) → ReadsDecimals f → NoLetter f (slice_get cs 0)
     → prefix_radix f (c ∷ cs) 0 ≡ None
 unfolding prefix_radix named_radix is_affix
 no_prefix_read f c cs decimal letter =
@@ -52,14 +52,23 @@ no_prefix_read f c cs decimal letter =
     by_tests true false = refl
     by_tests false asked = refl
 
-pub head_is_bare : (f : Format) (t : IntegerType) (c d : ℕ) (cs : List ℕ) → IsDecimal f
-    → digit 10 c ≡ Some d → NoLetter f (slice_get cs 0) → head_of f t (c ∷ cs) ≡ Ok bare
+-- a format that reads zeros in front as the standard one does reads decimals
+pub reads_decimals : (f : Format) → IsDecimal f → ReadsDecimals f
+reads_decimals f decimal = record {
+  radix = decimal.radix;
+  no_sign = decimal.no_sign;
+  no_prefix = decimal.no_prefix;
+  no_suffix = decimal.no_suffix;
+}
+
+pub head_is_bare : (f : Format) (t : IntegerType) (c d : ℕ) (cs : List ℕ) → ReadsDecimals f
+    → octal_zero_at f (c ∷ cs) 0 ≡ false → digit 10 c ≡ Some d → NoLetter f (slice_get cs 0) → head_of f t (c ∷ cs) ≡ Ok bare
 unfolding head_of
-head_is_bare f t c d cs decimal first letter =
+head_is_bare f t c d cs decimal own first letter =
     rw (
       sign_of_digit_under f t 10 c d cs decimal.no_sign first,
       no_prefix_read f c cs decimal letter,
-      not_asked f (c ∷ cs) 0 decimal.no_octal_zeros,
+      own,
       decimal.radix,
     ) refl
 
@@ -153,59 +162,234 @@ letter_told f c (b ∷ bs) (suc zero) some s other = no_letter f.case_sensitive_
 letter_told f c (b ∷ bs) (suc (suc n)) some s other =
     no_digit_letter f.case_sensitive_base_prefix b (s.holds 1 (omega arith) (omega arith))
 
-count_told : (text : List ℕ) (n : ℕ) → EndsRow 10 text 0 n → 0 < n
-    → (digit_count (numeral_in standard false 10 text 0) == 0) ≡ false
-count_told text n s some =
-    let size : digit_count (row_numeral standard text 0 10 n) ≡ n =
-    length-map-range_with_len (λ place. unwrap_or (digit_at 10 text place) 0) 0 n in
-    let there : (digit_count (row_numeral standard text 0 10 n) == 0) ≡ false = ne_eqb _ 0 (λ e. omega arith) in
+numeral_told : (text : List ℕ) (n : ℕ) → EndsRow 10 text 0 n
+    → numeral_in standard false 10 text 0 ≡ row_numeral standard text 0 10 n
+numeral_told text n s =
     let at_zero : n ≡ 0 + n = omega arith in
-    ap (λ (x : Numeral). digit_count x == 0)
-    (numeral_in_a_row standard false text 0 10 n refl (omega arith)
-    (subst (λ (k : ℕ). EndsRow 10 text 0 k) at_zero s)) ∙ there
+    numeral_in_a_row standard false text 0 10 n refl (omega arith) (subst (λ (k : ℕ). EndsRow 10 text 0 k) at_zero s)
+
+size_told : (text : List ℕ) (n : ℕ) → EndsRow 10 text 0 n → digit_count (numeral_in standard false 10 text 0) ≡ n
+size_told text n s =
+    ap (λ (x : Numeral). digit_count x) (numeral_told text n s)
+    ∙ length-map-range_with_len (λ place. unwrap_or (digit_at 10 text place) 0) 0 n
+
+-- ---- a zero in front
+
+-- a digit that isn't 0
+no_zero : (c d : ℕ) → digit 10 c ≡ Some d → (c == 48) ≡ false → (d == 0) ≡ false
+no_zero c d first other = grind (arith, nat_tests)
+
+first_digit : (c d : ℕ) (cs : List ℕ) (n : ℕ) → 0 < n → digit 10 c ≡ Some d
+    → slice_index (row_numeral standard (c ∷ cs) 0 10 n).digits 0 ≡ d
+unfolding digit_at
+first_digit c d cs zero some first = absurd (omega arith)
+first_digit c d cs (suc n) some first = ap (λ o. unwrap_or o 0) first
+
+-- no fault, as the first digit isn't 0
+none_by_digit : (f : Format) (x : Numeral) → (slice_index x.digits 0 == 0) ≡ false → zero_fault f false x ≡ None
+none_by_digit f x other = rw (other, and-false) refl
+
+-- no fault, as there is but one digit
+none_by_count : (f : Format) (x : Numeral) → nat_le 2 (digit_count x) ≡ false → zero_fault f false x ≡ None
+none_by_count f x few = rw (few, and-false) refl
+
+-- no fault, as the format has no such rule
+none_by_rule : (f : Format) (x : Numeral) → f.no_integer_leading_zeros ≡ false → zero_fault f false x ≡ None
+none_by_rule f x none = rw none refl
+
+no_octal_zero : (f : Format) (c : ℕ) (cs : List ℕ) → (c == 48) ≡ false → octal_zero_at f (c ∷ cs) 0 ≡ false
+unfolding octal_zero_at are_same
+no_octal_zero f c cs other = rw other (and-false f.literal_octal_zero)
+
+-- a digit behind which none stands is alone
+alone : (text : List ℕ) (n : ℕ) → EndsRow 10 text 0 n → 0 < n → has_digit 10 text 1 ≡ false → n ≡ 1
+alone text n s some none = elim (cases_lt 1 n) [
+  | inl lt ↦ absurd (false≢true (sym none ∙ s.holds 1 (omega arith) lt))
+  | inr ge ↦ omega arith
+]
+
+-- ---- an octal zero alone
+
+-- the head and the numeral of an octal zero
+abbrev octal : Head
+octal = record { is_negative = false; is_prefixed = false; is_octal = true; start = 0; radix = 8 }
+
+abbrev zero_alone : Numeral
+zero_alone = record { radix = 8; places = 0 ∷ []; digits = 0 ∷ []; ends = 1; stop = 1 }
+
+octal_zero_here : (f : Format) (cs : List ℕ) → f.literal_octal_zero ≡ true → octal_zero_at f (48 ∷ cs) 0 ≡ true
+unfolding octal_zero_at are_same
+octal_zero_here f cs asked = rw asked refl
+
+octal_head : (f : Format) (t : IntegerType) (cs : List ℕ) → ReadsDecimals f → f.literal_octal_zero ≡ true
+    → NoLetter f (slice_get cs 0) → head_of f t (48 ∷ cs) ≡ Ok octal
+unfolding head_of
+octal_head f t cs decimal asked letter =
+    rw (
+      sign_of_digit_under f t 10 48 0 cs decimal.no_sign refl,
+      no_prefix_read f 48 cs decimal letter,
+      octal_zero_here f cs asked,
+    ) refl
+
+-- a byte that is no decimal digit is no octal one
+no_octal_digit : (b : ℕ) → is_some (digit 10 b) ≡ false → is_some (digit 8 b) ≡ false
+no_octal_digit b none = grind (arith, nat_tests)
+
+no_octal_digit_at : (text : List ℕ) (k : ℕ) → has_digit 10 text k ≡ false → has_digit 8 text k ≡ false
+unfolding digit_at
+no_octal_digit_at text k none = by_byte (slice_get text k) none
+  where
+    by_byte : (o : Option ℕ) → is_some (option_and_then (λ byte. digit 10 byte) o) ≡ false
+        → is_some (option_and_then (λ byte. digit 8 byte) o) ≡ false
+    by_byte None none = refl
+    by_byte (Some b) none = no_octal_digit b none
+
+octal_stands : (f : Format) (cs : List ℕ) → is_in_numeral f false 8 (48 ∷ cs) 0 0 ≡ true
+unfolding is_in_numeral digit_at
+octal_stands f cs = refl
+
+octal_stands_not : (f : Format) (text : List ℕ) → has_digit 8 text 1 ≡ false → separator_at f text 1 ≡ false
+    → is_in_numeral f false 8 text 0 1 ≡ false
+unfolding is_in_numeral
+octal_stands_not f text none apart = rw (none, apart) refl
+
+octal_end : (f : Format) (cs : List ℕ) → has_digit 10 (48 ∷ cs) 1 ≡ false
+    → (1 < length (48 ∷ cs) → separator_at f (48 ∷ cs) 1 ≡ false) → end_of f false 8 (48 ∷ cs) 0 ≡ 1
+octal_end f cs none apart =
+    let text : List ℕ = 48 ∷ cs in
+    IsStop-unique (is_in_numeral f false 8 text 0) 0 (length text) _ _ (IsStop-end_of f false 8 text 0 (omega arith))
+    (record {
+      low = omega arith;
+      high = omega arith;
+      holds = λ k low high. let e : 0 ≡ k = omega arith in
+          subst (λ (j : ℕ). is_in_numeral f false 8 text 0 j ≡ true) e (octal_stands f cs);
+      fails = λ low. octal_stands_not f text (no_octal_digit_at text 1 none) (apart low);
+    })
+
+octal_numeral : (f : Format) (cs : List ℕ) → f.base_suffix ≡ None → end_of f false 8 (48 ∷ cs) 0 ≡ 1
+    → numeral_in f false 8 (48 ∷ cs) 0 ≡ zero_alone
+unfolding numeral_in numeral_stop suffix_at is_affix digits_between digit_at
+octal_numeral f cs none end = rw (end, none) refl
+
+octal_fits : range_fault (integer_type 128 false) false zero_alone ≡ None
+octal_fits =
+    let t = integer_type 128 false in
+    fitting_fault t false zero_alone (shorter_fronts_fit t false zero_alone 1 (omega arith) (zero_is_number t false))
+
+-- the standard value of a zero alone
+zero_value : (cs : List ℕ) (v : ℤ) → numeral_value false (row_numeral standard (48 ∷ cs) 0 10 1) ≡ v → pos 0 ≡ v
+unfolding digit_at
+zero_value cs v told = told
+
+octal_zero_read : (f : Format) (cs : List ℕ) (v : ℤ) (n : ℕ) → ReadsDecimals f → f.literal_octal_zero ≡ true
+    → NoLetter f (slice_get cs 0) → IsStandard (48 ∷ cs) v n → has_digit 10 (48 ∷ cs) 1 ≡ false
+    → (n < length (48 ∷ cs) → separator_at f (48 ∷ cs) n ≡ false)
+    → partial f (integer_type 128 false) (48 ∷ cs) ≡ Ok (v, n)
+unfolding partial
+octal_zero_read f cs v n decimal asked letter s none apart =
+    let text : List ℕ = 48 ∷ cs in
+    let one : n ≡ 1 = alone text n s.row (some_digits 48 0 cs n refl s.row) none in
+    let told = numeral_told text 1 (subst (λ (k : ℕ). EndsRow 10 text 0 k) one s.row) in
+    let same : pos 0 ≡ v = zero_value cs v (sym (ap (numeral_value false) told) ∙ s.value) in
+    let end = octal_end f cs none (subst (λ (k : ℕ). k < length text → separator_at f text k ≡ false) one apart) in
+    rw (
+      octal_head f (integer_type 128 false) cs decimal asked letter,
+      octal_numeral f cs decimal.no_suffix end,
+      octal_fits,
+      and-false f.no_integer_leading_zeros,
+      and-false,
+    ) (ap₂ (λ (w : ℤ) (k : ℕ). Ok (w, k)) same (sym one))
+
+-- ---- all texts
 
 -- a text that the standard format reads, and whose digits end at a byte that is neither a separator nor one of
--- a word
-decimal_digits : (f : Format) (c d : ℕ) (cs : List ℕ) (v : ℤ) (n : ℕ) → IsDecimal f
-    → digit 10 c ≡ Some d → partial standard (integer_type 128 false) (c ∷ cs) ≡ Ok (v, n)
-    → (n < length (c ∷ cs) → is_word_byte (slice_index (c ∷ cs) n) ≡ false)
+-- a word, where a zero in front is neither forbidden nor octal
+decimal_digits : (f : Format) (c d : ℕ) (cs : List ℕ) (v : ℤ) (n : ℕ) → ReadsDecimals f
+    → octal_zero_at f (c ∷ cs) 0 ≡ false → zero_fault f false (numeral_in standard false 10 (c ∷ cs) 0) ≡ None
+    → digit 10 c ≡ Some d → IsStandard (c ∷ cs) v n → NoLetter f (slice_get cs 0)
     → (n < length (c ∷ cs) → separator_at f (c ∷ cs) n ≡ false)
     → partial f (integer_type 128 false) (c ∷ cs) ≡ Ok (v, n)
 unfolding partial
-decimal_digits f c d cs v n decimal first read other apart =
+decimal_digits f c d cs v n decimal own zeros first s letter apart =
     let text : List ℕ = c ∷ cs in
-    let s = standard_told c d cs v n first read in
-    let some = some_digits c d cs n first s.row in
     let same = same_numeral f text decimal.no_suffix (end_is f text n s.row apart ∙ sym s.end) in
-    let there = count_told text n s.row some in
+    let some = some_digits c d cs n first s.row in
+    let there : (digit_count (numeral_in standard false 10 text 0) == 0) ≡ false =
+    ne_eqb _ 0 (λ none. let size = size_told text n s.row in omega arith) in
     rw (
-      head_is_bare f (integer_type 128 false) c d cs decimal first
-          (letter_told f c cs n some s.row other),
+      head_is_bare f (integer_type 128 false) c d cs decimal own first letter,
       same,
+      zeros,
       s.fits,
-      decimal.zeros,
       there,
       and-false,
       s.value,
       s.stop,
     ) refl
 
+-- the same under any rule for zeros, where none leads that is forbidden or octal
+decimal_zeros : (f : Format) (c d : ℕ) (cs : List ℕ) (v : ℤ) (n : ℕ) → ReadsDecimals f
+    → zero_leads f (c ∷ cs) ≡ false → digit 10 c ≡ Some d → IsStandard (c ∷ cs) v n → NoLetter f (slice_get cs 0)
+    → (n < length (c ∷ cs) → separator_at f (c ∷ cs) n ≡ false)
+    → partial f (integer_type 128 false) (c ∷ cs) ≡ Ok (v, n)
+decimal_zeros f c d cs v n decimal quiet first s letter apart =
+    by_tests (c == 48) (has_digit 10 (c ∷ cs) 1) f.no_integer_leading_zeros f.literal_octal_zero refl refl refl refl quiet
+  where
+    text : List ℕ
+    text = c ∷ cs
+
+    x : Numeral
+    x = numeral_in standard false 10 text 0
+
+    some : 0 < n
+    some = some_digits c d cs n first s.row
+
+    by_tests : (zero_first digit_next ruled octals : Bool) → (c == 48) ≡ zero_first → has_digit 10 (c ∷ cs) 1 ≡ digit_next
+        → f.no_integer_leading_zeros ≡ ruled → f.literal_octal_zero ≡ octals
+        → ((zero_first && digit_next) && (ruled || octals)) ≡ false
+        → partial f (integer_type 128 false) (c ∷ cs) ≡ Ok (v, n)
+    by_tests false next ruled octals a b e h none =
+        let digits = ap (λ (y : Numeral). slice_index y.digits 0) (numeral_told text n s.row) in
+        let zeros = none_by_digit f x (ap (λ k. k == 0) (digits ∙ first_digit c d cs n some first) ∙ no_zero c d first a) in
+        decimal_digits f c d cs v n decimal (no_octal_zero f c cs a) zeros first s letter apart
+    by_tests true true false false a b e h none =
+        decimal_digits f c d cs v n decimal (not_asked f text 0 h) (none_by_rule f x e) first s letter apart
+    by_tests true false ruled false a b e h none =
+        let one = alone text n s.row some b in
+        let few : nat_le 2 (digit_count x) ≡ false = ap (nat_le 2) (size_told text n s.row ∙ one) in
+        decimal_digits f c d cs v n decimal (not_asked f text 0 h) (none_by_count f x few) first s letter apart
+    by_tests true false ruled true a b e h none =
+        subst (λ (k : ℕ). IsStandard (k ∷ cs) v n → has_digit 10 (k ∷ cs) 1 ≡ false
+        → (n < length (k ∷ cs) → separator_at f (k ∷ cs) n ≡ false)
+        → partial f (integer_type 128 false) (k ∷ cs) ≡ Ok (v, n))
+        (sym (eqb-true c 48 a)) (octal_zero_read f cs v n decimal h letter) s b apart
+    by_tests true true true octals a b e h none = cc
+    by_tests true true false true a b e h none = cc
+
 -- ---- what the parts of the code say
 
 -- any text that begins with a digit has the front that it has under the standard format
-pub decimal_read : (f : Format) (text : List ℕ) (v : ℤ) (n : ℕ) → IsDecimal f
-    → is_some (digit 10 (slice_index text 0)) ≡ true
+pub decimal_read : (f : Format) (text : List ℕ) (v : ℤ) (n : ℕ) → ReadsDecimals f
+    → zero_leads f text ≡ false → is_some (digit 10 (slice_index text 0)) ≡ true
     → partial standard (integer_type 128 false) text ≡ Ok (v, n)
     → (n < length text → is_word_byte (slice_index text n) ≡ false)
     → (n < length text → separator_at f text n ≡ false)
     → partial f (integer_type 128 false) text ≡ Ok (v, n)
-decimal_read f [] v n decimal first read other apart = absurd (false≢true first)
-decimal_read f (c ∷ cs) v n decimal first read other apart = by_digit (digit 10 c) refl first
+decimal_read f [] v n decimal quiet first read other apart = absurd (false≢true first)
+decimal_read f (c ∷ cs) v n decimal quiet first read other apart = by_digit (digit 10 c) refl first
   where
     by_digit : (found : Option ℕ) → digit 10 c ≡ found → is_some found ≡ true
         → partial f (integer_type 128 false) (c ∷ cs) ≡ Ok (v, n)
     by_digit None none some = absurd (false≢true some)
-    by_digit (Some d) is some = decimal_digits f c d cs v n decimal is read other apart
+    by_digit (Some d) is some =
+        let s = standard_told c d cs v n is read in
+        let letter = letter_told f c cs n (some_digits c d cs n is s.row) s.row other in
+        decimal_zeros f c d cs v n decimal quiet is s letter apart
+
+-- a text that begins with a digit isn't empty
+pub some_byte : (r : ℕ) (text : List ℕ) → is_some (digit r (slice_index text 0)) ≡ true → 0 < length text
+some_byte r [] first = absurd (false≢true first)
+some_byte r (c ∷ cs) first = omega arith
 
 -- the byte at a place is no separator
 pub no_separator_at : (f : Format) (text : List ℕ) (n : ℕ)

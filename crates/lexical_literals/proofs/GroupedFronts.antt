@@ -20,8 +20,8 @@ use Rattle.lexical_parse_integer.specs.Grammar.{partial, range_fault}
 use Rattle.lexical_parse_integer.specs.Head.{head_of}
 use Rattle.lexical_parse_integer.specs.Numeral.{digit_count, numeral_in, numeral_value}
 use Rattle.lexical_parse_integer.specs.Runs.{are_same, digit_at, digits_between, end_of, flag_for, is_in_numeral, is_in_passing_run, run_begin, run_passes, run_stop, separator_at}
-use Rattle.lexical_parse_integer.proofs.ForCallers.{HoldsBetween, IsStop-end_of, IsStop-unique, begin_of_is, belongs_digit, belongs_other, belongs_separator, digit_at_past, fitting_fault, shorter_fronts_fit, sign_of_digit_under, stop_of_is, true_or_false}
-use Rattle.lexical_literals.proofs.DecimalFronts.{head_is_bare}
+use Rattle.lexical_parse_integer.proofs.ForCallers.{HoldsBetween, IsStop-end_of, IsStop-unique, begin_of_is, belongs_digit, belongs_other, belongs_separator, digit_at_past, fitting_fault, shorter_fronts_fit, not_asked, sign_of_digit_under, stop_of_is, true_or_false}
+use Rattle.lexical_literals.proofs.DecimalFronts.{head_is_bare, reads_decimals}
 use Rattle.lexical_literals.specs.Groups.{AreDigitsBetween, AreGroups, EndsGroups, IsGrouped, Parts, WritesOn, has_digit, number_between}
 
 -- ---- the digits between two places, one place more
@@ -348,7 +348,8 @@ bare_front (c ∷ cs) n number first none e low some f g = by_digit (digit 10 c)
     by_digit None missing is = absurd (false≢true is)
     by_digit (Some d) is told =
         groups_read f 10 (c ∷ cs) g false 0 n number (e some) (omega arith) (wide number low)
-        (head_is_bare f (integer_type 128 false) c d cs g.decimal is (none f.case_sensitive_base_prefix))
+        (head_is_bare f (integer_type 128 false) c d cs (reads_decimals f g.decimal)
+        (not_asked f (c ∷ cs) 0 g.decimal.no_octal_zeros) is (none f.case_sensitive_base_prefix))
 
 -- a capital letter for a small one
 pub same_letter : (b : ℕ) → 65 ≤ b → b ≤ 90 → literal_radix false (Some b) ≡ literal_radix false (Some (b + 32))

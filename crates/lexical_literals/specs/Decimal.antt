@@ -1,6 +1,8 @@
 -- Formats that read decimal digits alone as the standard one does.
-use Rattle.std.specs.Prelude.{◌≡◌, false, None}
+use Rattle.std.specs.Prelude.{◌≡◌, ◌&&◌, ◌||◌, ◌==◌, ℕ, Bool, List, false, None, is_some, slice_index}
+use Rattle.lexical_util.specs.Ascii.{digit_zero}
 use Rattle.lexical_util.specs.Format.{Format}
+use Rattle.lexical_parse_integer.specs.Runs.{digit_at}
 
 -- A format in radix 10 that asks for no sign, forbids no zero, and has no prefix of its own, no octal zero and no
 -- suffix. It may have a separator, and literal prefixes.
@@ -11,3 +13,17 @@ pub record IsDecimal (format : Format) : Type 0 where
   pub no_prefix : format.base_prefix ≡ None
   pub no_octal_zeros : format.literal_octal_zero ≡ false
   pub no_suffix : format.base_suffix ≡ None
+
+-- A format in radix 10 that asks for no sign, and has no prefix of its own and no suffix. It may forbid a zero in front
+-- of another digit, or read it as octal.
+pub record ReadsDecimals (format : Format) : Type 0 where
+  pub radix : format.mantissa_radix ≡ 10
+  pub no_sign : format.required_mantissa_sign ≡ false
+  pub no_prefix : format.base_prefix ≡ None
+  pub no_suffix : format.base_suffix ≡ None
+
+-- whether a text begins with a zero in front of another digit, and the format forbids that, or reads it as octal
+abbrev pub zero_leads : Format → List ℕ → Bool
+zero_leads format text =
+    ((slice_index text 0 == digit_zero) && is_some (digit_at 10 text 1))
+    && (format.no_integer_leading_zeros || format.literal_octal_zero)

@@ -7,21 +7,20 @@ ghost use Rattle.lexical_util.specs.Digit.{digit};
 ghost use Rattle.lexical_util.specs.Number.{integer_type};
 ghost use Rattle.lexical_parse_integer.specs.Grammar.{partial};
 ghost use Rattle.lexical_parse_integer.specs.Runs.{are_same, separator_at};
-ghost use Rattle.lexical_literals.specs.Decimal.{IsDecimal};
+ghost use Rattle.lexical_literals.specs.Decimal.{ReadsDecimals, zero_leads};
 ghost use Rattle.lexical_literals.specs.Tokens.{is_word_byte};
 
 use crate::bytes::is_word_byte;
+use crate::groups::has_digit;
 use lexical_parse_integer::laws::grammar::wider_types;
 use lexical_parse_integer::{FromLexical, NumberFormat};
 
-// Whether the format reads decimal digits alone as the standard one does.
+// Whether the format reads decimal digits alone as the standard one does, but for zeros in front.
 pub(crate) fn is_decimal(format: &NumberFormat) -> bool
-    ensures { IsTrue result → IsDecimal format.now }
+    ensures { IsTrue result → ReadsDecimals format.now }
 {
     format.radix() == 10
         && !format.required_mantissa_sign()
-        && !format.no_integer_leading_zeros()
-        && !format.literal_octal_zero()
         && format.base_prefix().is_none()
         && format.base_suffix().is_none()
 }
@@ -62,12 +61,24 @@ fn stand_alone(text: &[u8], count: usize, format: &NumberFormat) -> bool
     !is_word_byte(byte) && !is_separator(byte, format)
 }
 
+// Whether the text begins with a zero in front of another digit, and the format forbids that, or reads it as octal.
+#[inline(always)]
+pub(crate) fn zero_leads(text: &[u8], format: &NumberFormat) -> bool
+    requires { 0 < length text.now }
+    ensures { result ≡ zero_leads format.now text.now }
+{
+    text[0] == b'0'
+        && has_digit(text, 10, 1)
+        && (format.no_integer_leading_zeros() || format.literal_octal_zero())
+}
+
 // The number of the decimal digits that a text begins with, and how many they are, or 0 where that isn't sure. Why
 // out of line: docs/DECISIONS.md, code.
 #[inline(never)]
 pub(crate) fn front_of_decimal(text: &[u8], format: &NumberFormat) -> (u64, usize)
     requires first { is_some (digit 10 (slice_index text.now 0)) ≡ true }
-    requires decimal { IsDecimal format.now }
+    requires decimal { ReadsDecimals format.now }
+    requires zeros { zero_leads format.now text.now ≡ false }
     ensures { 0 < result.1
         → partial format.now (integer_type 128 false) text.now ≡ Ok (pos result.0, result.1) }
 {

@@ -10,18 +10,20 @@ ghost use Rattle.lexical_util.specs.Number.{integer_type};
 ghost use Rattle.lexical_parse_integer.specs.Affixes.{literal_radix};
 ghost use Rattle.lexical_parse_integer.specs.Grammar.{partial};
 ghost use Rattle.lexical_parse_integer.specs.Runs.{are_same};
-ghost use Rattle.lexical_literals.specs.Decimal.{IsDecimal};
+ghost use Rattle.lexical_literals.specs.Decimal.{ReadsDecimals};
 ghost use Rattle.lexical_literals.specs.Groups.{AreDigitsBetween, AreGroups, EndsGroups, IsGrouped, Parts, WritesOn, has_digit, number_between};
 
 use lexical_parse_integer::NumberFormat;
 use lexical_util::digit::{char_is_digit, char_to_digit};
 
-// Whether the format has numbers of that kind, and reads decimal digits as the standard one does.
+// Whether the format has numbers of that kind, and reads decimal digits as the standard one does, zeros in front too.
 pub(crate) fn is_grouped(format: &NumberFormat, decimal: bool) -> bool
-    requires { IsTrue decimal → IsDecimal format.now }
+    requires { IsTrue decimal → ReadsDecimals format.now }
     ensures { IsTrue result → IsGrouped format.now }
 {
     decimal
+        && !format.no_integer_leading_zeros()
+        && !format.literal_octal_zero()
         && format.digit_separator() == Some(b'_')
         && format.integer_internal_digit_separator()
         && format.literal_prefixes()
@@ -30,7 +32,7 @@ pub(crate) fn is_grouped(format: &NumberFormat, decimal: bool) -> bool
 // Whether a digit of the radix stands at a place.
 #[inline(always)]
 #[tactic(auto, unfolding(lexical_parse_integer::specs::Runs::digit_at))]
-fn has_digit(text: &[u8], radix: u32, place: usize) -> bool
+pub(crate) fn has_digit(text: &[u8], radix: u32, place: usize) -> bool
     requires least { 2 ≤ radix }
     requires greatest { radix ≤ 16 }
     ensures { result ≡ has_digit radix text.now place }

@@ -24,12 +24,12 @@ ghost use Rattle.lexical_util.specs.Digit.{digit};
 ghost use Rattle.lexical_util.specs.Number.{integer_type};
 ghost use Rattle.lexical_util.specs.Validity.{fault};
 ghost use Rattle.lexical_parse_integer.specs.Grammar.{partial};
-ghost use Rattle.lexical_literals.specs.Decimal.{IsDecimal};
+ghost use Rattle.lexical_literals.specs.Decimal.{ReadsDecimals};
 ghost use Rattle.lexical_literals.specs.Groups.{IsGrouped};
 ghost use Rattle.lexical_literals.specs.Tokens.{FollowInTurn, FollowUnder, IsPartOf, TokenView, front_of, literals, number_of, view_of_token, tokens, tokens_from, tokens_if_valid};
 
 use bytes::{is_word_byte, skipped_length, word_length};
-use decimal::{front_of_decimal, is_decimal, seems_punctuated};
+use decimal::{front_of_decimal, is_decimal, seems_punctuated, zero_leads};
 use groups::{front_of_groups, is_grouped};
 use lexical_parse_integer::algorithm::algorithm_partial;
 use lexical_parse_integer::laws::grammar::{front_end, wider_types};
@@ -89,11 +89,11 @@ pub fn literal_format() -> NumberFormat
 fn number(text: &[u8], format: &NumberFormat, decimal: bool, grouped: bool) -> (Kind, usize)
     requires first { is_some (digit format.now.mantissa_radix (slice_index text.now 0)) ≡ true }
     requires valid { IsNone (fault format.now) }
-    requires decimal { IsTrue decimal → IsDecimal format.now }
+    requires decimal { IsTrue decimal → ReadsDecimals format.now }
     requires grouped { IsTrue grouped → IsGrouped format.now }
     ensures { result ≡ number_of format.now text.now }
 {
-    if decimal && !seems_punctuated(text) {
+    if decimal && !seems_punctuated(text) && !zero_leads(text, format) {
         let (value, count) = front_of_decimal(text, format);
         if count > 0 {
             return (Kind::Number(value as u128), count);
@@ -175,7 +175,7 @@ fn front(
 ) -> (Kind, usize)
     requires first { slice_index text.now 0 ≡ first }
     requires valid { IsNone (fault format.now) }
-    requires decimal { IsTrue decimal → IsDecimal format.now }
+    requires decimal { IsTrue decimal → ReadsDecimals format.now }
     requires grouped { IsTrue grouped → IsGrouped format.now }
     ensures { result ≡ front_of format.now text.now }
 {
@@ -194,8 +194,8 @@ fn front(
 /// It allocates nothing. How long it takes is in no contract.
 #[derive(Drop)]
 pub struct Tokens<'a> {
-    // What the numbers look like; whether decimal digits alone are read as under the standard format; and whether they may
-    // have `_` between them, or a literal prefix.
+    // What the numbers look like; whether decimal digits alone are read as under the standard format, but for zeros in
+    // front; and whether they may have `_` between them, or a literal prefix.
     format: NumberFormat,
     decimal: bool,
     grouped: bool,
@@ -210,7 +210,7 @@ impl<'a> Model for Tokens<'a> {
     ghost view = { λ t. tokens_from t.format t.place 0 t.rest.now };
 
     ghost invariant = { λ t. (t.place + length t.rest.now < 2 ^ 64) × IsNone (fault t.format)
-        × (IsTrue t.decimal → IsDecimal t.format) × (IsTrue t.grouped → IsGrouped t.format) };
+        × (IsTrue t.decimal → ReadsDecimals t.format) × (IsTrue t.grouped → IsGrouped t.format) };
 }
 
 impl<'a> Tokens<'a> {

@@ -2,12 +2,16 @@ use Rattle.std.proofs.Common.{◌≡◌, ◌∙◌, Bool, ap, arith, false, true
 use Rattle.std.specs.Prelude.{IsTrue}
 use Rattle.std.proofs.lemmas.Bool.{false≢true}
 use Rattle.lexical_util.specs.Number.{integer_type}
+use Rattle.lexical_literals.proofs.DecimalFronts.{some_byte}
 use Rattle.lexical_literals.specs.Tokens.{number_by, number_of}
 use Rattle.lexical_literals.proofs.number.Goals as goal
 
 is_not : (test : Bool) → IsTrue (not test) → test ≡ false
 is_not false told = refl
 is_not true told = absurd (false≢true told)
+
+pub zero_leads-requires : goal.zero_leads-requires
+zero_leads-requires c = some_byte c.args.format.now.mantissa_radix c.args.text.now c.requires.first
 
 pub returns-then-count-gt0 : goal.returns-then-count-gt0
 unfolding number_of
