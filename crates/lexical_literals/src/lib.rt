@@ -105,13 +105,31 @@ fn number(text: &[u8], format: &NumberFormat, decimal: bool, grouped: bool) -> (
         if count > 0 {
             return (Kind::Number(value as u128), count);
         }
-        return wide_number(text, *format);
+        return number_left(text, format);
     }
+    other_number(text, format)
+}
+
+// The number that a text begins with, or its fault, where no quick way has it.
+#[inline(always)]
+fn other_number(text: &[u8], format: &NumberFormat) -> (Kind, usize)
+    requires valid { IsNone (fault format.now) }
+    ensures { result ≡ number_of format.now text.now }
+{
     wider_types();
     let (value, length) = punctuated_number(text, *format);
     if length > 0 {
         return (Kind::Number(value as u128), length);
     }
+    number_left(text, format)
+}
+
+// What all quicker ways leave. The format is copied here, so that no other number pays for the copy's room.
+#[inline(always)]
+fn number_left(text: &[u8], format: &NumberFormat) -> (Kind, usize)
+    requires valid { IsNone (fault format.now) }
+    ensures { result ≡ number_of format.now text.now }
+{
     wide_number(text, *format)
 }
 

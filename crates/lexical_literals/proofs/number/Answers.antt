@@ -1,7 +1,6 @@
-use Rattle.std.proofs.Common.{◌≡◌, ◌∙◌, Bool, ap, arith, false, true, not, refl, sym}
+use Rattle.std.proofs.Common.{◌≡◌, ◌∙◌, Bool, ap, false, true, not, refl, sym}
 use Rattle.std.specs.Prelude.{IsTrue}
 use Rattle.std.proofs.lemmas.Bool.{false≢true}
-use Rattle.lexical_util.specs.Number.{integer_type}
 use Rattle.lexical_literals.proofs.DecimalFronts.{some_byte}
 use Rattle.lexical_literals.specs.Tokens.{number_by, number_of}
 use Rattle.lexical_literals.proofs.number.Goals as goal
@@ -23,9 +22,3 @@ returns-then-count-gt0-2 c =
     sym (ap (number_by c.args.text.now) (c.front_of_groups-value.ensures c.if-count-gt0-2.true c.args.format.now
     (c.requires.grouped c.if-grouped.true)
     (λ any. sym c.case_sensitive_base_prefix-any_case.ensures ∙ is_not c.case_sensitive_base_prefix-any_case.result any)))
-
-pub returns-then-length-gt0 : goal.returns-then-length-gt0
-unfolding number_of
-returns-then-length-gt0 c =
-    sym (ap (number_by c.args.text.now) (c.wider_types.ensures c.args.format.now (integer_type 64 false)
-    (integer_type 128 false) c.args.text.now _ refl (omega arith) (c.punctuated_number-value.ensures c.if-length-gt0.true)))
