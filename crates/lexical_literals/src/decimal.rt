@@ -13,9 +13,24 @@ ghost use Rattle.lexical_literals.specs.Tokens.{is_word_byte};
 use crate::bytes::is_word_byte;
 use crate::groups::has_digit;
 use lexical_parse_integer::laws::grammar::wider_types;
-use lexical_parse_integer::{FromLexical, NumberFormat};
+use lexical_parse_integer::quick::front_if_plain;
+use lexical_parse_integer::{NumberFormat, format};
 
-// Whether the format reads decimal digits alone as the standard one does, but for zeros in front.
+// Whether numbers under the format may be guessed by `seems_punctuated`: their separator is `_`, if they have one.
+fn is_guessed(format: &NumberFormat) -> bool {
+    match format.digit_separator() {
+        Some(separator) => separator == b'_',
+        None => true,
+    }
+}
+
+// Whether the format takes all zeros in front of decimal digits, and reads them as decimal too.
+fn takes_zeros(format: &NumberFormat) -> bool {
+    !format.no_integer_leading_zeros() && !format.literal_octal_zero()
+}
+
+// Whether the format reads decimal digits alone as the standard one does, but for zeros in front, and a number that begins
+// with them is mostly digits alone.
 pub(crate) fn is_decimal(format: &NumberFormat) -> bool
     ensures { IsTrue result → ReadsDecimals format.now }
 {
@@ -23,6 +38,7 @@ pub(crate) fn is_decimal(format: &NumberFormat) -> bool
         && !format.required_mantissa_sign()
         && format.base_prefix().is_none()
         && format.base_suffix().is_none()
+        && (takes_zeros(format) || is_guessed(format))
 }
 
 // Whether more than digits seems to follow, as the letter of a prefix does, or a separator behind at most three digits:
@@ -84,14 +100,14 @@ pub(crate) fn front_of_decimal(text: &[u8], format: &NumberFormat) -> (u64, usiz
 {
     // The law by which a number of 64 bits is read alike as one of 128.
     wider_types();
-    match u64::from_lexical_partial(text) {
-        Ok((value, count)) => {
+    match front_if_plain::<u64>(text, &format::STANDARD) {
+        Some((value, count)) => {
             if stand_alone(text, count, format) {
                 (value, count)
             } else {
                 (0, 0)
             }
         }
-        Err(_) => (0, 0),
+        None => (0, 0),
     }
 }

@@ -8,6 +8,6 @@ pub returns-then-stand_alone : goal.returns-then-stand_alone
 returns-then-stand_alone c =
     λ some. decimal_read c.args.format.now c.args.text.now _ _ c.requires.decimal
     c.requires.zeros c.requires.first
-    (c.wider_types.ensures standard (integer_type 64 false) (integer_type 128 false) c.args.text.now _ refl (omega arith) (sym c.in-Ok.ensures))
+    (c.wider_types.ensures standard (integer_type 64 false) (integer_type 128 false) c.args.text.now _ refl (omega arith) c.in-Some.ensures.answer)
     (c.stand_alone.ensures.word c.if-stand_alone.true)
     (c.stand_alone.ensures.separator c.if-stand_alone.true)
