@@ -1,4 +1,5 @@
 -- Numerals under formats with punctuation: for the answers of `algorithm::punctuated`.
+pub mod BareHeads
 pub mod DigitsAmong
 pub mod GroupedNumerals
 pub mod PunctuatedAnswers

@@ -4,9 +4,10 @@ ghost use Rattle.lexical_parse_integer.specs.Affixes.{is_affix, literal_radix, n
 
 use lexical_util::format::NumberFormat;
 
+// Whether a byte matches a prefix or suffix, with or without regard to ASCII case.
 #[inline(always)]
 #[tactic(auto, unfolding(crate::specs::Affixes::matches))]
-fn matches(is_case_sensitive: bool, affix: u8, byte: u8) -> bool
+pub(crate) fn matches(is_case_sensitive: bool, affix: u8, byte: u8) -> bool
     ensures { result ≡ matches is_case_sensitive affix byte }
 {
     if byte == affix {
@@ -50,25 +51,28 @@ pub(crate) fn octal_zero_at(bytes: &[u8], format: &NumberFormat, place: usize) -
 
 // The effective radix behind the letter of a literal prefix.
 #[inline(always)]
-#[tactic(auto, unfolding(crate::specs::Affixes::literal_radix))]
+#[tactic(auto, unfolding(crate::specs::Affixes::literal_radix, crate::specs::Affixes::is_affix, crate::specs::Affixes::matches))]
 fn literal_radix(is_case_sensitive: bool, byte: Option<u8>) -> Option<u32>
     ensures { result ≡ literal_radix is_case_sensitive byte }
 {
-    if is_affix(is_case_sensitive, Some(b'x'), byte) {
-        Some(16)
-    } else if is_affix(is_case_sensitive, Some(b'o'), byte) {
-        Some(8)
-    } else if is_affix(is_case_sensitive, Some(b'b'), byte) {
-        Some(2)
+    let byte = byte?;
+    let letter = if !is_case_sensitive && byte >= b'A' && byte <= b'Z' {
+        byte + 32
     } else {
-        None
+        byte
+    };
+    match letter {
+        b'x' => Some(16),
+        b'o' => Some(8),
+        b'b' => Some(2),
+        _ => None,
     }
 }
 
 // The effective radix behind a zero and a byte, where the two are a prefix.
 #[inline(always)]
 #[tactic(auto, unfolding(crate::specs::Affixes::named_radix))]
-fn named_radix(format: &NumberFormat, byte: Option<u8>) -> Option<u32>
+pub(crate) fn named_radix(format: &NumberFormat, byte: Option<u8>) -> Option<u32>
     ensures { result ≡ named_radix format.now byte }
 {
     if is_affix(

@@ -72,6 +72,45 @@ pub(super) fn sign_of<T: Integer>(bytes: &[u8], format: &NumberFormat) -> Result
     }
 }
 
+// The head of a text whose sign was read.
+#[inline(always)]
+pub(super) fn head_behind_sign<T: Integer>(
+    bytes: &[u8],
+    format: &NumberFormat,
+    is_negative: bool,
+    start: usize,
+) -> Head
+    requires { sign format.now T.TYPE bytes.now ≡ Ok (is_negative, start) }
+    ensures { head_of format.now T.TYPE bytes.now ≡ Ok (record {
+      is_negative = result.is_negative;
+      is_prefixed = result.is_prefixed;
+      is_octal = result.is_octal;
+      start = result.start;
+      radix = result.radix;
+    }) }
+{
+    match prefix_radix(bytes, format, start) {
+        Some(radix) => Head {
+            is_negative,
+            is_prefixed: true,
+            is_octal: false,
+            start: start + 2,
+            radix,
+        },
+        None => {
+            let is_octal = octal_zero_at(bytes, format, start);
+            let radix = if is_octal { 8 } else { format.mantissa_radix() };
+            Head {
+                is_negative,
+                is_prefixed: false,
+                is_octal,
+                start,
+                radix,
+            }
+        }
+    }
+}
+
 // The head of a text, or the fault of its sign.
 #[inline(always)]
 pub(crate) fn head_of<T: Integer>(bytes: &[u8], format: &NumberFormat) -> Result<Head>
@@ -85,26 +124,7 @@ pub(crate) fn head_of<T: Integer>(bytes: &[u8], format: &NumberFormat) -> Result
     ensures fault { IfErr result (λ error. head_of format.now T.TYPE bytes.now ≡ Err error) }
 {
     let (is_negative, start) = sign_of::<T>(bytes, format)?;
-    match prefix_radix(bytes, format, start) {
-        Some(radix) => Ok(Head {
-            is_negative,
-            is_prefixed: true,
-            is_octal: false,
-            start: start + 2,
-            radix,
-        }),
-        None => {
-            let is_octal = octal_zero_at(bytes, format, start);
-            let radix = if is_octal { 8 } else { format.mantissa_radix() };
-            Ok(Head {
-                is_negative,
-                is_prefixed: false,
-                is_octal,
-                start,
-                radix,
-            })
-        }
-    }
+    Ok(head_behind_sign::<T>(bytes, format, is_negative, start))
 }
 
 // Whether a prefix is all that there is.

@@ -3,16 +3,19 @@
 //
 // As under formats without punctuation, only what is sure is answered: a value that its type has. `None` says nothing: what
 // is left is read from its front.
-ghost use Rattle.std.specs.Prelude.{◌≡◌, ◌||◌, IfSome, IsNone, None, Some, Ok};
+ghost use Rattle.std.specs.Prelude.{◌≡◌, ◌<◌, ◌||◌, IfSome, IsNone, IsTrue, None, Some, Ok, false, length, slice_index};
+ghost use Rattle.lexical_util.specs.Ascii.{digit_zero};
 ghost use Rattle.lexical_util.specs.Validity.{fault};
+ghost use Rattle.lexical_parse_integer.specs.Affixes.{octal_zero_at, prefix_radix};
 ghost use Rattle.lexical_parse_integer.specs.Grammar.{complete};
-ghost use Rattle.lexical_parse_integer.specs.Head.{head_of};
+ghost use Rattle.lexical_parse_integer.specs.Head.{head_of, sign};
 ghost use Rattle.lexical_parse_integer.specs.Plain.{keeps_zero_rule};
 
 mod threes;
 pub(crate) mod validity;
 
-use crate::algorithm::front::{Head, head_of};
+use crate::affixes::{matches, named_radix};
+use crate::algorithm::front::{Head, head_behind_sign, sign_of};
 use crate::algorithm::plain::keeps_zero_rule;
 use crate::algorithm::punctuated::threes::value_of_threes;
 use crate::algorithm::punctuated::validity::{is_valid_with_separator, is_valid_without_separator};
@@ -21,6 +24,60 @@ use lexical_digits::nibbles::value_of_nibbles;
 use lexical_digits::table::value_by_table;
 use lexical_util::format::NumberFormat;
 use lexical_util::num::Integer;
+
+// Whether `0x` stands in front of a text that begins with a zero, where the effective radix is then 16.
+#[inline(always)]
+fn is_behind_x(bytes: &[u8], format: &NumberFormat) -> bool
+    requires { slice_index bytes.now 0 ≡ digit_zero }
+    ensures prefix { IsTrue result → Some 16 ≡ prefix_radix format.now bytes.now 0 }
+{
+    if bytes.len() < 2 || !matches(format.case_sensitive_base_prefix(), b'x', bytes[1]) {
+        return false;
+    }
+    match format.base_prefix() {
+        Some(prefix) => prefix == b'x' && format.mantissa_radix() == 16,
+        None => format.literal_prefixes(),
+    }
+}
+
+// Whether surely neither a prefix nor an octal zero stands in front of a text that begins with a zero: no letter of a prefix
+// follows that.
+#[inline(always)]
+#[tactic(auto, unfolding(crate::specs::Affixes::octal_zero_at))]
+fn is_bare(bytes: &[u8], format: &NumberFormat) -> bool
+    requires letter { IfSome format.now.base_prefix (λ prefix. 102 < prefix) }
+    requires some { 0 < length bytes.now }
+    ensures prefix { IsTrue result → None ≡ prefix_radix format.now bytes.now 0 }
+    ensures octal { IsTrue result → false ≡ octal_zero_at format.now bytes.now 0 }
+{
+    if format.literal_octal_zero() {
+        return false;
+    }
+    if bytes.len() == 1 || bytes[1] <= b'9' {
+        return true;
+    }
+    named_radix(format, Some(bytes[1])).is_none()
+}
+
+// The head of a text with neither a prefix nor an octal zero behind its sign.
+#[inline(always)]
+fn bare_head(format: &NumberFormat, is_negative: bool, start: usize) -> Head
+    ensures { result ≡ record {
+      is_negative = is_negative;
+      is_prefixed = false;
+      is_octal = false;
+      start = start;
+      radix = format.now.mantissa_radix;
+    } }
+{
+    Head {
+        is_negative,
+        is_prefixed: false,
+        is_octal: false,
+        start,
+        radix: format.mantissa_radix(),
+    }
+}
 
 // Whether no zero stands in front of another digit behind the head, where the format forbids that.
 #[inline(always)]
@@ -58,6 +115,52 @@ fn value_behind<T: Integer>(bytes: &[u8], format: &NumberFormat, head: Head) -> 
     }
 }
 
+// The value of the whole text, where digits of the effective radix alone stand behind a sign that was read and a prefix. Why
+// out of line: docs/DECISIONS.md, code.
+#[inline(never)]
+fn value_behind_sign<T: Integer>(
+    bytes: &[u8],
+    format: &NumberFormat,
+    is_negative: bool,
+    start: usize,
+) -> Option<T>
+    requires valid { IsNone (fault format.now) }
+    requires sign { sign format.now T.TYPE bytes.now ≡ Ok (is_negative, start) }
+    ensures { IfSome result (λ value. complete format.now T.TYPE bytes.now ≡ Ok (T.number value)) }
+{
+    let head = head_behind_sign::<T>(bytes, format, is_negative, start);
+    value_behind::<T>(bytes, format, head)
+}
+
+// The value of the whole text under a format without separator, where it begins with a zero, and digits alone stand behind
+// its prefix. Why out of line: docs/DECISIONS.md, code.
+#[inline(never)]
+fn value_from_zero<T: Integer>(bytes: &[u8], format: &NumberFormat) -> Option<T>
+    requires valid { IsNone (fault format.now) }
+    requires letter { IfSome format.now.base_prefix (λ prefix. 102 < prefix) }
+    requires some { 0 < length bytes.now }
+    requires zero { slice_index bytes.now 0 ≡ digit_zero }
+    ensures { IfSome result (λ value. complete format.now T.TYPE bytes.now ≡ Ok (T.number value)) }
+{
+    if format.required_mantissa_sign() {
+        return None;
+    }
+    if is_behind_x(bytes, format) {
+        let head = Head {
+            is_negative: false,
+            is_prefixed: true,
+            is_octal: false,
+            start: 2,
+            radix: 16,
+        };
+        return value_behind::<T>(bytes, format, head);
+    }
+    if !is_bare(bytes, format) {
+        return value_behind_sign::<T>(bytes, format, false, 0);
+    }
+    value_behind::<T>(bytes, format, bare_head(format, false, 0))
+}
+
 // The value of the whole text under a format without separator that may be invalid, where digits alone stand behind its
 // sign and its prefix.
 #[inline(never)]
@@ -67,13 +170,22 @@ pub(super) fn value_of_row<T: Integer>(bytes: &[u8], format: &NumberFormat) -> O
     ensures answer { IfSome result
         (λ value. complete format.now T.TYPE bytes.now ≡ Ok (T.number value)) }
 {
-    if !is_valid_without_separator(format) {
+    if !is_valid_without_separator(format) || bytes.is_empty() {
         return None;
     }
-    match head_of::<T>(bytes, format) {
-        Ok(head) => value_behind::<T>(bytes, format, head),
-        Err(_) => None,
+    if bytes[0] == b'0' {
+        return value_from_zero::<T>(bytes, format);
     }
+    let Ok((is_negative, start)) = sign_of::<T>(bytes, format) else {
+        return None;
+    };
+    if bytes.len() <= start {
+        return None;
+    }
+    if bytes[start] == b'0' {
+        return value_behind_sign::<T>(bytes, format, is_negative, start);
+    }
+    value_behind::<T>(bytes, format, bare_head(format, is_negative, start))
 }
 
 // The value of the whole text under a format with a separator that may be invalid, where digits alone stand behind its
@@ -92,9 +204,16 @@ pub(super) fn value_of_groups<T: Integer>(
     if !is_valid_with_separator(format, separator) {
         return None;
     }
-    let Ok(head) = head_of::<T>(bytes, format) else {
+    let Ok((is_negative, start)) = sign_of::<T>(bytes, format) else {
         return None;
     };
+    if bytes.len() <= start {
+        return None;
+    }
+    if T::BITS < 32 && bytes.len() > start + T::overflow_digits(10) + 1 {
+        return None;
+    }
+    let head = head_behind_sign::<T>(bytes, format, is_negative, start);
     if head.radix != 10 || T::BITS < 32 || !format.integer_internal_digit_separator() {
         return value_behind::<T>(bytes, format, head);
     }

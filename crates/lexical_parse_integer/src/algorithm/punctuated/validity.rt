@@ -1,5 +1,5 @@
 // Which formats are valid, by few tests for those with a separator or a prefix at most, and literal ones.
-ghost use Rattle.std.specs.Prelude.{◌≡◌, ◌||◌, IsTrue, None, Some};
+ghost use Rattle.std.specs.Prelude.{◌≡◌, ◌<◌, ◌||◌, IfSome, IsTrue, None, Some};
 ghost use Rattle.lexical_util.specs.Validity.{fault};
 
 use lexical_util::error::Error;
@@ -39,6 +39,7 @@ fn has_literals(format: &NumberFormat) -> bool
 pub(super) fn is_valid_without_separator(format: &NumberFormat) -> bool
     requires { format.now.digit_separator ≡ None }
     ensures valid { IsTrue result → fault format.now ≡ None }
+    ensures prefix { IsTrue result → IfSome format.now.base_prefix (λ prefix. 102 < prefix) }
 {
     if format.base_suffix().is_some() {
         return false;

@@ -1,0 +1,112 @@
+-- Where surely neither a prefix nor an octal zero stands.
+use Rattle.std.proofs.Common.{◌≡◌, ◌≢◌, ℕ, ◌+◌, ◌<◌, ◌≤◌, Bool, true, false, ◌&&◌, cond, List, [], ◌∷◌, length, refl, sym, ap, ◌∙◌, arith, Option, Some, None, Ok, Result}
+use Rattle.std.specs.Prelude.{IfSome, slice_get, slice_index}
+use Rattle.std.proofs.Math.Bool.{and-false}
+use Rattle.std.proofs.lemmas.Bool.{ne_eqb}
+use Rattle.std.proofs.lemmas.Bool.Decides.{nat_tests}
+use Rattle.std.proofs.lemmas.Option.{slice_get-get_or, slice_get_past}
+use Rattle.lexical_util.specs.Digit.{digit}
+use Rattle.lexical_util.specs.Format.{Format}
+use Rattle.lexical_util.specs.Number.{IntegerType}
+use Rattle.lexical_parse_integer.specs.Affixes.{is_affix, literal_radix, matches, named_radix, octal_zero_at, prefix_radix}
+use Rattle.lexical_util.specs.declared.error.Error.{Error}
+use Rattle.lexical_parse_integer.specs.declared.algorithm.front.Head as Told
+use Rattle.lexical_parse_integer.specs.Head.{Head, sign}
+use Rattle.lexical_parse_integer.specs.Runs.{are_same}
+use Rattle.lexical_parse_integer.proofs.plain.DigitsAlone.{sign_of_digit_under}
+
+-- ---- another byte than a zero
+
+no_zero : (text : List ℕ) (k : ℕ) → k < length text → slice_index text k ≢ 48 → are_same (Some 48) (slice_get text k) ≡ false
+unfolding are_same
+no_zero text k low other = ap (are_same (Some 48)) (slice_get-get_or text k 0 low) ∙ ne_eqb (slice_index text k) 48 other
+
+pub no_prefix_here : (f : Format) (text : List ℕ) (k : ℕ) → k < length text → slice_index text k ≢ 48 → None ≡ prefix_radix f text k
+unfolding prefix_radix
+no_prefix_here f text k low other = sym (ap (λ (b : Bool). cond b (named_radix f (slice_get text (k + 1))) None) (no_zero text k low other))
+
+pub no_octal_here : (f : Format) (text : List ℕ) (k : ℕ) → k < length text → slice_index text k ≢ 48 → false ≡ octal_zero_at f text k
+unfolding octal_zero_at
+no_octal_here f text k low other = sym (ap (λ (b : Bool). f.literal_octal_zero && b) (no_zero text k low other) ∙ and-false f.literal_octal_zero)
+
+-- ---- no letter behind a zero
+
+no_name : (f : Format) (text : List ℕ) (k : ℕ) → named_radix f (slice_get text (k + 1)) ≡ None → None ≡ prefix_radix f text k
+unfolding prefix_radix
+no_name f text k none = by_zero (are_same (Some 48) (slice_get text k))
+  where
+    by_zero : (zero : Bool) → None ≡ cond zero (named_radix f (slice_get text (k + 1))) None
+    by_zero true = sym none
+    by_zero false = refl
+
+none_named : (f : Format) → named_radix f None ≡ None
+unfolding named_radix literal_radix is_affix
+none_named f = by_own f.base_prefix f.literal_prefixes
+  where
+    by_own : (own : Option ℕ) (asked : Bool) → cond (is_affix f.case_sensitive_base_prefix own None) (Some f.mantissa_radix) (cond asked (literal_radix f.case_sensitive_base_prefix None) None) ≡ None
+    by_own None false = refl
+    by_own None true = refl
+    by_own (Some m) false = refl
+    by_own (Some m) true = refl
+
+pub no_prefix_at_end : (f : Format) (text : List ℕ) (k : ℕ) → k + 1 ≡ length text → None ≡ prefix_radix f text k
+no_prefix_at_end f text k end = no_name f text k (ap (named_radix f) (slice_get_past text (k + 1) (omega arith)) ∙ none_named f)
+
+-- no byte up to `9` is the letter of a prefix
+low_named : (f : Format) (b : ℕ) → b ≤ 57 → IfSome f.base_prefix (λ p. 102 < p) → named_radix f (Some b) ≡ None
+unfolding named_radix literal_radix is_affix matches
+low_named f b low past = by_own f.base_prefix f.case_sensitive_base_prefix f.literal_prefixes past
+  where
+    no_letter : (s : Bool) → literal_radix s (Some b) ≡ None
+    no_letter true = grind (arith, nat_tests)
+    no_letter false = grind (arith, nat_tests)
+
+    apart : (s : Bool) (m : ℕ) → 102 < m → matches s m b ≡ false
+    apart true m past = grind (arith, nat_tests)
+    apart false m past = grind (arith, nat_tests)
+
+    by_own : (own : Option ℕ) (s asked : Bool) → IfSome own (λ p. 102 < p) → cond (is_affix s own (Some b)) (Some f.mantissa_radix) (cond asked (literal_radix s (Some b)) None) ≡ None
+    by_own None s false past = refl
+    by_own None s true past = no_letter s
+    by_own (Some m) s false past = rw (apart s m past) refl
+    by_own (Some m) s true past = rw (apart s m past) (no_letter s)
+
+pub no_prefix_unnamed : (f : Format) (text : List ℕ) (k : ℕ) → k + 1 < length text → named_radix f (Some (slice_index text (k + 1))) ≡ None → None ≡ prefix_radix f text k
+no_prefix_unnamed f text k more none = no_name f text k (ap (named_radix f) (slice_get-get_or text (k + 1) 0 more) ∙ none)
+
+pub no_prefix_before : (f : Format) (text : List ℕ) (k : ℕ) → k + 1 < length text → slice_index text (k + 1) ≤ 57 → IfSome f.base_prefix (λ p. 102 < p) → None ≡ prefix_radix f text k
+no_prefix_before f text k more low past = no_name f text k (ap (named_radix f) (slice_get-get_or text (k + 1) 0 more) ∙ low_named f (slice_index text (k + 1)) low past)
+
+-- ---- a letter `x` behind a zero
+
+x_named : (f : Format) (b : ℕ) → matches f.case_sensitive_base_prefix 120 b ≡ true → (f.base_prefix ≡ Some 120) × (f.mantissa_radix ≡ 16) → named_radix f (Some b) ≡ Some 16
+unfolding named_radix is_affix
+x_named f b is own = let prefix = own.0 in let radix = own.1 in rw (prefix, is, radix) refl
+
+x_literal : (f : Format) (b : ℕ) → matches f.case_sensitive_base_prefix 120 b ≡ true → (f.base_prefix ≡ None) × (f.literal_prefixes ≡ true) → named_radix f (Some b) ≡ Some 16
+unfolding named_radix literal_radix is_affix
+x_literal f b is asked = let none = asked.0 in let literal = asked.1 in rw (none, literal, is) refl
+
+behind_zero : (f : Format) (text : List ℕ) (k : ℕ) → slice_index text k ≡ 48 → k + 1 < length text → named_radix f (Some (slice_index text (k + 1))) ≡ Some 16 → Some 16 ≡ prefix_radix f text k
+unfolding prefix_radix are_same
+behind_zero f text k is_zero more named =
+    let here : slice_get text k ≡ Some 48 = slice_get-get_or text k 0 (omega arith) ∙ ap Some is_zero in
+    let next : slice_get text (k + 1) ≡ Some (slice_index text (k + 1)) = slice_get-get_or text (k + 1) 0 more in
+    sym (rw (here, next) named)
+
+pub behind_own_x : (f : Format) (text : List ℕ) (k : ℕ) → slice_index text k ≡ 48 → k + 1 < length text → matches f.case_sensitive_base_prefix 120 (slice_index text (k + 1)) ≡ true → f.base_prefix ≡ Some 120 → f.mantissa_radix ≡ 16 → Some 16 ≡ prefix_radix f text k
+behind_own_x f text k is_zero more is own radix = behind_zero f text k is_zero more (x_named f _ is (own, radix))
+
+pub behind_literal_x : (f : Format) (text : List ℕ) (k : ℕ) → slice_index text k ≡ 48 → k + 1 < length text → matches f.case_sensitive_base_prefix 120 (slice_index text (k + 1)) ≡ true → f.base_prefix ≡ None → f.literal_prefixes ≡ true → Some 16 ≡ prefix_radix f text k
+behind_literal_x f text k is_zero more is none literal = behind_zero f text k is_zero more (x_literal f _ is (none, literal))
+
+-- ---- no sign before a zero
+
+pub zero_sign : (f : Format) (t : IntegerType) (text : List ℕ) → 0 < length text → slice_index text 0 ≡ 48 → f.required_mantissa_sign ≡ false → sign f t text ≡ Ok (false, 0)
+zero_sign f t [] some zero unasked = absurd (omega arith)
+zero_sign f t (c ∷ cs) some zero unasked = sign_of_digit_under f t 10 c 0 cs unasked (ap (digit 10) zero)
+
+-- ---- the head that a function answers
+
+abbrev pub told_head : Told.Head → Result Head Error
+told_head h = Ok (record { is_negative = h.is_negative; is_prefixed = h.is_prefixed; is_octal = h.is_octal; start = h.start; radix = h.radix })
