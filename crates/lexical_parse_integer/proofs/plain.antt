@@ -4,4 +4,5 @@ pub mod DigitsAlone
 pub mod DigitsByTable
 pub mod DigitsInFront
 pub mod FieldsInFront
+pub mod ForbiddenZeros
 pub mod LeavingNumbers

@@ -203,7 +203,7 @@ pub(crate) fn standard_complete<T: Integer>(bytes: &[u8]) -> Result<T>
     ensures { view_of T.number result ≡ complete standard T.TYPE bytes.now }
 {
     if !bytes.is_empty() && bytes[0] == b'+' {
-        if let Some(value) = value_behind_plus::<T>(bytes) {
+        if let Some(value) = value_behind_plus::<T>(bytes, &format::STANDARD) {
             return Ok(value);
         }
     }

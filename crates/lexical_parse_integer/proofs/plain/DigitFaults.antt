@@ -23,7 +23,7 @@ use Rattle.lexical_parse_integer.specs.Plain.{BeginsWith, IsPlain, keeps_zero_ru
 use Rattle.lexical_parse_integer.proofs.punctuated.PunctuatedAnswers.{signed_minus}
 use Rattle.lexical_parse_integer.proofs.grammar.DigitsInARow.{EndsRow, has_digit, row_numeral}
 use Rattle.lexical_parse_integer.proofs.grammar.NumeralEnd.{digit_at_past}
-use Rattle.lexical_parse_integer.proofs.plain.DigitsInFront.{StandsFrom, at_stop, byte_after, from_place, signed_read}
+use Rattle.lexical_parse_integer.proofs.plain.DigitsInFront.{StandsFrom, at_stop, byte_after, from_place, none_after, signed_read}
 use Rattle.lexical_parse_integer.proofs.theorems.DigitTexts.{complete_by, complete_row, head_is}
 use Rattle.lexical_parse_integer.proofs.theorems.CompleteByPartial.{sign_within}
 
@@ -73,6 +73,14 @@ module _ (f : Format) (t : IntegerType) (text : List ℕ) (s : Bool × ℕ) (cou
       let size : length digits ≡ length text - s.1 = ap length (rest_is text s.1) ∙ length-drop s.1 text in
       let begins : BeginsWith f t s.0 digits value count = record { some = some; within = omega arith; stops = λ l. none; rule = rule; stands = for_value } in
       byte_after f t text value (s.1 + count) (signed_read f t text s value count plain ten sign_is begins) (omega arith)
+
+  -- digits that are all of the text stand for its value
+  pub all_digits : (value : ℤ) → 1 ≤ count → count ≡ length digits → keeps_zero_rule f (take count digits) ≡ true → StandsFor t 10 s.0 (take count digits) value → complete f t text ≡ Ok value
+  all_digits value some all rule for_value =
+      let within = sign_within f t text s sign_is in
+      let size : length digits ≡ length text - s.1 = ap length (rest_is text s.1) ∙ length-drop s.1 text in
+      let begins : BeginsWith f t s.0 digits value count = record { some = some; within = omega arith; stops = λ l. absurd (omega arith); rule = rule; stands = for_value } in
+      none_after f t text value (s.1 + count) (signed_read f t text s value count plain ten sign_is begins) (omega arith)
 
   -- so few digits stand for a number of the type
   pub byte_behind_few : (most : ℕ) → HasRoom t 10 most → count ≤ most → 1 ≤ count → count < length digits → IsNone (digit 10 (get_or digits count 0)) → keeps_zero_rule f (take count digits) ≡ true → AreDigits 10 (take count digits) →

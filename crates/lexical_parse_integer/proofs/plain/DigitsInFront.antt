@@ -167,31 +167,32 @@ byte_after f t text value place is more =
     complete_is_completion f t text ∙ ap (completion_of (length text)) is ∙ (rw test refl)
 
 -- a front without a byte after it is the text
-none_after : (f : Format) (t : IntegerType) (text : List ℕ) (value : ℤ) (place : ℕ) → partial f t text ≡ Ok (value, place) → length text ≤ place → complete f t text ≡ Ok value
+pub none_after : (f : Format) (t : IntegerType) (text : List ℕ) (value : ℤ) (place : ℕ) → partial f t text ≡ Ok (value, place) → length text ≤ place → complete f t text ≡ Ok value
 none_after f t text value place is all =
     let test = le-ltb place (length text) all in
     complete_is_completion f t text ∙ ap (completion_of (length text)) is ∙ (rw test refl)
 
-sign_of_plus : (t : IntegerType) (cs : List ℕ) → sign standard t (43 ∷ cs) ≡ Ok (false, 1)
+sign_of_plus : (f : Format) (t : IntegerType) (cs : List ℕ) → f.no_positive_mantissa_sign ≡ false → sign f t (43 ∷ cs) ≡ Ok (false, 1)
 unfolding sign
-sign_of_plus t cs = refl
+sign_of_plus f t cs allowed = rw allowed refl
 
 -- digits behind a plus that stand for a number are read as that
-pub plus_read : (t : IntegerType) (text : List ℕ) (value : ℤ) → 1 < length text → get_or text 0 0 ≡ 43 → StandsFor t 10 false (slice_range text 1 (length text)) value → complete standard t text ≡ Ok value
-plus_read t [] value some is_plus s = absurd (omega arith)
-plus_read t (b ∷ cs) value some is_plus s =
+pub plus_read : (f : Format) (t : IntegerType) (text : List ℕ) (value : ℤ) → IsPlain f → f.mantissa_radix ≡ 10 → f.no_positive_mantissa_sign ≡ false → 1 < length text → get_or text 0 0 ≡ 43 →
+    keeps_zero_rule f (slice_range text 1 (length text)) ≡ true → StandsFor t 10 false (slice_range text 1 (length text)) value → complete f t text ≡ Ok value
+plus_read f t [] value plain ten allowed some is_plus rule s = absurd (omega arith)
+plus_read f t (b ∷ cs) value plain ten allowed some is_plus rule s =
     let digits : List ℕ = slice_range (b ∷ cs) 1 (length (b ∷ cs)) in
     let size : length digits ≡ length cs = ap length (rest_is (b ∷ cs) 1) in
-    let begins : BeginsWith standard t false digits value (length cs) = record {
+    let all : take (length cs) digits ≡ digits = ap (λ (n : ℕ). take n digits) (sym size) ∙ take-length digits in
+    let begins : BeginsWith f t false digits value (length cs) = record {
       some = omega arith;
       within = omega arith;
       stops = λ l. absurd (omega (arith, l, size));
-      rule = refl;
-      stands = subst (λ (bytes : List ℕ). StandsFor t 10 false bytes value) (sym (ap (λ (n : ℕ). take n digits) (sym size) ∙ take-length digits)) s;
+      rule = ap (keeps_zero_rule f) all ∙ rule;
+      stands = subst (λ (bytes : List ℕ). StandsFor t 10 false bytes value) (sym all) s;
     } in
-    let sign_is : sign standard t (b ∷ cs) ≡ Ok (false, 1) = ap (λ (c : ℕ). sign standard t (c ∷ cs)) is_plus ∙ sign_of_plus t cs in
-    let plain : IsPlain standard = record { no_separator = refl; no_prefix = refl; no_suffix = refl; no_literals = refl; no_octal_zeros = refl; no_sign = refl } in
-    none_after standard t (b ∷ cs) value (1 + length cs) (signed_read standard t (b ∷ cs) (false, 1) value (length cs) plain refl sign_is begins) (omega arith)
+    let sign_is : sign f t (b ∷ cs) ≡ Ok (false, 1) = ap (λ (c : ℕ). sign f t (c ∷ cs)) is_plus ∙ sign_of_plus f t cs allowed in
+    none_after f t (b ∷ cs) value (1 + length cs) (signed_read f t (b ∷ cs) (false, 1) value (length cs) plain ten sign_is begins) (omega arith)
 
 -- more digits keep the zero rule where the first ones do
 pub longer_rule : (f : Format) (k m : ℕ) (digits : List ℕ) → 2 ≤ k → k ≤ m → m ≤ length digits → keeps_zero_rule f (take k digits) ≡ true → keeps_zero_rule f (take m digits) ≡ true

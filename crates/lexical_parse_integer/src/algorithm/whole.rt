@@ -1,15 +1,19 @@
 // What the whole text stands for: its value by the reader for the format's kind, where `None` says nothing, and the answer
 // for what these readers leave.
-ghost use Rattle.std.specs.Prelude.{◌≡◌, IfSome, IsNone, Ok};
+ghost use Rattle.std.specs.Prelude.{◌≡◌, IfSome, IsNone, IsTrue, Ok, false, is_some, true};
 ghost use Rattle.lexical_util.specs.Validity.{fault};
 ghost use Rattle.lexical_parse_integer.specs.Answer.{view_of};
 ghost use Rattle.lexical_parse_integer.specs.Grammar.{complete};
-ghost use Rattle.lexical_parse_integer.specs.Plain.{IsPlain};
+ghost use Rattle.lexical_parse_integer.specs.Plain.{IsPlain, keeps_zero_rule};
+ghost use Rattle.lexical_parse_integer.specs.Runs.{digit_at};
 
-use crate::algorithm::front::complete_from_front;
-use crate::algorithm::plain::faults::{fault_after_digits, place_after_digits};
-use crate::algorithm::plain::{is_plain, keeps_zero_rule, value_of_decimal, value_of_plain};
+use crate::algorithm::front::{complete_from_front, sign_of};
+use crate::algorithm::plain::faults::{answer_after_digits, place_after_digits};
+use crate::algorithm::plain::{
+    is_plain, keeps_zero_rule, value_behind_plus, value_of_decimal, value_of_plain,
+};
 use crate::algorithm::punctuated::{value_of_groups, value_of_row};
+use crate::seek::digit_at;
 use lexical_util::error::Error;
 use lexical_util::format::NumberFormat;
 use lexical_util::num::Integer;
@@ -57,9 +61,28 @@ pub(crate) fn value_if_not_short<T: Integer>(bytes: &[u8], format: &NumberFormat
     value_of_plain::<T>(bytes, format)
 }
 
+// The complete answer for a text that is left by all that is quick: the fault of its sign, or what is read from its front.
+#[inline(always)]
+fn complete_from_sign<T: Integer>(bytes: &[u8], format: &NumberFormat) -> Result<T>
+    requires valid { IsNone (fault format.now) }
+    ensures { view_of T.number result ≡ complete format.now T.TYPE bytes.now }
+{
+    sign_of::<T>(bytes, format)?;
+    complete_from_front::<T>(bytes, format)
+}
+
+// Whether a zero stands in front of another decimal digit, where the format forbids that.
+#[inline(always)]
+fn has_forbidden_zero(bytes: &[u8], format: &NumberFormat) -> bool
+    ensures zero { IsTrue result → keeps_zero_rule format.now bytes.now ≡ false }
+    ensures digit { IsTrue result → is_some (digit_at 10 bytes.now 1) ≡ true }
+{
+    !keeps_zero_rule(format, bytes) && digit_at(bytes, 10, 1).is_some()
+}
+
 // The complete answer under a decimal format without punctuation, for a text that its reader leaves: most such texts are at
 // fault, and the place of that is found at once. A text that is longer than its type has digits is mostly a number that
-// is too large. Why out of line: docs/DECISIONS.md, code.
+// is too large, or has zeros in front. Why out of line: docs/DECISIONS.md, code.
 #[inline(never)]
 fn complete_if_plain<T: Integer>(bytes: &[u8], format: &NumberFormat) -> Result<T>
     requires valid { IsNone (fault format.now) }
@@ -67,29 +90,31 @@ fn complete_if_plain<T: Integer>(bytes: &[u8], format: &NumberFormat) -> Result<
     requires decimal { format.now.mantissa_radix ≡ 10 }
     ensures { view_of T.number result ≡ complete format.now T.TYPE bytes.now }
 {
-    if bytes.len() > T::overflow_digits(10) && bytes[0] != b'0' {
-        if let Some(fault) = fault_after_digits::<T>(bytes, format) {
-            return Err(fault);
+    if has_forbidden_zero(bytes, format) {
+        return Err(Error::InvalidLeadingZeros(0));
+    }
+    if let Some(value) = value_behind_plus::<T>(bytes, format) {
+        return Ok(value);
+    }
+    if bytes.len() > T::overflow_digits(10) {
+        if let Some(answer) = answer_after_digits::<T>(bytes, format) {
+            return answer;
         }
     }
-    match place_after_digits::<T>(bytes, format, T::overflow_digits(10)) {
+    match place_after_digits::<T>(bytes, format) {
         Some(place) if place < bytes.len() => Err(Error::InvalidDigit(place)),
         Some(place) => Err(Error::Empty(place)),
-        None => complete_from_front::<T>(bytes, format),
+        None => complete_from_sign::<T>(bytes, format),
     }
 }
 
-// The complete answer for a text that these readers leave. One with a zero too many or a plus in front is read from there:
-// no fault is likely behind that.
+// The complete answer for a text that these readers leave.
 #[inline(always)]
 pub(crate) fn complete_if_left<T: Integer>(bytes: &[u8], format: &NumberFormat) -> Result<T>
     requires valid { IsNone (fault format.now) }
     ensures { view_of T.number result ≡ complete format.now T.TYPE bytes.now }
 {
-    if !bytes.is_empty() && bytes[0] == b'+' {
-        return complete_from_front::<T>(bytes, format);
-    }
-    if format.mantissa_radix() == 10 && is_plain(format) && keeps_zero_rule(format, bytes) {
+    if format.mantissa_radix() == 10 && is_plain(format) {
         return complete_if_plain::<T>(bytes, format);
     }
     complete_from_front::<T>(bytes, format)

@@ -1,4 +1,4 @@
-// Faults of decimal texts under formats without punctuation: most faults.
+// Faults of decimal texts under formats without punctuation: most faults. And numbers of many digits there.
 //
 // `None` says nothing. Why each is a call of its own: docs/DECISIONS.md, code.
 ghost use Rattle.std.specs.Prelude.{◌≡◌, ◌<◌, ◌≤◌, Err, IfSome, IsNone, get_or, length, take};
@@ -6,6 +6,7 @@ ghost use Rattle.lexical_util.specs.Digit.{digit};
 ghost use Rattle.lexical_util.specs.Format.{standard};
 ghost use Rattle.lexical_util.specs.declared.error.Error.TheVariants.{Empty, InvalidDigit};
 ghost use Rattle.lexical_digits.specs.Words.{AreDigits};
+ghost use Rattle.lexical_parse_integer.specs.Answer.{view_of};
 ghost use Rattle.lexical_parse_integer.specs.Grammar.{complete};
 ghost use Rattle.lexical_parse_integer.specs.Plain.{IsPlain};
 
@@ -18,6 +19,7 @@ use lexical_util::digit::char_to_digit;
 use lexical_util::error::Error;
 use lexical_util::format::{self, NumberFormat};
 use lexical_util::num::Integer;
+use lexical_util::result::Result;
 
 // How many digits a text begins with: counted by words, whose numbers nobody asks for.
 #[inline(always)]
@@ -41,12 +43,11 @@ fn digits_in_front(text: &[u8]) -> usize
 }
 
 // The place at which reading stops, where no digit stands behind the sign, or a byte behind digits for which their type
-// has room, whatever they are. Those of a longer text than is asked for aren't counted.
+// has room, whatever they are.
 #[inline(always)]
 pub(in crate::algorithm) fn place_after_digits<T: Integer>(
     bytes: &[u8],
     format: &NumberFormat,
-    longest: usize,
 ) -> Option<usize>
     requires plain { IsPlain format.now }
     requires decimal { format.now.mantissa_radix ≡ 10 }
@@ -69,11 +70,11 @@ pub(in crate::algorithm) fn place_after_digits<T: Integer>(
         return Some(start);
     }
     let digits = &bytes[start..];
-    if digits.len() > longest || !keeps_zero_rule(format, digits) {
-        return None;
-    }
     let count = digits_in_front(digits);
     if count == digits.len() || count > T::overflow_digits(10) {
+        return None;
+    }
+    if !keeps_zero_rule(format, &digits[..count]) {
         return None;
     }
     Some(start + count)
@@ -87,19 +88,20 @@ pub(in crate::algorithm) fn place_after_few<T: Integer>(bytes: &[u8]) -> Option<
     ensures end { IfSome result (λ place. length bytes.now ≤ place
         → complete standard T.TYPE bytes.now ≡ Err (Empty place)) }
 {
-    place_after_digits::<T>(bytes, &format::STANDARD, usize::MAX)
+    place_after_digits::<T>(bytes, &format::STANDARD)
 }
 
-// The fault behind as many digits as the type has room for: at the digit with which the number leaves the type, or at
-// the first byte that is no digit.
+// The answer for a text that has more digits than its type has surely room for: the number that they stand for, or the fault
+// at the digit with which the number leaves the type, or at the first byte that is no digit.
 #[inline(always)]
-pub(in crate::algorithm) fn fault_after_digits<T: Integer>(
+pub(in crate::algorithm) fn answer_after_digits<T: Integer>(
     bytes: &[u8],
     format: &NumberFormat,
-) -> Option<Error>
+) -> Option<Result<T>>
     requires plain { IsPlain format.now }
     requires decimal { format.now.mantissa_radix ≡ 10 }
-    ensures { IfSome result (λ error. complete format.now T.TYPE bytes.now ≡ Err error) }
+    ensures { IfSome result
+        (λ answer. view_of T.number answer ≡ complete format.now T.TYPE bytes.now) }
 {
     let Ok((is_negative, start)) = sign_of::<T>(bytes, format) else {
         return None;
@@ -113,21 +115,24 @@ pub(in crate::algorithm) fn fault_after_digits<T: Integer>(
     while count < digits.len() {
         let place = start + count;
         let Some(digit) = char_to_digit(digits[count], 10) else {
-            return Some(Error::InvalidDigit(place));
+            return Some(Err(Error::InvalidDigit(place)));
         };
         match join_checked::<T>(value, digit, 10, place, is_negative) {
             Ok(next) => value = next,
-            Err(fault) => return Some(fault),
+            Err(fault) => return Some(Err(fault)),
         }
         count += 1;
     }
-    None
+    Some(Ok(value))
 }
 
-// That fault under the standard format.
+// The fault of such a text under the standard format, or none.
 #[inline(never)]
 pub(in crate::algorithm) fn fault_after_many<T: Integer>(bytes: &[u8]) -> Option<Error>
     ensures { IfSome result (λ error. complete standard T.TYPE bytes.now ≡ Err error) }
 {
-    fault_after_digits::<T>(bytes, &format::STANDARD)
+    match answer_after_digits::<T>(bytes, &format::STANDARD) {
+        Some(Err(fault)) => Some(fault),
+        _ => None,
+    }
 }

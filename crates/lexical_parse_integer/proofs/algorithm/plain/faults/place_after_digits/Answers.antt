@@ -1,6 +1,6 @@
 use Rattle.std.proofs.Common.{ap, arith, sym, ◌∙◌}
 use Rattle.std.specs.Prelude.{is_some}
-use Rattle.lexical_parse_integer.proofs.plain.DigitFaults.{byte_behind_few, fewer_keep, no_byte, no_digit, some_digit}
+use Rattle.lexical_parse_integer.proofs.plain.DigitFaults.{byte_behind_few, no_byte, no_digit, some_digit}
 use Rattle.lexical_parse_integer.proofs.algorithm.plain.faults.place_after_digits.Goals as goal
 
 pub returns-then-required_digits-clause-end : goal.returns-then-required_digits-clause-end
@@ -17,4 +17,4 @@ returns-clause-byte g c more =
     let signed = sym c.in-Ok.ensures in
     let some = some_digit c.args.format.now g.T.Integer.TYPE c.args.bytes.now (c.in-Ok.field-0-0, c.in-Ok.start) c.digits_in_front-count.result c.requires.plain c.requires.decimal signed (ap is_some (sym c.digit_at.ensures) ∙ c.if-is_none.ensures) within front.stops in
     byte_behind_few c.args.format.now g.T.Integer.TYPE c.args.bytes.now (c.in-Ok.field-0-0, c.in-Ok.start) _ c.requires.plain c.requires.decimal signed _ c.overflow_digits.ensures.room (omega (arith, c.if-count-overflow_digits.false))
-    some (omega arith) (front.stops (omega arith)) (fewer_keep c.args.format.now _ _ some within (sym c.keeps_zero_rule.ensures ∙ c.if-not-keeps_zero_rule.false)) front.digits
+    some (omega arith) (front.stops (omega arith)) (sym c.keeps_zero_rule.ensures ∙ c.if-not-keeps_zero_rule.false) front.digits

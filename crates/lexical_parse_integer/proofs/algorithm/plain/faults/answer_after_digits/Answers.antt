@@ -1,12 +1,12 @@
-use Rattle.std.proofs.Common.{arith, rules, ap, refl, sym, ◌∙◌, Err}
+use Rattle.std.proofs.Common.{◌≡◌, arith, rules, ap, refl, sym, ◌∙◌, Err}
 use Rattle.std.specs.Prelude.{is_some, slice_range, length}
 use Rattle.lexical_util.specs.declared.error.Error.{Error}
 use Rattle.lexical_digits.proofs.LongNumbers.{sign_of_value}
 use Rattle.lexical_parse_integer.proofs.punctuated.PunctuatedAnswers.{signed_minus}
-use Rattle.lexical_parse_integer.proofs.plain.DigitFaults.{byte_behind, fewer_keep}
+use Rattle.lexical_parse_integer.proofs.plain.DigitFaults.{all_digits, byte_behind, fewer_keep}
 use Rattle.lexical_parse_integer.proofs.plain.LeavingNumbers.{leaves_after, next_value, signed_leaving_read}
 use Rattle.lexical_parse_integer.proofs.theorems.CompleteByPartial.{sign_within}
-use Rattle.lexical_parse_integer.proofs.algorithm.plain.faults.fault_after_digits.Goals as goal
+use Rattle.lexical_parse_integer.proofs.algorithm.plain.faults.answer_after_digits.Goals as goal
 
 pub slice_bounds-digits-count : goal.slice_bounds-digits-count
 slice_bounds-digits-count g c = sign_within c.args.format.now g.T.Integer.TYPE c.args.bytes.now (c.in-Ok.is_negative, c.in-Ok.start) (sym c.in-Ok.ensures)
@@ -22,17 +22,24 @@ join_checked-requires-clause-sign g c = sign_of_value _ 10 c.in-Ok.is_negative _
 
 pub returns-in_default-char_to_digit : goal.returns-in_default-char_to_digit
 returns-in_default-char_to_digit g c =
-    byte_behind c.args.format.now g.T.Integer.TYPE c.args.bytes.now (c.in-Ok.is_negative, c.in-Ok.start) _ c.requires.plain c.requires.decimal (sym c.in-Ok.ensures) _ c.loop-count.invariant.some c.loop-count-test.true
+    sym (byte_behind c.args.format.now g.T.Integer.TYPE c.args.bytes.now (c.in-Ok.is_negative, c.in-Ok.start) _ c.requires.plain c.requires.decimal (sym c.in-Ok.ensures) _ c.loop-count.invariant.some c.loop-count-test.true
     (ap is_some (sym c.char_to_digit.ensures ∙ c.in_default-char_to_digit.is))
-    (fewer_keep c.args.format.now _ _ c.loop-count.invariant.some (omega (arith, c.loop-count-test.true)) (search rules)) c.loop-count.invariant.writes
+    (fewer_keep c.args.format.now _ _ c.loop-count.invariant.some (omega (arith, c.loop-count-test.true)) (search rules)) c.loop-count.invariant.writes)
 
 pub returns-in-Err : goal.returns-in-Err
 returns-in-Err g c =
     let leaves = leaves_after _ c.in-Ok.is_negative c.loop-count.count c.in-Some.digit (slice_range c.args.bytes.now c.in-Ok.start (length c.args.bytes.now)) _ c.loop-count.invariant.writes c.loop-count-test.true (sym c.in-Some.ensures) c.in-Err.ensures.leaves.1 in
-    signed_leaving_read c.args.format.now g.T.Integer.TYPE c.args.bytes.now (c.in-Ok.is_negative, c.in-Ok.start) _ _ c.requires.plain c.requires.decimal (sym c.in-Ok.ensures) refl c.loop-count.invariant.some (search rules) leaves ∙ ap (λ (e : Error). Err e) (sym c.in-Err.ensures.leaves.0)
+    sym (signed_leaving_read c.args.format.now g.T.Integer.TYPE c.args.bytes.now (c.in-Ok.is_negative, c.in-Ok.start) _ _ c.requires.plain c.requires.decimal (sym c.in-Ok.ensures) refl c.loop-count.invariant.some (search rules) leaves ∙ ap (λ (e : Error). Err e) (sym c.in-Err.ensures.leaves.0))
+
+pub returns : goal.returns
+returns g c =
+    let all : c.loop-count.count ≡ length (slice_range c.args.bytes.now c.in-Ok.start (length c.args.bytes.now)) = omega (arith, c.loop-count-test.false, c.loop-count.invariant.within) in
+    sym (all_digits c.args.format.now g.T.Integer.TYPE c.args.bytes.now (c.in-Ok.is_negative, c.in-Ok.start) _ c.requires.plain c.requires.decimal (sym c.in-Ok.ensures) _ c.loop-count.invariant.some all
+    (fewer_keep c.args.format.now _ _ c.loop-count.invariant.some (omega arith) (search rules)) c.loop-count.invariant.writes)
 
 pub loop-count-preserved : goal.loop-count-preserved
 loop-count-preserved g c = record {
   some = omega arith;
+  within = omega (arith, c.loop-count-test.true);
   writes = next_value _ c.in-Ok.is_negative c.loop-count.count c.in-Some.digit (slice_range c.args.bytes.now c.in-Ok.start (length c.args.bytes.now)) _ _ c.loop-count.invariant.writes c.loop-count-test.true (sym c.in-Some.ensures) c.in-Ok-join_checked.ensures.fits.0 c.in-Ok-join_checked.ensures.fits.1;
 }
