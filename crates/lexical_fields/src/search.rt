@@ -1,5 +1,5 @@
 // Where a byte first stands, by sixteen bytes at once.
-ghost use Rattle.std.specs.Prelude.{◌≡◌, ◌≢◌, ◌==◌, ◌<◌, ◌≤◌, ℕ, if◌then◌else◌, length, slice_index, IfSome, IsNone};
+ghost use Rattle.std.specs.Prelude.{◌≡◌, ◌≢◌, ◌==◌, ◌||◌, ◌<◌, ◌≤◌, ℕ, true, if◌then◌else◌, length, slice_index, IfSome, IsNone};
 ghost use Rattle.std.specs.Int.{bit_at};
 ghost use Rattle.lexical_fields.specs.Search.{AreMarks, StandsFirst};
 
@@ -85,6 +85,8 @@ pub fn plain_of_16(bytes: &[u8], first: u8, second: u8) -> usize
     ensures within { result ≤ 16 }
     ensures no_first { (k : ℕ) → k < result → slice_index bytes.now k ≢ first }
     ensures no_second { (k : ℕ) → k < result → slice_index bytes.now k ≢ second }
+    ensures ends { result < 16 → ((slice_index bytes.now result == first)
+        || (slice_index bytes.now result == second)) ≡ true }
 {
     let lanes = u8x16::from_slice(bytes);
     let marks = marks_of_16(lanes, first) | marks_of_16(lanes, second);

@@ -3,7 +3,7 @@ use Rattle.std.specs.Int.{bit_at}
 use Rattle.std.proofs.lemmas.Bool.{cases_lt}
 use Rattle.std.proofs.lemmas.Nat.Bits.{bit_at-zero, bit_at_or}
 use Rattle.std.proofs.lemmas.List.{take_all}
-use Rattle.lexical_fields.proofs.Marks.{absent, neither}
+use Rattle.lexical_fields.proofs.Marks.{absent, either, neither}
 use Rattle.lexical_fields.proofs.search.plain_of_16.Goals as goal
 
 pub returns-then-marks-eq0-clause-no_first : goal.returns-then-marks-eq0-clause-no_first
@@ -53,3 +53,14 @@ returns-clause-no_second c = λ k low.
     (subst (λ l. bit_at c.marks_of_16-2.result k ≡ cond (eqb (get_or l k 0) c.args.second) 1 0)
     (take_all 16 c.args.bytes.now (omega (arith, c.requires))) (c.marks_of_16-2.ensures.here k few))
     (neither c.marks_of_16.result c.marks_of_16-2.result k (c.lowest_mark.ensures.below k low)).1
+
+pub returns-clause-ends : goal.returns-clause-ends
+returns-clause-ends c = λ low.
+    let k = c.lowest_mark.result in
+    let all = take_all 16 c.args.bytes.now (omega (arith, c.requires)) in
+    either (bit_at c.marks_of_16.result k) (bit_at c.marks_of_16-2.result k) _ _
+    (subst (λ l. bit_at c.marks_of_16.result k ≡ cond (eqb (get_or l k 0) c.args.first) 1 0) all
+    (c.marks_of_16.ensures.here k low))
+    (subst (λ l. bit_at c.marks_of_16-2.result k ≡ cond (eqb (get_or l k 0) c.args.second) 1 0) all
+    (c.marks_of_16-2.ensures.here k low))
+    (sym (bit_at_or c.marks_of_16.result c.marks_of_16-2.result k) ∙ c.lowest_mark.ensures.set)
