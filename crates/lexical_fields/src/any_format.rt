@@ -1,6 +1,7 @@
 // Fields under formats of any kind, each cut by marks of the separators in front and read at once where that can be.
-ghost use Rattle.std.specs.Prelude.{◌≡◌, ◌+◌, ◌≤◌, ℕ, List, IfSome, IsNone, Ok, length, take, drop};
+ghost use Rattle.std.specs.Prelude.{◌≡◌, ◌+◌, ◌<◌, ◌≤◌, ℕ, List, Err, IfSome, IsNone, length, take, drop};
 ghost use Rattle.lexical_util.specs.Validity.{fault};
+ghost use Rattle.lexical_parse_integer.specs.Answer.{view_of};
 ghost use Rattle.lexical_parse_integer.specs.Grammar.{complete};
 ghost use Rattle.lexical_fields.specs.Fields.{field_length};
 ghost use Rattle.lexical_fields.specs.ReadSoFar.{IsReadSoFar};
@@ -8,9 +9,9 @@ ghost use Rattle.lexical_fields.specs.Search.{AreMarks};
 
 use crate::marked::{next_marks, split_marked};
 use crate::split::split_field;
-use lexical_parse_integer::NumberFormat;
 use lexical_parse_integer::parse::ParseInteger;
-use lexical_parse_integer::quick::{value_for_format, value_if_left};
+use lexical_parse_integer::quick::{complete_if_left, value_for_format};
+use lexical_parse_integer::{Error, NumberFormat, Result};
 
 // The first field, what is behind its separator, and the marks of that: by the marks of the text, or by a look for the
 // field's end where it has none.
@@ -30,73 +31,63 @@ fn cut_field(text: &[u8], marks: u64, separator: u8) -> (&[u8], &[u8], u64)
     (&text[..size], behind, more)
 }
 
-// The number of a field, and `None` for one at fault: by the reader for the format's kind, or by the parser.
-#[inline(always)]
-fn value_of_field<T: ParseInteger>(field: &[u8], format: &NumberFormat) -> Option<T>
+// The number of a field that the reader for its format's kind leaves, or its fault. Why out of line: docs/DECISIONS.md, code.
+#[inline(never)]
+fn number_if_left<T: ParseInteger>(field: &[u8], format: &NumberFormat) -> Result<T>
     requires valid { IsNone (fault format.now) }
-    ensures { IfSome result (λ value. complete format.now T.TYPE field.now ≡ Ok (T.number value)) }
+    ensures { view_of T.number result ≡ complete format.now T.TYPE field.now }
 {
-    if let Some(value) = value_for_format::<T>(field, format) {
-        return Some(value);
-    }
-    value_if_left::<T>(field, format)
+    complete_if_left::<T>(field, format)
 }
 
-// Reads fields into a slice from its front, up to one at fault: how many numbers it has then, and what is left of the text.
-// Why out of line: docs/DECISIONS.md, code.
+// The number of a field, or its fault: by the reader for the format's kind, or by the parser.
+#[inline(always)]
+fn number_of_field<T: ParseInteger>(field: &[u8], format: &NumberFormat) -> Result<T>
+    requires valid { IsNone (fault format.now) }
+    ensures { view_of T.number result ≡ complete format.now T.TYPE field.now }
+{
+    match value_for_format::<T>(field, format) {
+        Some(value) => Ok(value),
+        None => number_if_left::<T>(field, format),
+    }
+}
+
+// Reads fields into a slice from its front, as far as it has room, or up to one at fault: how many numbers it has then, what
+// is left of the text, and the fault of the first field there, if that ended it. Why out of line: docs/DECISIONS.md, code.
 #[inline(never)]
 pub(crate) fn read_any_format<'a, T: ParseInteger>(
     text: &'a [u8],
     separator: u8,
     format: &NumberFormat,
     values: &mut [T],
-) -> (usize, &'a [u8])
+) -> (usize, &'a [u8], Option<Error>)
     requires valid { IsNone (fault format.now) }
     ensures reading { (whole : List ℕ) (initial : List T)
         → IsReadSoFar T T.number format.now T.TYPE separator whole initial values.old 0 text.now
         → IsReadSoFar T T.number format.now T.TYPE separator whole initial values.new
         result.0 result.1.now }
-    ensures room { result.0 ≤ length values.new }
+    ensures done { IsNone result.2 → result.0 < length values.new → length result.1.now ≡ 0 }
+    ensures within { result.0 ≤ length values.new }
+    ensures room { IfSome result.2 (λ error. result.0 < length values.new) }
+    ensures more { IfSome result.2 (λ error. 0 < length result.1.now) }
+    ensures fault { IfSome result.2 (λ error. Err error ≡ complete format.now T.TYPE
+        (take (field_length separator result.1.now) result.1.now)) }
     ensures size { length values.new ≡ length values.old }
 {
     let mut rest = text;
     let mut marks = 0;
     for i in 0..values.len() {
         if rest.is_empty() {
-            return (i, rest);
+            return (i, rest, None);
         }
         marks = next_marks(rest, marks, separator);
         let (field, behind, more) = cut_field(rest, marks, separator);
-        let Some(value) = value_of_field::<T>(field, format) else {
-            return (i, rest);
-        };
-        values[i] = value;
+        match number_of_field::<T>(field, format) {
+            Ok(value) => values[i] = value,
+            Err(error) => return (i, rest, Some(error)),
+        }
         rest = behind;
         marks = more;
     }
-    (values.len(), rest)
-}
-
-// Reads as `read_any_format` does, or reads nothing where the fields are separated decimal numbers: those have loops of
-// their own.
-#[inline(always)]
-pub(crate) fn read_unless_separated<'a, T: ParseInteger>(
-    text: &'a [u8],
-    separator: u8,
-    format: &NumberFormat,
-    separated: bool,
-    values: &mut [T],
-) -> (usize, &'a [u8])
-    requires valid { IsNone (fault format.now) }
-    ensures reading { (whole : List ℕ) (initial : List T)
-        → IsReadSoFar T T.number format.now T.TYPE separator whole initial values.old 0 text.now
-        → IsReadSoFar T T.number format.now T.TYPE separator whole initial values.new
-        result.0 result.1.now }
-    ensures room { result.0 ≤ length values.new }
-    ensures size { length values.new ≡ length values.old }
-{
-    if separated {
-        return (0, text);
-    }
-    read_any_format::<T>(text, separator, format, values)
+    (values.len(), rest, None)
 }

@@ -1,11 +1,15 @@
 //! Columns: the numbers of a text's fields, read into a slice.
 
-ghost use Rattle.std.specs.Prelude.{◌≡◌, length, take, drop, map, IfOk};
+ghost use Rattle.std.specs.Prelude.{◌≡◌, length, take, drop, map, IfOk, IsNone};
+ghost use Rattle.lexical_util.specs.Validity.{fault};
 ghost use Rattle.lexical_fields.specs.Columns.{GoesOn, answer_of, numbers_of};
 
-use crate::any_format::read_unless_separated;
+use crate::any_format::read_any_format;
 use crate::first::read_first;
 use crate::marked::read_marked;
+use crate::places::error_in_text;
+use crate::search::LEAST_MARKED;
+use lexical_parse_integer::laws::grammar::fault_places;
 use lexical_parse_integer::parse::ParseInteger;
 use lexical_parse_integer::quick::is_separated;
 use lexical_parse_integer::{Error, NumberFormat, Options};
@@ -34,6 +38,41 @@ pub enum ColumnError {
         /// Its fault, whose place counts from the text's start.
         error: Error,
     },
+}
+
+// Reads a column under a valid format of any kind, as `read_column` does.
+#[inline(always)]
+fn read_any_column<T: ParseInteger>(
+    text: &[u8],
+    separator: u8,
+    format: &NumberFormat,
+    values: &mut [T],
+) -> Result<Column, ColumnError>
+    requires valid { IsNone (fault format.now) }
+    ensures answer { result ≡ answer_of format.now T.TYPE
+        (length values.old) separator text.now }
+    ensures numbers { let numbers = numbers_of format.now T.TYPE
+        (length values.old) separator text.now in
+        map T.number (take (length numbers) values.new) ≡ numbers }
+    ensures rest { let numbers = numbers_of format.now T.TYPE
+        (length values.old) separator text.now in
+        drop (length numbers) values.new ≡ drop (length numbers) values.old }
+    ensures size { length values.new ≡ length values.old }
+    ensures goes_on { IfOk result (GoesOn separator text.now (length values.old)
+        (numbers_of format.now T.TYPE (length values.old) separator text.now)) }
+{
+    // The law by which a fault's place is at most the field's length, so that the sum fits.
+    fault_places();
+    let (count, rest, fault) = read_any_format::<T>(text, separator, format, values);
+    let start = text.len() - rest.len();
+    match fault {
+        Some(error) => Err(ColumnError::InvalidField {
+            field: count,
+            start,
+            error: error_in_text(start, error),
+        }),
+        None => Ok(Column { count, stop: start }),
+    }
 }
 
 /// Reads the numbers in the fields of a text between a separator, as far as the slice has room.
@@ -68,9 +107,11 @@ pub fn read_column<T: ParseInteger>(
         return Err(ColumnError::InvalidFormat(error));
     }
     let separated = is_separated(format, separator);
-    let (mut count, mut rest) = read_unless_separated::<T>(
-        text, separator, format, separated, values,
-    );
+    if !separated && text.len() >= LEAST_MARKED {
+        return read_any_column::<T>(text, separator, format, values);
+    }
+    let mut rest = text;
+    let mut count = 0;
     while count < values.len() && !rest.is_empty() {
         let start = text.len() - rest.len();
         let (answer, behind, has_marks) = read_first::<T>(

@@ -41,15 +41,24 @@ pub fn value_for_format<T: Integer>(bytes: &[u8], format: &NumberFormat) -> Opti
     whole::value_for_format::<T>(bytes, format)
 }
 
-/// The integer that the whole text stands for under a valid format, for a text that `value_for_format` has left, and `None`
-/// for one at fault.
-#[inline(never)]
-pub fn value_if_left<T: Integer>(bytes: &[u8], format: &NumberFormat) -> Option<T>
-    requires valid { IsNone (fault format.now) }
-    ensures { IfSome result (λ value. complete format.now T.TYPE bytes.now ≡ Ok (T.number value)) }
+/// The integer that `value_for_format` answers, for a text that `value_if_short` has left: it isn't read as short decimal
+/// digits again.
+///
+/// `None` says nothing of the text.
+#[inline(always)]
+pub fn value_if_not_short<T: Integer>(bytes: &[u8], format: &NumberFormat) -> Option<T>
+    ensures valid { IfSome result (λ value. IsNone (fault format.now)) }
+    ensures answer { IfSome result
+        (λ value. complete format.now T.TYPE bytes.now ≡ Ok (T.number value)) }
 {
-    match whole::complete_if_left::<T>(bytes, format) {
-        Ok(value) => Some(value),
-        Err(_) => None,
-    }
+    whole::value_if_not_short::<T>(bytes, format)
+}
+
+/// The integer that the whole text stands for under a valid format, for a text that these readers have left.
+#[inline(always)]
+pub fn complete_if_left<T: Integer>(bytes: &[u8], format: &NumberFormat) -> Result<T>
+    requires valid { IsNone (fault format.now) }
+    ensures { view_of T.number result ≡ complete format.now T.TYPE bytes.now }
+{
+    whole::complete_if_left::<T>(bytes, format)
 }

@@ -17,22 +17,22 @@ loop-i-init g c = record {
 pub returns-then-is_empty-clause-reading : goal.returns-then-is_empty-clause-reading
 returns-then-is_empty-clause-reading g c = c.loop-i.invariant.reading
 
-pub returns-in_default-clause-reading : goal.returns-in_default-clause-reading
-returns-in_default-clause-reading g c = c.loop-i.invariant.reading
+pub returns-in-Err-clause-reading : goal.returns-in-Err-clause-reading
+returns-in-Err-clause-reading g c = c.loop-i.invariant.reading
 
 pub loop-i-preserved : goal.loop-i-preserved
 loop-i-preserved g c =
     let rest = c.loop-i.rest.now in
     let some : 0 < length rest = grind (arith, nat_tests) in
     let cut = c.cut_field-more.ensures in
-    let told : Ok (g.T.Integer.number c.in-Some.value) ≡ complete c.args.format.now g.T.Integer.TYPE
-    c.cut_field-more.result.0.now = sym c.in-Some.ensures in
+    let told : Ok (g.T.Integer.number c.in-Ok.value) ≡ complete c.args.format.now g.T.Integer.TYPE
+    c.cut_field-more.result.0.now = c.in-Ok.ensures in
     record {
       marks = cut.marks;
       reading = λ whole initial before.
           let reading = c.loop-i.invariant.reading whole initial before in
           reading_goes _ g.T.Integer.number c.args.format.now g.T.Integer.TYPE c.args.separator whole initial
-          c.loop-i.values c.loop-i.i rest reading _ _ c.in-Some.value (omega (arith, reading.size))
+          c.loop-i.values c.loop-i.i rest reading _ _ c.in-Ok.value (omega (arith, reading.size))
           some cut.field cut.behind cut.shorter
           (answered _ _ _ _ _ c.requires.valid told);
     }

@@ -16,13 +16,11 @@ returns-in-Some g c =
     record { answer = r.answer_is; numbers = r.numbers_are; rest = r.rest_is; size = r.size_is; goes_on = tt }
 
 pub loop-count-init : goal.loop-count-init
-loop-count-init g c =
-    let at = c.read_unless_separated-count.ensures in
-    record {
-      reading = at.reading c.args.text.now c.args.values.now (reading_starts _ g.T.Integer.number c.args.format.now
-          g.T.Integer.TYPE c.args.separator c.args.text.now c.args.values.now);
-      room = omega (arith, at.room, at.size);
-    }
+loop-count-init g c = record {
+  reading = reading_starts _ g.T.Integer.number c.args.format.now g.T.Integer.TYPE c.args.separator c.args.text.now
+      c.args.values.now;
+  room = omega arith;
+}
 
 pub overflow_sub-start : goal.overflow_sub-start
 overflow_sub-start g c = c.loop-count.invariant.reading.within
