@@ -18,6 +18,7 @@ mod dialect;
 mod header;
 mod marked;
 mod misplaced;
+mod parsed;
 mod parts;
 mod quotes;
 mod rows;

@@ -8,8 +8,8 @@ ghost use Rattle.lexical_fields.specs.ReadFields.{field_answer};
 ghost use Rattle.lexical_tables.specs.ByColumn.{IsUsable};
 ghost use Rattle.lexical_tables.specs.Targets.{TargetView, error_in, has_bits, put_text, put_value, text_answer, text_fault, view_of_target, with_number, with_row_bit};
 
-use lexical_fields::{error_in_text, value_in_front};
-use lexical_parse_integer::laws::grammar::fault_places;
+use crate::parsed::put_parsed;
+use lexical_fields::value_in_front;
 use lexical_parse_integer::parse::ParseInteger;
 use lexical_parse_integer::{Error, NumberFormat, Options, format};
 
@@ -46,35 +46,6 @@ pub struct Target<'a> {
     pub present: Option<&'a mut [u8]>,
 }
 
-// Puts the number of a cell into a row's place, or tells the cell's fault: by the parser.
-#[inline(never)]
-fn put_parsed<T: ParseInteger>(
-    values: &mut [T],
-    row: usize,
-    start: usize,
-    cell: &[u8],
-    format: &NumberFormat,
-    options: &Options,
-) -> Option<Error>
-    requires valid { IsNone (fault format.now) }
-    requires room { row < length values.old }
-    requires fits { start + length cell.now < 2 ^ 64 }
-    ensures fault { result ≡ error_in (field_answer format.now T.TYPE
-        (record { start = start; text = cell.now })) }
-    ensures numbers { map T.number values.new ≡ with_number row (field_answer format.now T.TYPE
-        (record { start = start; text = cell.now })) (map T.number values.old) }
-{
-    // The law by which a fault's place is at most the cell's length, so that the sum fits.
-    fault_places();
-    match T::parse_complete(cell, format, options) {
-        Ok(value) => {
-            values[row] = value;
-            None
-        }
-        Err(error) => Some(error_in_text(start, error)),
-    }
-}
-
 /// Puts the number of a cell that starts at a place into a row's place of a slice, or tells the cell's fault.
 ///
 /// It is for a [`TableColumn`] of one's own. The format has to be valid, and the slice has to have that place. The
@@ -102,7 +73,7 @@ pub fn put_cell<T: ParseInteger>(
         values[row] = value;
         return None;
     }
-    put_parsed(values, row, start, cell, format, options)
+    put_parsed(values, row, start, cell, format)
 }
 
 // Puts a number by the parser under the standard format, which is made here: its caller would make it for each cell.
@@ -112,7 +83,6 @@ fn put_standard_parsed<T: ParseInteger>(
     row: usize,
     start: usize,
     cell: &[u8],
-    options: &Options,
 ) -> Option<Error>
     requires room { row < length values.old }
     requires fits { start + length cell.now < 2 ^ 64 }
@@ -121,7 +91,7 @@ fn put_standard_parsed<T: ParseInteger>(
     ensures numbers { map T.number values.new ≡ with_number row (field_answer standard T.TYPE
         (record { start = start; text = cell.now })) (map T.number values.old) }
 {
-    put_parsed(values, row, start, cell, &format::STANDARD, options)
+    put_parsed(values, row, start, cell, &format::STANDARD)
 }
 
 // The number of a text's first bytes, so many, under the standard format, as `value_in_front` has it. Why out of line:
@@ -156,7 +126,7 @@ pub fn put_standard_cell<T: ParseInteger>(
         values[row] = value;
         return None;
     }
-    put_standard_parsed(values, row, start, cell, options)
+    put_standard_parsed(values, row, start, cell)
 }
 
 /// Puts 0 into a row's place of a slice.
@@ -349,7 +319,7 @@ impl Target<'_> {
         ensures target { view_of_target self.new ≡ put_text row
             (record { start = start; text = text.now }) (view_of_target self.old) }
     {
-        if let Some(error) = self.put_number(row, start, text, options) {
+        if let Some(error) = self.put_number(row, start, text) {
             return Some(error);
         }
         self.put_presence(row, true);
@@ -358,13 +328,7 @@ impl Target<'_> {
 
     // Puts the number of a text that isn't had at once into a row's place, or tells the text's fault.
     #[inline(always)]
-    fn put_number(
-        &mut self,
-        row: usize,
-        start: usize,
-        text: &[u8],
-        options: &Options,
-    ) -> Option<Error>
+    fn put_number(&mut self, row: usize, start: usize, text: &[u8]) -> Option<Error>
         requires valid { IsNone (fault self.old.format) }
         requires room { row < length (view_of_target self.old).numbers }
         requires fits { start + length text.now < 2 ^ 64 }
@@ -377,14 +341,14 @@ impl Target<'_> {
     {
         let format = &self.format;
         match &mut self.numbers {
-            Numbers::U8(values) => put_parsed::<u8>(values, row, start, text, format, options),
-            Numbers::U16(values) => put_parsed::<u16>(values, row, start, text, format, options),
-            Numbers::U32(values) => put_parsed::<u32>(values, row, start, text, format, options),
-            Numbers::U64(values) => put_parsed::<u64>(values, row, start, text, format, options),
-            Numbers::I8(values) => put_parsed::<i8>(values, row, start, text, format, options),
-            Numbers::I16(values) => put_parsed::<i16>(values, row, start, text, format, options),
-            Numbers::I32(values) => put_parsed::<i32>(values, row, start, text, format, options),
-            Numbers::I64(values) => put_parsed::<i64>(values, row, start, text, format, options),
+            Numbers::U8(values) => put_parsed::<u8>(values, row, start, text, format),
+            Numbers::U16(values) => put_parsed::<u16>(values, row, start, text, format),
+            Numbers::U32(values) => put_parsed::<u32>(values, row, start, text, format),
+            Numbers::U64(values) => put_parsed::<u64>(values, row, start, text, format),
+            Numbers::I8(values) => put_parsed::<i8>(values, row, start, text, format),
+            Numbers::I16(values) => put_parsed::<i16>(values, row, start, text, format),
+            Numbers::I32(values) => put_parsed::<i32>(values, row, start, text, format),
+            Numbers::I64(values) => put_parsed::<i64>(values, row, start, text, format),
         }
     }
 }

@@ -1,0 +1,45 @@
+//! Numbers of cells that aren't had at once, and faults of cells.
+
+ghost use Rattle.std.specs.Prelude.{◌≡◌, ◌+◌, ◌<◌, ◌^◌, IsNone, length, map};
+ghost use Rattle.lexical_util.specs.Validity.{fault};
+ghost use Rattle.lexical_fields.specs.ReadFields.{field_answer};
+ghost use Rattle.lexical_tables.specs.Targets.{error_in, with_number};
+
+use lexical_fields::error_in_text;
+use lexical_parse_integer::laws::grammar::fault_places;
+use lexical_parse_integer::parse::ParseInteger;
+use lexical_parse_integer::quick::{complete_if_left, value_if_not_short};
+use lexical_parse_integer::{Error, NumberFormat};
+
+// Puts the number of a cell that isn't had at once into a row's place, or tells the cell's fault: by the reader for its
+// format's kind, or by the parser.
+#[inline(never)]
+pub(crate) fn put_parsed<T: ParseInteger>(
+    values: &mut [T],
+    row: usize,
+    start: usize,
+    cell: &[u8],
+    format: &NumberFormat,
+) -> Option<Error>
+    requires valid { IsNone (fault format.now) }
+    requires room { row < length values.old }
+    requires fits { start + length cell.now < 2 ^ 64 }
+    ensures fault { result ≡ error_in (field_answer format.now T.TYPE
+        (record { start = start; text = cell.now })) }
+    ensures numbers { map T.number values.new ≡ with_number row (field_answer format.now T.TYPE
+        (record { start = start; text = cell.now })) (map T.number values.old) }
+{
+    if let Some(value) = value_if_not_short::<T>(cell, format) {
+        values[row] = value;
+        return None;
+    }
+    // The law by which a fault's place is at most the cell's length, so that the sum fits.
+    fault_places();
+    match complete_if_left::<T>(cell, format) {
+        Ok(value) => {
+            values[row] = value;
+            None
+        }
+        Err(error) => Some(error_in_text(start, error)),
+    }
+}
