@@ -16,7 +16,7 @@ pub const MOST_OF_VALUE_LINE: usize = 45;
 /// The room that the longest `ok V PLACE` and a line feed ask for.
 pub const MOST_OF_FOUND_LINE: usize = 66;
 
-/// The room that the longest `err NAME PLACE` and a line feed ask for.
+/// Room enough for the longest `err NAME PLACE` and a line feed.
 pub const MOST_OF_FAULT_LINE: usize = 48;
 
 /// Adds `ok V` and a line feed, and answers where they end.

@@ -48,7 +48,8 @@ pub(super) fn standard_line<W: Write>(
     }
 }
 
-// The answer to the complete parse of a text as one of type `T`, which `N` holds, and a line feed.
+// The answer to the complete parse of a text as one of type `T`, which `N` holds, and a line feed. Why out of line:
+// docs/DECISIONS.md, code.
 #[inline(never)]
 fn standard_line_as<T, N, W: Write>(
     text: &[u8],
