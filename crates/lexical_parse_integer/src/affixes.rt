@@ -7,7 +7,7 @@ use lexical_util::format::NumberFormat;
 // Whether a byte matches a prefix or suffix, with or without regard to ASCII case.
 #[inline(always)]
 #[tactic(auto, unfolding(crate::specs::Affixes::matches))]
-pub(crate) fn matches(is_case_sensitive: bool, affix: u8, byte: u8) -> bool
+fn matches(is_case_sensitive: bool, affix: u8, byte: u8) -> bool
     ensures { result ≡ matches is_case_sensitive affix byte }
 {
     if byte == affix {
@@ -72,7 +72,7 @@ fn literal_radix(is_case_sensitive: bool, byte: Option<u8>) -> Option<u32>
 // The effective radix behind a zero and a byte, where the two are a prefix.
 #[inline(always)]
 #[tactic(auto, unfolding(crate::specs::Affixes::named_radix))]
-pub(crate) fn named_radix(format: &NumberFormat, byte: Option<u8>) -> Option<u32>
+fn named_radix(format: &NumberFormat, byte: Option<u8>) -> Option<u32>
     ensures { result ≡ named_radix format.now byte }
 {
     if is_affix(

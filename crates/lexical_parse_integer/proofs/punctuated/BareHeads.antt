@@ -1,6 +1,6 @@
 -- Where surely neither a prefix nor an octal zero stands.
 use Rattle.std.proofs.Common.{◌≡◌, ◌≢◌, ℕ, ◌+◌, ◌<◌, ◌≤◌, Bool, true, false, ◌&&◌, cond, List, [], ◌∷◌, length, refl, sym, ap, ◌∙◌, arith, Option, Some, None, Ok, Result}
-use Rattle.std.specs.Prelude.{IfSome, slice_get, slice_index}
+use Rattle.std.specs.Prelude.{◌==◌, IfSome, slice_get, slice_index}
 use Rattle.std.proofs.Math.Bool.{and-false}
 use Rattle.std.proofs.lemmas.Bool.{ne_eqb}
 use Rattle.std.proofs.lemmas.Bool.Decides.{nat_tests}
@@ -8,6 +8,7 @@ use Rattle.std.proofs.lemmas.Option.{slice_get-get_or, slice_get_past}
 use Rattle.lexical_util.specs.Digit.{digit}
 use Rattle.lexical_util.specs.Format.{Format}
 use Rattle.lexical_util.specs.Number.{IntegerType}
+use Rattle.lexical_util.specs.Validity.{lower_case}
 use Rattle.lexical_parse_integer.specs.Affixes.{is_affix, literal_radix, matches, named_radix, octal_zero_at, prefix_radix}
 use Rattle.lexical_util.specs.declared.error.Error.{Error}
 use Rattle.lexical_parse_integer.specs.declared.algorithm.front.Head as Told
@@ -52,32 +53,40 @@ none_named f = by_own f.base_prefix f.literal_prefixes
 pub no_prefix_at_end : (f : Format) (text : List ℕ) (k : ℕ) → k + 1 ≡ length text → None ≡ prefix_radix f text k
 no_prefix_at_end f text k end = no_name f text k (ap (named_radix f) (slice_get_past text (k + 1) (omega arith)) ∙ none_named f)
 
--- no byte up to `9` is the letter of a prefix
-low_named : (f : Format) (b : ℕ) → b ≤ 57 → IfSome f.base_prefix (λ p. 102 < p) → named_radix f (Some b) ≡ None
+-- no byte that stands before the letters of prefixes in lower case is one of them, but for the `b` of literal ones
+pub low_named : (f : Format) (b : ℕ) → lower_case b ≤ 102 → (f.literal_prefixes ≡ true → b ≤ 57) → IfSome f.base_prefix (λ p. 102 < p) → named_radix f (Some b) ≡ None
 unfolding named_radix literal_radix is_affix matches
-low_named f b low past = by_own f.base_prefix f.case_sensitive_base_prefix f.literal_prefixes past
+low_named f b low literal past = by_own f.base_prefix f.case_sensitive_base_prefix f.literal_prefixes literal past
   where
-    no_letter : (s : Bool) → literal_radix s (Some b) ≡ None
-    no_letter true = grind (arith, nat_tests)
-    no_letter false = grind (arith, nat_tests)
+    no_letter : (s : Bool) → b ≤ 57 → literal_radix s (Some b) ≡ None
+    no_letter true few = grind (arith, nat_tests)
+    no_letter false few = grind (arith, nat_tests)
 
     apart : (s : Bool) (m : ℕ) → 102 < m → matches s m b ≡ false
     apart true m past = grind (arith, nat_tests)
     apart false m past = grind (arith, nat_tests)
 
-    by_own : (own : Option ℕ) (s asked : Bool) → IfSome own (λ p. 102 < p) → cond (is_affix s own (Some b)) (Some f.mantissa_radix) (cond asked (literal_radix s (Some b)) None) ≡ None
-    by_own None s false past = refl
-    by_own None s true past = no_letter s
-    by_own (Some m) s false past = rw (apart s m past) refl
-    by_own (Some m) s true past = rw (apart s m past) (no_letter s)
+    by_own : (own : Option ℕ) (s asked : Bool) → (asked ≡ true → b ≤ 57) → IfSome own (λ p. 102 < p) → cond (is_affix s own (Some b)) (Some f.mantissa_radix) (cond asked (literal_radix s (Some b)) None) ≡ None
+    by_own None s false literal past = refl
+    by_own None s true literal past = no_letter s (literal refl)
+    by_own (Some m) s false literal past = rw (apart s m past) refl
+    by_own (Some m) s true literal past = rw (apart s m past) (no_letter s (literal refl))
+
+pub capital_lower : (b : ℕ) → b ≤ 70 → lower_case b ≤ 102
+capital_lower b low = grind (arith, nat_tests)
+
+pub small_lower : (b : ℕ) → 97 ≤ b → b ≤ 102 → lower_case b ≤ 102
+small_lower b low high = grind (arith, nat_tests)
 
 pub no_prefix_unnamed : (f : Format) (text : List ℕ) (k : ℕ) → k + 1 < length text → named_radix f (Some (slice_index text (k + 1))) ≡ None → None ≡ prefix_radix f text k
 no_prefix_unnamed f text k more none = no_name f text k (ap (named_radix f) (slice_get-get_or text (k + 1) 0 more) ∙ none)
 
-pub no_prefix_before : (f : Format) (text : List ℕ) (k : ℕ) → k + 1 < length text → slice_index text (k + 1) ≤ 57 → IfSome f.base_prefix (λ p. 102 < p) → None ≡ prefix_radix f text k
-no_prefix_before f text k more low past = no_name f text k (ap (named_radix f) (slice_get-get_or text (k + 1) 0 more) ∙ low_named f (slice_index text (k + 1)) low past)
-
 -- ---- a letter `x` behind a zero
+
+is_x : (s : Bool) (b : ℕ) → b ≡ 120 → matches s 120 b ≡ true
+unfolding matches
+is_x true b is = ap (λ (c : ℕ). c == 120) is
+is_x false b is = ap (λ (c : ℕ). lower_case c == 120) is
 
 x_named : (f : Format) (b : ℕ) → matches f.case_sensitive_base_prefix 120 b ≡ true → (f.base_prefix ≡ Some 120) × (f.mantissa_radix ≡ 16) → named_radix f (Some b) ≡ Some 16
 unfolding named_radix is_affix
@@ -94,11 +103,11 @@ behind_zero f text k is_zero more named =
     let next : slice_get text (k + 1) ≡ Some (slice_index text (k + 1)) = slice_get-get_or text (k + 1) 0 more in
     sym (rw (here, next) named)
 
-pub behind_own_x : (f : Format) (text : List ℕ) (k : ℕ) → slice_index text k ≡ 48 → k + 1 < length text → matches f.case_sensitive_base_prefix 120 (slice_index text (k + 1)) ≡ true → f.base_prefix ≡ Some 120 → f.mantissa_radix ≡ 16 → Some 16 ≡ prefix_radix f text k
-behind_own_x f text k is_zero more is own radix = behind_zero f text k is_zero more (x_named f _ is (own, radix))
+pub behind_own_x : (f : Format) (text : List ℕ) (k : ℕ) → slice_index text k ≡ 48 → k + 1 < length text → slice_index text (k + 1) ≡ 120 → f.base_prefix ≡ Some 120 → f.mantissa_radix ≡ 16 → Some 16 ≡ prefix_radix f text k
+behind_own_x f text k is_zero more is own radix = behind_zero f text k is_zero more (x_named f _ (is_x f.case_sensitive_base_prefix _ is) (own, radix))
 
-pub behind_literal_x : (f : Format) (text : List ℕ) (k : ℕ) → slice_index text k ≡ 48 → k + 1 < length text → matches f.case_sensitive_base_prefix 120 (slice_index text (k + 1)) ≡ true → f.base_prefix ≡ None → f.literal_prefixes ≡ true → Some 16 ≡ prefix_radix f text k
-behind_literal_x f text k is_zero more is none literal = behind_zero f text k is_zero more (x_literal f _ is (none, literal))
+pub behind_literal_x : (f : Format) (text : List ℕ) (k : ℕ) → slice_index text k ≡ 48 → k + 1 < length text → slice_index text (k + 1) ≡ 120 → f.base_prefix ≡ None → f.literal_prefixes ≡ true → Some 16 ≡ prefix_radix f text k
+behind_literal_x f text k is_zero more is none literal = behind_zero f text k is_zero more (x_literal f _ (is_x f.case_sensitive_base_prefix _ is) (none, literal))
 
 -- ---- no sign before a zero
 

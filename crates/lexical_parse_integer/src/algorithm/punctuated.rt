@@ -6,7 +6,7 @@
 ghost use Rattle.std.specs.Prelude.{◌≡◌, ◌<◌, ◌||◌, IfSome, IsNone, IsTrue, None, Some, Ok, false, length, slice_index};
 ghost use Rattle.lexical_util.specs.Ascii.{digit_zero};
 ghost use Rattle.lexical_util.specs.Validity.{fault};
-ghost use Rattle.lexical_parse_integer.specs.Affixes.{octal_zero_at, prefix_radix};
+ghost use Rattle.lexical_parse_integer.specs.Affixes.{named_radix, octal_zero_at, prefix_radix};
 ghost use Rattle.lexical_parse_integer.specs.Grammar.{complete};
 ghost use Rattle.lexical_parse_integer.specs.Head.{head_of, sign};
 ghost use Rattle.lexical_parse_integer.specs.Plain.{keeps_zero_rule};
@@ -14,7 +14,6 @@ ghost use Rattle.lexical_parse_integer.specs.Plain.{keeps_zero_rule};
 mod threes;
 pub(crate) mod validity;
 
-use crate::affixes::{matches, named_radix};
 use crate::algorithm::front::{Head, head_behind_sign, sign_of};
 use crate::algorithm::plain::keeps_zero_rule;
 use crate::algorithm::punctuated::threes::value_of_threes;
@@ -31,7 +30,7 @@ fn is_behind_x(bytes: &[u8], format: &NumberFormat) -> bool
     requires { slice_index bytes.now 0 ≡ digit_zero }
     ensures prefix { IsTrue result → Some 16 ≡ prefix_radix format.now bytes.now 0 }
 {
-    if bytes.len() < 2 || !matches(format.case_sensitive_base_prefix(), b'x', bytes[1]) {
+    if bytes.len() < 2 || bytes[1] != b'x' {
         return false;
     }
     match format.base_prefix() {
@@ -40,8 +39,20 @@ fn is_behind_x(bytes: &[u8], format: &NumberFormat) -> bool
     }
 }
 
-// Whether surely neither a prefix nor an octal zero stands in front of a text that begins with a zero: no letter of a prefix
-// follows that.
+// Whether a byte surely is no letter of a prefix: it stands before all letters, or is a digit of radix 16 under a format with
+// no literal prefixes.
+#[inline(always)]
+fn is_unnamed(byte: u8, format: &NumberFormat) -> bool
+    requires { IfSome format.now.base_prefix (λ prefix. 102 < prefix) }
+    ensures { IsTrue result → named_radix format.now (Some byte) ≡ None }
+{
+    if byte <= b'9' {
+        return true;
+    }
+    !format.literal_prefixes() && (byte <= b'F' || (byte >= b'a' && byte <= b'f'))
+}
+
+// Whether surely neither a prefix nor an octal zero stands in front of a text that begins with a zero.
 #[inline(always)]
 #[tactic(auto, unfolding(crate::specs::Affixes::octal_zero_at))]
 fn is_bare(bytes: &[u8], format: &NumberFormat) -> bool
@@ -53,10 +64,7 @@ fn is_bare(bytes: &[u8], format: &NumberFormat) -> bool
     if format.literal_octal_zero() {
         return false;
     }
-    if bytes.len() == 1 || bytes[1] <= b'9' {
-        return true;
-    }
-    named_radix(format, Some(bytes[1])).is_none()
+    bytes.len() == 1 || is_unnamed(bytes[1], format)
 }
 
 // The head of a text with neither a prefix nor an octal zero behind its sign.
