@@ -1,5 +1,5 @@
 -- A cell whose end one look shows, where no quote is among its bytes.
-use Rattle.std.proofs.Common.{◌≡◌, ◌≢◌, ◌∙◌, ℕ, zero, suc, ◌+◌, ◌<◌, ◌≤◌, ◌==◌, List, length, take, get_or, Bool, true, false, cond, refl, subst, ap, sym, arith, inl, inr, ◌⊎◌}
+use Rattle.std.proofs.Common.{◌≡◌, ◌≢◌, ◌∙◌, ℕ, zero, suc, ◌+◌, ◌<◌, ◌≤◌, ◌==◌, List, length, take, get_or, true, false, cond, refl, subst, ap, sym, arith, inl, inr, ◌⊎◌}
 use Rattle.std.proofs.lemmas.Bool.{eqb-true}
 use Rattle.std.proofs.lemmas.List.{get_or-take}
 use Rattle.lexical_fields.specs.Fields.{field_length}

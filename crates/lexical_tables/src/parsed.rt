@@ -1,6 +1,7 @@
 //! Numbers of cells that aren't had at once, and faults of cells.
 
 ghost use Rattle.std.specs.Prelude.{◌≡◌, ◌+◌, ◌<◌, ◌^◌, IsNone, length, map};
+ghost use Rattle.lexical_util.specs.Format.{standard};
 ghost use Rattle.lexical_util.specs.Validity.{fault};
 ghost use Rattle.lexical_fields.specs.ReadFields.{field_answer};
 ghost use Rattle.lexical_tables.specs.Targets.{error_in, with_number};
@@ -9,7 +10,7 @@ use lexical_fields::error_in_text;
 use lexical_parse_integer::laws::grammar::fault_places;
 use lexical_parse_integer::parse::ParseInteger;
 use lexical_parse_integer::quick::{complete_if_left, value_if_not_short};
-use lexical_parse_integer::{Error, NumberFormat};
+use lexical_parse_integer::{Error, NumberFormat, Options, format};
 
 // Puts the number of a cell that isn't had at once into a row's place, or tells the cell's fault: by the reader for its
 // format's kind, or by the parser.
@@ -36,6 +37,33 @@ pub(crate) fn put_parsed<T: ParseInteger>(
     // The law by which a fault's place is at most the cell's length, so that the sum fits.
     fault_places();
     match complete_if_left::<T>(cell, format) {
+        Ok(value) => {
+            values[row] = value;
+            None
+        }
+        Err(error) => Some(error_in_text(start, error)),
+    }
+}
+
+// The same under the standard format, which is made here: its caller would make it for each cell. Why out of line:
+// docs/DECISIONS.md, code.
+#[inline(never)]
+pub(crate) fn put_standard_parsed<T: ParseInteger>(
+    values: &mut [T],
+    row: usize,
+    start: usize,
+    cell: &[u8],
+    options: &Options,
+) -> Option<Error>
+    requires room { row < length values.old }
+    requires fits { start + length cell.now < 2 ^ 64 }
+    ensures fault { result ≡ error_in (field_answer standard T.TYPE
+        (record { start = start; text = cell.now })) }
+    ensures numbers { map T.number values.new ≡ with_number row (field_answer standard T.TYPE
+        (record { start = start; text = cell.now })) (map T.number values.old) }
+{
+    fault_places();
+    match T::parse_complete(cell, &format::STANDARD, options) {
         Ok(value) => {
             values[row] = value;
             None

@@ -8,7 +8,7 @@ ghost use Rattle.lexical_fields.specs.ReadFields.{field_answer};
 ghost use Rattle.lexical_tables.specs.ByColumn.{IsUsable};
 ghost use Rattle.lexical_tables.specs.Targets.{TargetView, error_in, has_bits, put_text, put_value, text_answer, text_fault, view_of_target, with_number, with_row_bit};
 
-use crate::parsed::put_parsed;
+use crate::parsed::{put_parsed, put_standard_parsed};
 use lexical_fields::value_in_front;
 use lexical_parse_integer::parse::ParseInteger;
 use lexical_parse_integer::{Error, NumberFormat, Options, format};
@@ -76,24 +76,6 @@ pub fn put_cell<T: ParseInteger>(
     put_parsed(values, row, start, cell, format)
 }
 
-// Puts a number by the parser under the standard format, which is made here: its caller would make it for each cell.
-#[inline(always)]
-fn put_standard_parsed<T: ParseInteger>(
-    values: &mut [T],
-    row: usize,
-    start: usize,
-    cell: &[u8],
-) -> Option<Error>
-    requires room { row < length values.old }
-    requires fits { start + length cell.now < 2 ^ 64 }
-    ensures fault { result ≡ error_in (field_answer standard T.TYPE
-        (record { start = start; text = cell.now })) }
-    ensures numbers { map T.number values.new ≡ with_number row (field_answer standard T.TYPE
-        (record { start = start; text = cell.now })) (map T.number values.old) }
-{
-    put_parsed(values, row, start, cell, &format::STANDARD)
-}
-
 // The number of a text's first bytes, so many, under the standard format, as `value_in_front` has it. Why out of line:
 // docs/DECISIONS.md, code.
 #[inline(never)]
@@ -126,7 +108,7 @@ pub fn put_standard_cell<T: ParseInteger>(
         values[row] = value;
         return None;
     }
-    put_standard_parsed(values, row, start, cell)
+    put_standard_parsed(values, row, start, cell, options)
 }
 
 /// Puts 0 into a row's place of a slice.

@@ -1,4 +1,4 @@
-use Rattle.std.proofs.Common.{◌≡◌, ◌<◌, sym, subst, length, arith}
+use Rattle.std.proofs.Common.{◌≡◌, ◌<◌, subst, length, arith}
 use Rattle.std.specs.Prelude.{Ok}
 use Rattle.std.proofs.lemmas.Bool.Decides.{nat_tests}
 use Rattle.lexical_parse_integer.specs.Grammar.{complete}

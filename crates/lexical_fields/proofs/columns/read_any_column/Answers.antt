@@ -1,10 +1,9 @@
-use Rattle.std.proofs.Common.{◌≡◌, ◌≤◌, ◌<◌, ◌+◌, ◌-◌, ◌∙◌, ℕ, zero, suc, List, [], ◌∷◌, ap, take, drop, length, length-drop, refl, subst, sym, arith, inl, inr, Err, Some}
+use Rattle.std.proofs.Common.{◌≡◌, ◌≤◌, ◌<◌, ◌+◌, ◌-◌, ◌∙◌, ℕ, zero, suc, List, [], ◌∷◌, ap, take, drop, length, length-drop, refl, subst, sym, arith, inl, inr, Err}
 use Rattle.std.specs.Prelude.{IfSome, IsNone, None}
 use Rattle.std.proofs.lemmas.Bool.{cases_lt}
 use Rattle.lexical_parse_integer.specs.Grammar.{complete}
 use Rattle.lexical_fields.specs.Columns.{outcome_at}
 use Rattle.lexical_fields.specs.Fields.{field_length}
-use Rattle.lexical_fields.specs.ReadSoFar.{IsReadSoFar}
 use Rattle.lexical_fields.proofs.ColumnSteps.{IsRead, read_all, read_fault, read_full, reading_starts}
 use Rattle.lexical_fields.proofs.FieldAnswers.{answered, fault_within, place_fits, valid_of}
 use Rattle.lexical_fields.proofs.columns.read_any_column.Goals as goal

@@ -1,4 +1,4 @@
-use Rattle.std.proofs.Common.{arith, false, refl, sym}
+use Rattle.std.proofs.Common.{arith, false, refl}
 use Rattle.lexical_util.specs.Format.{standard}
 use Rattle.lexical_util.specs.Number.{integer_type}
 use Rattle.lexical_literals.proofs.DecimalFronts.{decimal_read}

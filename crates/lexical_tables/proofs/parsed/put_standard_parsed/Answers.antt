@@ -1,0 +1,28 @@
+use Rattle.std.proofs.Common.{Ok, Err, Some, ap, map, refl, ◌∙◌}
+use Rattle.std.proofs.lemmas.List.{map-set}
+use Rattle.lexical_fields.proofs.FieldAnswers.{answered}
+use Rattle.lexical_util.specs.Format.{standard}
+use Rattle.lexical_tables.specs.Targets.{error_in, with_number}
+use Rattle.lexical_tables.proofs.parsed.put_standard_parsed.Goals as goal
+
+pub returns-in-Ok : goal.returns-in-Ok
+returns-in-Ok g c =
+    let number = g.T.Integer.number in
+    let told = answered standard g.T.Integer.TYPE c.args.start c.args.cell.now (Ok (number c.in-Ok.value))
+    refl c.in-Ok.ensures in
+    record {
+      fault = ap error_in told;
+      numbers =
+          map-set number c.args.values.now c.args.row c.in-Ok.value
+          ∙ ap (λ a. with_number c.args.row a (map number c.args.values.now)) told;
+    }
+
+pub returns-in-Err : goal.returns-in-Err
+returns-in-Err g c =
+    let number = g.T.Integer.number in
+    let told = answered standard g.T.Integer.TYPE c.args.start c.args.cell.now (Err c.in-Err.error)
+    refl c.in-Err.ensures in
+    record {
+      fault = ap Some c.error_in_text.ensures ∙ ap error_in told;
+      numbers = ap (λ a. with_number c.args.row a (map number c.args.values.now)) told;
+    }
