@@ -3,7 +3,7 @@
 //
 // Only what is sure is answered: what is left is read under the format.
 ghost use Rattle.std.specs.Prelude.{◌≡◌, ◌+◌, ◌-◌, ◌*◌, ◌<◌, ◌≤◌, ℕ, Bool, IfSome, IsTrue, None, Ok, Some, false, is_some, length, pos, slice_get, slice_index, true};
-ghost use Rattle.lexical_util.specs.Ascii.{digit_zero, underscore};
+ghost use Rattle.lexical_util.specs.Ascii.{underscore};
 ghost use Rattle.lexical_util.specs.Digit.{digit};
 ghost use Rattle.lexical_util.specs.Format.{Format};
 ghost use Rattle.lexical_util.specs.Number.{integer_type};

@@ -41,10 +41,10 @@ pub fn value_for_format<T: Integer>(bytes: &[u8], format: &NumberFormat) -> Opti
     whole::value_for_format::<T>(bytes, format)
 }
 
-/// The integer that `value_for_format` answers, for a text that `value_if_short` has left: it isn't read as short decimal
-/// digits again.
+/// The integer that the whole text stands for under a valid format, for a text that `value_if_short` has left: it isn't
+/// read as short decimal digits again.
 ///
-/// `None` says nothing of the text.
+/// It has what `value_for_format` has of such a text, and decimal digits behind a plus. `None` says nothing of the text.
 #[inline(always)]
 pub fn value_if_not_short<T: Integer>(bytes: &[u8], format: &NumberFormat) -> Option<T>
     ensures valid { IfSome result (λ value. IsNone (fault format.now)) }
@@ -54,7 +54,8 @@ pub fn value_if_not_short<T: Integer>(bytes: &[u8], format: &NumberFormat) -> Op
     whole::value_if_not_short::<T>(bytes, format)
 }
 
-/// The integer that the whole text stands for under a valid format, for a text that these readers have left.
+/// The integer that the whole text stands for under a valid format, or its fault, for a text that `value_for_format` or
+/// `value_if_not_short` has left.
 #[inline(always)]
 pub fn complete_if_left<T: Integer>(bytes: &[u8], format: &NumberFormat) -> Result<T>
     requires valid { IsNone (fault format.now) }

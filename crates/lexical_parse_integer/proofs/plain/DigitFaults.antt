@@ -7,7 +7,7 @@ use Rattle.std.proofs.lemmas.Bool.Decides.{nat_tests}
 use Rattle.std.proofs.lemmas.List.{get_or-drop, length-drop, length-take-le}
 use Rattle.lexical_util.specs.declared.error.Error.TheVariants.{Empty, InvalidDigit}
 use Rattle.lexical_util.specs.Digit.{digit}
-use Rattle.lexical_util.specs.Format.{Format, standard}
+use Rattle.lexical_util.specs.Format.{Format}
 use Rattle.lexical_util.specs.Number.{HasRoom, IntegerType, IsNumber}
 use Rattle.lexical_digits.specs.Value.{with_sign}
 use Rattle.lexical_digits.specs.Words.{AreDigits, word_value}
@@ -58,9 +58,6 @@ fewer_keep f (suc k) (b ∷ bs) some within rule =
     by_size true false true z up e = absurd (false≢true (up refl))
 
 -- ---- the byte behind them
-
-pub standard_plain : IsPlain standard
-standard_plain = record { no_separator = refl; no_prefix = refl; no_suffix = refl; no_literals = refl; no_octal_zeros = refl; no_sign = refl }
 
 module _ (f : Format) (t : IntegerType) (text : List ℕ) (s : Bool × ℕ) (count : ℕ) (plain : IsPlain f) (ten : f.mantissa_radix ≡ 10) (sign_is : sign f t text ≡ Ok s) where
   abbrev digits : List ℕ

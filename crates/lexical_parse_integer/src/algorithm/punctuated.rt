@@ -39,8 +39,8 @@ fn is_behind_x(bytes: &[u8], format: &NumberFormat) -> bool
     }
 }
 
-// Whether a byte surely is no letter of a prefix: it stands before all letters, or is a digit of radix 16 under a format with
-// no literal prefixes.
+// Whether a byte surely is no letter of a prefix: it stands before all letters, or, under a format with no literal prefixes,
+// before those that are no digits of radix 16.
 #[inline(always)]
 fn is_unnamed(byte: u8, format: &NumberFormat) -> bool
     requires { IfSome format.now.base_prefix (λ prefix. 102 < prefix) }
@@ -218,6 +218,7 @@ pub(super) fn value_of_groups<T: Integer>(
     if bytes.len() <= start {
         return None;
     }
+    // A longer text has more digits than a short type has room for, with the one that may fit yet: it is mostly at fault.
     if T::BITS < 32 && bytes.len() > start + T::overflow_digits(10) + 1 {
         return None;
     }

@@ -1,19 +1,17 @@
 // What the whole text stands for: its value by the reader for the format's kind, where `None` says nothing, and the answer
 // for what these readers leave.
-ghost use Rattle.std.specs.Prelude.{◌≡◌, IfSome, IsNone, IsTrue, Ok, false, is_some, true};
+ghost use Rattle.std.specs.Prelude.{◌≡◌, IfSome, IsNone, Ok};
 ghost use Rattle.lexical_util.specs.Validity.{fault};
 ghost use Rattle.lexical_parse_integer.specs.Answer.{view_of};
 ghost use Rattle.lexical_parse_integer.specs.Grammar.{complete};
-ghost use Rattle.lexical_parse_integer.specs.Plain.{IsPlain, keeps_zero_rule};
-ghost use Rattle.lexical_parse_integer.specs.Runs.{digit_at};
+ghost use Rattle.lexical_parse_integer.specs.Plain.{IsPlain};
 
 use crate::algorithm::front::{complete_from_front, sign_of};
 use crate::algorithm::plain::faults::{answer_after_digits, place_after_digits};
 use crate::algorithm::plain::{
-    is_plain, keeps_zero_rule, value_behind_plus, value_of_decimal, value_of_plain,
+    has_forbidden_zero, is_plain, value_behind_plus, value_of_decimal, value_of_plain,
 };
 use crate::algorithm::punctuated::{value_of_groups, value_of_row};
-use crate::seek::digit_at;
 use lexical_util::error::Error;
 use lexical_util::format::NumberFormat;
 use lexical_util::num::Integer;
@@ -69,15 +67,6 @@ fn complete_from_sign<T: Integer>(bytes: &[u8], format: &NumberFormat) -> Result
 {
     sign_of::<T>(bytes, format)?;
     complete_from_front::<T>(bytes, format)
-}
-
-// Whether a zero stands in front of another decimal digit, where the format forbids that.
-#[inline(always)]
-fn has_forbidden_zero(bytes: &[u8], format: &NumberFormat) -> bool
-    ensures zero { IsTrue result → keeps_zero_rule format.now bytes.now ≡ false }
-    ensures digit { IsTrue result → is_some (digit_at 10 bytes.now 1) ≡ true }
-{
-    !keeps_zero_rule(format, bytes) && digit_at(bytes, 10, 1).is_some()
 }
 
 // The complete answer under a decimal format without punctuation, for a text that its reader leaves: most such texts are at

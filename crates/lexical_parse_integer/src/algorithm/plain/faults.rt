@@ -12,7 +12,7 @@ ghost use Rattle.lexical_parse_integer.specs.Plain.{IsPlain};
 
 use crate::algorithm::digits::join_checked;
 use crate::algorithm::front::sign_of;
-use crate::algorithm::plain::keeps_zero_rule;
+use crate::algorithm::plain::{has_forbidden_zero, keeps_zero_rule};
 use crate::seek::digit_at;
 use lexical_digits::fronts::{number_behind, number_in_front, value_of_digits};
 use lexical_util::digit::char_to_digit;
@@ -70,6 +70,9 @@ pub(in crate::algorithm) fn place_after_digits<T: Integer>(
         return Some(start);
     }
     let digits = &bytes[start..];
+    if has_forbidden_zero(digits, format) {
+        return None;
+    }
     let count = digits_in_front(digits);
     if count == digits.len() || count > T::overflow_digits(10) {
         return None;
