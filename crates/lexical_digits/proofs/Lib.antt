@@ -14,3 +14,4 @@ pub mod ShiftedWords
 pub mod WordProducts
 pub mod WordsInFront
 pub mod WordsOfDigits
+pub mod ZerosInFront

@@ -8,3 +8,4 @@ pub mod nibbles;
 pub mod table;
 pub mod values;
 pub mod words;
+pub mod zeros;

@@ -12,3 +12,4 @@ pub mod OctalZeros
 pub mod ParserAnswers
 pub mod Soundness
 pub mod UntestedDigits
+pub mod ZerosRead

@@ -21,14 +21,14 @@ pub(crate) mod punctuated;
 pub(crate) mod whole;
 mod zeros;
 
-use crate::algorithm::front::{complete_from_front, partial_from_front};
+use crate::algorithm::front::partial_from_front;
 use crate::algorithm::head::{is_prefix_alone, read_head};
 use crate::algorithm::numeral::read_numeral;
-use crate::algorithm::plain::faults::{fault_after_many, place_after_few};
-use crate::algorithm::plain::{front_if_plain, value_behind_plus};
-use crate::algorithm::whole::{complete_if_left, value_for_format};
+use crate::algorithm::plain::front_if_plain;
+use crate::algorithm::whole::value_for_format;
 use crate::cursor::Cursor;
 use crate::options::Options;
+use crate::quick::complete_if_left;
 pub use head::parse_sign;
 pub use lexical_digits::words::{is_4digits, is_8digits, parse_4digits, parse_8digits};
 use lexical_util::error::Error;
@@ -196,28 +196,6 @@ fn partial_out_of_line<T: Integer>(bytes: &[u8], format: &NumberFormat) -> Resul
 }
 
 // ---- under the standard format
-
-// The complete answer for a text that isn't digits alone behind a minus or none.
-#[inline(always)]
-pub(crate) fn standard_complete<T: Integer>(bytes: &[u8]) -> Result<T>
-    ensures { view_of T.number result ≡ complete standard T.TYPE bytes.now }
-{
-    if !bytes.is_empty() && bytes[0] == b'+' {
-        if let Some(value) = value_behind_plus::<T>(bytes, &format::STANDARD) {
-            return Ok(value);
-        }
-    }
-    if bytes.len() > T::overflow_digits(10) {
-        if let Some(fault) = fault_after_many::<T>(bytes) {
-            return Err(fault);
-        }
-    }
-    match place_after_few::<T>(bytes) {
-        Some(place) if place < bytes.len() => Err(Error::InvalidDigit(place)),
-        Some(place) => Err(Error::Empty(place)),
-        None => complete_from_front::<T>(bytes, &format::STANDARD),
-    }
-}
 
 // The partial answer under the standard format for such a text. Why by another call: docs/DECISIONS.md, code.
 #[inline(always)]

@@ -1,6 +1,7 @@
-//! Values that are had at once, for crates that stand on this one: columns, and calls from C.
+//! The parsers in two halves, for crates that stand on this one: columns, tables, and calls from C.
 //!
-//! `None` says nothing of a text: a parser has to be asked then.
+//! The first half reads in place what is had at once, and its `None` says nothing of a text. The second half, for what the
+//! first one left, has the answer.
 ghost use Rattle.std.specs.Prelude.{◌≡◌, IfSome, IsNone, Ok};
 ghost use Rattle.lexical_util.specs.Format.{standard};
 ghost use Rattle.lexical_util.specs.Validity.{fault};
@@ -9,7 +10,7 @@ ghost use Rattle.lexical_parse_integer.specs.Grammar.{complete};
 
 pub use crate::algorithm::plain::fields::{field_in_front, is_separated};
 pub use crate::algorithm::plain::{front_if_plain, value_if_short};
-use crate::algorithm::{standard_complete, whole};
+use crate::algorithm::whole;
 use crate::api::FromLexical;
 pub use crate::api::impls::complete_under_if_not_short;
 use lexical_util::format::NumberFormat;
@@ -23,7 +24,7 @@ pub fn complete_if_not_short<T: FromLexical>(bytes: &[u8]) -> Result<T>
     ensures { view_of T.number result ≡ complete standard T.TYPE bytes.now }
 {
     if bytes.len() <= 16 {
-        return standard_complete::<T>(bytes);
+        return whole::standard_if_left::<T>(bytes);
     }
     T::from_lexical(bytes)
 }
@@ -41,21 +42,8 @@ pub fn value_for_format<T: Integer>(bytes: &[u8], format: &NumberFormat) -> Opti
     whole::value_for_format::<T>(bytes, format)
 }
 
-/// The integer that the whole text stands for under a valid format, for a text that `value_if_short` has left: it isn't
-/// read as short decimal digits again.
-///
-/// It has what `value_for_format` has of such a text, and decimal digits behind a plus. `None` says nothing of the text.
-#[inline(always)]
-pub fn value_if_not_short<T: Integer>(bytes: &[u8], format: &NumberFormat) -> Option<T>
-    ensures valid { IfSome result (λ value. IsNone (fault format.now)) }
-    ensures answer { IfSome result
-        (λ value. complete format.now T.TYPE bytes.now ≡ Ok (T.number value)) }
-{
-    whole::value_if_not_short::<T>(bytes, format)
-}
-
-/// The integer that the whole text stands for under a valid format, or its fault, for a text that `value_for_format` or
-/// `value_if_not_short` has left.
+/// The integer that the whole text stands for under a valid format, or its fault, for a text that `value_for_format` has
+/// left.
 #[inline(always)]
 pub fn complete_if_left<T: Integer>(bytes: &[u8], format: &NumberFormat) -> Result<T>
     requires valid { IsNone (fault format.now) }

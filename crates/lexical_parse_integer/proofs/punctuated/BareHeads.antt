@@ -1,20 +1,17 @@
 -- Where surely neither a prefix nor an octal zero stands.
-use Rattle.std.proofs.Common.{◌≡◌, ◌≢◌, ℕ, ◌+◌, ◌<◌, ◌≤◌, Bool, true, false, ◌&&◌, cond, List, [], ◌∷◌, length, refl, sym, ap, ◌∙◌, arith, Option, Some, None, Ok, Result}
-use Rattle.std.specs.Prelude.{◌==◌, IfSome, slice_get, slice_index}
+use Rattle.std.proofs.Common.{◌≡◌, ◌≢◌, ℕ, ◌+◌, ◌<◌, ◌≤◌, Bool, true, false, ◌&&◌, cond, List, length, refl, sym, ap, ◌∙◌, arith, Option, Some, None, Ok, Result}
+use Rattle.std.specs.Prelude.{IfSome, slice_get, slice_index}
 use Rattle.std.proofs.Math.Bool.{and-false}
 use Rattle.std.proofs.lemmas.Bool.{ne_eqb}
 use Rattle.std.proofs.lemmas.Bool.Decides.{nat_tests}
 use Rattle.std.proofs.lemmas.Option.{slice_get-get_or, slice_get_past}
-use Rattle.lexical_util.specs.Digit.{digit}
 use Rattle.lexical_util.specs.Format.{Format}
-use Rattle.lexical_util.specs.Number.{IntegerType}
 use Rattle.lexical_util.specs.Validity.{lower_case}
 use Rattle.lexical_parse_integer.specs.Affixes.{is_affix, literal_radix, matches, named_radix, octal_zero_at, prefix_radix}
 use Rattle.lexical_util.specs.declared.error.Error.{Error}
 use Rattle.lexical_parse_integer.specs.declared.algorithm.front.Head as Told
-use Rattle.lexical_parse_integer.specs.Head.{Head, sign}
+use Rattle.lexical_parse_integer.specs.Head.{Head}
 use Rattle.lexical_parse_integer.specs.Runs.{are_same}
-use Rattle.lexical_parse_integer.proofs.plain.DigitsAlone.{sign_of_digit_under}
 
 -- ---- another byte than a zero
 
@@ -83,11 +80,6 @@ no_prefix_unnamed f text k more none = no_name f text k (ap (named_radix f) (sli
 
 -- ---- a letter `x` behind a zero
 
-is_x : (s : Bool) (b : ℕ) → b ≡ 120 → matches s 120 b ≡ true
-unfolding matches
-is_x true b is = ap (λ (c : ℕ). c == 120) is
-is_x false b is = ap (λ (c : ℕ). lower_case c == 120) is
-
 x_named : (f : Format) (b : ℕ) → matches f.case_sensitive_base_prefix 120 b ≡ true → (f.base_prefix ≡ Some 120) × (f.mantissa_radix ≡ 16) → named_radix f (Some b) ≡ Some 16
 unfolding named_radix is_affix
 x_named f b is own = let prefix = own.0 in let radix = own.1 in rw (prefix, is, radix) refl
@@ -103,17 +95,11 @@ behind_zero f text k is_zero more named =
     let next : slice_get text (k + 1) ≡ Some (slice_index text (k + 1)) = slice_get-get_or text (k + 1) 0 more in
     sym (rw (here, next) named)
 
-pub behind_own_x : (f : Format) (text : List ℕ) (k : ℕ) → slice_index text k ≡ 48 → k + 1 < length text → slice_index text (k + 1) ≡ 120 → f.base_prefix ≡ Some 120 → f.mantissa_radix ≡ 16 → Some 16 ≡ prefix_radix f text k
-behind_own_x f text k is_zero more is own radix = behind_zero f text k is_zero more (x_named f _ (is_x f.case_sensitive_base_prefix _ is) (own, radix))
+pub behind_own_x : (f : Format) (text : List ℕ) (k : ℕ) → slice_index text k ≡ 48 → k + 1 < length text → matches f.case_sensitive_base_prefix 120 (slice_index text (k + 1)) ≡ true → f.base_prefix ≡ Some 120 → f.mantissa_radix ≡ 16 → Some 16 ≡ prefix_radix f text k
+behind_own_x f text k is_zero more is own radix = behind_zero f text k is_zero more (x_named f _ is (own, radix))
 
-pub behind_literal_x : (f : Format) (text : List ℕ) (k : ℕ) → slice_index text k ≡ 48 → k + 1 < length text → slice_index text (k + 1) ≡ 120 → f.base_prefix ≡ None → f.literal_prefixes ≡ true → Some 16 ≡ prefix_radix f text k
-behind_literal_x f text k is_zero more is none literal = behind_zero f text k is_zero more (x_literal f _ (is_x f.case_sensitive_base_prefix _ is) (none, literal))
-
--- ---- no sign before a zero
-
-pub zero_sign : (f : Format) (t : IntegerType) (text : List ℕ) → 0 < length text → slice_index text 0 ≡ 48 → f.required_mantissa_sign ≡ false → sign f t text ≡ Ok (false, 0)
-zero_sign f t [] some zero unasked = absurd (omega arith)
-zero_sign f t (c ∷ cs) some zero unasked = sign_of_digit_under f t 10 c 0 cs unasked (ap (digit 10) zero)
+pub behind_literal_x : (f : Format) (text : List ℕ) (k : ℕ) → slice_index text k ≡ 48 → k + 1 < length text → matches f.case_sensitive_base_prefix 120 (slice_index text (k + 1)) ≡ true → f.base_prefix ≡ None → f.literal_prefixes ≡ true → Some 16 ≡ prefix_radix f text k
+behind_literal_x f text k is_zero more is none literal = behind_zero f text k is_zero more (x_literal f _ is (none, literal))
 
 -- ---- the head that a function answers
 

@@ -1,13 +1,14 @@
 // A text read from its front: what stands before the digits, the digits one after another, and what stands behind
 // them. Every text has its answer here under every valid format, so whatever a quick way isn't sure of is read here.
-ghost use Rattle.std.specs.Prelude.{◌≡◌, ◌≤◌, ◌&&◌, ◌||◌, ◌==◌, Err, IfErr, IfOk, IfSome, IsNone, Ok, Some, None, is_some, length, nat_lt, true, if◌then◌else◌, ◌+◌};
+ghost use Rattle.std.specs.Prelude.{◌≡◌, ◌≤◌, ◌<◌, ℕ, get_or, ◌&&◌, ◌||◌, ◌==◌, Err, IfErr, IfOk, IfSome, IsNone, Ok, Some, None, is_some, length, nat_lt, true, if◌then◌else◌, ◌+◌};
 ghost use Rattle.std.specs.Option.{option_or};
+ghost use Rattle.lexical_util.specs.Ascii.{digit_zero};
 ghost use Rattle.lexical_util.specs.Validity.{fault};
 ghost use Rattle.lexical_util.specs.declared.error.Error.TheVariants.{InvalidLeadingZeros};
 ghost use Rattle.lexical_parse_integer.specs.Affixes.{suffix_at};
 ghost use Rattle.lexical_parse_integer.specs.Answer.{view_of, with_place};
 ghost use Rattle.lexical_parse_integer.specs.CursorView.{IsSound};
-ghost use Rattle.lexical_parse_integer.specs.Grammar.{complete, digits_required, partial, range_fault, zero_fault};
+ghost use Rattle.lexical_parse_integer.specs.Grammar.{complete_if_valid, digits_required, partial, range_fault, zero_fault};
 ghost use Rattle.lexical_parse_integer.specs.Head.{head_of, sign};
 ghost use Rattle.lexical_parse_integer.specs.Laws.{completion_of};
 ghost use Rattle.lexical_parse_integer.specs.Numeral.{numeral_in};
@@ -15,7 +16,9 @@ ghost use Rattle.lexical_parse_integer.specs.Reading.{Reads, ReadsAll, ReadsNume
 
 use crate::affixes::{octal_zero_at, prefix_radix, suffix_at};
 use crate::algorithm::digits::join_checked;
+use crate::algorithm::punctuated::validity::fault_of;
 use crate::seek::{Found, digit_at, seek};
+use lexical_digits::zeros;
 use lexical_util::error::Error;
 use lexical_util::format::NumberFormat;
 use lexical_util::num::Integer;
@@ -205,6 +208,21 @@ fn read_row<T: Integer>(
     Digits { value, count, end }
 }
 
+// The place behind the zeros that a long numeral begins with: they are read as words, since there may be many.
+#[inline(always)]
+fn behind_zeros(bytes: &[u8], start: usize) -> usize
+    requires { start ≤ length bytes.now }
+    ensures from { start ≤ result }
+    ensures within { result ≤ length bytes.now }
+    ensures zeros { (k : ℕ) → start ≤ k → k < result → get_or bytes.now k 0 ≡ digit_zero }
+{
+    if bytes.len() - start > 16 && bytes[start] == b'0' {
+        zeros::behind_zeros(bytes, start)
+    } else {
+        start
+    }
+}
+
 // All digits of a numeral, or the fault of the first with which their value leaves the type: a row of digits, and the
 // next digit behind what ends it, again and again.
 #[inline(always)]
@@ -219,10 +237,11 @@ fn read_digits<T: Integer>(bytes: &[u8], format: &NumberFormat, head: Head) -> R
     ensures leaves { IfErr result (λ error. range_fault T.TYPE head.is_negative
         (numeral_in format.now head.is_prefixed head.radix bytes.now head.start) ≡ Some error) }
 {
+    let end = behind_zeros(bytes, head.start);
     let mut read = Digits {
         value: T::ZERO,
-        count: 0,
-        end: head.start,
+        count: end - head.start,
+        end,
     };
     loop {
         let Digits { value, count, end } = read_row::<T>(bytes, format, head, read);
@@ -286,6 +305,34 @@ fn is_empty_fault(bytes: &[u8], format: &NumberFormat, count: usize, stop: usize
         && (format.digit_separator().is_some() || stop == bytes.len())
 }
 
+// What the front of a text stands for behind its head, and the place at which reading stops.
+#[inline(always)]
+pub(super) fn front_behind<T: Integer>(
+    bytes: &[u8],
+    format: &NumberFormat,
+    head: Head,
+) -> Result<(T, usize)>
+    requires valid { IsNone (fault format.now) }
+    requires head { head_of format.now T.TYPE bytes.now ≡ Ok (record {
+      is_negative = head.is_negative;
+      is_prefixed = head.is_prefixed;
+      is_octal = head.is_octal;
+      start = head.start;
+      radix = head.radix;
+    }) }
+    ensures { view_of (with_place T.number) result ≡ partial format.now T.TYPE bytes.now }
+{
+    if is_prefix_alone(bytes, head) {
+        return Err(Error::Empty(bytes.len()));
+    }
+    let Digits { value, count, end } = read_numeral::<T>(bytes, format, head)?;
+    let stop = stop_behind(bytes, format, end, count);
+    if is_empty_fault(bytes, format, count, stop) {
+        return Err(Error::Empty(stop));
+    }
+    Ok((value, stop))
+}
+
 /// The integer that the front of the text stands for under a valid format, and the place at which reading stops.
 #[inline(always)]
 pub(crate) fn partial_from_front<T: Integer>(
@@ -296,15 +343,7 @@ pub(crate) fn partial_from_front<T: Integer>(
     ensures { view_of (with_place T.number) result ≡ partial format.now T.TYPE bytes.now }
 {
     let head = head_of::<T>(bytes, format)?;
-    if is_prefix_alone(bytes, head) {
-        return Err(Error::Empty(bytes.len()));
-    }
-    let Digits { value, count, end } = read_numeral::<T>(bytes, format, head)?;
-    let stop = stop_behind(bytes, format, end, count);
-    if is_empty_fault(bytes, format, count, stop) {
-        return Err(Error::Empty(stop));
-    }
-    Ok((value, stop))
+    front_behind::<T>(bytes, format, head)
 }
 
 // The answer for a whole text by that for its front: what the front stands for, if reading stops at the text's end.
@@ -321,11 +360,13 @@ fn completion<T: Integer>(bytes: &[u8], front: Result<(T, usize)>) -> Result<T>
     }
 }
 
-/// The integer that the whole text stands for under a valid format.
+/// The integer that the whole text stands for under a format that may be invalid.
 #[inline(never)]
 pub(crate) fn complete_from_front<T: Integer>(bytes: &[u8], format: &NumberFormat) -> Result<T>
-    requires valid { IsNone (fault format.now) }
-    ensures { view_of T.number result ≡ complete format.now T.TYPE bytes.now }
+    ensures { view_of T.number result ≡ complete_if_valid format.now T.TYPE bytes.now }
 {
-    completion::<T>(bytes, partial_from_front::<T>(bytes, format))
+    match fault_of(format) {
+        Some(broken) => Err(broken),
+        None => completion::<T>(bytes, partial_from_front::<T>(bytes, format)),
+    }
 }

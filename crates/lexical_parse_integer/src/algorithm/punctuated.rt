@@ -1,5 +1,5 @@
 // Whole texts under formats with punctuation: digits alone, or decimal digits with a separator before each three, behind a
-// sign and a prefix.
+// sign and no prefix but `0x`.
 //
 // As under formats without punctuation, only what is sure is answered: a value that its type has. `None` says nothing: what
 // is left is read from its front.
@@ -14,7 +14,8 @@ ghost use Rattle.lexical_parse_integer.specs.Plain.{keeps_zero_rule};
 mod threes;
 pub(crate) mod validity;
 
-use crate::algorithm::front::{Head, head_behind_sign, sign_of};
+use crate::affixes::matches;
+use crate::algorithm::front::{Head, sign_of};
 use crate::algorithm::plain::keeps_zero_rule;
 use crate::algorithm::punctuated::threes::value_of_threes;
 use crate::algorithm::punctuated::validity::{is_valid_with_separator, is_valid_without_separator};
@@ -24,13 +25,17 @@ use lexical_digits::table::value_by_table;
 use lexical_util::format::NumberFormat;
 use lexical_util::num::Integer;
 
-// Whether `0x` stands in front of a text that begins with a zero, where the effective radix is then 16.
+// Whether `0x` stands at a place at which a zero stands, where the effective radix is then 16.
 #[inline(always)]
-fn is_behind_x(bytes: &[u8], format: &NumberFormat) -> bool
-    requires { slice_index bytes.now 0 ≡ digit_zero }
-    ensures prefix { IsTrue result → Some 16 ≡ prefix_radix format.now bytes.now 0 }
+fn is_behind_x(bytes: &[u8], format: &NumberFormat, start: usize) -> bool
+    requires some { start < length bytes.now }
+    requires zero { slice_index bytes.now start ≡ digit_zero }
+    ensures prefix { IsTrue result → Some 16 ≡ prefix_radix format.now bytes.now start }
 {
-    if bytes.len() < 2 || bytes[1] != b'x' {
+    if bytes.len() - start < 2 {
+        return false;
+    }
+    if !matches(format.case_sensitive_base_prefix(), b'x', bytes[start + 1]) {
         return false;
     }
     match format.base_prefix() {
@@ -52,19 +57,19 @@ fn is_unnamed(byte: u8, format: &NumberFormat) -> bool
     !format.literal_prefixes() && (byte <= b'F' || (byte >= b'a' && byte <= b'f'))
 }
 
-// Whether surely neither a prefix nor an octal zero stands in front of a text that begins with a zero.
+// Whether surely neither a prefix nor an octal zero stands at a place at which a zero stands.
 #[inline(always)]
 #[tactic(auto, unfolding(crate::specs::Affixes::octal_zero_at))]
-fn is_bare(bytes: &[u8], format: &NumberFormat) -> bool
+fn is_bare(bytes: &[u8], format: &NumberFormat, start: usize) -> bool
     requires letter { IfSome format.now.base_prefix (λ prefix. 102 < prefix) }
-    requires some { 0 < length bytes.now }
-    ensures prefix { IsTrue result → None ≡ prefix_radix format.now bytes.now 0 }
-    ensures octal { IsTrue result → false ≡ octal_zero_at format.now bytes.now 0 }
+    requires some { start < length bytes.now }
+    ensures prefix { IsTrue result → None ≡ prefix_radix format.now bytes.now start }
+    ensures octal { IsTrue result → false ≡ octal_zero_at format.now bytes.now start }
 {
     if format.literal_octal_zero() {
         return false;
     }
-    bytes.len() == 1 || is_unnamed(bytes[1], format)
+    bytes.len() - start == 1 || is_unnamed(bytes[start + 1], format)
 }
 
 // The head of a text with neither a prefix nor an octal zero behind its sign.
@@ -123,54 +128,45 @@ fn value_behind<T: Integer>(bytes: &[u8], format: &NumberFormat, head: Head) -> 
     }
 }
 
-// The value of the whole text, where digits of the effective radix alone stand behind a sign that was read and a prefix. Why
-// out of line: docs/DECISIONS.md, code.
-#[inline(never)]
-fn value_behind_sign<T: Integer>(
+// The head of a text whose sign was read, where nothing but `0x` can be its prefix. `None` says nothing.
+#[inline(always)]
+fn head_at_once<T: Integer>(
     bytes: &[u8],
     format: &NumberFormat,
     is_negative: bool,
     start: usize,
-) -> Option<T>
-    requires valid { IsNone (fault format.now) }
-    requires sign { sign format.now T.TYPE bytes.now ≡ Ok (is_negative, start) }
-    ensures { IfSome result (λ value. complete format.now T.TYPE bytes.now ≡ Ok (T.number value)) }
-{
-    let head = head_behind_sign::<T>(bytes, format, is_negative, start);
-    value_behind::<T>(bytes, format, head)
-}
-
-// The value of the whole text under a format without separator, where it begins with a zero, and digits alone stand behind
-// its prefix. Why out of line: docs/DECISIONS.md, code.
-#[inline(never)]
-fn value_from_zero<T: Integer>(bytes: &[u8], format: &NumberFormat) -> Option<T>
-    requires valid { IsNone (fault format.now) }
+) -> Option<Head>
     requires letter { IfSome format.now.base_prefix (λ prefix. 102 < prefix) }
-    requires some { 0 < length bytes.now }
-    requires zero { slice_index bytes.now 0 ≡ digit_zero }
-    ensures { IfSome result (λ value. complete format.now T.TYPE bytes.now ≡ Ok (T.number value)) }
+    requires some { start < length bytes.now }
+    requires sign { sign format.now T.TYPE bytes.now ≡ Ok (is_negative, start) }
+    ensures { IfSome result (λ head. head_of format.now T.TYPE bytes.now ≡ Ok (record {
+      is_negative = head.is_negative;
+      is_prefixed = head.is_prefixed;
+      is_octal = head.is_octal;
+      start = head.start;
+      radix = head.radix;
+    })) }
 {
-    if format.required_mantissa_sign() {
-        return None;
+    if bytes[start] != b'0' {
+        return Some(bare_head(format, is_negative, start));
     }
-    if is_behind_x(bytes, format) {
-        let head = Head {
-            is_negative: false,
+    if is_behind_x(bytes, format, start) {
+        return Some(Head {
+            is_negative,
             is_prefixed: true,
             is_octal: false,
-            start: 2,
+            start: start + 2,
             radix: 16,
-        };
-        return value_behind::<T>(bytes, format, head);
+        });
     }
-    if !is_bare(bytes, format) {
-        return value_behind_sign::<T>(bytes, format, false, 0);
+    if is_bare(bytes, format, start) {
+        return Some(bare_head(format, is_negative, start));
     }
-    value_behind::<T>(bytes, format, bare_head(format, false, 0))
+    None
 }
 
 // The value of the whole text under a format without separator that may be invalid, where digits alone stand behind its
-// sign and its prefix.
+// sign, and no prefix but `0x`.
 #[inline(never)]
 pub(super) fn value_of_row<T: Integer>(bytes: &[u8], format: &NumberFormat) -> Option<T>
     requires { format.now.digit_separator ≡ None }
@@ -178,11 +174,8 @@ pub(super) fn value_of_row<T: Integer>(bytes: &[u8], format: &NumberFormat) -> O
     ensures answer { IfSome result
         (λ value. complete format.now T.TYPE bytes.now ≡ Ok (T.number value)) }
 {
-    if !is_valid_without_separator(format) || bytes.is_empty() {
+    if !is_valid_without_separator(format) {
         return None;
-    }
-    if bytes[0] == b'0' {
-        return value_from_zero::<T>(bytes, format);
     }
     let Ok((is_negative, start)) = sign_of::<T>(bytes, format) else {
         return None;
@@ -190,14 +183,12 @@ pub(super) fn value_of_row<T: Integer>(bytes: &[u8], format: &NumberFormat) -> O
     if bytes.len() <= start {
         return None;
     }
-    if bytes[start] == b'0' {
-        return value_behind_sign::<T>(bytes, format, is_negative, start);
-    }
-    value_behind::<T>(bytes, format, bare_head(format, is_negative, start))
+    let head = head_at_once::<T>(bytes, format, is_negative, start)?;
+    value_behind::<T>(bytes, format, head)
 }
 
 // The value of the whole text under a format with a separator that may be invalid, where digits alone stand behind its
-// sign and its prefix, or, without a prefix, decimal digits with a separator before each three.
+// sign, and no prefix but `0x`, or, without a prefix, decimal digits with a separator before each three.
 #[inline(never)]
 pub(super) fn value_of_groups<T: Integer>(
     bytes: &[u8],
@@ -218,11 +209,11 @@ pub(super) fn value_of_groups<T: Integer>(
     if bytes.len() <= start {
         return None;
     }
-    // A longer text has more digits than a short type has room for, with the one that may fit yet: it is mostly at fault.
+    // Few numbers of a short type have more digits: a longer text is mostly too large.
     if T::BITS < 32 && bytes.len() > start + T::overflow_digits(10) + 1 {
         return None;
     }
-    let head = head_behind_sign::<T>(bytes, format, is_negative, start);
+    let head = head_at_once::<T>(bytes, format, is_negative, start)?;
     if head.radix != 10 || T::BITS < 32 || !format.integer_internal_digit_separator() {
         return value_behind::<T>(bytes, format, head);
     }

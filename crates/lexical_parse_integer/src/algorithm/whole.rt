@@ -1,9 +1,11 @@
 // What the whole text stands for: its value by the reader for the format's kind, where `None` says nothing, and the answer
 // for what these readers leave.
-ghost use Rattle.std.specs.Prelude.{◌≡◌, IfSome, IsNone, Ok};
+ghost use Rattle.std.specs.Prelude.{◌≡◌, ◌<◌, IfSome, IsNone, Ok, length};
+ghost use Rattle.lexical_util.specs.Format.{standard};
 ghost use Rattle.lexical_util.specs.Validity.{fault};
 ghost use Rattle.lexical_parse_integer.specs.Answer.{view_of};
-ghost use Rattle.lexical_parse_integer.specs.Grammar.{complete};
+ghost use Rattle.lexical_parse_integer.specs.Grammar.{complete, complete_if_valid};
+ghost use Rattle.lexical_parse_integer.specs.Head.{sign};
 ghost use Rattle.lexical_parse_integer.specs.Plain.{IsPlain};
 
 use crate::algorithm::front::{complete_from_front, sign_of};
@@ -13,7 +15,7 @@ use crate::algorithm::plain::{
 };
 use crate::algorithm::punctuated::{value_of_groups, value_of_row};
 use lexical_util::error::Error;
-use lexical_util::format::NumberFormat;
+use lexical_util::format::{self, NumberFormat};
 use lexical_util::num::Integer;
 use lexical_util::result::Result;
 
@@ -46,9 +48,92 @@ pub(crate) fn value_for_format<T: Integer>(bytes: &[u8], format: &NumberFormat) 
     value_of_plain::<T>(bytes, format)
 }
 
+// The number that more digits stand for than their type has surely room for, or the fault of such a text.
+#[inline(always)]
+fn long_decimal<T: Integer>(
+    bytes: &[u8],
+    format: &NumberFormat,
+    is_negative: bool,
+    start: usize,
+) -> Result<T>
+    requires plain { IsPlain format.now }
+    requires decimal { format.now.mantissa_radix ≡ 10 }
+    requires sign { sign format.now T.TYPE bytes.now ≡ Ok (is_negative, start) }
+    requires some { start < length bytes.now }
+    ensures { view_of T.number result ≡ complete format.now T.TYPE bytes.now }
+{
+    if bytes[start] == b'0' {
+        return complete_from_front::<T>(bytes, format);
+    }
+    match answer_after_digits::<T>(bytes, format, is_negative, start) {
+        Some(answer) => answer,
+        None => short_decimal::<T>(bytes, format, is_negative, start),
+    }
+}
+
+// The fault of a text behind whose sign a byte stands that is no digit, before there are too many.
+#[inline(always)]
+fn short_decimal<T: Integer>(
+    bytes: &[u8],
+    format: &NumberFormat,
+    is_negative: bool,
+    start: usize,
+) -> Result<T>
+    requires plain { IsPlain format.now }
+    requires decimal { format.now.mantissa_radix ≡ 10 }
+    requires sign { sign format.now T.TYPE bytes.now ≡ Ok (is_negative, start) }
+    ensures { view_of T.number result ≡ complete format.now T.TYPE bytes.now }
+{
+    match place_after_digits::<T>(bytes, format, is_negative, start) {
+        Some(place) if place < bytes.len() => Err(Error::InvalidDigit(place)),
+        Some(place) => Err(Error::Empty(place)),
+        None => complete_from_front::<T>(bytes, format),
+    }
+}
+
+// The complete answer under a decimal format without punctuation, for a text that isn't digits alone behind a minus or none.
+// Most such texts are at fault: the sign is read once, and a fault that is known is told. Zeros in front of a long number are
+// read from the front, which skips them.
+#[inline(always)]
+fn decimal_if_left<T: Integer>(bytes: &[u8], format: &NumberFormat) -> Result<T>
+    requires plain { IsPlain format.now }
+    requires decimal { format.now.mantissa_radix ≡ 10 }
+    ensures { view_of T.number result ≡ complete format.now T.TYPE bytes.now }
+{
+    let (is_negative, start) = sign_of::<T>(bytes, format)?;
+    if has_forbidden_zero(bytes, format, start) {
+        return Err(Error::InvalidLeadingZeros(start));
+    }
+    if let Some(value) = value_behind_plus::<T>(bytes, format) {
+        return Ok(value);
+    }
+    if bytes.len() - start > T::overflow_digits(10) {
+        return long_decimal::<T>(bytes, format, is_negative, start);
+    }
+    short_decimal::<T>(bytes, format, is_negative, start)
+}
+
+// The same in one call. Why out of line: docs/DECISIONS.md, code.
+#[inline(never)]
+pub(crate) fn complete_if_decimal<T: Integer>(bytes: &[u8], format: &NumberFormat) -> Result<T>
+    requires plain { IsPlain format.now }
+    requires decimal { format.now.mantissa_radix ≡ 10 }
+    ensures { view_of T.number result ≡ complete format.now T.TYPE bytes.now }
+{
+    decimal_if_left::<T>(bytes, format)
+}
+
+/// The complete answer under the standard format for such a text.
+#[inline(always)]
+pub(crate) fn standard_if_left<T: Integer>(bytes: &[u8]) -> Result<T>
+    ensures { view_of T.number result ≡ complete standard T.TYPE bytes.now }
+{
+    decimal_if_left::<T>(bytes, &format::STANDARD)
+}
+
 // The value under any format, where `value_if_short` has left the text.
 #[inline(always)]
-pub(crate) fn value_if_not_short<T: Integer>(bytes: &[u8], format: &NumberFormat) -> Option<T>
+fn value_if_not_short<T: Integer>(bytes: &[u8], format: &NumberFormat) -> Option<T>
     ensures valid { IfSome result (λ value. IsNone (fault format.now)) }
     ensures answer { IfSome result
         (λ value. complete format.now T.TYPE bytes.now ≡ Ok (T.number value)) }
@@ -59,52 +144,28 @@ pub(crate) fn value_if_not_short<T: Integer>(bytes: &[u8], format: &NumberFormat
     value_of_plain::<T>(bytes, format)
 }
 
-// The complete answer for a text that is left by all that is quick: the fault of its sign, or what is read from its front.
+/// The complete answer under a format that may be invalid, for a text that `value_if_short` has left: a short decimal one is
+/// mostly at fault, and others are read by the reader for the format's kind.
 #[inline(always)]
-fn complete_from_sign<T: Integer>(bytes: &[u8], format: &NumberFormat) -> Result<T>
-    requires valid { IsNone (fault format.now) }
-    ensures { view_of T.number result ≡ complete format.now T.TYPE bytes.now }
+pub(crate) fn complete_if_not_short<T: Integer>(bytes: &[u8], format: &NumberFormat) -> Result<T>
+    ensures { view_of T.number result ≡ complete_if_valid format.now T.TYPE bytes.now }
 {
-    sign_of::<T>(bytes, format)?;
-    complete_from_front::<T>(bytes, format)
-}
-
-// The complete answer under a decimal format without punctuation, for a text that its reader leaves: most such texts are at
-// fault, and the place of that is found at once. A text that is longer than its type has digits is mostly a number that
-// is too large, or has zeros in front. Why out of line: docs/DECISIONS.md, code.
-#[inline(never)]
-fn complete_if_plain<T: Integer>(bytes: &[u8], format: &NumberFormat) -> Result<T>
-    requires valid { IsNone (fault format.now) }
-    requires plain { IsPlain format.now }
-    requires decimal { format.now.mantissa_radix ≡ 10 }
-    ensures { view_of T.number result ≡ complete format.now T.TYPE bytes.now }
-{
-    if has_forbidden_zero(bytes, format) {
-        return Err(Error::InvalidLeadingZeros(0));
+    if bytes.len() <= 16 && is_plain(format) && format.mantissa_radix() == 10 {
+        return complete_if_decimal::<T>(bytes, format);
     }
-    if let Some(value) = value_behind_plus::<T>(bytes, format) {
-        return Ok(value);
-    }
-    if bytes.len() > T::overflow_digits(10) {
-        if let Some(answer) = answer_after_digits::<T>(bytes, format) {
-            return answer;
-        }
-    }
-    match place_after_digits::<T>(bytes, format) {
-        Some(place) if place < bytes.len() => Err(Error::InvalidDigit(place)),
-        Some(place) => Err(Error::Empty(place)),
-        None => complete_from_sign::<T>(bytes, format),
+    match value_if_not_short::<T>(bytes, format) {
+        Some(value) => Ok(value),
+        None => complete_if_left::<T>(bytes, format),
     }
 }
 
 // The complete answer for a text that these readers leave.
 #[inline(always)]
 pub(crate) fn complete_if_left<T: Integer>(bytes: &[u8], format: &NumberFormat) -> Result<T>
-    requires valid { IsNone (fault format.now) }
-    ensures { view_of T.number result ≡ complete format.now T.TYPE bytes.now }
+    ensures { view_of T.number result ≡ complete_if_valid format.now T.TYPE bytes.now }
 {
-    if format.mantissa_radix() == 10 && is_plain(format) {
-        return complete_if_plain::<T>(bytes, format);
+    if is_plain(format) && format.mantissa_radix() == 10 {
+        return complete_if_decimal::<T>(bytes, format);
     }
     complete_from_front::<T>(bytes, format)
 }

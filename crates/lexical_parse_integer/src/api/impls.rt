@@ -1,13 +1,14 @@
 // Every integer type, read from bytes.
 ghost use Rattle.std.specs.Prelude.{◌≡◌};
+ghost use Rattle.lexical_util.specs.Format.{standard};
 ghost use Rattle.lexical_parse_integer.specs.Answer.{with_place, view_of};
-ghost use Rattle.lexical_parse_integer.specs.Grammar.{complete_if_valid, partial_if_valid};
+ghost use Rattle.lexical_parse_integer.specs.Grammar.{complete, complete_if_valid, partial_if_valid};
 
 use crate::algorithm::front::partial_from_front;
 use crate::algorithm::plain::{front_if_plain, value_if_short};
 use crate::algorithm::punctuated::validity::fault_of;
-use crate::algorithm::whole::{complete_if_left, value_for_format, value_if_not_short};
-use crate::algorithm::{standard_complete, standard_partial};
+use crate::algorithm::standard_partial;
+use crate::algorithm::whole::{self, standard_if_left, value_for_format};
 use crate::api::{FromLexical, FromLexicalWithOptions};
 use crate::options::Options;
 use lexical_util::error::Error;
@@ -15,37 +16,21 @@ use lexical_util::format::{self, NumberFormat};
 use lexical_util::num::Integer;
 use lexical_util::result::Result;
 
-// A text and its format for the call that reads what others leave. Why by reference: docs/DECISIONS.md, code.
-#[derive(Clone, Copy)]
-struct Call<'a> {
-    bytes: &'a [u8],
-    format: &'a NumberFormat,
-}
-
-// The complete answer for every text, in one call. Why out of line: docs/DECISIONS.md, code.
-#[inline(never)]
-fn complete_if_valid<T: Integer>(call: &Call<'_>) -> Result<T>
-    ensures { view_of T.number result
-        ≡ complete_if_valid call.now.format.now T.TYPE call.now.bytes.now }
-{
-    match fault_of(call.format) {
-        Some(invalid) => Err(invalid),
-        None => complete_if_left::<T>(call.bytes, call.format),
-    }
-}
-
 /// The integer that the whole text stands for under a format that may be invalid, for a text that `value_if_short` has
-/// left: it isn't read as short decimal digits again. There is a reader for the format's kind, and one call for what
-/// that leaves.
+/// left: it isn't read as short decimal digits again.
 #[inline(always)]
 pub fn complete_under_if_not_short<T: Integer>(bytes: &[u8], format: &NumberFormat) -> Result<T>
     ensures { view_of T.number result ≡ complete_if_valid format.now T.TYPE bytes.now }
 {
-    let call = Call { bytes, format };
-    match value_if_not_short::<T>(bytes, format) {
-        Some(value) => Ok(value),
-        None => complete_if_valid::<T>(&call),
-    }
+    whole::complete_if_not_short::<T>(bytes, format)
+}
+
+// The complete answer under the standard format, in one call.
+#[inline(never)]
+fn standard_complete<T: Integer>(bytes: &[u8]) -> Result<T>
+    ensures { view_of T.number result ≡ complete standard T.TYPE bytes.now }
+{
+    standard_if_left::<T>(bytes)
 }
 
 // The partial answer for every text, in one call.

@@ -1,23 +1,22 @@
 // Faults of decimal texts under formats without punctuation: most faults. And numbers of many digits there.
 //
 // `None` says nothing. Why each is a call of its own: docs/DECISIONS.md, code.
-ghost use Rattle.std.specs.Prelude.{◌≡◌, ◌<◌, ◌≤◌, Err, IfSome, IsNone, get_or, length, take};
+ghost use Rattle.std.specs.Prelude.{◌≡◌, ◌<◌, ◌≤◌, Err, IfSome, IsNone, Ok, get_or, length, take};
 ghost use Rattle.lexical_util.specs.Digit.{digit};
-ghost use Rattle.lexical_util.specs.Format.{standard};
 ghost use Rattle.lexical_util.specs.declared.error.Error.TheVariants.{Empty, InvalidDigit};
 ghost use Rattle.lexical_digits.specs.Words.{AreDigits};
 ghost use Rattle.lexical_parse_integer.specs.Answer.{view_of};
 ghost use Rattle.lexical_parse_integer.specs.Grammar.{complete};
+ghost use Rattle.lexical_parse_integer.specs.Head.{sign};
 ghost use Rattle.lexical_parse_integer.specs.Plain.{IsPlain};
 
 use crate::algorithm::digits::join_checked;
-use crate::algorithm::front::sign_of;
-use crate::algorithm::plain::{has_forbidden_zero, keeps_zero_rule};
+use crate::algorithm::plain::keeps_zero_rule;
 use crate::seek::digit_at;
 use lexical_digits::fronts::{number_behind, number_in_front, value_of_digits};
 use lexical_util::digit::char_to_digit;
 use lexical_util::error::Error;
-use lexical_util::format::{self, NumberFormat};
+use lexical_util::format::NumberFormat;
 use lexical_util::num::Integer;
 use lexical_util::result::Result;
 
@@ -48,17 +47,17 @@ fn digits_in_front(text: &[u8]) -> usize
 pub(in crate::algorithm) fn place_after_digits<T: Integer>(
     bytes: &[u8],
     format: &NumberFormat,
+    is_negative: bool,
+    start: usize,
 ) -> Option<usize>
     requires plain { IsPlain format.now }
     requires decimal { format.now.mantissa_radix ≡ 10 }
+    requires sign { sign format.now T.TYPE bytes.now ≡ Ok (is_negative, start) }
     ensures byte { IfSome result (λ place. place < length bytes.now
         → complete format.now T.TYPE bytes.now ≡ Err (InvalidDigit place)) }
     ensures end { IfSome result (λ place. length bytes.now ≤ place
         → complete format.now T.TYPE bytes.now ≡ Err (Empty place)) }
 {
-    let Ok((_, start)) = sign_of::<T>(bytes, format) else {
-        return None;
-    };
     if bytes.len() <= start {
         return if format.required_digits() {
             Some(start)
@@ -70,9 +69,6 @@ pub(in crate::algorithm) fn place_after_digits<T: Integer>(
         return Some(start);
     }
     let digits = &bytes[start..];
-    if has_forbidden_zero(digits, format) {
-        return None;
-    }
     let count = digits_in_front(digits);
     if count == digits.len() || count > T::overflow_digits(10) {
         return None;
@@ -83,32 +79,21 @@ pub(in crate::algorithm) fn place_after_digits<T: Integer>(
     Some(start + count)
 }
 
-// That place under the standard format.
-#[inline(never)]
-pub(in crate::algorithm) fn place_after_few<T: Integer>(bytes: &[u8]) -> Option<usize>
-    ensures byte { IfSome result (λ place. place < length bytes.now
-        → complete standard T.TYPE bytes.now ≡ Err (InvalidDigit place)) }
-    ensures end { IfSome result (λ place. length bytes.now ≤ place
-        → complete standard T.TYPE bytes.now ≡ Err (Empty place)) }
-{
-    place_after_digits::<T>(bytes, &format::STANDARD)
-}
-
 // The answer for a text that has more digits than its type has surely room for: the number that they stand for, or the fault
 // at the digit with which the number leaves the type, or at the first byte that is no digit.
 #[inline(always)]
 pub(in crate::algorithm) fn answer_after_digits<T: Integer>(
     bytes: &[u8],
     format: &NumberFormat,
+    is_negative: bool,
+    start: usize,
 ) -> Option<Result<T>>
     requires plain { IsPlain format.now }
     requires decimal { format.now.mantissa_radix ≡ 10 }
+    requires sign { sign format.now T.TYPE bytes.now ≡ Ok (is_negative, start) }
     ensures { IfSome result
         (λ answer. view_of T.number answer ≡ complete format.now T.TYPE bytes.now) }
 {
-    let Ok((is_negative, start)) = sign_of::<T>(bytes, format) else {
-        return None;
-    };
     let digits = &bytes[start..];
     let mut count = T::overflow_digits(10);
     if digits.len() <= count || !keeps_zero_rule(format, digits) {
@@ -127,15 +112,4 @@ pub(in crate::algorithm) fn answer_after_digits<T: Integer>(
         count += 1;
     }
     Some(Ok(value))
-}
-
-// The fault of such a text under the standard format, or none.
-#[inline(never)]
-pub(in crate::algorithm) fn fault_after_many<T: Integer>(bytes: &[u8]) -> Option<Error>
-    ensures { IfSome result (λ error. complete standard T.TYPE bytes.now ≡ Err error) }
-{
-    match answer_after_digits::<T>(bytes, &format::STANDARD) {
-        Some(Err(fault)) => Some(fault),
-        _ => None,
-    }
 }

@@ -12,6 +12,7 @@ pub(super) fn is_valid_with_separator(format: &NumberFormat, separator: u8) -> b
     requires { format.now.digit_separator ≡ Some separator }
     ensures valid { IsTrue result → fault format.now ≡ None }
     ensures decimal { IsTrue result → format.now.mantissa_radix ≡ 10 }
+    ensures no_prefix { IsTrue result → format.now.base_prefix ≡ None }
 {
     if format.base_suffix().is_some()
         | format.base_prefix().is_some()

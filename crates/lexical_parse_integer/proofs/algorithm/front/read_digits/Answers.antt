@@ -1,11 +1,27 @@
-use Rattle.std.proofs.Common.{◌<◌, arith, length, refl}
+use Rattle.std.proofs.Common.{◌≡◌, ◌+◌, ◌-◌, ◌<◌, ap, arith, length, refl, subst, sym, ◌∙◌}
+use Rattle.std.specs.Prelude.{ℤ}
 use Rattle.std.proofs.lemmas.Result.{err_from_is_err_and}
 use Rattle.lexical_parse_integer.proofs.grammar.NumeralEnd.{digit_at_within}
 use Rattle.lexical_parse_integer.proofs.reading.DigitsRead.{reads_sign}
 use Rattle.lexical_parse_integer.proofs.reading.FrontAnswers.{all_read, next_leaves, next_reads, next_sound}
 use Rattle.lexical_parse_integer.proofs.reading.NumeralSteps.{digit_at_below}
 use Rattle.lexical_parse_integer.proofs.reading.Soundness.{digits_bound}
+use Rattle.lexical_parse_integer.proofs.reading.ZerosRead.{zeros_read}
+use Rattle.lexical_parse_integer.specs.CursorView.{IsSound}
+use Rattle.lexical_parse_integer.specs.Numeral.{numeral_in}
+use Rattle.lexical_parse_integer.specs.Reading.{Reads, view_at}
 use Rattle.lexical_parse_integer.proofs.algorithm.front.read_digits.Goals as goal
+
+pub loop-place-init : goal.loop-place-init
+loop-place-init g c =
+    let e = c.behind_zeros-end.ensures in
+    let low = e.from in
+    let end : c.args.head.start + (c.behind_zeros-end.result - c.args.head.start) ≡ c.behind_zeros-end.result = omega arith in
+    let told = zeros_read c.args.format.now c.args.head.is_prefixed c.args.bytes.now c.args.head.radix c.args.head.start g.T.Integer.TYPE c.args.head.is_negative (c.behind_zeros-end.result - c.args.head.start) g.met.T.Integer.width_law c.requires.sound (omega (arith, e.within)) (λ j from to. e.zeros j from (omega arith)) in
+    record {
+      sound = subst (λ n. IsSound (view_at c.args.format.now c.args.head.is_prefixed c.args.head.radix c.args.bytes.now c.args.head.start n (c.behind_zeros-end.result - c.args.head.start))) end told.0;
+      reads = subst (λ (v : ℤ). Reads g.T.Integer.TYPE c.args.head.is_negative (numeral_in c.args.format.now c.args.head.is_prefixed c.args.head.radix c.args.bytes.now c.args.head.start) (c.behind_zeros-end.result - c.args.head.start) v) (sym (ap g.T.Integer.number c.ZERO.ensures ∙ g.met.T.Integer.zero_law)) told.1;
+    }
 
 pub join_checked-requires-clause-digit : goal.join_checked-requires-clause-digit
 join_checked-requires-clause-digit g c = digit_at_below _ _ _ _ c.in-Digit.ensures.3
