@@ -19,7 +19,7 @@ use lexical_parse_integer::{Error, Options};
 
 // The number of what a cell holds goes to the row's place, or its fault is told.
 #[inline(always)]
-fn read_held<C: TableColumn>(
+pub(crate) fn read_held<C: TableColumn>(
     target: &mut C,
     row: usize,
     held: Cell<'_>,
@@ -35,7 +35,7 @@ fn read_held<C: TableColumn>(
     if target.read_at_once(row, held.ahead, held.text.len()) {
         return None;
     }
-    target.read(row, held.start, held.text, held.ahead, options)
+    target.read_left(row, held.start, held.text, held.ahead, options)
 }
 
 // The fault of a cell's quotes, where these have a meaning: none where the cell was seen to have no quote.

@@ -45,10 +45,13 @@ pub(crate) fn put_parsed<T: ParseInteger>(
     }
 }
 
-// The same under the standard format, which is made here: its caller would make it for each cell. Why out of line:
-// docs/DECISIONS.md, code.
+/// Puts the number of a cell that [`put_at_once`](crate::put_at_once) has left into a row's place of a slice, or tells the
+/// cell's fault, under the standard format.
+///
+/// It is for a [`TableColumn`](crate::TableColumn) of one's own. The slice has to have that place.
+// The format is made here: a caller would make it for each cell. Why out of line: docs/DECISIONS.md, code.
 #[inline(never)]
-pub(crate) fn put_standard_parsed<T: ParseInteger>(
+pub fn put_standard_parsed<T: ParseInteger>(
     values: &mut [T],
     row: usize,
     start: usize,
