@@ -173,14 +173,14 @@ impl ColumnFields<'_> {
         }
         match self.number_type() {
             None => None,
-            Some(NumberType::I64) => put_standard_parsed(self.i64s, row, start, text, options),
-            Some(NumberType::U64) => put_standard_parsed(self.u64s, row, start, text, options),
-            Some(NumberType::I32) => put_standard_parsed(self.i32s, row, start, text, options),
-            Some(NumberType::U32) => put_standard_parsed(self.u32s, row, start, text, options),
-            Some(NumberType::I16) => put_standard_parsed(self.i16s, row, start, text, options),
-            Some(NumberType::U16) => put_standard_parsed(self.u16s, row, start, text, options),
-            Some(NumberType::I8) => put_standard_parsed(self.i8s, row, start, text, options),
-            Some(NumberType::U8) => put_standard_parsed(self.u8s, row, start, text, options),
+            Some(NumberType::I64) => put_standard_parsed(self.i64s, row, start, text),
+            Some(NumberType::U64) => put_standard_parsed(self.u64s, row, start, text),
+            Some(NumberType::I32) => put_standard_parsed(self.i32s, row, start, text),
+            Some(NumberType::U32) => put_standard_parsed(self.u32s, row, start, text),
+            Some(NumberType::I16) => put_standard_parsed(self.i16s, row, start, text),
+            Some(NumberType::U16) => put_standard_parsed(self.u16s, row, start, text),
+            Some(NumberType::I8) => put_standard_parsed(self.i8s, row, start, text),
+            Some(NumberType::U8) => put_standard_parsed(self.u8s, row, start, text),
         }
     }
 

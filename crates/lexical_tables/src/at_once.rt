@@ -71,6 +71,9 @@ pub fn put_at_once<T: ParseInteger>(
     ensures kept { result ≡ false → values.new ≡ values.old }
 {
     if ahead.len() - size < ROOM_BEHIND {
+        if size > ROOM_BEHIND {
+            return false;
+        }
         return put_near_end::<T>(values, row, ahead, size, *format);
     }
     match value_of_front::<T>(ahead, size, format) {

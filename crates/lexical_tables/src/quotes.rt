@@ -11,25 +11,16 @@ mod parities;
 use self::looks::look_at_16;
 use lexical_fields::{field_length, lowest_mark, next_marks, split_marked};
 
-// How many bytes stand before the first separator outside quotes, or in the text where there is none.
+// How many bytes stand before the first separator outside quotes, or in the text where there is none. Where quotes have a
+// meaning, an empty row's end is its first byte, and no call is made for that.
 #[inline(always)]
 pub(crate) fn length_outside(text: &[u8], separator: u8, has_quotes: bool) -> usize
     ensures value { result ≡ length_outside has_quotes separator text.now }
     ensures within { result ≤ length text.now }
 {
-    if has_quotes && separator != b'"' {
-        outside_length(text, separator)
-    } else {
-        marked_length(text, separator)
+    if !has_quotes || separator == b'"' {
+        return marked_length(text, separator);
     }
-}
-
-// How many they are where quotes have a meaning. An empty row's end is its first byte, and no call is made for that.
-#[inline(always)]
-fn outside_length(text: &[u8], separator: u8) -> usize
-    ensures value { result ≡ field_length separator (hidden separator text.now) }
-    ensures within { result ≤ length text.now }
-{
     if !text.is_empty() && text[0] == separator {
         return 0;
     }

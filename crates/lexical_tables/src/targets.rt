@@ -95,7 +95,7 @@ pub fn put_standard_cell<T: ParseInteger>(
     if put_at_once::<T>(values, row, ahead, cell.len(), &format::STANDARD) {
         return None;
     }
-    put_standard_parsed(values, row, start, cell, options)
+    put_standard_parsed(values, row, start, cell)
 }
 
 /// Puts 0 into a row's place of a slice.

@@ -7,7 +7,7 @@ use Rattle.lexical_tables.specs.Rows.{view_of_row}
 use Rattle.lexical_tables.proofs.CellsLeft.{all_left, ended_left, next_left, start_left}
 use Rattle.lexical_tables.proofs.ColumnSteps.{after_cell, after_fault, count_in, row_ends, row_starts}
 use Rattle.lexical_tables.proofs.MarkedCells.{ahead_starts, behind_ahead}
-use Rattle.lexical_tables.proofs.MarkedRows.{cell_there, cells_are, text_ahead}
+use Rattle.lexical_tables.proofs.MarkedRows.{cell_there, cells_are}
 use Rattle.lexical_tables.proofs.marked.read_marked_cells.Goals.{then-loop-column-test+else-not-ended, else-loop-column-test}
 use Rattle.lexical_tables.proofs.marked.read_marked_cells.Goals as goal
 

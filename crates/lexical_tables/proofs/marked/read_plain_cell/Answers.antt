@@ -3,7 +3,7 @@ use Rattle.std.proofs.lemmas.Bool.Decides.{nat_tests}
 use Rattle.std.proofs.lemmas.List.{length-map}
 use Rattle.lexical_tables.specs.ByColumn.{fault_in}
 use Rattle.lexical_tables.specs.Cells.{view_of_cell}
-use Rattle.lexical_tables.proofs.AtOnce.{no_quote_fault}
+use Rattle.lexical_tables.proofs.Unquoted.{no_quote_fault}
 use Rattle.lexical_tables.proofs.CellSteps.{answer_told, beyond_fault, beyond_same, targets_told, unread_fault, unread_same, usable_at}
 use Rattle.lexical_tables.proofs.marked.read_plain_cell.Goals as goal
 
