@@ -61,7 +61,7 @@ def exported(names: Iterable[str]) -> str:
 def out_of_line() -> List[str]:
     """The functions that docs/DECISIONS.md lists, by the command that it gives."""
     command = re.findall(r"`(grep [^`]*)` lists", text_of("docs", "DECISIONS.md"))
-    return ["parse_complete", *re.findall(r"fn (\w+)", run(["sh", "-c", *command], cwd=TOP))]
+    return re.findall(r"fn (\w+)", run(["sh", "-c", *command], cwd=TOP))
 
 
 def static_library(place: Place) -> str:

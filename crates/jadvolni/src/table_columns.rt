@@ -1,6 +1,7 @@
 //! The columns of a table, as C writes them.
 
 ghost use Rattle.std.specs.Prelude.{◌≡◌, ◌+◌, ◌<◌, ◌≤◌, ◌^◌, ℕ, IsTrue, None, false, length, take, option_map};
+ghost use Rattle.lexical_util.specs.Format.{standard};
 ghost use Rattle.lexical_tables.specs.ByColumn.{IsUsable};
 ghost use Rattle.lexical_tables.specs.Targets.{text_fault};
 ghost use Rattle.jadvolni.specs.FormatFields.{format_of};
@@ -9,7 +10,7 @@ ghost use Rattle.jadvolni.specs.Tables.{bits_of, column_status, lacks_bits, numb
 use crate::format::FormatFields;
 use lexical_parse_integer::format::STANDARD;
 use lexical_parse_integer::{Error, Options};
-use lexical_tables::{TableColumn, put_at_once, put_bit, put_cell, put_standard_cell, put_zero};
+use lexical_tables::{TableColumn, put_at_once, put_bit, put_cell, put_standard_parsed, put_zero};
 
 /// The status of a table that no text can be read by.
 pub const INVALID_TABLE: u32 = 17;
@@ -148,8 +149,8 @@ impl ColumnFields<'_> {
         }
     }
 
-    // Puts the number of a text into a row's place, or tells the text's fault. Most columns have the standard format, and
-    // its tests fold away.
+    // Puts the number of a text that isn't had at once into a row's place, or tells the text's fault. Under the standard
+    // format, as most columns have it, it isn't tried at once again; under another one it wasn't tried.
     #[inline(always)]
     fn put_number(
         &mut self,
@@ -172,21 +173,22 @@ impl ColumnFields<'_> {
         }
         match self.number_type() {
             None => None,
-            Some(NumberType::I64) => put_standard_cell(self.i64s, row, start, text, ahead, options),
-            Some(NumberType::U64) => put_standard_cell(self.u64s, row, start, text, ahead, options),
-            Some(NumberType::I32) => put_standard_cell(self.i32s, row, start, text, ahead, options),
-            Some(NumberType::U32) => put_standard_cell(self.u32s, row, start, text, ahead, options),
-            Some(NumberType::I16) => put_standard_cell(self.i16s, row, start, text, ahead, options),
-            Some(NumberType::U16) => put_standard_cell(self.u16s, row, start, text, ahead, options),
-            Some(NumberType::I8) => put_standard_cell(self.i8s, row, start, text, ahead, options),
-            Some(NumberType::U8) => put_standard_cell(self.u8s, row, start, text, ahead, options),
+            Some(NumberType::I64) => put_standard_parsed(self.i64s, row, start, text),
+            Some(NumberType::U64) => put_standard_parsed(self.u64s, row, start, text),
+            Some(NumberType::I32) => put_standard_parsed(self.i32s, row, start, text),
+            Some(NumberType::U32) => put_standard_parsed(self.u32s, row, start, text),
+            Some(NumberType::I16) => put_standard_parsed(self.i16s, row, start, text),
+            Some(NumberType::U16) => put_standard_parsed(self.u16s, row, start, text),
+            Some(NumberType::I8) => put_standard_parsed(self.i8s, row, start, text),
+            Some(NumberType::U8) => put_standard_parsed(self.u8s, row, start, text),
         }
     }
 
     // Puts the number of a text's first bytes, so many, into a row's place, where it is had at once under the standard
-    // format, as most columns have it. Why out of line: docs/DECISIONS.md, code.
+    // format. Why out of line: docs/DECISIONS.md, code.
     #[inline(never)]
-    fn put_number_at_once(&mut self, row: usize, ahead: &[u8], size: usize) -> bool
+    fn put_standard_at_once(&mut self, row: usize, ahead: &[u8], size: usize) -> bool
+        requires standard { format_of self.old.format ≡ standard }
         requires usable { IsUsable (row + 1) (target_of self.old) }
         requires within { size ≤ length ahead.now }
         ensures fault { IsTrue result → (start : ℕ) → text_fault (target_of self.old)
@@ -196,9 +198,6 @@ impl ColumnFields<'_> {
             (target_of self.old) }
         ensures kept { result ≡ false → target_of self.new ≡ target_of self.old }
     {
-        if !self.format.is_standard() {
-            return false;
-        }
         match self.number_type() {
             None => false,
             Some(NumberType::I64) => put_at_once(self.i64s, row, ahead, size, &STANDARD),
@@ -257,8 +256,35 @@ impl TableColumn for ColumnFields<'_> {
         self.put_presence(row, false);
     }
 
-    #[inline(always)]
     fn read(
+        &mut self,
+        row: usize,
+        start: usize,
+        text: &[u8],
+        ahead: &[u8],
+        options: &Options,
+    ) -> Option<Error> {
+        if self.read_at_once(row, ahead, text.len()) {
+            return None;
+        }
+        self.read_left(row, start, text, ahead, options)
+    }
+
+    // A column of another format isn't tried: `read_left` makes that format, once.
+    #[inline(always)]
+    fn read_at_once(&mut self, row: usize, ahead: &[u8], size: usize) -> bool {
+        if !self.format.is_standard() {
+            return false;
+        }
+        if !self.put_standard_at_once(row, ahead, size) {
+            return false;
+        }
+        self.put_presence(row, true);
+        true
+    }
+
+    #[inline(always)]
+    fn read_left(
         &mut self,
         row: usize,
         start: usize,
@@ -271,14 +297,5 @@ impl TableColumn for ColumnFields<'_> {
         }
         self.put_presence(row, true);
         None
-    }
-
-    #[inline(always)]
-    fn read_at_once(&mut self, row: usize, ahead: &[u8], size: usize) -> bool {
-        if !self.put_number_at_once(row, ahead, size) {
-            return false;
-        }
-        self.put_presence(row, true);
-        true
     }
 }

@@ -31,15 +31,6 @@ fn cut_field(text: &[u8], marks: u64, separator: u8) -> (&[u8], &[u8], u64)
     (&text[..size], behind, more)
 }
 
-// The number of a field that the reader for its format's kind leaves, or its fault. Why out of line: docs/DECISIONS.md, code.
-#[inline(never)]
-fn number_if_left<T: ParseInteger>(field: &[u8], format: &NumberFormat) -> Result<T>
-    requires valid { IsNone (fault format.now) }
-    ensures { view_of T.number result ≡ complete format.now T.TYPE field.now }
-{
-    complete_if_left::<T>(field, format)
-}
-
 // The number of a field, or its fault: by the reader for the format's kind, or by the parser.
 #[inline(always)]
 fn number_of_field<T: ParseInteger>(field: &[u8], format: &NumberFormat) -> Result<T>
@@ -48,7 +39,7 @@ fn number_of_field<T: ParseInteger>(field: &[u8], format: &NumberFormat) -> Resu
 {
     match value_for_format::<T>(field, format) {
         Some(value) => Ok(value),
-        None => number_if_left::<T>(field, format),
+        None => complete_if_left::<T>(field, format),
     }
 }
 

@@ -24,7 +24,7 @@ pub fn complete_if_not_short<T: FromLexical>(bytes: &[u8]) -> Result<T>
     ensures { view_of T.number result ≡ complete standard T.TYPE bytes.now }
 {
     if bytes.len() <= 16 {
-        return whole::standard_if_left::<T>(bytes);
+        return standard_if_left::<T>(bytes);
     }
     T::from_lexical(bytes)
 }
@@ -50,4 +50,12 @@ pub fn complete_if_left<T: Integer>(bytes: &[u8], format: &NumberFormat) -> Resu
     ensures { view_of T.number result ≡ complete format.now T.TYPE bytes.now }
 {
     whole::complete_if_left::<T>(bytes, format)
+}
+
+/// The same under the standard format.
+#[inline(always)]
+pub fn standard_if_left<T: Integer>(bytes: &[u8]) -> Result<T>
+    ensures { view_of T.number result ≡ complete standard T.TYPE bytes.now }
+{
+    whole::standard_if_left::<T>(bytes)
 }

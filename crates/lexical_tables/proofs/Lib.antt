@@ -1,5 +1,4 @@
 -- The proofs beside the functions, a file for each idea.
-pub mod AtOnce
 pub mod CellRows
 pub mod CellSteps
 pub mod CellsAlone
@@ -26,5 +25,6 @@ pub mod RecordSteps
 pub mod RowSteps
 pub mod RowsInParts
 pub mod SeenBytes
+pub mod Unquoted
 pub mod WholeRows
 pub mod WidthRows

@@ -1,6 +1,5 @@
 -- The cells of a row between marked separators.
-use Rattle.std.proofs.Common.{◌≡◌, ◌∙◌, ℕ, ◌+◌, ◌-◌, List, [], ◌∷◌, Bool, Some, false, cond, eqb, length, take, drop, ◌≤◌, refl, ap, sym}
-use Rattle.std.proofs.lemmas.List.{take_rest, take-take}
+use Rattle.std.proofs.Common.{◌≡◌, ◌∙◌, ℕ, ◌+◌, ◌-◌, List, [], ◌∷◌, Bool, Some, false, cond, eqb, length, take, drop, refl, ap, sym}
 use Rattle.lexical_tables.specs.ByColumn.{cells_left, lacks_cell, marked_separator}
 use Rattle.lexical_tables.specs.Quotes.{length_outside, pieces_outside}
 use Rattle.lexical_tables.specs.declared.dialect.Dialect.{Dialect}
@@ -25,12 +24,3 @@ module _ (d : Dialect) (s : ℕ) (is : Some s ≡ marked_separator d.layout d.ha
       ∷ cond ended [] (cells_left l q (column + 1) at behind))
       (λ columns. next_piece false s place rest cell behind front after size
       ∙ ap (λ t. record { start = place; text = cell } ∷ cond t [] (pieces_outside false s at behind)) (sym last))
-
--- the first cell of what is left of a row is what is ahead there begins with
-pub text_ahead : (rest text ahead : List ℕ) (place s : ℕ) → rest ≡ take (length rest) (drop place ahead)
-    → text ≡ take (length_outside false s rest) rest → length text ≡ length_outside false s rest → length text ≤ length rest
-    → text ≡ take (length text) (take (length ahead - place) (drop place ahead))
-text_ahead rest text ahead place s front is size within =
-    is ∙ ap (λ n. take n rest) (sym size) ∙ ap (take (length text)) front
-    ∙ take-take (length text) (length rest) (drop place ahead) within
-    ∙ ap (take (length text)) (sym (take_rest ahead place))

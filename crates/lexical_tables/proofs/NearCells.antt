@@ -1,41 +1,74 @@
--- A cell whose end one look shows, where no quote is among its bytes.
-use Rattle.std.proofs.Common.{◌≡◌, ◌≢◌, ◌∙◌, ℕ, zero, suc, ◌+◌, ◌<◌, ◌≤◌, ◌==◌, List, length, take, get_or, true, false, cond, refl, subst, ap, sym, arith, inl, inr, ◌⊎◌}
-use Rattle.std.proofs.lemmas.Bool.{eqb-true}
-use Rattle.std.proofs.lemmas.List.{get_or-take}
+-- A cell whose end one look at what is ahead shows.
+use Rattle.std.proofs.Common.{◌≡◌, ◌≢◌, ◌∙◌, ℕ, suc, ◌+◌, ◌<◌, ◌≤◌, List, length, take, get_or, min, cond, eqb, ap, ap₂, sym, arith, inl, inr}
+use Rattle.std.specs.Int.{bit_at}
+use Rattle.std.proofs.lemmas.Bool.{cases_lt}
+use Rattle.std.proofs.lemmas.List.{get_or-take, take-take}
 use Rattle.lexical_fields.specs.Fields.{field_length}
-use Rattle.lexical_fields.proofs.FieldsInParts.{either}
-use Rattle.lexical_tables.specs.Looks.{IsPassed}
-use Rattle.lexical_tables.specs.Quotes.{hidden, quote, seen_at}
-use Rattle.lexical_tables.proofs.Passed.{passes_end, passes_none, passes_one, seen_here, seen_other}
+use Rattle.lexical_fields.proofs.Marks.{clear_is, set_is}
+use Rattle.lexical_tables.specs.Quotes.{has_odd_quotes, hidden, quote, seen_at}
+use Rattle.lexical_tables.proofs.Looks.{AreSeen}
+use Rattle.lexical_tables.proofs.Passed.{AreFound, ends_at}
 
--- so many bytes of which none is a quote or the one that is sought
-near_passed : (s : ℕ) (text : List ℕ) (n : ℕ) → n ≤ length text → ((k : ℕ) → k < n → get_or text k 0 ≢ quote)
-    → ((k : ℕ) → k < n → get_or text k 0 ≢ s) → IsPassed s text n false
-near_passed s text zero low unquoted other = passes_none s text
-near_passed s text (suc n) low unquoted other =
-    let before = near_passed s text n (omega arith) (λ k below. unquoted k (omega arith)) (λ k below. other k (omega arith)) in
-    let next : n + 1 ≡ suc n = omega arith in
-    let plain : (get_or text n 0 == quote) ≡ false = elim (either (get_or text n 0 == quote)) [
-      | inl e ↦ absurd (unquoted n (omega arith) (eqb-true (get_or text n 0) quote e))
-      | inr e ↦ e
-    ] in
-    subst (λ p. IsPassed s text p false) next
-    (passes_one s text n false before (omega arith) (seen_other s text n false before (inr (other n (omega arith)))) false
-    (ap (λ t. cond t true false) (sym plain)))
+-- what is left of a row begins what is ahead
+module _ (rest ahead : List ℕ) (front : rest ≡ take (length rest) ahead) where
+  -- a byte of it
+  as_ahead : (k : ℕ) → k < length rest → get_or rest k 0 ≡ get_or ahead k 0
+  as_ahead k low = ap (λ l. get_or l k 0) front ∙ get_or-take (length rest) ahead k 0 low
 
--- they are all before that, or all there are
-pub near_length : (s : ℕ) (text : List ℕ) (n : ℕ) → n ≤ length text → ((k : ℕ) → k < n → get_or text k 0 ≢ quote)
-    → ((k : ℕ) → k < n → get_or text k 0 ≢ s) → (length text ≤ n) ⊎ (get_or text n 0 ≡ s)
-    → n ≡ field_length s (hidden s text)
-near_length s text n low unquoted other ends =
-    let passed = near_passed s text n low unquoted other in
-    passes_end s text n false passed (λ more. by_end passed more ends)
-  where
-    by_end : IsPassed s text n false → n < length text → (length text ≤ n) ⊎ (get_or text n 0 ≡ s) → seen_at s text n ≡ s
-    by_end passed more (inl all) = absurd (omega (arith, more, all))
-    by_end passed more (inr found) = seen_here s text n false passed refl found
+  -- as a search sees it
+  seen_ahead : (s k : ℕ) → k < length rest → seen_at s rest k ≡ seen_at s ahead k
+  seen_ahead s k low = ap₂ (λ q b. cond q (suc s) b) odd (as_ahead k low)
+    where
+      odd : has_odd_quotes (take k rest) ≡ has_odd_quotes (take k ahead)
+      odd = ap has_odd_quotes (ap (take k) front ∙ take-take k (length rest) ahead (omega (arith, low)))
 
--- a byte of what begins a text
-pub as_ahead : (rest ahead : List ℕ) (k : ℕ) → rest ≡ take (length rest) ahead → k < length rest
-    → get_or rest k 0 ≡ get_or ahead k 0
-as_ahead rest ahead k front low = ap (λ l. get_or l k 0) front ∙ get_or-take (length rest) ahead k 0 low
+  -- no quote is among so many bytes
+  pub near_unquoted : (quotes size : ℕ) → AreSeen quote ahead 0 16 quotes → size ≤ 16 → size ≤ length rest
+      → ((k : ℕ) → k < size → bit_at quotes k ≡ 0) → (k : ℕ) → k < size → get_or rest k 0 ≢ quote
+  near_unquoted quotes size seen most within none k low same =
+      let here : 0 + k ≡ k = omega arith in
+      clear_is (get_or ahead k 0) quote
+      (ap (λ p. cond {A = ℕ} (eqb (get_or ahead p 0) quote) 1 0) (sym here)
+      ∙ sym (seen k (omega (arith, low, most))) ∙ none k low)
+      (sym (as_ahead k (omega (arith, low, within))) ∙ same)
+
+  module _ (s found : ℕ) (are : AreFound s ahead 0 16 found) where
+    found_at : (k : ℕ) → k < 16 → bit_at found k ≡ cond (eqb (seen_at s ahead k) s) 1 0
+    found_at k low =
+        let here : 0 + k ≡ k = omega arith in
+        are k low ∙ ap (λ p. cond {A = ℕ} (eqb (seen_at s ahead p) s) 1 0) here
+
+    -- where no mark stands before an end
+    ends_near : (size : ℕ) → size ≤ 16 → size ≤ length rest → ((k : ℕ) → k < size → bit_at found k ≡ 0)
+        → (size < length rest → (size < 16) × (bit_at found size ≡ 1)) → size ≡ field_length s (hidden s rest)
+    ends_near size most within none ends =
+        ends_at s rest size within
+        (λ k low is. clear_is (seen_at s ahead k) s (sym (found_at k (omega (arith, low, most))) ∙ none k low)
+        (sym (seen_ahead s k (omega (arith, low, within))) ∙ is))
+        (λ more. seen_ahead s size more
+        ∙ set_is (seen_at s ahead size) s (sym (found_at size (ends more).0) ∙ (ends more).1))
+
+    -- no mark: all that is left, if that is as short
+    pub near_all : ((k : ℕ) → bit_at found k ≡ 0) → length rest ≤ 16 → length rest ≡ field_length s (hidden s rest)
+    near_all none short =
+        ends_near (length rest) short (omega arith) (λ k low. none k) (λ more. absurd (omega (arith, more)))
+
+    -- the first mark, or the end of what is left
+    module _ (r : ℕ) (set : bit_at found r ≡ 1) (below : (k : ℕ) → k < r → bit_at found k ≡ 0)
+        (beyond : (k : ℕ) → 16 ≤ k → bit_at found k ≡ 0) where
+      pub near_low : r < 16
+      near_low = elim (cases_lt r 16) [
+        | inl lt ↦ lt
+        | inr ge ↦ let none : 0 ≡ 1 = sym (beyond r ge) ∙ set in absurd (omega (arith, none))
+      ]
+
+      pub near_first : min r (length rest) ≡ field_length s (hidden s rest)
+      near_first = elim (cases_lt (length rest) r) [
+        | inl lt ↦
+            let all : min r (length rest) ≡ length rest = omega (arith, lt) in
+            all ∙ ends_near (length rest) (omega (arith, lt, near_low)) (omega arith)
+            (λ k low. below k (omega (arith, low, lt))) (λ more. absurd (omega (arith, more)))
+        | inr ge ↦
+            let it : min r (length rest) ≡ r = omega (arith, ge) in
+            it ∙ ends_near r (omega (arith, near_low)) ge below (λ more. (near_low, set))
+      ]

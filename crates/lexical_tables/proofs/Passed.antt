@@ -1,7 +1,8 @@
 -- Where the first separator outside quotes stands, if none is among the bytes that were passed.
 use Rattle.std.proofs.Common.{◌≡◌, ◌≢◌, ◌∙◌, ℕ, ◌+◌, ◌-◌, ◌==◌, ◌<◌, ◌≤◌, suc, List, length, take, get_or, Bool, true, false, not, cond, eqb, refl, ap, subst, sym, arith, inl, inr, ◌⊎◌}
 use Rattle.std.specs.Int.{bit_at}
-use Rattle.std.proofs.lemmas.Bool.{cases_lt}
+use Rattle.std.specs.Prelude.{◌||◌}
+use Rattle.std.proofs.lemmas.Bool.{cases_lt, eqb-false, eqb-true, not-false, not-true}
 use mathlib.Core.Bool.{beq}
 use Rattle.std.proofs.lemmas.Nat.Bits.{bit_at-zero}
 use Rattle.std.proofs.lemmas.List.FromFn.{get_or-map-range_with_len, length-map-range_with_len}
@@ -36,7 +37,7 @@ pub hidden_at : (s : ℕ) (text : List ℕ) (k : ℕ) → k < length text → ge
 hidden_at s text k low = get_or-map-range_with_len (seen_at s text) 0 (length text) k k 0 low (omega arith)
 
 -- it is there
-ends_at : (s : ℕ) (text : List ℕ) (end : ℕ) → end ≤ length text → ((k : ℕ) → k < end → seen_at s text k ≢ s)
+pub ends_at : (s : ℕ) (text : List ℕ) (end : ℕ) → end ≤ length text → ((k : ℕ) → k < end → seen_at s text k ≢ s)
     → (end < length text → seen_at s text end ≡ s) → end ≡ field_length s (hidden s text)
 ends_at s text end low none found =
     let size = hidden_long s text in
@@ -115,3 +116,12 @@ turned_once w byte = by_both w (byte == 34)
     by_both true false = refl
     by_both false true = refl
     by_both false false = refl
+
+-- a byte that is stepped over stands within quotes or is another, and one that isn't does neither
+pub stepped : (w : Bool) (byte s : ℕ) → (w || not (byte == s)) ≡ true → (w ≡ true) ⊎ (byte ≢ s)
+stepped true byte s is = inl refl
+stepped false byte s is = inr (eqb-false byte s (not-true (byte == s) is))
+
+pub stopped : (w : Bool) (byte s : ℕ) → (w || not (byte == s)) ≡ false → (w ≡ false) × (byte ≡ s)
+stopped true byte s is = absurd cc
+stopped false byte s is = (refl, eqb-true byte s (not-false (byte == s) is))

@@ -1,7 +1,6 @@
 -- The whole lines of a text, one after another.
-use Rattle.std.proofs.Common.{◌≡◌, ◌∙◌, ℕ, suc, ◌+◌, ◌-◌, ◌<◌, ◌≤◌, ◌==◌, ◌||◌, not, List, [], ◌∷◌, length, drop, Bool, true, false, cond, refl, ap, sym, arith, inl, inr, length-drop}
+use Rattle.std.proofs.Common.{◌≡◌, ◌∙◌, ℕ, suc, ◌+◌, ◌-◌, ◌<◌, ◌≤◌, ◌==◌, ◌||◌, not, List, [], ◌∷◌, length, drop, Bool, true, false, cond, refl, ap, sym, arith, length-drop}
 use Rattle.std.specs.List.{list_any}
-use Rattle.std.proofs.lemmas.Bool.{cases_lt}
 use Rattle.lexical_fields.specs.Fields.{field_length}
 use Rattle.lexical_fields.specs.Parts.{whole_fields}
 use Rattle.lexical_tables.specs.Parts.{whole_lines}
@@ -69,15 +68,12 @@ pub whole_starts : (q : Bool) (text : List ℕ) → IsPassed q text text
 whole_starts q text = record { within = omega arith; whole_is = omega arith }
 
 module _ (q : Bool) (text rest : List ℕ) (reading : IsPassed q text rest) where
-  pub whole_goes : (line behind : List ℕ) → behind ≡ drop (length_outside q line_feed rest + 1) rest
-      → length line ≡ length_outside q line_feed rest → length line ≤ length rest → (length line ≡ length rest → ⊥)
-      → IsPassed q text behind
-  whole_goes line behind back size within more =
+  pub whole_goes : (size : ℕ) (behind : List ℕ) → behind ≡ drop (size + 1) rest → size ≡ length_outside q line_feed rest
+      → size < length rest → IsPassed q text behind
+  whole_goes size behind cut is more =
       let n = length_outside q line_feed rest in
-      let low : n < length rest = elim (cases_lt n (length rest)) [
-        | inl lt ↦ lt
-        | inr ge ↦ absurd (more (omega (arith, ge, size, within)))
-      ] in
+      let low : n < length rest = omega (arith, is, more) in
+      let back : behind ≡ drop (n + 1) rest = cut ∙ ap (λ k. drop (k + 1) rest) is in
       let left : length behind ≡ length rest - (n + 1) = ap length back ∙ length-drop (n + 1) rest in
       let there : whole_lines q rest ≡ suc n + whole_lines q behind =
       whole_first line_feed (seen q line_feed rest) (omega (arith, low, seen_long q line_feed rest))
@@ -87,11 +83,11 @@ module _ (q : Bool) (text rest : List ℕ) (reading : IsPassed q text rest) wher
         whole_is = omega (arith, reading.within, reading.whole_is, there, left, low);
       }
 
-  pub whole_stops : (line : List ℕ) → length line ≡ length_outside q line_feed rest → length line ≡ length rest
+  pub whole_stops : (size : ℕ) → size ≡ length_outside q line_feed rest → size ≡ length rest
       → length text - length rest ≡ whole_lines q text
-  whole_stops line size all =
+  whole_stops size is all =
       let none : whole_lines q rest ≡ 0 =
-      whole_zero line_feed (seen q line_feed rest) (sym size ∙ all ∙ sym (seen_long q line_feed rest)) in
+      whole_zero line_feed (seen q line_feed rest) (sym is ∙ all ∙ sym (seen_long q line_feed rest)) in
       omega (arith, reading.whole_is, none)
 
   pub whole_ends : length rest ≡ 0 → length text ≡ whole_lines q text

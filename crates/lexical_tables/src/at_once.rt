@@ -15,27 +15,27 @@ use lexical_parse_integer::quick::value_if_short;
 // How many bytes have to follow a number that is read as words.
 const ROOM_BEHIND: usize = 17;
 
-// `put_at_once` near the end of a text, as all of a row is that a caller reads alone. Why out of line: docs/DECISIONS.md,
-// code.
+// `put_at_once` near the end of a text, as all of a row is that a caller reads alone. Why out of line, and the format by
+// value: docs/DECISIONS.md, code.
 #[inline(never)]
 fn put_near_end<T: ParseInteger>(
     values: &mut [T],
     row: usize,
     ahead: &[u8],
     size: usize,
-    format: &NumberFormat,
+    format: NumberFormat,
 ) -> bool
-    requires valid { IsNone (fault format.now) }
+    requires valid { IsNone (fault format) }
     requires room { row < length values.old }
     requires within { size ≤ length ahead.now }
-    ensures fault { IsTrue result → (start : ℕ) → error_in (field_answer format.now T.TYPE
+    ensures fault { IsTrue result → (start : ℕ) → error_in (field_answer format T.TYPE
         (record { start = start; text = take size ahead.now })) ≡ None }
     ensures numbers { IsTrue result → (start : ℕ) → map T.number values.new
-        ≡ with_number row (field_answer format.now T.TYPE
+        ≡ with_number row (field_answer format T.TYPE
         (record { start = start; text = take size ahead.now })) (map T.number values.old) }
     ensures kept { result ≡ false → values.new ≡ values.old }
 {
-    match value_if_short::<T>(&ahead[..size], format) {
+    match value_if_short::<T>(&ahead[..size], &format) {
         Some(value) => {
             values[row] = value;
             true
@@ -71,7 +71,10 @@ pub fn put_at_once<T: ParseInteger>(
     ensures kept { result ≡ false → values.new ≡ values.old }
 {
     if ahead.len() - size < ROOM_BEHIND {
-        return put_near_end::<T>(values, row, ahead, size, format);
+        if size > ROOM_BEHIND {
+            return false;
+        }
+        return put_near_end::<T>(values, row, ahead, size, *format);
     }
     match value_of_front::<T>(ahead, size, format) {
         Some(value) => {

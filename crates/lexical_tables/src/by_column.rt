@@ -10,7 +10,7 @@ ghost use Rattle.lexical_tables.specs.Targets.{put_text, text_fault};
 use crate::answers::{CellFault, Table, TableError};
 use crate::cells::{Shape, lacks_cell, next_cell, shape_of};
 use crate::content::{Cell, content};
-use crate::dialect::Dialect;
+use crate::dialect::{Dialect, Layout};
 use crate::marked::read_marked_rows;
 use crate::misplaced::quote_fault;
 use crate::rows::{Row, first_row, without_empty_rows};
@@ -19,7 +19,7 @@ use lexical_parse_integer::{Error, Options};
 
 // The number of what a cell holds goes to the row's place, or its fault is told.
 #[inline(always)]
-fn read_held<C: TableColumn>(
+pub(crate) fn read_held<C: TableColumn>(
     target: &mut C,
     row: usize,
     held: Cell<'_>,
@@ -35,7 +35,7 @@ fn read_held<C: TableColumn>(
     if target.read_at_once(row, held.ahead, held.text.len()) {
         return None;
     }
-    target.read(row, held.start, held.text, held.ahead, options)
+    target.read_left(row, held.start, held.text, held.ahead, options)
 }
 
 // The fault of a cell's quotes, where these have a meaning: none where the cell was seen to have no quote.
@@ -227,15 +227,11 @@ fn read_cells<C: TableColumn>(
 #[inline(never)]
 fn read_rows<C: TableColumn>(
     text: &[u8],
-    shape: Shape,
     dialect: &Dialect<'_>,
     options: &Options,
     rows: usize,
     targets: &mut [C],
 ) -> Result<Table, TableError>
-    requires columns { shape.columns ≡ column_count dialect.now.layout }
-    requires marked { shape.marked
-        ≡ marked_separator dialect.now.layout dialect.now.has_quotes }
     requires usable { AreUsable rows (map C.target targets.old) }
     ensures answer { result ≡ columns_answer (kinds_of (map C.target targets.old)) dialect.now rows
         text.now }
@@ -243,6 +239,7 @@ fn read_rows<C: TableColumn>(
         (map C.target targets.old) }
     ensures goes_on { IfOk result (StopsAt dialect.now rows text.now) }
 {
+    let shape = shape_of(dialect);
     let mut rest = without_empty_rows(text, dialect);
     let mut count = 0;
     while count < rows && !rest.is_empty() {
@@ -271,7 +268,7 @@ fn read_rows<C: TableColumn>(
 ///
 /// With a comma, three columns and targets of `u64` for the first and of `i8` for the third, `1,a,-2\n`
 /// puts 1 and -2 at place 0, and stops at 7.
-#[inline(never)]
+#[inline(always)]
 pub fn read_columns<C: TableColumn>(
     text: &[u8],
     dialect: &Dialect<'_>,
@@ -286,20 +283,15 @@ pub fn read_columns<C: TableColumn>(
         (map C.target targets.old) }
     ensures goes_on { IfOk result (StopsAt dialect.now rows text.now) }
 {
-    let shape = shape_of(dialect);
     if dialect.has_quotes || dialect.allows_blanks {
-        return read_rows(text, shape, dialect, options, rows, targets);
+        return read_rows(text, dialect, options, rows, targets);
     }
-    match shape.marked {
-        Some(separator) => read_marked_rows(
-            text,
-            shape.columns,
-            separator,
-            dialect,
-            options,
-            rows,
-            targets,
-        ),
-        None => read_rows(text, shape, dialect, options, rows, targets),
+    match dialect.layout {
+        Layout::Separated { separator, columns } => {
+            read_marked_rows(text, columns, separator, dialect, options, rows, targets)
+        }
+        Layout::Widths { .. } | Layout::Records { .. } => {
+            read_rows(text, dialect, options, rows, targets)
+        }
     }
 }

@@ -7,8 +7,9 @@ ghost use Rattle.lexical_tables.specs.ByColumn.{AreCellMarks, cells_by_width, ce
 ghost use Rattle.lexical_tables.specs.Quotes.{hidden, length_outside, quote};
 
 use crate::dialect::{Dialect, Layout};
+use crate::quotes::near_length;
 use crate::rows::split;
-use lexical_fields::{field_length, next_marks, plain_of_16, split_marked};
+use lexical_fields::{field_length, next_marks, split_marked};
 
 // What all rows have in common: how many columns there are, and the separator, if marks find cells: these stand between
 // such, and quotes have no meaning.
@@ -99,6 +100,37 @@ fn wide_cell<'a>(rest: &'a [u8], column: usize, widths: &[usize]) -> NextCell<'a
     }
 }
 
+// The first cell of what is left of a row, if it has so many bytes, and whether it was seen that none of them is a quote.
+#[inline(always)]
+fn sized_cell(rest: &[u8], size: usize, has_no_quote: bool) -> NextCell<'_>
+    requires within { size ≤ length rest.now }
+    ensures front { result.text.now ≡ take size rest.now }
+    ensures behind { result.behind.now ≡ drop (size + 1) rest.now }
+    ensures within { length result.text.now ≤ length rest.now }
+    ensures size { length result.text.now ≡ size }
+    ensures left { length result.behind.now ≤ length rest.now }
+    ensures ended { result.ended ≡ (length result.text.now == length rest.now) }
+    ensures marks { result.marks ≡ 0 }
+    ensures seen { result.has_no_quote ≡ has_no_quote }
+{
+    if size == rest.len() {
+        return NextCell {
+            text: rest,
+            behind: &rest[size..],
+            marks: 0,
+            ended: true,
+            has_no_quote,
+        };
+    }
+    NextCell {
+        text: &rest[..size],
+        behind: &rest[size + 1..],
+        marks: 0,
+        ended: false,
+        has_no_quote,
+    }
+}
+
 // The first cell of what is left of a row, whose separators marks find. What is ahead begins with that.
 #[inline(always)]
 pub(crate) fn marked_cell<'a>(
@@ -124,7 +156,7 @@ pub(crate) fn marked_cell<'a>(
 {
     let known = next_marks(ahead, marks, separator);
     if known == 0 {
-        return unmarked_cell(rest, separator);
+        return sized_cell(rest, unmarked_length(rest, separator), false);
     }
     let (size, _, more) = split_marked(ahead, known, separator);
     if size >= rest.len() {
@@ -155,96 +187,6 @@ fn unmarked_length(rest: &[u8], separator: u8) -> usize
     field_length(rest, separator)
 }
 
-// The first cell of what is left of a row, where no mark is ahead.
-#[inline(always)]
-fn unmarked_cell(rest: &[u8], separator: u8) -> NextCell<'_>
-    ensures front { result.text.now ≡ take (length_outside false separator rest.now) rest.now }
-    ensures behind { result.behind.now
-        ≡ drop (length_outside false separator rest.now + 1) rest.now }
-    ensures within { length result.text.now ≤ length rest.now }
-    ensures size { length result.text.now ≡ length_outside false separator rest.now }
-    ensures left { length result.behind.now ≤ length rest.now }
-    ensures ended { result.ended ≡ (length result.text.now == length rest.now) }
-    ensures marks { result.marks ≡ 0 }
-    ensures unseen { result.has_no_quote ≡ false }
-{
-    let size = unmarked_length(rest, separator);
-    if size == rest.len() {
-        return NextCell {
-            text: rest,
-            behind: &rest[size..],
-            marks: 0,
-            ended: true,
-            has_no_quote: false,
-        };
-    }
-    NextCell {
-        text: &rest[..size],
-        behind: &rest[size + 1..],
-        marks: 0,
-        ended: false,
-        has_no_quote: false,
-    }
-}
-
-// How many bytes the first cell of what is left of a row has, where sixteen bytes show its end and no quote: as they do of
-// most cells. What is ahead begins with that.
-#[inline(always)]
-fn short_length(rest: &[u8], ahead: &[u8], separator: u8) -> Option<usize>
-    requires rest { rest.now ≡ take (length rest.now) ahead.now }
-    ensures value { IfSome result
-        (λ size. size ≡ field_length separator (hidden separator rest.now)) }
-    ensures within { IfSome result (λ size. size ≤ length rest.now) }
-    ensures no_quote { IfSome result
-        (λ size. (k : ℕ) → k < size → slice_index rest.now k ≢ quote) }
-{
-    if ahead.len() < 16 {
-        return None;
-    }
-    let size = plain_of_16(&ahead[..16], b'"', separator);
-    if size >= rest.len() {
-        return Some(rest.len());
-    }
-    if rest[size] == separator {
-        Some(size)
-    } else {
-        None
-    }
-}
-
-// The first cell of what is left of a row, if it has so many bytes and none of them is a quote.
-#[inline(always)]
-fn short_cell(rest: &[u8], size: usize) -> NextCell<'_>
-    requires within { size ≤ length rest.now }
-    requires no_quote { (k : ℕ) → k < size → slice_index rest.now k ≢ quote }
-    ensures front { result.text.now ≡ take size rest.now }
-    ensures behind { result.behind.now ≡ drop (size + 1) rest.now }
-    ensures within { length result.text.now ≤ length rest.now }
-    ensures size { length result.text.now ≡ size }
-    ensures left { length result.behind.now ≤ length rest.now }
-    ensures ended { result.ended ≡ (length result.text.now == length rest.now) }
-    ensures marks { result.marks ≡ 0 }
-    ensures no_quote { (k : ℕ) → k < length result.text.now
-        → slice_index result.text.now k ≢ quote }
-{
-    if size == rest.len() {
-        return NextCell {
-            text: rest,
-            behind: &rest[size..],
-            marks: 0,
-            ended: true,
-            has_no_quote: true,
-        };
-    }
-    NextCell {
-        text: &rest[..size],
-        behind: &rest[size + 1..],
-        marks: 0,
-        ended: false,
-        has_no_quote: true,
-    }
-}
-
 // The first cell of what is left of a row, whose separators are searched for. What is ahead begins with that.
 #[inline(always)]
 fn parted_cell<'a>(rest: &'a [u8], ahead: &[u8], separator: u8, has_quotes: bool) -> NextCell<'a>
@@ -262,8 +204,8 @@ fn parted_cell<'a>(rest: &'a [u8], ahead: &[u8], separator: u8, has_quotes: bool
         → slice_index result.text.now k ≢ quote }
 {
     if has_quotes && separator != b'"' {
-        if let Some(size) = short_length(rest, ahead, separator) {
-            return short_cell(rest, size);
+        if let Some((size, has_no_quote)) = near_length(rest, ahead, separator) {
+            return sized_cell(rest, size, has_no_quote);
         }
     }
     let (text, behind) = split(rest, separator, has_quotes);

@@ -30,5 +30,6 @@ pub use at_once::put_at_once;
 pub use by_column::read_columns;
 pub use dialect::{Dialect, Layout};
 pub use header::after_lines;
+pub use parsed::put_standard_parsed;
 pub use parts::{columns_in_parts, read_columns_part};
 pub use targets::{Numbers, TableColumn, Target, put_bit, put_cell, put_standard_cell, put_zero};

@@ -6,7 +6,7 @@ ghost use Rattle.lexical_tables.specs.Cells.{answer_as, view_of_cell};
 ghost use Rattle.lexical_tables.specs.Rows.{view_of_row};
 
 use crate::answers::{CellFault, Table, TableError};
-use crate::by_column::end_fault;
+use crate::by_column::{end_fault, read_held};
 use crate::cells::marked_cell;
 use crate::content::Cell;
 use crate::dialect::Dialect;
@@ -14,71 +14,10 @@ use crate::rows::{Row, first_row, without_empty_rows};
 use crate::targets::TableColumn;
 use lexical_parse_integer::Options;
 
-// Reads a cell of so many bytes, if that is quickly done, and tells whether it did. It doesn't hold quotes or blanks that
-// have a meaning. What is ahead begins with it.
+// Reads a cell in its column: it holds the mark or a number, which goes to the row's place. It doesn't hold quotes or blanks
+// that have a meaning.
 #[inline(always)]
-fn read_cell_at_once<C: TableColumn>(
-    targets: &mut [C],
-    column: usize,
-    row: usize,
-    ahead: &[u8],
-    size: usize,
-    dialect: &Dialect<'_>,
-) -> bool
-    requires no_quotes { dialect.now.has_quotes ≡ false }
-    requires no_blanks { dialect.now.allows_blanks ≡ false }
-    requires usable { AreUsable (row + 1) (map C.target targets.old) }
-    requires within { size ≤ length ahead.now }
-    ensures fault { IsTrue result → (start : ℕ) → None ≡ fault_in (answer_at dialect.now
-        (kinds_of (map C.target targets.old)) column
-        (record { start = start; text = take size ahead.now })) }
-    ensures targets { IsTrue result → (start : ℕ) → map C.target targets.new
-        ≡ put_read_at row column (answer_at dialect.now (kinds_of (map C.target targets.old))
-        column (record { start = start; text = take size ahead.now }))
-        (map C.target targets.old) }
-    ensures kept { result ≡ false → map C.target targets.new ≡ map C.target targets.old }
-{
-    if column >= targets.len() {
-        return true;
-    }
-    if !targets[column].is_read() {
-        return true;
-    }
-    read_number_at_once(&mut targets[column], row, ahead, size, dialect)
-}
-
-// The same in its column.
-#[inline(always)]
-fn read_number_at_once<C: TableColumn>(
-    target: &mut C,
-    row: usize,
-    ahead: &[u8],
-    size: usize,
-    dialect: &Dialect<'_>,
-) -> bool
-    requires no_quotes { dialect.now.has_quotes ≡ false }
-    requires no_blanks { dialect.now.allows_blanks ≡ false }
-    requires usable { IsUsable (row + 1) (C.target target.old) }
-    requires read { is_some (C.target target.old) ≡ true }
-    requires within { size ≤ length ahead.now }
-    ensures fault { IsTrue result → (start : ℕ) → None ≡ fault_in (answer_as dialect.now
-        (option_map kind_of (C.target target.old))
-        (record { start = start; text = take size ahead.now })) }
-    ensures target { IsTrue result → (start : ℕ) → C.target target.new
-        ≡ option_map (put_read row (answer_as dialect.now (option_map kind_of (C.target target.old))
-        (record { start = start; text = take size ahead.now }))) (C.target target.old) }
-    ensures kept { result ≡ false → C.target target.new ≡ C.target target.old }
-{
-    if target.may_miss() && &ahead[..size] == dialect.missing {
-        target.put_missing(row);
-        return true;
-    }
-    target.read_at_once(row, ahead, size)
-}
-
-// Reads a cell that wasn't had at once: it holds the mark or a number, which goes to the row's place.
-#[inline(always)]
-fn read_number_by_parser<C: TableColumn>(
+fn read_plain_number<C: TableColumn>(
     target: &mut C,
     row: usize,
     cell: Cell<'_>,
@@ -101,15 +40,15 @@ fn read_number_by_parser<C: TableColumn>(
         target.put_missing(row);
         return None;
     }
-    match target.read(row, cell.start, cell.text, cell.ahead, options) {
+    match read_held(target, row, cell, options) {
         Some(error) => Some(CellFault::NotNumber(error)),
         None => None,
     }
 }
 
-// Reads the cell of a column that wasn't had at once, if that has a target. Why out of line: docs/DECISIONS.md, code.
-#[inline(never)]
-fn read_cell_by_parser<C: TableColumn>(
+// Reads the cell of a column, if that has a target: what is read goes to the row's place there.
+#[inline(always)]
+fn read_plain_cell<C: TableColumn>(
     targets: &mut [C],
     column: usize,
     row: usize,
@@ -134,7 +73,7 @@ fn read_cell_by_parser<C: TableColumn>(
     if !targets[column].is_read() {
         return None;
     }
-    read_number_by_parser(&mut targets[column], row, cell, dialect, options)
+    read_plain_number(&mut targets[column], row, cell, dialect, options)
 }
 
 // The numbers of a row go to its place in the targets, up to the row's fault, where marks find its cells and no blanks are
@@ -176,15 +115,12 @@ fn read_marked_cells<C: TableColumn>(
         rest = next.behind;
         marks = next.marks;
         column += 1;
-        if read_cell_at_once(targets, here, index, left, next.text.len(), dialect) {
-            continue;
-        }
         let cell = Cell {
             start: row.start + place,
             text: next.text,
             ahead: left,
         };
-        if let Some(fault) = read_cell_by_parser(targets, here, index, cell, dialect, options) {
+        if let Some(fault) = read_plain_cell(targets, here, index, cell, dialect, options) {
             return Some(TableError {
                 row: index,
                 column: here,

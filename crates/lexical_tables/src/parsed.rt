@@ -9,8 +9,8 @@ ghost use Rattle.lexical_tables.specs.Targets.{error_in, with_number};
 use lexical_fields::error_in_text;
 use lexical_parse_integer::laws::grammar::fault_places;
 use lexical_parse_integer::parse::ParseInteger;
-use lexical_parse_integer::quick::{complete_if_left, value_if_not_short};
-use lexical_parse_integer::{Error, NumberFormat, Options, format};
+use lexical_parse_integer::quick::{complete_under_if_not_short, standard_if_left, value_for_format};
+use lexical_parse_integer::{Error, NumberFormat, format};
 
 // Puts the number of a cell that isn't had at once into a row's place, or tells the cell's fault: by the reader for its
 // format's kind, or by the parser.
@@ -30,13 +30,9 @@ pub(crate) fn put_parsed<T: ParseInteger>(
     ensures numbers { map T.number values.new ≡ with_number row (field_answer format.now T.TYPE
         (record { start = start; text = cell.now })) (map T.number values.old) }
 {
-    if let Some(value) = value_if_not_short::<T>(cell, format) {
-        values[row] = value;
-        return None;
-    }
     // The law by which a fault's place is at most the cell's length, so that the sum fits.
     fault_places();
-    match complete_if_left::<T>(cell, format) {
+    match complete_under_if_not_short::<T>(cell, format) {
         Ok(value) => {
             values[row] = value;
             None
@@ -45,15 +41,18 @@ pub(crate) fn put_parsed<T: ParseInteger>(
     }
 }
 
-// The same under the standard format, which is made here: its caller would make it for each cell. Why out of line:
-// docs/DECISIONS.md, code.
+/// Puts the number of a cell that [`put_at_once`](crate::put_at_once) has left into a row's place of a slice, or tells the
+/// cell's fault, under the standard format, which is made here: a caller would make it for each cell. Of up to twelve bytes no
+/// digits were left, so they aren't read as such again.
+///
+/// It is for a [`TableColumn`](crate::TableColumn) of one's own. The slice has to have that place.
+// Why out of line: docs/DECISIONS.md, code.
 #[inline(never)]
-pub(crate) fn put_standard_parsed<T: ParseInteger>(
+pub fn put_standard_parsed<T: ParseInteger>(
     values: &mut [T],
     row: usize,
     start: usize,
     cell: &[u8],
-    options: &Options,
 ) -> Option<Error>
     requires room { row < length values.old }
     requires fits { start + length cell.now < 2 ^ 64 }
@@ -62,8 +61,14 @@ pub(crate) fn put_standard_parsed<T: ParseInteger>(
     ensures numbers { map T.number values.new ≡ with_number row (field_answer standard T.TYPE
         (record { start = start; text = cell.now })) (map T.number values.old) }
 {
+    if cell.len() > 12 {
+        if let Some(value) = value_for_format::<T>(cell, &format::STANDARD) {
+            values[row] = value;
+            return None;
+        }
+    }
     fault_places();
-    match T::parse_complete(cell, &format::STANDARD, options) {
+    match standard_if_left::<T>(cell) {
         Ok(value) => {
             values[row] = value;
             None

@@ -8,7 +8,8 @@ ghost use Rattle.lexical_tables.specs.Parts.{AreValid, ColumnsInParts, readable,
 use crate::answers::{Table, TableError};
 use crate::by_column::read_columns;
 use crate::dialect::{Dialect, Layout};
-use crate::rows::{record_size, split};
+use crate::quotes::length_outside;
+use crate::rows::record_size;
 use crate::targets::TableColumn;
 use lexical_fields::whole_fields;
 use lexical_parse_integer::Options;
@@ -23,11 +24,11 @@ fn whole_lines(text: &[u8], has_quotes: bool) -> usize
     }
     let mut rest = text;
     while !rest.is_empty() {
-        let (line, behind) = split(rest, b'\n', has_quotes);
-        if line.len() == rest.len() {
+        let size = length_outside(rest, b'\n', has_quotes);
+        if size == rest.len() {
             return text.len() - rest.len();
         }
-        rest = behind;
+        rest = &rest[size + 1..];
     }
     text.len()
 }

@@ -1,7 +1,8 @@
 // Where a byte first stands outside quotes.
-ghost use Rattle.std.specs.Prelude.{◌≡◌, ◌≤◌, length};
+ghost use Rattle.std.specs.Prelude.{◌≡◌, ◌≢◌, ◌==◌, ◌||◌, ◌<◌, ◌≤◌, ℕ, IfSome, IsTrue, length, not, slice_index, take};
+ghost use Rattle.std.specs.Int.{bit_at};
 ghost use Rattle.lexical_fields.specs.Fields.{field_length};
-ghost use Rattle.lexical_tables.specs.Quotes.{hidden, length_outside};
+ghost use Rattle.lexical_tables.specs.Quotes.{hidden, length_outside, quote};
 ghost use Rattle.lexical_tables.specs.Looks.{IsPassed};
 
 mod looks;
@@ -10,17 +11,20 @@ mod parities;
 use self::looks::look_at_16;
 use lexical_fields::{field_length, lowest_mark, next_marks, split_marked};
 
-// How many bytes stand before the first separator outside quotes, or in the text where there is none.
+// How many bytes stand before the first separator outside quotes, or in the text where there is none. Where quotes have a
+// meaning, an empty row's end is its first byte, and no call is made for that.
 #[inline(always)]
 pub(crate) fn length_outside(text: &[u8], separator: u8, has_quotes: bool) -> usize
     ensures value { result ≡ length_outside has_quotes separator text.now }
     ensures within { result ≤ length text.now }
 {
-    if has_quotes && separator != b'"' {
-        quoted_length(text, separator)
-    } else {
-        marked_length(text, separator)
+    if !has_quotes || separator == b'"' {
+        return marked_length(text, separator);
     }
+    if !text.is_empty() && text[0] == separator {
+        return 0;
+    }
+    quoted_length(text, separator)
 }
 
 // How many they are where quotes have no meaning: by one look at 64 bytes, as most lines end among these.
@@ -36,8 +40,7 @@ fn marked_length(text: &[u8], separator: u8) -> usize
     split_marked(text, marks, separator).0
 }
 
-// How many they are where quotes have a meaning: by a look at sixteen bytes, as most cells end among these, and then by a
-// loop, which has more to keep. Why out of line: docs/DECISIONS.md, code.
+// How many they are: by a look at sixteen bytes, as most lines end among these, and then by a loop, which has more to keep. Why out of line: docs/DECISIONS.md, code.
 #[inline(never)]
 fn quoted_length(text: &[u8], separator: u8) -> usize
     ensures value { result ≡ field_length separator (hidden separator text.now) }
@@ -46,11 +49,11 @@ fn quoted_length(text: &[u8], separator: u8) -> usize
     if text.len() < 16 {
         return length_by_bytes(text, separator, 0, false);
     }
-    let (found, is_within) = look_at_16(text, 0, separator, false);
-    if found != 0 {
-        return lowest_mark(found);
+    let look = look_at_16(text, 0, separator, false);
+    if look.found != 0 {
+        return lowest_mark(look.found);
     }
-    length_by_16(text, separator, 16, is_within)
+    length_by_16(text, separator, 16, look.is_within)
 }
 
 // How many they are, if so many bytes were passed: by sixteen at once.
@@ -63,14 +66,22 @@ fn length_by_16(text: &[u8], separator: u8, passed: usize, was_within: bool) -> 
     let mut place = passed;
     let mut is_within = was_within;
     while text.len() - place >= 16 {
-        let (found, more) = look_at_16(text, place, separator, is_within);
-        if found != 0 {
-            return place + lowest_mark(found);
+        let look = look_at_16(text, place, separator, is_within);
+        if look.found != 0 {
+            return place + lowest_mark(look.found);
         }
-        is_within = more;
+        is_within = look.is_within;
         place += 16;
     }
     length_by_bytes(text, separator, place, is_within)
+}
+
+// Whether a byte is stepped over in search of a separator: it is another, or stands within quotes.
+#[inline(always)]
+fn is_stepped_over(byte: u8, separator: u8, is_within: bool) -> bool
+    ensures { result ≡ (is_within || not (byte == separator)) }
+{
+    is_within || byte != separator
 }
 
 // How many they are, if so many bytes were passed: byte by byte.
@@ -82,9 +93,42 @@ fn length_by_bytes(text: &[u8], separator: u8, passed: usize, was_within: bool) 
 {
     let mut place = passed;
     let mut is_within = was_within;
-    while place < text.len() && (is_within || text[place] != separator) {
+    while place < text.len() && is_stepped_over(text[place], separator, is_within) {
         is_within = is_within != (text[place] == b'"');
         place += 1;
     }
     place
+}
+
+// Whether no mark stands below a place.
+#[inline(always)]
+fn has_none_below(marks: u64, place: usize) -> bool
+    ensures { IsTrue result → (k : ℕ) → k < place → bit_at marks k ≡ 0 }
+{
+    marks == 0 || lowest_mark(marks) >= place
+}
+
+// How many bytes the first cell of what is left of a row has, and whether it was seen that none of them is a quote, where
+// sixteen bytes show its end: as they do of most cells. What is ahead begins with what is left.
+#[inline(always)]
+pub(crate) fn near_length(rest: &[u8], ahead: &[u8], separator: u8) -> Option<(usize, bool)>
+    requires rest { rest.now ≡ take (length rest.now) ahead.now }
+    ensures value { IfSome result
+        (λ found. found.0 ≡ field_length separator (hidden separator rest.now)) }
+    ensures within { IfSome result (λ found. found.0 ≤ length rest.now) }
+    ensures no_quote { IfSome result (λ found. IsTrue found.1
+        → (k : ℕ) → k < found.0 → slice_index rest.now k ≢ quote) }
+{
+    if ahead.len() < 16 {
+        return None;
+    }
+    let look = look_at_16(ahead, 0, separator, false);
+    if look.found == 0 {
+        if rest.len() > 16 {
+            return None;
+        }
+        return Some((rest.len(), has_none_below(look.quotes, rest.len())));
+    }
+    let size = lowest_mark(look.found).min(rest.len());
+    Some((size, has_none_below(look.quotes, size)))
 }

@@ -3,13 +3,12 @@
 ghost use Rattle.std.specs.Prelude.{◌≡◌, ◌+◌, ◌*◌, ◌<◌, ◌≤◌, ◌^◌, ℕ, Ok, Option, None, Some, false, length, take, map, set, is_some, option_map, pos, IfSome, IsNone, IsTrue};
 ghost use Rattle.lexical_util.specs.Format.{standard};
 ghost use Rattle.lexical_util.specs.Validity.{fault};
-ghost use Rattle.lexical_parse_integer.specs.Grammar.{complete};
 ghost use Rattle.lexical_fields.specs.ReadFields.{field_answer};
 ghost use Rattle.lexical_tables.specs.ByColumn.{IsUsable};
 ghost use Rattle.lexical_tables.specs.Targets.{TargetView, error_in, has_bits, put_text, put_value, text_answer, text_fault, view_of_target, with_number, with_row_bit};
 
+use crate::at_once::put_at_once;
 use crate::parsed::{put_parsed, put_standard_parsed};
-use lexical_fields::value_in_front;
 use lexical_parse_integer::parse::ParseInteger;
 use lexical_parse_integer::{Error, NumberFormat, Options, format};
 
@@ -69,21 +68,10 @@ pub fn put_cell<T: ParseInteger>(
     ensures numbers { map T.number values.new ≡ with_number row (field_answer format.now T.TYPE
         (record { start = start; text = cell.now })) (map T.number values.old) }
 {
-    if let Some(value) = value_in_front::<T>(ahead, cell.len(), format) {
-        values[row] = value;
+    if put_at_once::<T>(values, row, ahead, cell.len(), format) {
         return None;
     }
     put_parsed(values, row, start, cell, format)
-}
-
-// The number of a text's first bytes, so many, under the standard format, as `value_in_front` has it. Why out of line:
-// docs/DECISIONS.md, code.
-#[inline(never)]
-fn standard_in_front<T: ParseInteger>(text: &[u8], size: usize) -> Option<T>
-    ensures { IfSome result
-        (λ value. complete standard T.TYPE (take size text.now) ≡ Ok (T.number value)) }
-{
-    value_in_front::<T>(text, size, &format::STANDARD)
 }
 
 /// Puts the number of a cell into a row's place of a slice, as [`put_cell`] does under the standard format.
@@ -104,11 +92,10 @@ pub fn put_standard_cell<T: ParseInteger>(
     ensures numbers { map T.number values.new ≡ with_number row (field_answer standard T.TYPE
         (record { start = start; text = cell.now })) (map T.number values.old) }
 {
-    if let Some(value) = standard_in_front::<T>(ahead, cell.len()) {
-        values[row] = value;
+    if put_at_once::<T>(values, row, ahead, cell.len(), &format::STANDARD) {
         return None;
     }
-    put_standard_parsed(values, row, start, cell, options)
+    put_standard_parsed(values, row, start, cell)
 }
 
 /// Puts 0 into a row's place of a slice.
@@ -177,7 +164,7 @@ pub trait TableColumn {
             (record { start = start; text = text.now })) (target self.old) };
 
     /// Puts the number that a text's first bytes, so many, stand for into a row's place, and sets the row's bit, where that
-    /// is had at once, and tells whether it did. Else it puts nothing, and says nothing of them: `read` has to be asked.
+    /// is had at once, and tells whether it did. Else it puts nothing, and says nothing of them: `read_left` has to be asked.
     ///
     /// A column that doesn't write it is read by `read` alone.
     fn read_at_once(&mut self, row: usize, ahead: &[u8], size: usize) -> bool
@@ -190,6 +177,29 @@ pub trait TableColumn {
         ensures kept { result ≡ false → target self.new ≡ target self.old }
     {
         false
+    }
+
+    /// Does what `read` does, of a text that `read_at_once` has left: it needn't be tried at once again.
+    ///
+    /// A column that doesn't write it asks `read`.
+    #[inline(always)]
+    fn read_left(
+        &mut self,
+        row: usize,
+        start: usize,
+        text: &[u8],
+        ahead: &[u8],
+        options: &Options,
+    ) -> Option<Error>
+        requires usable { IsUsable (row + 1) (target self.old) }
+        requires front { text.now ≡ take (length text.now) ahead.now }
+        requires fits { start + length text.now < 2 ^ 64 }
+        ensures fault { result ≡ text_fault (target self.old)
+            (record { start = start; text = text.now }) }
+        ensures target { target self.new ≡ option_map (put_text row
+            (record { start = start; text = text.now })) (target self.old) }
+    {
+        self.read(row, start, text, ahead, options)
     }
 }
 
@@ -225,10 +235,10 @@ impl TableColumn for Option<Target<'_>> {
         ahead: &[u8],
         options: &Options,
     ) -> Option<Error> {
-        match self {
-            Some(target) => target.read(row, start, text, ahead, options),
-            None => None,
+        if self.read_at_once(row, ahead, text.len()) {
+            return None;
         }
+        self.read_left(row, start, text, ahead, options)
     }
 
     #[inline(always)]
@@ -236,6 +246,21 @@ impl TableColumn for Option<Target<'_>> {
         match self {
             Some(target) => target.read_at_once(row, ahead, size),
             None => false,
+        }
+    }
+
+    #[inline(always)]
+    fn read_left(
+        &mut self,
+        row: usize,
+        start: usize,
+        text: &[u8],
+        ahead: &[u8],
+        options: &Options,
+    ) -> Option<Error> {
+        match self {
+            Some(target) => target.read_left(row, start, text),
+            None => None,
         }
     }
 }
@@ -283,18 +308,10 @@ impl Target<'_> {
         }
     }
 
-    // Puts the number of a text into a row's place, and sets the row's bit, or tells the text's fault.
+    // Puts the number of a text that isn't had at once into a row's place, and sets the row's bit, or tells the text's fault.
     #[inline(always)]
-    fn read(
-        &mut self,
-        row: usize,
-        start: usize,
-        text: &[u8],
-        ahead: &[u8],
-        options: &Options,
-    ) -> Option<Error>
+    fn read_left(&mut self, row: usize, start: usize, text: &[u8]) -> Option<Error>
         requires usable { IsUsable (row + 1) (Some (view_of_target self.old)) }
-        requires front { text.now ≡ take (length text.now) ahead.now }
         requires fits { start + length text.now < 2 ^ 64 }
         ensures fault { result ≡ error_in (text_answer (view_of_target self.old)
             (record { start = start; text = text.now })) }

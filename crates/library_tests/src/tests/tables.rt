@@ -1,14 +1,15 @@
 // Tables, as callers have them. proofs/ColumnRows.antt of the crate has more texts.
 
-ghost use Rattle.std.specs.Prelude.{◌≡◌, ◌-◌, ◌≤◌, drop, length, IfSome};
+ghost use Rattle.std.specs.Prelude.{◌≡◌, ◌-◌, ◌≤◌, ◌<◌, drop, length, option_map, take, IfSome};
 ghost use Rattle.lexical_tables.specs.Rows.{rows, rows_from};
+ghost use Rattle.lexical_tables.specs.Targets.{view_of_target};
 
 use crate::tests::answers;
 use lexical_parse_integer::format::STANDARD;
-use lexical_parse_integer::{Error, options};
+use lexical_parse_integer::{Error, Options, options};
 use lexical_tables::{
-    CellFault, Dialect, Layout, Numbers, Table, TableError, Target, after_lines, read_columns,
-    read_columns_part,
+    CellFault, Dialect, Layout, Numbers, Table, TableColumn, TableError, Target, after_lines,
+    put_cell, put_standard_cell, read_columns, read_columns_part,
 };
 use std::alloc::{AllocError, Global};
 use std::slice;
@@ -246,4 +247,113 @@ fn a_part_has_whole_rows(rt: HostRuntime) {
     let answer = read_columns_part(b"1,2\n3,4", false, &pairs(false), options, 3, targets);
     answers(&rt, answer, table(1, 4));
     answers(&rt, column, [1, 9, 9]);
+}
+
+// A column of a user's own, which hands on to a target, and doesn't write `read_at_once`.
+#[derive(Drop)]
+struct Own<'a> {
+    inner: Option<Target<'a>>,
+}
+
+impl TableColumn for Own<'_> {
+    ghost target = { λ own. option_map view_of_target own.inner };
+
+    fn is_read(&self) -> bool {
+        self.inner.is_read()
+    }
+
+    fn may_miss(&self) -> bool {
+        self.inner.may_miss()
+    }
+
+    fn put_missing(&mut self, row: usize) {
+        self.inner.put_missing(row);
+    }
+
+    fn read(
+        &mut self,
+        row: usize,
+        start: usize,
+        text: &[u8],
+        ahead: &[u8],
+        options: &Options,
+    ) -> Option<Error> {
+        self.inner.read(row, start, text, ahead, options)
+    }
+}
+
+// What is read of a text's two columns by columns of one's own, and the numbers of both, in room for six rows.
+fn read_by_own(text: &[u8]) -> (Answer, [i64; 6], [i64; 6]) {
+    let mut first = [9; 6];
+    let mut second = [9; 6];
+    let mut columns = [
+        Own {
+            inner: Some(Target {
+                format: STANDARD,
+                numbers: Numbers::I64(&mut first),
+                present: None,
+            }),
+        },
+        Own {
+            inner: Some(Target {
+                format: STANDARD,
+                numbers: Numbers::I64(&mut second),
+                present: None,
+            }),
+        },
+    ];
+    let answer = read_columns(text, &pairs(false), &options::STANDARD, 6, &mut columns);
+    (answer, first, second)
+}
+
+// Short and long cells, and such as aren't had at once. Behind the first ones many bytes follow, and few behind the last.
+#[test]
+fn a_column_of_ones_own_reads_all_cells(rt: HostRuntime) {
+    let text = b"1,-22\n-9223372036854775808,123456789012\n+5,00000000000000000000000000000000000007\n1234567890123456,-1234567\n-1,9223372036854775807\n+7,65";
+    answers(
+        &rt,
+        read_by_own(text),
+        (
+            table(6, 136),
+            [1, i64::MIN, 5, 1234567890123456, -1, 7],
+            [-22, 123456789012, 7, -1234567, i64::MAX, 65],
+        ),
+    );
+    let letter = |row, place| fault_in(row, 0, CellFault::NotNumber(Error::InvalidDigit(place)));
+    answers(
+        &rt,
+        read_by_own(b"1x,2\n3,4"),
+        (letter(0, 1), [9; 6], [9; 6]),
+    );
+    let late = b"1,2\n3x,4\n123456789012345678,123456789012345678\n123456789012345678,12345678901234";
+    answers(
+        &rt,
+        read_by_own(late),
+        (letter(1, 5), [1, 9, 9, 9, 9, 9], [2, 9, 9, 9, 9, 9]),
+    );
+}
+
+// What `put_cell` and `put_standard_cell` put at place 1 for a cell at place 5, and tell of it.
+fn put_both(cell: &[u8], ahead: &[u8]) -> [(Option<Error>, [i16; 2]); 2]
+    requires { cell.now ≡ take (length cell.now) ahead.now }
+    requires { length cell.now < 100 }
+{
+    let mut numbers = [9; 2];
+    let told = put_cell(&mut numbers, 1, 5, cell, ahead, &STANDARD, &options::STANDARD);
+    let mut others = [9; 2];
+    let also = put_standard_cell(&mut others, 1, 5, cell, ahead, &options::STANDARD);
+    [(told, numbers), (also, others)]
+}
+
+#[test]
+fn a_cell_is_put_by_itself(rt: HostRuntime) {
+    answers(&rt, put_both(b"-7", b"-7"), [(None, [9, -7]); 2]);
+    answers(
+        &rt,
+        put_both(b"12", b"12,3,4,5,6,7,8,9,10,11,12"),
+        [(None, [9, 12]); 2],
+    );
+    answers(&rt, put_both(b"+12", b"+12"), [(None, [9, 12]); 2]);
+    let large = Some(Error::Overflow(9));
+    answers(&rt, put_both(b"32768", b"32768"), [(large, [9, 9]); 2]);
 }

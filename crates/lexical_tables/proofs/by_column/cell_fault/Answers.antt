@@ -1,5 +1,5 @@
 use Rattle.lexical_tables.specs.Cells.{view_of_cell}
-use Rattle.lexical_tables.proofs.AtOnce.{unquoted_fault}
+use Rattle.lexical_tables.proofs.Unquoted.{unquoted_fault}
 use Rattle.lexical_tables.proofs.by_column.cell_fault.Goals as goal
 
 pub returns-then-has_no_quote : goal.returns-then-has_no_quote

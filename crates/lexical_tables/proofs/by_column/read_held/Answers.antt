@@ -19,10 +19,10 @@ returns-then-read_at_once-clause-target g c =
 
 pub returns-clause-fault : goal.returns-clause-fault
 returns-clause-fault g c =
-    c.read.ensures.fault
+    c.read_left.ensures.fault
     ∙ ap (λ target. text_fault target (view_of_cell c.args.held)) (c.if-read_at_once.ensures.kept refl)
 
 pub returns-clause-target : goal.returns-clause-target
 returns-clause-target g c =
-    c.read.ensures.target
+    c.read_left.ensures.target
     ∙ ap (λ target. option_map (put_text c.args.row (view_of_cell c.args.held)) target) (c.if-read_at_once.ensures.kept refl)

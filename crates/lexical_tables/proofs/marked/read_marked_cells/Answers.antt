@@ -7,7 +7,7 @@ use Rattle.lexical_tables.specs.Rows.{view_of_row}
 use Rattle.lexical_tables.proofs.CellsLeft.{all_left, ended_left, next_left, start_left}
 use Rattle.lexical_tables.proofs.ColumnSteps.{after_cell, after_fault, count_in, row_ends, row_starts}
 use Rattle.lexical_tables.proofs.MarkedCells.{ahead_starts, behind_ahead}
-use Rattle.lexical_tables.proofs.MarkedRows.{cell_there, cells_are, text_ahead}
+use Rattle.lexical_tables.proofs.MarkedRows.{cell_there, cells_are}
 use Rattle.lexical_tables.proofs.marked.read_marked_cells.Goals.{then-loop-column-test+else-not-ended, else-loop-column-test}
 use Rattle.lexical_tables.proofs.marked.read_marked_cells.Goals as goal
 
@@ -21,40 +21,6 @@ loop-column-init g c = (
       (sym (cell_there c.args.dialect.now c.args.separator c.requires.marked 0 c.args.row.now.text.now))),
 )
 
-pub loop-column-preserved-then-read_cell_at_once : goal.loop-column-preserved-then-read_cell_at_once
-loop-column-preserved-then-read_cell_at_once g c =
-    let d = c.args.dialect.now in
-    let row = view_of_row c.args.row.now in
-    let more : c.loop-column.column < count_in d = grind (arith, nat_tests) in
-    let rest = c.loop-column.rest.now in
-    let next = c.marked_cell-next.result in
-    let place = length c.args.row.now.text.now - length rest in
-    let start : ℕ = c.args.row.now.start + place in
-    let here = c.loop-column.invariant.0 in
-    let marked = subst (λ l. AreCellMarks (Some c.args.separator) (drop (length rest - length next.behind.now) l) next.marks)
-    (take_rest c.args.ahead.now place) c.marked_cell-next.ensures.marks in
-    let front = text_ahead rest next.text.now c.args.ahead.now place c.args.separator here.front c.marked_cell-next.ensures.front
-    c.marked_cell-next.ensures.size c.marked_cell-next.ensures.within in
-    let at = next_left d row c.loop-column.column c.loop-column.ended rest next.text.now next.behind.now next.ended here.within
-    (search rules) c.marked_cell-next.ensures.left
-    (cells_are d c.args.separator c.requires.marked c.loop-column.column rest next.text.now next.behind.now next.ended
-    c.marked_cell-next.ensures.front c.marked_cell-next.ensures.behind c.marked_cell-next.ensures.size
-    c.marked_cell-next.ensures.ended) in (
-      behind_ahead (Some c.args.separator) c.args.row.now.text.now c.args.ahead.now rest next.behind.now c.loop-column.marks
-          next.marks here c.marked_cell-next.ensures.tail c.marked_cell-next.ensures.left marked,
-      λ some. cell_there d c.args.separator c.requires.marked (c.loop-column.column + 1) next.behind.now,
-      after_cell (kinds_of (map g.C.TableColumn.target c.args.targets.now)) d c.args.index
-          row (map g.C.TableColumn.target c.args.targets.now) (map g.C.TableColumn.target c.loop-column.targets) c.loop-column.column
-          _ c.loop-column.invariant.2 _ _ at more
-          (map g.C.TableColumn.target c.read_cell_at_once.new.targets)
-          (subst (λ text. None ≡ fault_in (answer_at d (kinds_of (map g.C.TableColumn.target c.loop-column.targets))
-          c.loop-column.column (record { start = start; text = text }))) (sym front) (c.if-read_cell_at_once.ensures.fault refl start))
-          (subst (λ text. map g.C.TableColumn.target c.read_cell_at_once.new.targets
-          ≡ put_read_at c.args.index c.loop-column.column (answer_at d (kinds_of (map g.C.TableColumn.target c.loop-column.targets))
-          c.loop-column.column (record { start = start; text = text })) (map g.C.TableColumn.target c.loop-column.targets)) (sym front)
-          (c.if-read_cell_at_once.ensures.targets refl start)),
-    )
-
 pub loop-column-preserved : goal.loop-column-preserved
 loop-column-preserved g c =
     let d = c.args.dialect.now in
@@ -63,10 +29,7 @@ loop-column-preserved g c =
     let rest = c.loop-column.rest.now in
     let next = c.marked_cell-next.result in
     let place = length c.args.row.now.text.now - length rest in
-    let cell : FieldView = record { start = c.args.row.now.start + place; text = next.text.now } in
     let here = c.loop-column.invariant.0 in
-    let same : map g.C.TableColumn.target c.read_cell_at_once.new.targets ≡ map g.C.TableColumn.target c.loop-column.targets =
-    c.if-read_cell_at_once.ensures.kept refl in
     let marked = subst (λ l. AreCellMarks (Some c.args.separator) (drop (length rest - length next.behind.now) l) next.marks)
     (take_rest c.args.ahead.now place) c.marked_cell-next.ensures.marks in
     let at = next_left d row c.loop-column.column c.loop-column.ended rest next.text.now next.behind.now next.ended here.within
@@ -80,12 +43,7 @@ loop-column-preserved g c =
       after_cell (kinds_of (map g.C.TableColumn.target c.args.targets.now)) d c.args.index
           row (map g.C.TableColumn.target c.args.targets.now) (map g.C.TableColumn.target c.loop-column.targets) c.loop-column.column
           _ c.loop-column.invariant.2 _ _ at more
-          (map g.C.TableColumn.target c.read_cell_by_parser.new.targets)
-          (subst (λ seen. None ≡ fault_in (answer_at d (kinds_of seen) c.loop-column.column cell)) same
-          c.in_default.ensures.fault)
-          (subst (λ seen. map g.C.TableColumn.target c.read_cell_by_parser.new.targets
-          ≡ put_read_at c.args.index c.loop-column.column (answer_at d (kinds_of seen) c.loop-column.column cell) seen) same
-          c.in_default.ensures.targets),
+          (map g.C.TableColumn.target c.read_plain_cell.new.targets) c.in_default.ensures.fault c.in_default.ensures.targets,
     )
 
 pub returns-in-Some : goal.returns-in-Some
@@ -96,9 +54,6 @@ returns-in-Some g c =
     let rest = c.loop-column.rest.now in
     let next = c.marked_cell-next.result in
     let place = length c.args.row.now.text.now - length rest in
-    let cell : FieldView = record { start = c.args.row.now.start + place; text = next.text.now } in
-    let same : map g.C.TableColumn.target c.read_cell_at_once.new.targets ≡ map g.C.TableColumn.target c.loop-column.targets =
-    c.if-read_cell_at_once.ensures.kept refl in
     let at = next_left d row c.loop-column.column c.loop-column.ended rest next.text.now next.behind.now next.ended
     c.loop-column.invariant.0.within (search rules) c.marked_cell-next.ensures.left
     (cells_are d c.args.separator c.requires.marked c.loop-column.column rest next.text.now next.behind.now next.ended
@@ -107,12 +62,8 @@ returns-in-Some g c =
     let done = after_fault (kinds_of (map g.C.TableColumn.target c.args.targets.now)) d c.args.index
     row (map g.C.TableColumn.target c.args.targets.now) (map g.C.TableColumn.target c.loop-column.targets) c.loop-column.column
     _ c.loop-column.invariant.2 _ _ at more
-    (map g.C.TableColumn.target c.read_cell_by_parser.new.targets) c.in-Some.fault
-    (subst (λ seen. Some c.in-Some.fault ≡ fault_in (answer_at d (kinds_of seen) c.loop-column.column cell)) same
-    c.in-Some.ensures.fault)
-    (subst (λ seen. map g.C.TableColumn.target c.read_cell_by_parser.new.targets
-    ≡ put_read_at c.args.index c.loop-column.column (answer_at d (kinds_of seen) c.loop-column.column cell) seen) same
-    c.in-Some.ensures.targets) in
+    (map g.C.TableColumn.target c.read_plain_cell.new.targets) c.in-Some.fault c.in-Some.ensures.fault
+    c.in-Some.ensures.targets in
     record { fault = done.fault_is; targets = done.targets_are }
 
 pub returns : goal.returns

@@ -1,4 +1,4 @@
-use Rattle.std.proofs.Common.{Ok, Err, Some, ap, map, refl, ◌∙◌}
+use Rattle.std.proofs.Common.{Ok, Err, Some, ap, map, refl, sym, ◌∙◌}
 use Rattle.std.proofs.lemmas.List.{map-set}
 use Rattle.lexical_fields.proofs.FieldAnswers.{answered}
 use Rattle.lexical_util.specs.Format.{standard}
@@ -25,4 +25,16 @@ returns-in-Err g c =
     record {
       fault = ap Some c.error_in_text.ensures ∙ ap error_in told;
       numbers = ap (λ a. with_number c.args.row a (map number c.args.values.now)) told;
+    }
+
+pub returns-in-Some : goal.returns-in-Some
+returns-in-Some g c =
+    let number = g.T.Integer.number in
+    let told = answered standard g.T.Integer.TYPE c.args.start c.args.cell.now (Ok (number c.in-Some.value))
+    refl (sym c.in-Some.ensures.answer) in
+    record {
+      fault = ap error_in told;
+      numbers =
+          map-set number c.args.values.now c.args.row c.in-Some.value
+          ∙ ap (λ a. with_number c.args.row a (map number c.args.values.now)) told;
     }

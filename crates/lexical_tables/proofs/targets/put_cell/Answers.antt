@@ -1,19 +1,22 @@
-use Rattle.std.proofs.Common.{Ok, ap, sym, map, ◌∙◌}
-use Rattle.std.proofs.lemmas.List.{map-set}
-use Rattle.lexical_parse_integer.specs.Grammar.{complete}
-use Rattle.lexical_fields.proofs.FieldAnswers.{answered}
+use Rattle.std.proofs.Common.{◌≡◌, ◌∙◌, None, ap, map, refl, subst, sym}
+use Rattle.lexical_fields.specs.ReadFields.{field_answer}
 use Rattle.lexical_tables.specs.Targets.{error_in, with_number}
 use Rattle.lexical_tables.proofs.targets.put_cell.Goals as goal
 
-pub returns-in-Some : goal.returns-in-Some
-returns-in-Some g c =
-    let number = g.T.Integer.number in
-    let whole = sym c.in-Some.ensures ∙ ap (complete c.args.format.now g.T.Integer.TYPE) (sym c.requires.front) in
-    let told = answered c.args.format.now g.T.Integer.TYPE c.args.start c.args.cell.now (Ok (number c.in-Some.value))
-    c.requires.valid whole in
-    record {
-      fault = ap error_in told;
-      numbers =
-          map-set number c.args.values.now c.args.row c.in-Some.value
-          ∙ ap (λ a. with_number c.args.row a (map number c.args.values.now)) told;
-    }
+pub returns-then-put_at_once-clause-fault : goal.returns-then-put_at_once-clause-fault
+returns-then-put_at_once-clause-fault g c =
+    sym (subst (λ text. error_in (field_answer c.args.format.now g.T.Integer.TYPE (record { start = c.args.start; text = text })) ≡ None)
+    (sym c.requires.front) (c.if-put_at_once.ensures.fault refl c.args.start))
+
+pub returns-then-put_at_once-clause-numbers : goal.returns-then-put_at_once-clause-numbers
+returns-then-put_at_once-clause-numbers g c =
+    c.if-put_at_once.ensures.numbers refl c.args.start
+    ∙ ap (λ text. with_number c.args.row (field_answer c.args.format.now g.T.Integer.TYPE
+    (record { start = c.args.start; text = text })) (map g.T.Integer.number c.args.values.now)) (sym c.requires.front)
+
+pub returns-clause-numbers : goal.returns-clause-numbers
+returns-clause-numbers g c =
+    c.put_parsed.ensures.numbers
+    ∙ ap (λ values. with_number c.args.row (field_answer c.args.format.now g.T.Integer.TYPE
+    (record { start = c.args.start; text = c.args.cell.now })) (map g.T.Integer.number values))
+    (c.if-put_at_once.ensures.kept refl)

@@ -1,21 +1,30 @@
-use Rattle.std.proofs.Common.{◌+◌}
+use Rattle.std.proofs.Common.{◌≡◌, ◌∙◌, None, ap, refl, subst, sym}
+use Rattle.std.specs.Prelude.{option_map}
+use Rattle.lexical_tables.specs.Targets.{put_text, text_fault}
 use Rattle.jadvolni.specs.Tables.{target_of}
-use Rattle.jadvolni.proofs.TableBits.{number_failed, number_read, number_usable}
 use Rattle.jadvolni.proofs.table_columns.ColumnFieldsTableColumn.read.Goals as goal
 
-pub returns-in-Some-clause-target : goal.returns-in-Some-clause-target
-returns-in-Some-clause-target c =
-    number_failed c.args.row (record { start = c.args.start; text = c.args.text.now }) (target_of c.args.self.now)
-    (target_of c.put_number.new.self) c.in-Some.error c.in-Some.ensures.fault c.in-Some.ensures.target
+pub returns-then-read_at_once-clause-fault : goal.returns-then-read_at_once-clause-fault
+returns-then-read_at_once-clause-fault c =
+    let target = target_of c.args.self.now in
+    sym (subst (λ text. text_fault target (record { start = c.args.start; text = text }) ≡ None) (sym c.requires.front)
+    (c.if-read_at_once.ensures.fault refl c.args.start))
 
-pub put_presence-requires : goal.put_presence-requires
-put_presence-requires c = record {
-  usable = number_usable (c.args.row + 1) c.args.row (record { start = c.args.start; text = c.args.text.now })
-      (target_of c.args.self.now) (target_of c.put_number.new.self) c.requires.usable c.in_default.ensures.target;
-}
+pub returns-then-read_at_once-clause-target : goal.returns-then-read_at_once-clause-target
+returns-then-read_at_once-clause-target c =
+    let target = target_of c.args.self.now in
+    c.if-read_at_once.ensures.target refl c.args.start
+    ∙ ap (λ text. option_map (put_text c.args.row (record { start = c.args.start; text = text })) target)
+    (sym c.requires.front)
+
+pub returns-clause-fault : goal.returns-clause-fault
+returns-clause-fault c =
+    c.read_left.ensures.fault
+    ∙ ap (λ target. text_fault target (record { start = c.args.start; text = c.args.text.now }))
+    (c.if-read_at_once.ensures.kept refl)
 
 pub returns-clause-target : goal.returns-clause-target
 returns-clause-target c =
-    number_read c.args.row (record { start = c.args.start; text = c.args.text.now }) (target_of c.args.self.now)
-    (target_of c.put_number.new.self) (target_of c.put_presence.new.self) c.in_default.ensures.fault
-    c.in_default.ensures.target c.put_presence.ensures
+    c.read_left.ensures.target
+    ∙ ap (λ target. option_map (put_text c.args.row (record { start = c.args.start; text = c.args.text.now })) target)
+    (c.if-read_at_once.ensures.kept refl)

@@ -3,12 +3,12 @@ use Rattle.std.proofs.lemmas.Bool.Decides.{nat_tests}
 use Rattle.std.proofs.lemmas.List.{length-map}
 use Rattle.lexical_tables.specs.ByColumn.{fault_in}
 use Rattle.lexical_tables.specs.Cells.{view_of_cell}
-use Rattle.lexical_tables.proofs.AtOnce.{no_quote_fault}
+use Rattle.lexical_tables.proofs.Unquoted.{no_quote_fault}
 use Rattle.lexical_tables.proofs.CellSteps.{answer_told, beyond_fault, beyond_same, targets_told, unread_fault, unread_same, usable_at}
-use Rattle.lexical_tables.proofs.marked.read_cell_by_parser.Goals as goal
+use Rattle.lexical_tables.proofs.marked.read_plain_cell.Goals as goal
 
-pub read_number_by_parser-requires-clause-usable : goal.read_number_by_parser-requires-clause-usable
-read_number_by_parser-requires-clause-usable g c =
+pub read_plain_number-requires-clause-usable : goal.read_plain_number-requires-clause-usable
+read_plain_number-requires-clause-usable g c =
     let low : c.args.column < length c.args.targets.now = grind (arith, nat_tests) in
     usable_at g.C.TableColumn.target c.args.dialect.now c.args.targets.now c.args.column (view_of_cell c.args.cell) low _
     (c.args.row + 1) c.requires.usable
@@ -43,9 +43,9 @@ returns g c =
     let low : c.args.column < length c.args.targets.now = grind (arith, nat_tests) in
     record {
       fault =
-          c.read_number_by_parser.ensures.fault
+          c.read_plain_number.ensures.fault
           ∙ ap fault_in (answer_told g.C.TableColumn.target c.args.dialect.now c.args.targets.now c.args.column
           (view_of_cell c.args.cell) low _);
       targets = targets_told g.C.TableColumn.target c.args.dialect.now c.args.targets.now c.args.column
-          (view_of_cell c.args.cell) low _ c.args.row c.read_number_by_parser.new.target c.read_number_by_parser.ensures.target;
+          (view_of_cell c.args.cell) low _ c.args.row c.read_plain_number.new.target c.read_plain_number.ensures.target;
     }

@@ -1,0 +1,45 @@
+-- A cell whose quotes are in place, since it has none, or quotes have no meaning.
+use Rattle.std.proofs.Common.{◌≡◌, ◌≢◌, ◌∙◌, ℕ, ◌+◌, ◌<◌, ◌==◌, Bool, true, false, cond, List, [], ◌∷◌, length, drop, get_or, Some, None, refl, ap, sym, arith, inl, inr}
+use Rattle.std.proofs.lemmas.Bool.{and_right, eqb-true, le-ltb}
+use Rattle.std.proofs.lemmas.List.Sums.{position_or_len_is}
+use Rattle.std.specs.Prelude.{nat_lt, option_map}
+use Rattle.lexical_fields.specs.Fields.{FieldView}
+use Rattle.lexical_fields.proofs.FieldsInParts.{either}
+use Rattle.lexical_tables.specs.Cells.{begins_with_quote, fault_round_number, fault_round_text, first_quote, quote_fault}
+use Rattle.lexical_tables.specs.Quotes.{quote}
+use Rattle.lexical_tables.specs.declared.answers.CellFault.TheVariants.{MisplacedQuote}
+use Rattle.lexical_tables.specs.declared.dialect.Dialect.{Dialect}
+
+-- without quotes none is out of place
+pub no_quote_fault : (d : Dialect) → d.has_quotes ≡ false → (cell : FieldView) → None ≡ quote_fault d.has_quotes false cell
+no_quote_fault d no_quotes cell = rw no_quotes (refl)
+
+-- nor where a cell has none
+no_quote_first : (text : List ℕ) → ((k : ℕ) → k < length text → get_or text k 0 ≢ quote) → first_quote text ≡ None
+no_quote_first text none =
+    ap (λ n. cond (nat_lt n (length text)) (Some n) None)
+    (position_or_len_is (λ byte. byte == quote) text (length text) 0 (omega arith) (λ k low. is_other k low)
+    (λ within. absurd (omega (arith, within))))
+    ∙ ap (λ t. cond t (Some (length text)) None) (le-ltb (length text) (length text) (omega arith))
+  where
+    is_other : (k : ℕ) → k < length text → (get_or text k 0 == quote) ≡ false
+    is_other k low = elim (either (get_or text k 0 == quote)) [
+      | inl same ↦ absurd (none k low (eqb-true (get_or text k 0) quote same))
+      | inr other ↦ other
+    ]
+
+pub unquoted_fault : (quotes is_read : Bool) (cell : FieldView)
+    → ((k : ℕ) → k < length cell.text → get_or cell.text k 0 ≢ quote) → None ≡ quote_fault quotes is_read cell
+unquoted_fault false is_read cell none = refl
+unquoted_fault true is_read cell none =
+    sym (ap (λ t. option_map (λ place. MisplacedQuote (cell.start + place))
+    (cond t (cond is_read (fault_round_number (length cell.text) (first_quote (drop 1 cell.text))) (fault_round_text cell.text))
+    (first_quote cell.text))) (begins cell.text none)
+    ∙ ap (option_map (λ place. MisplacedQuote (cell.start + place))) (no_quote_first cell.text none))
+  where
+    begins : (text : List ℕ) → ((k : ℕ) → k < length text → get_or text k 0 ≢ quote) → begins_with_quote text ≡ false
+    begins [] none = refl
+    begins (b ∷ bs) none = elim (either (b == quote)) [
+      | inl same ↦ absurd (none 0 (omega arith) (eqb-true b quote same))
+      | inr other ↦ and_right (nat_lt 0 (length (b ∷ bs))) (b == quote) other
+    ]
