@@ -90,9 +90,10 @@ def made_text(words: list[str], how: dict[str, int]) -> bytes:
     random_ = random.Random(SEED)
     draws = numbers_of(kind, how["columns"])
     end = "\r\n" if how["returns"] else "\n"
-    rows = [",".join(made_cell(draw, asked, random_) for draw in draws)
-            for _ in range(int(asked["rows"]))]
-    return "".join(row + end for row in rows).encode()
+    before, last = {**asked, "missing": "0"}, asked
+    rows = [[made_cell(draw, before, random_) for draw in draws[:-1]]
+            + [made_cell(draws[-1], last, random_)] for _ in range(int(asked["rows"]))]
+    return "".join(",".join(row) + end for row in rows).encode()
 
 
 def row_count(how: dict[str, int], text: bytes) -> int:
