@@ -4,10 +4,11 @@ RT ?= rt
 PREFIX ?= /usr/local
 PROGRAM := crates/lexint/out/lexint
 FOR_SHELLS := crates/jad/out/jad
+COUNTED := crates/calls/out/calls
 SOURCES = $(shell find crates/$(1) crates/answer_lines crates/lexical_* -name out -prune -o -type f \( -name '*.rt' -o -name '*.antt' \) -print) crates.txt
 
 .PHONY: help toolchain run check test devices answers lexint jad install uninstall install-programs uninstall-programs rows
-.PHONY: docs check-dist dist test-dist tag vendor check-docs check-languages bench must-not-compile fuzz fuzz-edges fuzz-tables
+.PHONY: docs check-dist dist test-dist tag vendor check-docs check-languages bench calls must-not-compile fuzz fuzz-edges fuzz-tables
 
 # A target is listed by the words after its two number signs.
 help:
@@ -28,7 +29,8 @@ jad: $(FOR_SHELLS) ## proves and builds the program for shells, as crates/jad/ou
 # What is said on the way goes to standard error: standard output is the program's alone.
 $(PROGRAM): $(call SOURCES,lexint)
 $(FOR_SHELLS): $(call SOURCES,jad)
-$(PROGRAM) $(FOR_SHELLS):
+$(COUNTED): $(call SOURCES,calls)
+$(PROGRAM) $(FOR_SHELLS) $(COUNTED):
 	@RT="$(RT)" tools/build.sh $(@F)
 	@touch $@
 
@@ -120,3 +122,6 @@ bench: | toolchain ## measures the parsers beside others, and writes bench/resul
 	@RT="$(RT)" bench/tables.py
 	@RT="$(RT)" bench/tokens.py
 	@RT="$(RT)" bench/program.py
+
+calls: $(COUNTED) build/libjadvolni.a ## counts the instructions of each call of bench/calls.txt, and keeps the counts that the gate asks for
+	@bench/calls --keep

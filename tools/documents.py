@@ -2,8 +2,9 @@
 """Writes the documents that are made from the source, or says where they aren't as written.
 
     tools/documents.py           writes docs/CONTRACTS.md, docs/FORMATS.md, the named code blocks
-                                 of other documents, the lists of fields and statuses, and the
-                                 formats of languages in each language that has calls
+                                 of other documents, the calls of docs/PERF.md that are dearer than
+                                 at the start, the lists of fields and statuses, and the formats of
+                                 languages in each language that has calls
     tools/documents.py --check   writes nothing, and ends with status 1 where one of them isn't as
                                  it would write it, or where check_pages.py finds something wrong
     tools/documents.py --words   prints how many words of each page were written by hand
@@ -28,6 +29,7 @@ import os
 import re
 import sys
 
+import calls_page
 import check_pages
 import contracts_page
 import formats_page
@@ -187,7 +189,8 @@ def documents(top: str, faults: list[str]) -> dict[str, str]:
     pages = [path for path in files_of(top) if path.endswith(".md") and path not in whole]
     by_hand = {path: with_lines(top, path, with_blocks(top, path, faults), faults)
                for path in pages}
-    return {**by_hand, **whole}
+    filled = {path: calls_page.filled(top, path, text) for path, text in by_hand.items()}
+    return {**filled, **whole}
 
 
 def old_ones(top: str, found: dict[str, str]) -> list[str]:

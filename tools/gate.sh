@@ -155,4 +155,5 @@ part javascript told javascript
 part page told page
 part programs told programs
 part callers told callers
+part calls bench/calls --library "$copy/build/libjadvolni.a"
 total
