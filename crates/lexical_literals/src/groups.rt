@@ -194,7 +194,8 @@ pub(crate) fn decimal_groups(
     number_of_groups(text, format, separator, 10, 0, first, behind)
 }
 
-// The number behind a prefix that puts the radix, and where it ends, or 0 bytes where it has no room in 64 bits.
+// The number behind a prefix that puts the radix, and where it ends, or 0 bytes where it has no room in 64 bits, or no digit
+// under a format with a separator: most such formats have a fault there.
 #[inline(always)]
 fn number_behind_prefix(text: &[u8], format: &NumberFormat, radix: u32) -> (u64, usize)
     requires least { 2 ≤ radix }
@@ -207,6 +208,9 @@ fn number_behind_prefix(text: &[u8], format: &NumberFormat, radix: u32) -> (u64,
         → partial format.now (integer_type 128 false) text.now ≡ Ok (pos result.0, result.1) }
 {
     if !has_digit(text, radix, 2) {
+        if format.digit_separator().is_some() && separator_at(text, 2, format).is_none() {
+            return (0, 0);
+        }
         return punctuated_number(text, format);
     }
     let (number, stop) = read_row(text, radix, 0, 2);
