@@ -1,12 +1,10 @@
--- Decimal digits at the front of a text, behind which neither a separator nor a word goes on: read as under the standard
--- format.
-use Rattle.std.proofs.Common.{◌≡◌, ℕ, zero, suc, ◌+◌, ◌<◌, Bool, true, false, ◌&&◌, ◌||◌, cond, List, [], ◌∷◌, length, refl, sym, ap, ap₂, ◌∙◌, subst, arith, inl, inr, Option, Some, None, is_some, option_and_then, Ok}
-use Rattle.std.specs.Prelude.{◌==◌, nat_le, pos, slice_get, slice_index, ℤ}
+-- Decimal digits at the front of a text, behind which no separator stands: read as under the standard format.
+use Rattle.std.proofs.Common.{◌≡◌, ◌≢◌, ℕ, zero, suc, ◌+◌, ◌<◌, ◌≤◌, Bool, true, false, ◌&&◌, ◌||◌, cond, List, [], ◌∷◌, length, refl, sym, ap, ap₂, ◌∙◌, subst, arith, inl, inr, Option, Some, None, is_some, option_and_then, Ok}
+use Rattle.std.specs.Prelude.{◌==◌, nat_le, nat_lt, pos, slice_get, slice_index, ℤ}
 use Rattle.std.specs.Option.{unwrap_or}
 use Rattle.std.proofs.Math.Bool.{and-false}
 use Rattle.std.proofs.lemmas.Bool.{cases_lt, eqb-true, ne_eqb, false≢true}
 use Rattle.std.proofs.lemmas.Bool.Decides.{nat_tests}
-use Rattle.std.proofs.lemmas.Option.{slice_get-get_or}
 use Rattle.std.proofs.lemmas.List.FromFn.{length-map-range_with_len}
 use Rattle.lexical_util.specs.declared.error.Error.{Error}
 use Rattle.lexical_util.specs.Digit.{digit}
@@ -18,8 +16,7 @@ use Rattle.lexical_parse_integer.specs.Head.{Head, head_of}
 use Rattle.lexical_parse_integer.specs.Numeral.{Numeral, digit_count, numeral_in, numeral_value}
 use Rattle.lexical_parse_integer.specs.Runs.{are_same, digit_at, digits_between, end_of, is_in_numeral, separator_at}
 use Rattle.lexical_parse_integer.proofs.ForCallers.{EndsRow, end_of_row, has_digit, numeral_in_a_row, row_numeral, IsStop-end_of, IsStop-unique, fitting_fault, shorter_fronts_fit, zero_is_number, sign_of_digit_under, not_asked, head_is}
-use Rattle.lexical_literals.specs.Decimal.{IsDecimal, ReadsDecimals, zero_leads}
-use Rattle.lexical_literals.specs.Tokens.{is_word_byte}
+use Rattle.lexical_literals.specs.Decimal.{ReadsDecimals, zero_leads}
 
 -- ---- the head
 
@@ -27,47 +24,14 @@ use Rattle.lexical_literals.specs.Tokens.{is_word_byte}
 abbrev pub bare : Head
 bare = record { is_negative = false; is_prefixed = false; is_octal = false; start = 0; radix = 10 }
 
--- no literal prefix goes on with this byte
-abbrev pub NoLetter : Format → Option ℕ → Type 0
-NoLetter f byte = literal_radix f.case_sensitive_base_prefix byte ≡ None
-
-no_letter : (s : Bool) (b : ℕ) → is_word_byte b ≡ false → literal_radix s (Some b) ≡ None
-unfolding literal_radix is_affix matches
-no_letter true b other = grind (arith, nat_tests)
-no_letter false b other = grind (arith, nat_tests)
-
-no_digit_letter : (s : Bool) (b : ℕ) → is_some (digit 10 b) ≡ true → literal_radix s (Some b) ≡ None
-unfolding literal_radix is_affix matches
-no_digit_letter true b is = grind (arith, nat_tests)
-no_digit_letter false b is = grind (arith, nat_tests)
-
-no_prefix_read : (f : Format) (c : ℕ) (cs : List ℕ) → ReadsDecimals f → NoLetter f (slice_get cs 0)
-    → prefix_radix f (c ∷ cs) 0 ≡ None
-unfolding prefix_radix named_radix is_affix
-no_prefix_read f c cs decimal letter =
-    rw (decimal.no_prefix, letter) (by_tests (are_same (Some 48) (Some c)) f.literal_prefixes)
-  where
-    by_tests : (zero asked : Bool) → ◌≡◌ {A = Option ℕ} (cond zero (cond asked None None) None) None
-    by_tests true true = refl
-    by_tests true false = refl
-    by_tests false asked = refl
-
--- a format that reads zeros in front as the standard one does reads decimals
-pub reads_decimals : (f : Format) → IsDecimal f → ReadsDecimals f
-reads_decimals f decimal = record {
-  radix = decimal.radix;
-  no_sign = decimal.no_sign;
-  no_prefix = decimal.no_prefix;
-  no_suffix = decimal.no_suffix;
-}
-
 pub head_is_bare : (f : Format) (t : IntegerType) (c d : ℕ) (cs : List ℕ) → ReadsDecimals f
-    → octal_zero_at f (c ∷ cs) 0 ≡ false → digit 10 c ≡ Some d → NoLetter f (slice_get cs 0) → head_of f t (c ∷ cs) ≡ Ok bare
+    → octal_zero_at f (c ∷ cs) 0 ≡ false → digit 10 c ≡ Some d → prefix_radix f (c ∷ cs) 0 ≡ None
+    → head_of f t (c ∷ cs) ≡ Ok bare
 unfolding head_of
-head_is_bare f t c d cs decimal own first letter =
+head_is_bare f t c d cs decimal own first none =
     rw (
       sign_of_digit_under f t 10 c d cs decimal.no_sign first,
-      no_prefix_read f c cs decimal letter,
+      none,
       own,
       decimal.radix,
     ) refl
@@ -84,14 +48,14 @@ unfolding is_in_numeral
 stands_not f text k none apart = rw (none, apart) refl
 
 end_is : (f : Format) (text : List ℕ) (n : ℕ) → EndsRow 10 text 0 n
-    → (n < length text → separator_at f text n ≡ false) → end_of f false 10 text 0 ≡ n
+    → separator_at f text n ≡ false → end_of f false 10 text 0 ≡ n
 end_is f text n s apart =
     IsStop-unique (is_in_numeral f false 10 text 0) 0 (length text) _ _ (IsStop-end_of f false 10 text 0 (omega arith))
     (record {
       low = s.low;
       high = s.high;
       holds = λ k low high. stands_in f text k (s.holds k low high);
-      fails = λ low. stands_not f text n (s.fails low) (apart low);
+      fails = λ low. stands_not f text n (s.fails low) apart;
     })
 
 same_numeral : (f : Format) (text : List ℕ) → f.base_suffix ≡ None
@@ -109,12 +73,12 @@ ok_parts (Some x) b w z e = cc
 
 -- what the standard answer says: its value and place are those of the numeral, whose value no digit takes out of
 -- the type
-record IsStandard (text : List ℕ) (v : ℤ) (n : ℕ) : Type 0 where
-  row : EndsRow 10 text 0 n
-  end : end_of standard false 10 text 0 ≡ n
-  fits : range_fault (integer_type 128 false) false (numeral_in standard false 10 text 0) ≡ None
-  value : numeral_value false (numeral_in standard false 10 text 0) ≡ v
-  stop : (numeral_in standard false 10 text 0).stop ≡ n
+pub record IsStandard (text : List ℕ) (v : ℤ) (n : ℕ) : Type 0 where
+  pub row : EndsRow 10 text 0 n
+  pub end : end_of standard false 10 text 0 ≡ n
+  pub fits : range_fault (integer_type 128 false) false (numeral_in standard false 10 text 0) ≡ None
+  pub value : numeral_value false (numeral_in standard false 10 text 0) ≡ v
+  pub stop : (numeral_in standard false 10 text 0).stop ≡ n
 
 standard_head : (t : IntegerType) (c d : ℕ) (cs : List ℕ) → digit 10 c ≡ Some d → head_of standard t (c ∷ cs) ≡ Ok bare
 standard_head t c d cs first =
@@ -125,7 +89,7 @@ stop_is : (text : List ℕ) → (numeral_in standard false 10 text 0).stop ≡ e
 unfolding numeral_in numeral_stop suffix_at is_affix
 stop_is text = rw and-false refl
 
-standard_told : (c d : ℕ) (cs : List ℕ) (v : ℤ) (n : ℕ) → digit 10 c ≡ Some d
+pub standard_told : (c d : ℕ) (cs : List ℕ) (v : ℤ) (n : ℕ) → digit 10 c ≡ Some d
     → partial standard (integer_type 128 false) (c ∷ cs) ≡ Ok (v, n) → IsStandard (c ∷ cs) v n
 unfolding partial
 standard_told c d cs v n first read =
@@ -145,22 +109,12 @@ standard_told c d cs v n first read =
     }
 
 -- the first digit is one of the numeral
-some_digits : (c d : ℕ) (cs : List ℕ) (n : ℕ) → digit 10 c ≡ Some d → EndsRow 10 (c ∷ cs) 0 n → 0 < n
+pub some_digits : (c d : ℕ) (cs : List ℕ) (n : ℕ) → digit 10 c ≡ Some d → EndsRow 10 (c ∷ cs) 0 n → 0 < n
 unfolding digit_at
 some_digits c d cs zero first s =
     let none : is_some (digit 10 c) ≡ false = s.fails (omega arith) in
     absurd (let there = ap is_some first in false≢true (sym none ∙ there))
 some_digits c d cs (suc n) first s = omega arith
-
-letter_told : (f : Format) (c : ℕ) (cs : List ℕ) (n : ℕ) → 0 < n → EndsRow 10 (c ∷ cs) 0 n
-    → (n < length (c ∷ cs) → is_word_byte (slice_index (c ∷ cs) n) ≡ false)
-    → NoLetter f (slice_get cs 0)
-unfolding literal_radix is_affix digit_at
-letter_told f c [] n some s other = refl
-letter_told f c (b ∷ bs) zero some s other = absurd (omega arith)
-letter_told f c (b ∷ bs) (suc zero) some s other = no_letter f.case_sensitive_base_prefix b (other (omega arith))
-letter_told f c (b ∷ bs) (suc (suc n)) some s other =
-    no_digit_letter f.case_sensitive_base_prefix b (s.holds 1 (omega arith) (omega arith))
 
 numeral_told : (text : List ℕ) (n : ℕ) → EndsRow 10 text 0 n
     → numeral_in standard false 10 text 0 ≡ row_numeral standard text 0 10 n
@@ -197,7 +151,7 @@ none_by_count f x few = rw (few, and-false) refl
 none_by_rule : (f : Format) (x : Numeral) → f.no_integer_leading_zeros ≡ false → zero_fault f false x ≡ None
 none_by_rule f x none = rw none refl
 
-no_octal_zero : (f : Format) (c : ℕ) (cs : List ℕ) → (c == 48) ≡ false → octal_zero_at f (c ∷ cs) 0 ≡ false
+pub no_octal_zero : (f : Format) (c : ℕ) (cs : List ℕ) → (c == 48) ≡ false → octal_zero_at f (c ∷ cs) 0 ≡ false
 unfolding octal_zero_at are_same
 no_octal_zero f c cs other = rw other (and-false f.literal_octal_zero)
 
@@ -222,12 +176,12 @@ unfolding octal_zero_at are_same
 octal_zero_here f cs asked = rw asked refl
 
 octal_head : (f : Format) (t : IntegerType) (cs : List ℕ) → ReadsDecimals f → f.literal_octal_zero ≡ true
-    → NoLetter f (slice_get cs 0) → head_of f t (48 ∷ cs) ≡ Ok octal
+    → prefix_radix f (48 ∷ cs) 0 ≡ None → head_of f t (48 ∷ cs) ≡ Ok octal
 unfolding head_of
-octal_head f t cs decimal asked letter =
+octal_head f t cs decimal asked none =
     rw (
       sign_of_digit_under f t 10 48 0 cs decimal.no_sign refl,
-      no_prefix_read f 48 cs decimal letter,
+      none,
       octal_zero_here f cs asked,
     ) refl
 
@@ -254,7 +208,7 @@ unfolding is_in_numeral
 octal_stands_not f text none apart = rw (none, apart) refl
 
 octal_end : (f : Format) (cs : List ℕ) → has_digit 10 (48 ∷ cs) 1 ≡ false
-    → (1 < length (48 ∷ cs) → separator_at f (48 ∷ cs) 1 ≡ false) → end_of f false 8 (48 ∷ cs) 0 ≡ 1
+    → separator_at f (48 ∷ cs) 1 ≡ false → end_of f false 8 (48 ∷ cs) 0 ≡ 1
 octal_end f cs none apart =
     let text : List ℕ = 48 ∷ cs in
     IsStop-unique (is_in_numeral f false 8 text 0) 0 (length text) _ _ (IsStop-end_of f false 8 text 0 (omega arith))
@@ -263,7 +217,7 @@ octal_end f cs none apart =
       high = omega arith;
       holds = λ k low high. let e : 0 ≡ k = omega arith in
           subst (λ (j : ℕ). is_in_numeral f false 8 text 0 j ≡ true) e (octal_stands f cs);
-      fails = λ low. octal_stands_not f text (no_octal_digit_at text 1 none) (apart low);
+      fails = λ low. octal_stands_not f text (no_octal_digit_at text 1 none) apart;
     })
 
 octal_numeral : (f : Format) (cs : List ℕ) → f.base_suffix ≡ None → end_of f false 8 (48 ∷ cs) 0 ≡ 1
@@ -282,8 +236,8 @@ unfolding digit_at
 zero_value cs v told = told
 
 octal_zero_read : (f : Format) (cs : List ℕ) (v : ℤ) (n : ℕ) → ReadsDecimals f → f.literal_octal_zero ≡ true
-    → NoLetter f (slice_get cs 0) → IsStandard (48 ∷ cs) v n → has_digit 10 (48 ∷ cs) 1 ≡ false
-    → (n < length (48 ∷ cs) → separator_at f (48 ∷ cs) n ≡ false)
+    → prefix_radix f (48 ∷ cs) 0 ≡ None → IsStandard (48 ∷ cs) v n → has_digit 10 (48 ∷ cs) 1 ≡ false
+    → separator_at f (48 ∷ cs) n ≡ false
     → partial f (integer_type 128 false) (48 ∷ cs) ≡ Ok (v, n)
 unfolding partial
 octal_zero_read f cs v n decimal asked letter s none apart =
@@ -291,7 +245,7 @@ octal_zero_read f cs v n decimal asked letter s none apart =
     let one : n ≡ 1 = alone text n s.row (some_digits 48 0 cs n refl s.row) none in
     let told = numeral_told text 1 (subst (λ (k : ℕ). EndsRow 10 text 0 k) one s.row) in
     let same : pos 0 ≡ v = zero_value cs v (sym (ap (numeral_value false) told) ∙ s.value) in
-    let end = octal_end f cs none (subst (λ (k : ℕ). k < length text → separator_at f text k ≡ false) one apart) in
+    let end = octal_end f cs none (subst (λ (k : ℕ). separator_at f text k ≡ false) one apart) in
     rw (
       octal_head f (integer_type 128 false) cs decimal asked letter,
       octal_numeral f cs decimal.no_suffix end,
@@ -302,22 +256,21 @@ octal_zero_read f cs v n decimal asked letter s none apart =
 
 -- ---- all texts
 
--- a text that the standard format reads, and whose digits end at a byte that is neither a separator nor one of
--- a word, where a zero in front is neither forbidden nor octal
+-- a text that the standard format reads, and behind whose digits no separator stands, where a zero in front is neither
+-- forbidden nor octal
 decimal_digits : (f : Format) (c d : ℕ) (cs : List ℕ) (v : ℤ) (n : ℕ) → ReadsDecimals f
     → octal_zero_at f (c ∷ cs) 0 ≡ false → zero_fault f false (numeral_in standard false 10 (c ∷ cs) 0) ≡ None
-    → digit 10 c ≡ Some d → IsStandard (c ∷ cs) v n → NoLetter f (slice_get cs 0)
-    → (n < length (c ∷ cs) → separator_at f (c ∷ cs) n ≡ false)
-    → partial f (integer_type 128 false) (c ∷ cs) ≡ Ok (v, n)
+    → digit 10 c ≡ Some d → IsStandard (c ∷ cs) v n → prefix_radix f (c ∷ cs) 0 ≡ None
+    → separator_at f (c ∷ cs) n ≡ false → partial f (integer_type 128 false) (c ∷ cs) ≡ Ok (v, n)
 unfolding partial
-decimal_digits f c d cs v n decimal own zeros first s letter apart =
+decimal_digits f c d cs v n decimal own zeros first s bare_text apart =
     let text : List ℕ = c ∷ cs in
     let same = same_numeral f text decimal.no_suffix (end_is f text n s.row apart ∙ sym s.end) in
     let some = some_digits c d cs n first s.row in
     let there : (digit_count (numeral_in standard false 10 text 0) == 0) ≡ false =
     ne_eqb _ 0 (λ none. let size = size_told text n s.row in omega arith) in
     rw (
-      head_is_bare f (integer_type 128 false) c d cs decimal own first letter,
+      head_is_bare f (integer_type 128 false) c d cs decimal own first bare_text,
       same,
       zeros,
       s.fits,
@@ -329,10 +282,9 @@ decimal_digits f c d cs v n decimal own zeros first s letter apart =
 
 -- the same under any rule for zeros, where none leads that is forbidden or octal
 decimal_zeros : (f : Format) (c d : ℕ) (cs : List ℕ) (v : ℤ) (n : ℕ) → ReadsDecimals f
-    → zero_leads f (c ∷ cs) ≡ false → digit 10 c ≡ Some d → IsStandard (c ∷ cs) v n → NoLetter f (slice_get cs 0)
-    → (n < length (c ∷ cs) → separator_at f (c ∷ cs) n ≡ false)
-    → partial f (integer_type 128 false) (c ∷ cs) ≡ Ok (v, n)
-decimal_zeros f c d cs v n decimal quiet first s letter apart =
+    → zero_leads f (c ∷ cs) ≡ false → digit 10 c ≡ Some d → IsStandard (c ∷ cs) v n → prefix_radix f (c ∷ cs) 0 ≡ None
+    → separator_at f (c ∷ cs) n ≡ false → partial f (integer_type 128 false) (c ∷ cs) ≡ Ok (v, n)
+decimal_zeros f c d cs v n decimal quiet first s bare_text apart =
     by_tests (c == 48) (has_digit 10 (c ∷ cs) 1) f.no_integer_leading_zeros f.literal_octal_zero refl refl refl refl quiet
   where
     text : List ℕ
@@ -346,23 +298,22 @@ decimal_zeros f c d cs v n decimal quiet first s letter apart =
 
     by_tests : (zero_first digit_next ruled octals : Bool) → (c == 48) ≡ zero_first → has_digit 10 (c ∷ cs) 1 ≡ digit_next
         → f.no_integer_leading_zeros ≡ ruled → f.literal_octal_zero ≡ octals
-        → ((zero_first && digit_next) && (ruled || octals)) ≡ false
+        → ((zero_first && (ruled || octals)) && (digit_next || separator_at f (c ∷ cs) 1)) ≡ false
         → partial f (integer_type 128 false) (c ∷ cs) ≡ Ok (v, n)
     by_tests false next ruled octals a b e h none =
         let digits = ap (λ (y : Numeral). slice_index y.digits 0) (numeral_told text n s.row) in
         let zeros = none_by_digit f x (ap (λ k. k == 0) (digits ∙ first_digit c d cs n some first) ∙ no_zero c d first a) in
-        decimal_digits f c d cs v n decimal (no_octal_zero f c cs a) zeros first s letter apart
-    by_tests true true false false a b e h none =
-        decimal_digits f c d cs v n decimal (not_asked f text 0 h) (none_by_rule f x e) first s letter apart
-    by_tests true false ruled false a b e h none =
+        decimal_digits f c d cs v n decimal (no_octal_zero f c cs a) zeros first s bare_text apart
+    by_tests true next false false a b e h none =
+        decimal_digits f c d cs v n decimal (not_asked f text 0 h) (none_by_rule f x e) first s bare_text apart
+    by_tests true false ruled true a b e h none =
+        subst (λ (k : ℕ). IsStandard (k ∷ cs) v n → prefix_radix f (k ∷ cs) 0 ≡ None → has_digit 10 (k ∷ cs) 1 ≡ false
+        → separator_at f (k ∷ cs) n ≡ false → partial f (integer_type 128 false) (k ∷ cs) ≡ Ok (v, n))
+        (sym (eqb-true c 48 a)) (λ s bare_text b apart. octal_zero_read f cs v n decimal h bare_text s b apart) s bare_text b apart
+    by_tests true false true false a b e h none =
         let one = alone text n s.row some b in
         let few : nat_le 2 (digit_count x) ≡ false = ap (nat_le 2) (size_told text n s.row ∙ one) in
-        decimal_digits f c d cs v n decimal (not_asked f text 0 h) (none_by_count f x few) first s letter apart
-    by_tests true false ruled true a b e h none =
-        subst (λ (k : ℕ). IsStandard (k ∷ cs) v n → has_digit 10 (k ∷ cs) 1 ≡ false
-        → (n < length (k ∷ cs) → separator_at f (k ∷ cs) n ≡ false)
-        → partial f (integer_type 128 false) (k ∷ cs) ≡ Ok (v, n))
-        (sym (eqb-true c 48 a)) (octal_zero_read f cs v n decimal h letter) s b apart
+        decimal_digits f c d cs v n decimal (not_asked f text 0 h) (none_by_count f x few) first s bare_text apart
     by_tests true true true octals a b e h none = cc
     by_tests true true false true a b e h none = cc
 
@@ -370,30 +321,63 @@ decimal_zeros f c d cs v n decimal quiet first s letter apart =
 
 -- any text that begins with a digit has the front that it has under the standard format
 pub decimal_read : (f : Format) (text : List ℕ) (v : ℤ) (n : ℕ) → ReadsDecimals f
-    → zero_leads f text ≡ false → is_some (digit 10 (slice_index text 0)) ≡ true
-    → partial standard (integer_type 128 false) text ≡ Ok (v, n)
-    → (n < length text → is_word_byte (slice_index text n) ≡ false)
-    → (n < length text → separator_at f text n ≡ false)
+    → zero_leads f text ≡ false → prefix_radix f text 0 ≡ None → is_some (digit 10 (slice_index text 0)) ≡ true
+    → partial standard (integer_type 128 false) text ≡ Ok (v, n) → separator_at f text n ≡ false
     → partial f (integer_type 128 false) text ≡ Ok (v, n)
-decimal_read f [] v n decimal quiet first read other apart = absurd (false≢true first)
-decimal_read f (c ∷ cs) v n decimal quiet first read other apart = by_digit (digit 10 c) refl first
+decimal_read f [] v n decimal quiet bare_text first read apart = absurd (false≢true first)
+decimal_read f (c ∷ cs) v n decimal quiet bare_text first read apart = by_digit (digit 10 c) refl first
   where
     by_digit : (found : Option ℕ) → digit 10 c ≡ found → is_some found ≡ true
         → partial f (integer_type 128 false) (c ∷ cs) ≡ Ok (v, n)
     by_digit None none some = absurd (false≢true some)
     by_digit (Some d) is some =
-        let s = standard_told c d cs v n is read in
-        let letter = letter_told f c cs n (some_digits c d cs n is s.row) s.row other in
-        decimal_zeros f c d cs v n decimal quiet is s letter apart
+        decimal_zeros f c d cs v n decimal quiet is (standard_told c d cs v n is read) bare_text apart
 
 -- a text that begins with a digit isn't empty
 pub some_byte : (r : ℕ) (text : List ℕ) → is_some (digit r (slice_index text 0)) ≡ true → 0 < length text
 some_byte r [] first = absurd (false≢true first)
 some_byte r (c ∷ cs) first = omega arith
 
--- the byte at a place is no separator
-pub no_separator_at : (f : Format) (text : List ℕ) (n : ℕ)
-    → are_same f.digit_separator (Some (slice_index text n)) ≡ false → n < length text
-    → separator_at f text n ≡ false
-unfolding separator_at
-no_separator_at f text n apart low = ap (are_same f.digit_separator) (slice_get-get_or text n 0 low) ∙ apart
+-- ---- no prefix
+
+-- a byte up to `9` is the letter of none
+no_letter : (s : Bool) (b : ℕ) → b ≤ 57 → literal_radix s (Some b) ≡ None
+unfolding literal_radix is_affix matches
+no_letter true b low = grind (arith, nat_tests)
+no_letter false b low = grind (arith, nat_tests)
+
+-- behind a zero stands the letter of none, or nothing
+pub bare_by_letter : (f : Format) (text : List ℕ) → ReadsDecimals f
+    → (f.literal_prefixes ≡ true → literal_radix f.case_sensitive_base_prefix (slice_get text 1) ≡ None)
+    → prefix_radix f text 0 ≡ None
+unfolding prefix_radix named_radix is_affix
+bare_by_letter f text decimal none =
+    rw decimal.no_prefix (by_tests (are_same (Some 48) (slice_get text 0)) f.literal_prefixes refl)
+  where
+    by_tests : (zero asked : Bool) → f.literal_prefixes ≡ asked
+        → ◌≡◌ {A = Option ℕ}
+        (cond zero (cond asked (literal_radix f.case_sensitive_base_prefix (slice_get text 1)) None) None) None
+    by_tests true true e = none e
+    by_tests true false e = refl
+    by_tests false asked e = refl
+
+other_first : (f : Format) (c : ℕ) (cs : List ℕ) → c ≢ 48 → prefix_radix f (c ∷ cs) 0 ≡ None
+unfolding prefix_radix are_same
+other_first f c cs other = rw (ne_eqb c 48 other) refl
+
+-- where the first byte is no zero
+pub bare_by_first : (f : Format) (text : List ℕ) → slice_index text 0 ≢ 48 → 0 < length text → prefix_radix f text 0 ≡ None
+bare_by_first f [] other some = absurd (omega arith)
+bare_by_first f (c ∷ cs) other some = other_first f c cs other
+
+-- where the second byte, if there is one, isn't above the digits
+pub bare_by_second : (f : Format) (text : List ℕ) → ReadsDecimals f → (1 < length text → slice_index text 1 ≤ 57)
+    → prefix_radix f text 0 ≡ None
+unfolding literal_radix is_affix
+bare_by_second f [] decimal low = bare_by_letter f [] decimal (λ asked. refl)
+bare_by_second f (c ∷ []) decimal low = bare_by_letter f (c ∷ []) decimal (λ asked. refl)
+bare_by_second f (c ∷ b ∷ bs) decimal low =
+    bare_by_letter f (c ∷ b ∷ bs) decimal (λ asked. no_letter f.case_sensitive_base_prefix b (low (omega arith)))
+
+pub not_above : (b : ℕ) → nat_lt 57 b ≡ false → b ≤ 57
+not_above b told = grind (arith, nat_tests)

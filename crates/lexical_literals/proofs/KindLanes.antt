@@ -1,5 +1,5 @@
 -- The kinds of sixteen bytes by their halves, and how many stand in front: for `lanes`.
-use Rattle.std.proofs.Common.{◌≡◌, ◌≢◌, ℕ, zero, suc, ◌+◌, ◌*◌, ◌/◌, ◌^◌, ◌%◌, ◌<◌, ◌≤◌, Bool, true, false, not, cond, eqb, List, [], ◌∷◌, map, length, get_or, replicate, take, drop, length-drop, bit_and, refl, sym, ap, ap₂, ◌∙◌, arith, w8, Fits}
+use Rattle.std.proofs.Common.{◌≡◌, ◌≢◌, ℕ, zero, suc, ◌+◌, ◌-◌, ◌*◌, ◌/◌, ◌^◌, ◌%◌, ◌<◌, ◌≤◌, Bool, true, false, not, cond, eqb, List, [], ◌∷◌, map, length, get_or, replicate, take, drop, length-drop, bit_and, refl, sym, ap, ap₂, ◌∙◌, arith, w8, Fits}
 use Rattle.std.proofs.lemmas.Bool.{agree_below_at, ne_eqb}
 use Rattle.std.proofs.lemmas.List.Sums.{prefix_len-le-length}
 use Rattle.std.proofs.lemmas.List.{drop-drop, get_or-map, length-map, ext_get_or, take_all}
@@ -173,3 +173,15 @@ pub piece_stops : (p : ℕ → Bool) (text : List ℕ) (k n c : ℕ) → k + n �
 piece_stops p text k n c room told less so_far =
     let here = some_of p n (drop k text) (omega (arith, length-drop k text)) (omega (arith, told)) in
     omega (arith, so_far, here, told)
+
+-- the first bytes of a text, of which all pass, or not all
+pub front_passes : (p : ℕ → Bool) (text : List ℕ) (n c : ℕ) → n ≤ length text → c ≡ prefix_len p (take n text) → c ≡ n
+    → n + prefix_len p (take (length text - n) (drop n text)) ≡ prefix_len p text
+front_passes p text n c room told all =
+    let rest : take (length text - n) (drop n text) ≡ drop n text =
+    take_all (length text - n) (drop n text) (omega (arith, length-drop n text)) in
+    ap (λ xs. n + prefix_len p xs) rest ∙ sym (all_of p n text room (sym told ∙ all))
+
+pub front_stops : (p : ℕ → Bool) (text : List ℕ) (n c : ℕ) → n ≤ length text → c ≡ prefix_len p (take n text) → c < n
+    → c ≡ prefix_len p text
+front_stops p text n c room told less = told ∙ sym (some_of p n text room (omega (arith, told)))

@@ -1,17 +1,12 @@
--- Numbers as most languages write them: with `_` between two digits, and behind `0x`, `0o` or `0b`.
-use Rattle.std.specs.Prelude.{◌≡◌, ◌+◌, ◌-◌, ◌<◌, ◌≤◌, ℕ, Bool, true, false, List, map, Some, is_some, length, slice_get, unwrap_or}
+-- Numbers as most languages write them: with separators between two digits, and behind `0x`, `0o` or `0b`.
+use Rattle.std.specs.Prelude.{◌≡◌, ◌+◌, ◌-◌, ◌<◌, ◌≤◌, ◌==◌, ℕ, Bool, true, false, List, map, None, Ok, Some, is_some, length, slice_get, slice_index, unwrap_or}
 use Rattle.lexical_digits.specs.Value.{positional_value}
-use Rattle.lexical_util.specs.Ascii.{underscore}
+use Rattle.lexical_util.specs.Ascii.{digit_zero}
+use Rattle.lexical_util.specs.Digit.{digit}
 use Rattle.lexical_util.specs.Format.{Format}
-use Rattle.lexical_parse_integer.specs.Runs.{are_same, digit_at, digits_between}
-use Rattle.lexical_literals.specs.Decimal.{IsDecimal}
-
--- A format that reads decimal digits as the standard one does, and has `_` between two digits, and literal prefixes.
-pub record IsGrouped (format : Format) : Type 0 where
-  pub decimal : IsDecimal format
-  pub separator : format.digit_separator ≡ Some underscore
-  pub internal : format.integer_internal_digit_separator ≡ true
-  pub prefixes : format.literal_prefixes ≡ true
+use Rattle.lexical_util.specs.Number.{integer_type}
+use Rattle.lexical_parse_integer.specs.Head.{head_of}
+use Rattle.lexical_parse_integer.specs.Runs.{digit_at, digits_between}
 
 -- whether a digit of the radix stands at a place
 abbrev pub has_digit : ℕ → List ℕ → ℕ → Bool
@@ -34,24 +29,41 @@ abbrev pub AreDigitsBetween : ℕ → List ℕ → ℕ → ℕ → Type 0
 AreDigitsBetween radix text from to =
     (place : ℕ) → from ≤ place → place < to → has_digit radix text place ≡ true
 
--- At a place stands a `_`, with a digit of the radix before it and one behind it, and so behind the start.
-pub record Parts (radix : ℕ) (text : List ℕ) (start place : ℕ) : Type 0 where
+-- Digits in a row from a start to before a stop, one at least, and the number that they write.
+pub record WritesRow (radix : ℕ) (text : List ℕ) (start number stop : ℕ) : Type 0 where
+  pub some : start < stop
+  pub within : stop ≤ length text
+  pub digits : AreDigitsBetween radix text start stop
+  pub writes : number ≡ number_between radix text start stop
+
+-- At a place stands the separator, with a digit of the radix before it and one behind it, and so behind the start.
+pub record Parts (separator radix : ℕ) (text : List ℕ) (start place : ℕ) : Type 0 where
   pub behind : start < place
-  pub here : slice_get text place ≡ Some underscore
+  pub here : slice_get text place ≡ Some separator
   pub before : has_digit radix text (place - 1) ≡ true
   pub after : has_digit radix text (place + 1) ≡ true
 
--- from a start to before a stop stand digits, and between them such `_`
-abbrev pub AreGroups : ℕ → List ℕ → ℕ → ℕ → Type 0
-AreGroups radix text start stop =
+-- from a start to before a stop stand digits, and between them such separators
+abbrev pub AreGroups : ℕ → ℕ → List ℕ → ℕ → ℕ → Type 0
+AreGroups separator radix text start stop =
     (place : ℕ) → start ≤ place → place < stop → has_digit radix text place ≡ false
-    → Parts radix text start place
+    → Parts separator radix text start place
 
--- Such groups end at a stop: behind at least one digit, and before neither a digit nor `_`.
-pub record EndsGroups (radix : ℕ) (text : List ℕ) (start stop number : ℕ) : Type 0 where
+-- Such groups, one digit at least, and the number that they write. The last of them is a digit, unless the stop is one.
+pub record WritesGroups (separator radix : ℕ) (text : List ℕ) (start number stop : ℕ) : Type 0 where
   pub some : start < stop
   pub within : stop ≤ length text
-  pub groups : AreGroups radix text start stop
-  pub no_digit : has_digit radix text stop ≡ false
-  pub no_underscore : are_same (Some underscore) (slice_get text stop) ≡ false
+  pub groups : AreGroups separator radix text start stop
   pub writes : number ≡ number_between radix text start stop
+  pub last : has_digit radix text stop ≡ false → has_digit radix text (stop - 1) ≡ true
+
+-- What stands before a numeral of a radix: no sign, and a prefix or none. Without one no rule for zeros in front goes
+-- against it. No separator is a digit, and no suffix stands behind it.
+pub record StartsAt (format : Format) (is_prefixed : Bool) (radix : ℕ) (text : List ℕ) (start : ℕ)
+    : Type 0 where
+  pub head : head_of format (integer_type 128 false) text
+      ≡ Ok (record { is_negative = false; is_prefixed = is_prefixed; is_octal = false; start = start; radix = radix })
+  pub zeros : is_prefixed ≡ false → (slice_index text start == digit_zero) ≡ true
+      → format.no_integer_leading_zeros ≡ false
+  pub separator : (byte : ℕ) → format.digit_separator ≡ Some byte → digit radix byte ≡ None
+  pub no_suffix : format.base_suffix ≡ None

@@ -55,7 +55,7 @@ fn short_skipped_length(text: &[u8]) -> usize
 }
 
 // How many bytes are skipped in front of a token, sixteen by sixteen as long as so many are left.
-#[inline(always)]
+#[inline(never)]
 fn long_skipped_length(text: &[u8]) -> usize
     ensures value { result ≡ prefix_len is_skipped text.now }
     ensures within { result ≤ length text.now }
@@ -71,19 +71,25 @@ fn long_skipped_length(text: &[u8]) -> usize
     place + short_skipped_length(&text[place..])
 }
 
-// How many bytes are skipped in front of a token: none or one most often, and many at the beginning of a line.
+// How many bytes are skipped in front of a token. The first five are looked at one by one: most often there are none or
+// one, or four that indent.
 #[inline(always)]
 pub(crate) fn skipped_length(text: &[u8]) -> usize
     ensures value { result ≡ prefix_len is_skipped text.now }
     ensures within { result ≤ length text.now }
 {
-    if text.is_empty() || !is_skipped(text[0]) {
-        return 0;
+    if text.len() < 16 {
+        return short_skipped_length(text);
     }
-    if text.len() < 2 || !is_skipped(text[1]) {
-        return 1;
+    let few = short_skipped_length(&text[..5]);
+    if few < 5 {
+        return few;
     }
-    long_skipped_length(text)
+    let count = skipped_length_of_16(&text[..16]);
+    if count < 16 {
+        return count;
+    }
+    16 + long_skipped_length(&text[16..])
 }
 
 // How many bytes of a word a text begins with, one by one.
@@ -96,7 +102,7 @@ fn short_word_length(text: &[u8]) -> usize
 }
 
 // How many bytes of a word a text begins with, sixteen by sixteen as long as so many are left.
-#[inline(always)]
+#[inline(never)]
 fn long_word_length(text: &[u8]) -> usize
     ensures value { result ≡ word_length text.now }
     ensures within { result ≤ length text.now }
@@ -112,17 +118,23 @@ fn long_word_length(text: &[u8]) -> usize
     place + short_word_length(&text[place..])
 }
 
-// How many bytes of a word a text begins with: one is soon told.
+// How many bytes of a word a text begins with. The first four are looked at one by one: a word of up to three is soon
+// told so.
 #[inline(always)]
 pub(crate) fn word_length(text: &[u8]) -> usize
     ensures value { result ≡ word_length text.now }
     ensures within { result ≤ length text.now }
 {
-    if text.is_empty() || !is_word_byte(text[0]) {
-        return 0;
+    if text.len() < 16 {
+        return short_word_length(text);
     }
-    if text.len() < 2 || !is_word_byte(text[1]) {
-        return 1;
+    let few = short_word_length(&text[..4]);
+    if few < 4 {
+        return few;
     }
-    long_word_length(text)
+    let count = word_length_of_16(&text[..16]);
+    if count < 16 {
+        return count;
+    }
+    16 + long_word_length(&text[16..])
 }

@@ -1,33 +1,21 @@
-// Numbers with `_` between their digits, or behind `0x`, `0o` or `0b`: they are read in one pass, where the format has both
-// as most languages have them.
+// Numbers with separators between their digits, or behind `0x`, `0o` or `0b`: they are read in one pass.
 //
-// Only what is sure is answered: what is left is read under the format.
-ghost use Rattle.std.specs.Prelude.{◌≡◌, ◌+◌, ◌-◌, ◌*◌, ◌<◌, ◌≤◌, ℕ, Bool, IfSome, IsTrue, None, Ok, Some, false, is_some, length, pos, slice_get, slice_index, true};
-ghost use Rattle.lexical_util.specs.Ascii.{underscore};
+// What has a run of separators, or none of the digits that it begins with, goes to the reader for all formats.
+ghost use Rattle.std.specs.Prelude.{◌≡◌, ◌+◌, ◌-◌, ◌*◌, ◌<◌, ◌≤◌, ℕ, Bool, IfSome, IsNone, IsTrue, None, Ok, Some, false, is_some, length, nat_lt, pos, slice_get, slice_index, true};
+ghost use Rattle.lexical_util.specs.Ascii.{digit_zero};
 ghost use Rattle.lexical_util.specs.Digit.{digit};
-ghost use Rattle.lexical_util.specs.Format.{Format};
 ghost use Rattle.lexical_util.specs.Number.{integer_type};
-ghost use Rattle.lexical_parse_integer.specs.Affixes.{literal_radix};
+ghost use Rattle.lexical_util.specs.Validity.{fault};
+ghost use Rattle.lexical_parse_integer.specs.Affixes.{literal_radix, named_radix, prefix_radix};
 ghost use Rattle.lexical_parse_integer.specs.Grammar.{partial};
-ghost use Rattle.lexical_parse_integer.specs.Runs.{are_same};
-ghost use Rattle.lexical_literals.specs.Decimal.{ReadsDecimals};
-ghost use Rattle.lexical_literals.specs.Groups.{AreDigitsBetween, AreGroups, EndsGroups, IsGrouped, Parts, WritesOn, has_digit, number_between};
+ghost use Rattle.lexical_parse_integer.specs.Runs.{separator_at};
+ghost use Rattle.lexical_literals.specs.Decimal.{ReadsDecimals, zero_leads};
+ghost use Rattle.lexical_literals.specs.Groups.{AreDigitsBetween, StartsAt, WritesGroups, WritesOn, WritesRow, has_digit};
 
+use crate::decimal::front_of_decimal;
+use crate::punctuated_number;
 use lexical_parse_integer::NumberFormat;
 use lexical_util::digit::{char_is_digit, char_to_digit};
-
-// Whether the format has numbers of that kind, and reads decimal digits as the standard one does, zeros in front too.
-pub(crate) fn is_grouped(format: &NumberFormat, decimal: bool) -> bool
-    requires { IsTrue decimal → ReadsDecimals format.now }
-    ensures { IsTrue result → IsGrouped format.now }
-{
-    decimal
-        && !format.no_integer_leading_zeros()
-        && !format.literal_octal_zero()
-        && format.digit_separator() == Some(b'_')
-        && format.integer_internal_digit_separator()
-        && format.literal_prefixes()
-}
 
 // Whether a digit of the radix stands at a place.
 #[inline(always)]
@@ -40,11 +28,37 @@ pub(crate) fn has_digit(text: &[u8], radix: u32, place: usize) -> bool
     place < text.len() && char_is_digit(text[place], radix)
 }
 
-// The number with one digit more, where 64 bits have room for it.
+// The format's separator, where it stands at a place.
+#[inline(always)]
+pub(crate) fn separator_at(text: &[u8], place: usize, format: &NumberFormat) -> Option<u8>
+    ensures here { IfSome result (λ separator. slice_get text.now place ≡ Some separator) }
+    ensures own { IfSome result (λ separator. format.now.digit_separator ≡ Some separator) }
+    ensures found { is_some result ≡ separator_at format.now text.now place }
+{
+    match format.digit_separator() {
+        Some(separator) => {
+            if place >= text.len() {
+                return None;
+            }
+            if text[place] != separator {
+                return None;
+            }
+            Some(separator)
+        }
+        None => None,
+    }
+}
+
+// The number with one digit more, where 64 bits have room for it. Most numbers are far from the greatest.
 #[inline(always)]
 fn with_digit(number: u64, radix: u32, digit: u32) -> Option<u64>
+    requires least { 2 ≤ radix }
+    requires below { digit < radix }
     ensures { IfSome result (λ next. next ≡ number * radix + digit) }
 {
+    if number < u64::MAX / radix as u64 {
+        return Some(number * radix as u64 + digit as u64);
+    }
     number.checked_mul(radix as u64)?.checked_add(digit as u64)
 }
 
@@ -75,111 +89,177 @@ fn read_row(text: &[u8], radix: u32, before: u64, from: usize) -> (u64, usize)
     (number, place)
 }
 
-// Whether a `_` stands at a place behind the start, with a digit before it and one behind it.
+// Whether the separator stands at a place, with a digit behind it.
 #[inline(always)]
-fn parts_digits(text: &[u8], radix: u32, start: usize, place: usize) -> bool
+fn parts_digits(text: &[u8], separator: u8, radix: u32, place: usize) -> bool
     requires least { 2 ≤ radix }
     requires greatest { radix ≤ 16 }
-    requires behind { start < place }
-    ensures { IsTrue result → Parts radix text.now start place }
+    ensures here { IsTrue result → slice_get text.now place ≡ Some separator }
+    ensures after { IsTrue result → has_digit radix text.now (place + 1) ≡ true }
+    ensures none { result ≡ false → slice_get text.now place ≡ Some separator
+        → has_digit radix text.now (place + 1) ≡ false }
 {
-    if place >= text.len() || text[place] != b'_' {
-        return false;
-    }
-    has_digit(text, radix, place - 1) && has_digit(text, radix, place + 1)
+    place < text.len() && text[place] == separator && has_digit(text, radix, place + 1)
 }
 
-// The number of the digits from a start on, with a `_` between two of them or none, and where they end.
+// The number of the digits from a start on, with a separator between two of them or none, and where they end: the first
+// row of them is read.
 #[inline(always)]
-fn read_groups(text: &[u8], radix: u32, start: usize) -> (u64, usize)
+fn read_groups(
+    text: &[u8],
+    separator: u8,
+    radix: u32,
+    start: usize,
+    first: u64,
+    behind: usize,
+) -> (u64, usize)
     requires least { 2 ≤ radix }
     requires greatest { radix ≤ 16 }
-    requires within { start ≤ length text.now }
-    ensures within { result.1 ≤ length text.now }
-    ensures groups { AreGroups radix text.now start result.1 }
-    ensures number { result.0 ≡ number_between radix text.now start result.1 }
+    requires other { digit radix separator ≡ None }
+    requires row { WritesRow radix text.now start first behind }
+    ensures groups { WritesGroups separator radix text.now start result.0 result.1 }
+    ensures last { slice_get text.now result.1 ≡ Some separator
+        → has_digit radix text.now (result.1 + 1) ≡ false }
 {
-    let (mut number, mut place) = read_row(text, radix, 0, start);
-    while place > start && parts_digits(text, radix, start, place) {
+    let (mut number, mut place) = (first, behind);
+    while parts_digits(text, separator, radix, place) {
         (number, place) = read_row(text, radix, number, place + 1);
     }
     (number, place)
 }
 
-// Whether neither a digit nor `_` stands at a place.
+// The number of such digits and where they end, with a separator behind the last of them where the format has those, or 0
+// bytes where it has no room in 64 bits. A run of separators is left to the reader for all formats.
 #[inline(always)]
-fn ends_at(text: &[u8], radix: u32, place: usize) -> bool
+fn number_of_groups(
+    text: &[u8],
+    format: &NumberFormat,
+    separator: u8,
+    radix: u32,
+    start: usize,
+    first: u64,
+    behind: usize,
+) -> (u64, usize)
     requires least { 2 ≤ radix }
     requires greatest { radix ≤ 16 }
-    ensures digit { IsTrue result → has_digit radix text.now place ≡ false }
-    ensures other { IsTrue result
-        → are_same (Some underscore) (slice_get text.now place) ≡ false }
+    requires valid { IsNone (fault format.now) }
+    requires starts { StartsAt format.now (nat_lt 0 start) radix text.now start }
+    requires own { format.now.digit_separator ≡ Some separator }
+    requires row { WritesRow radix text.now start first behind }
+    ensures { 0 < result.1
+        → partial format.now (integer_type 128 false) text.now ≡ Ok (pos result.0, result.1) }
 {
-    if place < text.len() && text[place] == b'_' {
-        return false;
+    if !format.integer_internal_digit_separator() {
+        return punctuated_number(text, format);
     }
-    !has_digit(text, radix, place)
+    let (number, stop) = read_groups(text, separator, radix, start, first, behind);
+    if stop >= text.len() {
+        return (number, stop);
+    }
+    if text[stop] != separator {
+        if has_digit(text, radix, stop) {
+            return (0, 0);
+        }
+        return (number, stop);
+    }
+    if separator_at(text, stop + 1, format).is_some() {
+        return punctuated_number(text, format);
+    }
+    if format.integer_trailing_digit_separator() {
+        return (number, stop + 1);
+    }
+    (number, stop)
 }
 
-// The number of such digits, and where they end, or 0 where that isn't sure.
+// The number of decimal digits in front, behind whose first row a separator stands. Why out of line: docs/DECISIONS.md,
+// code.
+#[inline(never)]
+pub(crate) fn decimal_groups(
+    text: &[u8],
+    format: &NumberFormat,
+    separator: u8,
+    first: u64,
+    behind: usize,
+) -> (u64, usize)
+    requires valid { IsNone (fault format.now) }
+    requires decimal { ReadsDecimals format.now }
+    requires bare { prefix_radix format.now text.now 0 ≡ None }
+    requires zeros { zero_leads format.now text.now ≡ false }
+    requires own { format.now.digit_separator ≡ Some separator }
+    requires row { WritesRow 10 text.now 0 first behind }
+    requires here { slice_get text.now behind ≡ Some separator }
+    ensures { 0 < result.1
+        → partial format.now (integer_type 128 false) text.now ≡ Ok (pos result.0, result.1) }
+{
+    number_of_groups(text, format, separator, 10, 0, first, behind)
+}
+
+// The number behind a prefix that puts the radix, and where it ends, or 0 bytes where it has no room in 64 bits, or no digit
+// under a format with a separator: most such formats have a fault there.
 #[inline(always)]
-fn number_of_groups(text: &[u8], radix: u32, start: usize) -> (u64, usize)
+fn number_behind_prefix(text: &[u8], format: &NumberFormat, radix: u32) -> (u64, usize)
     requires least { 2 ≤ radix }
     requires greatest { radix ≤ 16 }
-    requires within { start ≤ length text.now }
-    ensures { 0 < result.1 → EndsGroups radix text.now start result.1 result.0 }
+    requires valid { IsNone (fault format.now) }
+    requires decimal { ReadsDecimals format.now }
+    requires zero { slice_index text.now 0 ≡ digit_zero }
+    requires prefix { named_radix format.now (slice_get text.now 1) ≡ Some radix }
+    ensures { 0 < result.1
+        → partial format.now (integer_type 128 false) text.now ≡ Ok (pos result.0, result.1) }
 {
-    let (number, stop) = read_groups(text, radix, start);
-    if stop > start && ends_at(text, radix, stop) {
-        (number, stop)
-    } else {
-        (0, 0)
+    if !has_digit(text, radix, 2) {
+        if format.digit_separator().is_some() && separator_at(text, 2, format).is_none() {
+            return (0, 0);
+        }
+        return punctuated_number(text, format);
+    }
+    let (number, stop) = read_row(text, radix, 0, 2);
+    if has_digit(text, radix, stop) {
+        return (0, 0);
+    }
+    match separator_at(text, stop, format) {
+        Some(separator) => number_of_groups(text, format, separator, radix, 2, number, stop),
+        None => (number, stop),
     }
 }
 
-// Whether a byte is the letter of a prefix, in either case.
+// The small letter that tells the same radix as a byte does, where case may matter or not.
 #[inline(always)]
-#[tactic(auto, using(crate::proofs::GroupedFronts::no_letter))]
-fn is_letter_of_prefix(byte: u8) -> bool
-    ensures { result ≡ false → (exact : Bool) → literal_radix exact (Some byte) ≡ None }
+#[tactic(auto, using(crate::proofs::GroupedFronts::same_letter, crate::proofs::GroupedFronts::same_byte, crate::proofs::GroupedFronts::same_small))]
+fn letter_of_prefix(byte: u8, exact: bool) -> u8
+    ensures { literal_radix exact (Some byte) ≡ literal_radix true (Some result) }
 {
-    byte == b'x' || byte == b'X' || byte == b'o' || byte == b'O' || byte == b'b' || byte == b'B'
-}
-
-// A byte that tells the same radix as another: a small letter for a capital, where case doesn't matter.
-#[inline(always)]
-#[tactic(auto, using(crate::proofs::GroupedFronts::same_letter))]
-fn letter_of_prefix(byte: u8, any_case: bool) -> u8
-    ensures { (exact : Bool) → (IsTrue any_case → exact ≡ false)
-        → literal_radix exact (Some byte) ≡ literal_radix exact (Some result) }
-{
-    if any_case && byte >= b'A' && byte <= b'Z' {
+    if !exact && byte >= b'A' && byte <= b'Z' {
         byte + 32
     } else {
         byte
     }
 }
 
-// The number that a text begins with under each such format, and how many bytes it has, or 0 where that isn't sure.
-// Capital letters are read in prefixes where the format is known to take any case. Why out of line: docs/DECISIONS.md,
+// The number that a text begins with whose first byte is a zero in front of a letter. Why out of line: docs/DECISIONS.md,
 // code.
 #[inline(never)]
-pub(crate) fn front_of_groups(text: &[u8], any_case: bool) -> (u64, usize)
-    requires { is_some (digit 10 (slice_index text.now 0)) ≡ true }
-    ensures { 0 < result.1 → (format : Format) → IsGrouped format
-        → (IsTrue any_case → format.case_sensitive_base_prefix ≡ false)
-        → partial format (integer_type 128 false) text.now ≡ Ok (pos result.0, result.1) }
+pub(crate) fn front_behind_zero(text: &[u8], format: &NumberFormat) -> (u64, usize)
+    requires valid { IsNone (fault format.now) }
+    requires decimal { ReadsDecimals format.now }
+    requires zero { slice_index text.now 0 ≡ digit_zero }
+    requires more { 1 < length text.now }
+    requires zeros { zero_leads format.now text.now ≡ false }
+    ensures { 0 < result.1
+        → partial format.now (integer_type 128 false) text.now ≡ Ok (pos result.0, result.1) }
 {
-    if text.len() > 2 && text[0] == b'0' {
-        match letter_of_prefix(text[1], any_case) {
-            b'x' => return number_of_groups(text, 16, 2),
-            b'o' => return number_of_groups(text, 8, 2),
-            b'b' => return number_of_groups(text, 2, 2),
-            _ => {}
-        }
+    if !format.literal_prefixes() {
+        return front_of_decimal(text, format);
     }
-    if text.len() > 1 && is_letter_of_prefix(text[1]) {
-        return (0, 0);
+    let letter = letter_of_prefix(text[1], format.case_sensitive_base_prefix());
+    if letter == b'x' {
+        return number_behind_prefix(text, format, 16);
     }
-    number_of_groups(text, 10, 0)
+    if letter == b'o' {
+        return number_behind_prefix(text, format, 8);
+    }
+    if letter == b'b' {
+        return number_behind_prefix(text, format, 2);
+    }
+    front_of_decimal(text, format)
 }

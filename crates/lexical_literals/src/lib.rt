@@ -25,12 +25,11 @@ ghost use Rattle.lexical_util.specs.Number.{integer_type};
 ghost use Rattle.lexical_util.specs.Validity.{fault};
 ghost use Rattle.lexical_parse_integer.specs.Grammar.{partial};
 ghost use Rattle.lexical_literals.specs.Decimal.{ReadsDecimals};
-ghost use Rattle.lexical_literals.specs.Groups.{IsGrouped};
 ghost use Rattle.lexical_literals.specs.Tokens.{FollowInTurn, FollowUnder, IsPartOf, TokenView, front_of, literals, number_of, view_of_token, tokens, tokens_from, tokens_if_valid};
 
 use bytes::{is_word_byte, skipped_length, word_length};
-use decimal::{front_of_decimal, is_decimal, seems_punctuated, zero_leads};
-use groups::{front_of_groups, is_grouped};
+use decimal::{front_of_decimal, is_decimal, seems_prefixed, zero_leads};
+use groups::front_behind_zero;
 use lexical_parse_integer::algorithm::algorithm_partial;
 use lexical_parse_integer::laws::grammar::{front_end, wider_types};
 use lexical_parse_integer::parse::ParseInteger;
@@ -86,64 +85,52 @@ pub fn literal_format() -> NumberFormat
 
 // The number that a text begins with, or its fault, and how many bytes that has.
 #[inline(always)]
-fn number(text: &[u8], format: &NumberFormat, decimal: bool, grouped: bool) -> (Kind, usize)
+fn number(text: &[u8], format: &NumberFormat, decimal: bool) -> (Kind, usize)
     requires first { is_some (digit format.now.mantissa_radix (slice_index text.now 0)) ≡ true }
     requires valid { IsNone (fault format.now) }
     requires decimal { IsTrue decimal → ReadsDecimals format.now }
-    requires grouped { IsTrue grouped → IsGrouped format.now }
     ensures { result ≡ number_of format.now text.now }
 {
-    if decimal && !seems_punctuated(text) && !zero_leads(text, format) {
-        let (value, count) = front_of_decimal(text, format);
-        if count > 0 {
-            return (Kind::Number(value as u128), count);
-        }
-    }
-    if grouped {
-        let any_case = !format.case_sensitive_base_prefix();
-        let (value, count) = front_of_groups(text, any_case);
-        if count > 0 {
-            return (Kind::Number(value as u128), count);
-        }
-        return number_left(text, format);
-    }
-    other_number(text, format)
-}
-
-// The number that a text begins with, or its fault, where no quick way has it.
-#[inline(always)]
-fn other_number(text: &[u8], format: &NumberFormat) -> (Kind, usize)
-    requires valid { IsNone (fault format.now) }
-    ensures { result ≡ number_of format.now text.now }
-{
-    wider_types();
-    let (value, length) = punctuated_number(text, *format);
+    let (value, length) = number_if_short(text, format, decimal);
     if length > 0 {
         return (Kind::Number(value as u128), length);
     }
-    number_left(text, format)
+    wide_number(text, format)
 }
 
-// What all quicker ways leave. The format is copied here, so that no other number pays for the copy's room.
+// The number of 64 bits that a text begins with, as most are, and 0 bytes where that isn't sure. Each text is read by one
+// reader: what that one leaves has more bits, or a fault.
 #[inline(always)]
-fn number_left(text: &[u8], format: &NumberFormat) -> (Kind, usize)
+fn number_if_short(text: &[u8], format: &NumberFormat, decimal: bool) -> (u64, usize)
+    requires first { is_some (digit format.now.mantissa_radix (slice_index text.now 0)) ≡ true }
     requires valid { IsNone (fault format.now) }
-    ensures { result ≡ number_of format.now text.now }
+    requires decimal { IsTrue decimal → ReadsDecimals format.now }
+    ensures { 0 < result.1
+        → partial format.now (integer_type 128 false) text.now ≡ Ok (pos result.0, result.1) }
 {
-    wide_number(text, *format)
+    if !decimal || zero_leads(text, format) {
+        return punctuated_number(text, format);
+    }
+    if seems_prefixed(text) {
+        return front_behind_zero(text, format);
+    }
+    front_of_decimal(text, format)
 }
 
-// The number of 64 bits that a text begins with, as most are, and 0 bytes where that isn't sure. Why out of line:
+// Such a number under any format. Where it has a separator, it is copied, so that it stays in registers. Why out of line:
 // docs/DECISIONS.md, code.
 #[inline(never)]
-fn punctuated_number(text: &[u8], format: NumberFormat) -> (u64, usize)
-    requires valid { IsNone (fault format) }
+fn punctuated_number(text: &[u8], format: &NumberFormat) -> (u64, usize)
+    requires valid { IsNone (fault format.now) }
     ensures { 0 < result.1
-        → partial format (integer_type 64 false) text.now ≡ Ok (pos result.0, result.1) }
+        → partial format.now (integer_type 128 false) text.now ≡ Ok (pos result.0, result.1) }
 {
     match format.digit_separator() {
-        Some(_) => short_number(text, &format),
-        None => number_without_separator(text, &format),
+        Some(_) => {
+            let own = *format;
+            short_number(text, &own)
+        }
+        None => number_without_separator(text, format),
     }
 }
 
@@ -152,7 +139,7 @@ fn punctuated_number(text: &[u8], format: NumberFormat) -> (u64, usize)
 fn number_without_separator(text: &[u8], format: &NumberFormat) -> (u64, usize)
     requires valid { IsNone (fault format.now) }
     ensures { 0 < result.1
-        → partial format.now (integer_type 64 false) text.now ≡ Ok (pos result.0, result.1) }
+        → partial format.now (integer_type 128 false) text.now ≡ Ok (pos result.0, result.1) }
 {
     short_number(text, format)
 }
@@ -162,8 +149,10 @@ fn number_without_separator(text: &[u8], format: &NumberFormat) -> (u64, usize)
 fn short_number(text: &[u8], format: &NumberFormat) -> (u64, usize)
     requires valid { IsNone (fault format.now) }
     ensures { 0 < result.1
-        → partial format.now (integer_type 64 false) text.now ≡ Ok (pos result.0, result.1) }
+        → partial format.now (integer_type 128 false) text.now ≡ Ok (pos result.0, result.1) }
 {
+    // The law by which a number of 64 bits is read alike as one of 128.
+    wider_types();
     match algorithm_partial::<u64>(text, format, &options::STANDARD) {
         Ok(found) => found,
         Err(_) => (0, 0),
@@ -172,11 +161,11 @@ fn short_number(text: &[u8], format: &NumberFormat) -> (u64, usize)
 
 // A number of up to 128 bits that a text begins with, or its fault, and how many bytes that has.
 #[inline(never)]
-fn wide_number(text: &[u8], format: NumberFormat) -> (Kind, usize)
-    requires valid { IsNone (fault format) }
-    ensures { result ≡ number_of format text.now }
+fn wide_number(text: &[u8], format: &NumberFormat) -> (Kind, usize)
+    requires valid { IsNone (fault format.now) }
+    ensures { result ≡ number_of format.now text.now }
 {
-    match u128::parse_partial(text, &format, &options::LARGE_NUMBERS) {
+    match u128::parse_partial(text, format, &options::LARGE_NUMBERS) {
         Ok((value, length)) => (Kind::Number(value), length),
         Err(fault) => (Kind::Fault(fault), word_length(text)),
     }
@@ -184,21 +173,14 @@ fn wide_number(text: &[u8], format: NumberFormat) -> (Kind, usize)
 
 // What a text begins with, by its first byte, and how many bytes that has.
 #[inline(always)]
-fn front(
-    first: u8,
-    text: &[u8],
-    format: &NumberFormat,
-    decimal: bool,
-    grouped: bool,
-) -> (Kind, usize)
+fn front(first: u8, text: &[u8], format: &NumberFormat, decimal: bool) -> (Kind, usize)
     requires first { slice_index text.now 0 ≡ first }
     requires valid { IsNone (fault format.now) }
     requires decimal { IsTrue decimal → ReadsDecimals format.now }
-    requires grouped { IsTrue grouped → IsGrouped format.now }
     ensures { result ≡ front_of format.now text.now }
 {
     if char_is_digit(first, format.radix()) {
-        number(text, format, decimal, grouped)
+        number(text, format, decimal)
     } else if is_word_byte(first) {
         (Kind::Word, word_length(text))
     } else {
@@ -212,11 +194,10 @@ fn front(
 /// It allocates nothing. How long it takes is in no contract.
 #[derive(Drop)]
 pub struct Tokens<'a> {
-    // What the numbers look like; whether decimal digits alone are read as under the standard format, but for zeros in
-    // front; and whether they may have `_` between them, or a literal prefix.
+    // What the numbers look like, and whether decimal digits alone are read as under the standard format, but for zeros in
+    // front.
     format: NumberFormat,
     decimal: bool,
-    grouped: bool,
     // The source behind the last token, and the place in the source at which it begins.
     rest: &'a [u8],
     place: usize,
@@ -228,7 +209,7 @@ impl<'a> Model for Tokens<'a> {
     ghost view = { λ t. tokens_from t.format t.place 0 t.rest.now };
 
     ghost invariant = { λ t. (t.place + length t.rest.now < 2 ^ 64) × IsNone (fault t.format)
-        × (IsTrue t.decimal → ReadsDecimals t.format) × (IsTrue t.grouped → IsGrouped t.format) };
+        × (IsTrue t.decimal → ReadsDecimals t.format) };
 }
 
 impl<'a> Tokens<'a> {
@@ -247,10 +228,8 @@ impl<'a> Tokens<'a> {
         // The law by which no number is empty, and each ends within the source.
         front_end();
         let format = literal_format();
-        let decimal = is_decimal(&format);
         Tokens {
-            grouped: is_grouped(&format, decimal),
-            decimal,
+            decimal: is_decimal(&format),
             format,
             rest: source,
             place: 0,
@@ -276,11 +255,9 @@ impl<'a> Tokens<'a> {
         if let Some(fault) = format.error() {
             return Err(fault);
         }
-        let decimal = is_decimal(format);
         Ok(Tokens {
             format: *format,
-            decimal,
-            grouped: is_grouped(format, decimal),
+            decimal: is_decimal(format),
             rest: source,
             place: 0,
         })
@@ -301,7 +278,7 @@ impl<'a> Iterator for Tokens<'a> {
         front_end();
         let (skipped, rest) = self.rest.split_at(skipped_length(self.rest));
         let first = *rest.first()?;
-        let (kind, length) = front(first, rest, &self.format, self.decimal, self.grouped);
+        let (kind, length) = front(first, rest, &self.format, self.decimal);
         let (text, behind) = rest.split_at(length);
         let start = self.place + skipped.len();
         let stop = start + length;

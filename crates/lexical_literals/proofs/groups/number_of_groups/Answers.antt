@@ -1,0 +1,42 @@
+use Rattle.std.proofs.Common.{◌∙◌, ap, arith, is_some, nat_lt, sym}
+use Rattle.lexical_parse_integer.proofs.ForCallers.{digit_at_past, separator_at_past}
+use Rattle.lexical_literals.proofs.GroupedFronts.{groups_read, other_apart, stands_here, trailing_left, trailing_taken}
+use Rattle.lexical_literals.proofs.groups.number_of_groups.Goals as goal
+
+pub returns-then-stop-text : goal.returns-then-stop-text
+returns-then-stop-text c = λ some.
+    groups_read c.args.format.now c.args.radix c.args.text.now (nat_lt 0 c.args.start) c.args.start c.requires.starts c.args.separator
+    c.requires.own (sym c.integer_internal_digit_separator.ensures ∙ c.if-not-integer_internal_digit_separator.false)
+    c.read_groups-number.result.0 c.read_groups-number.result.1 (omega (arith, c.requires.least)) (omega arith)
+    c.read_groups-number.ensures.groups
+    (ap is_some (digit_at_past c.args.radix c.args.text.now c.read_groups-number.result.1 c.if-stop-text.true))
+    (separator_at_past c.args.format.now c.args.text.now c.read_groups-number.result.1 c.if-stop-text.true)
+
+pub returns-then-text-stop : goal.returns-then-text-stop
+returns-then-text-stop c = λ some.
+    groups_read c.args.format.now c.args.radix c.args.text.now (nat_lt 0 c.args.start) c.args.start c.requires.starts c.args.separator
+    c.requires.own (sym c.integer_internal_digit_separator.ensures ∙ c.if-not-integer_internal_digit_separator.false)
+    c.read_groups-number.result.0 c.read_groups-number.result.1 (omega (arith, c.requires.least)) (omega arith)
+    c.read_groups-number.ensures.groups
+    (sym c.has_digit.ensures ∙ c.if-has_digit.false)
+    (other_apart c.args.format.now c.args.text.now c.read_groups-number.result.1 c.args.separator c.requires.own c.if-stop-text.false c.if-text-stop.true)
+
+pub returns-then-integer_trailing_digit_separator : goal.returns-then-integer_trailing_digit_separator
+returns-then-integer_trailing_digit_separator c = λ some.
+    let here = stands_here c.args.text.now c.read_groups-number.result.1 c.args.separator c.if-stop-text.false c.if-text-stop.false in
+    trailing_taken c.args.format.now c.args.radix c.args.text.now (nat_lt 0 c.args.start) c.args.start c.requires.starts c.args.separator
+    c.requires.own (sym c.integer_internal_digit_separator.ensures ∙ c.if-not-integer_internal_digit_separator.false)
+    c.read_groups-number.result.0 c.read_groups-number.result.1 (omega (arith, c.requires.least)) (omega arith)
+    c.read_groups-number.ensures.groups
+    here c.if-stop-text.false (c.read_groups-number.ensures.last here) (sym c.separator_at.ensures.found ∙ sym c.is_some.ensures ∙ c.if-is_some.false)
+    (sym c.integer_trailing_digit_separator.ensures ∙ c.if-integer_trailing_digit_separator.true)
+
+pub returns : goal.returns
+returns c = λ some.
+    let here = stands_here c.args.text.now c.read_groups-number.result.1 c.args.separator c.if-stop-text.false c.if-text-stop.false in
+    trailing_left c.args.format.now c.args.radix c.args.text.now (nat_lt 0 c.args.start) c.args.start c.requires.starts c.args.separator
+    c.requires.own (sym c.integer_internal_digit_separator.ensures ∙ c.if-not-integer_internal_digit_separator.false)
+    c.read_groups-number.result.0 c.read_groups-number.result.1 (omega (arith, c.requires.least)) (omega arith)
+    c.read_groups-number.ensures.groups
+    here c.if-stop-text.false (c.read_groups-number.ensures.last here) (sym c.separator_at.ensures.found ∙ sym c.is_some.ensures ∙ c.if-is_some.false)
+    (sym c.integer_trailing_digit_separator.ensures ∙ c.if-integer_trailing_digit_separator.false)
