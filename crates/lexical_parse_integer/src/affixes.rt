@@ -7,7 +7,7 @@ use lexical_util::format::NumberFormat;
 // Whether a byte matches a prefix or suffix, with or without regard to ASCII case.
 #[inline(always)]
 #[tactic(auto, unfolding(crate::specs::Affixes::matches))]
-pub(crate) fn matches(is_case_sensitive: bool, affix: u8, byte: u8) -> bool
+fn matches(is_case_sensitive: bool, affix: u8, byte: u8) -> bool
     ensures { result ≡ matches is_case_sensitive affix byte }
 {
     if byte == affix {

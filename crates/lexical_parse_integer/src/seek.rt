@@ -132,7 +132,8 @@ fn seek_behind_run(
     }
 }
 
-// What stands ahead where no digit stands at `position`: without a separator there it is the numeral's end. Why by another call: docs/DECISIONS.md, code.
+// What stands ahead where no digit stands at `position`: without a separator there it is the numeral's end. Why by another
+// call: docs/DECISIONS.md, code.
 #[inline(always)]
 fn seek_behind_separator(
     bytes: &[u8],

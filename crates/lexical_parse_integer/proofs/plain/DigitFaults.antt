@@ -116,7 +116,7 @@ module _ (f : Format) (t : IntegerType) (text : List ℕ) (s : Bool × ℕ) (cou
       let place : length text ≡ s.1 = omega arith in
       stops_there none ∙ rw (over, required, and-false) (ap (λ k. Err (Empty k)) place)
 
-  within_text : has_digit 10 text s.1 ≡ true → s.1 < length text
+  pub within_text : has_digit 10 text s.1 ≡ true → s.1 < length text
   within_text there = elim (cases_lt s.1 (length text)) [ inl l ↦ l | inr past ↦ absurd (false≢true (sym (ap is_some (digit_at_past 10 text s.1 past)) ∙ there)) ]
 
   -- where a digit stands there, one is counted

@@ -3,10 +3,10 @@
 //
 // As under formats without punctuation, only what is sure is answered: a value that its type has. `None` says nothing: what
 // is left is read from its front.
-ghost use Rattle.std.specs.Prelude.{◌≡◌, ◌<◌, ◌||◌, IfSome, IsNone, IsTrue, None, Some, Ok, false, length, slice_index};
-ghost use Rattle.lexical_util.specs.Ascii.{digit_zero};
+ghost use Rattle.std.specs.Prelude.{◌≡◌, ◌<◌, ◌||◌, IfSome, IsNone, IsTrue, None, Some, Ok, false, length, slice_index, true};
+ghost use Rattle.lexical_util.specs.Ascii.{digit_zero, letter_x};
 ghost use Rattle.lexical_util.specs.Validity.{fault};
-ghost use Rattle.lexical_parse_integer.specs.Affixes.{named_radix, octal_zero_at, prefix_radix};
+ghost use Rattle.lexical_parse_integer.specs.Affixes.{matches, named_radix, octal_zero_at, prefix_radix};
 ghost use Rattle.lexical_parse_integer.specs.Grammar.{complete};
 ghost use Rattle.lexical_parse_integer.specs.Head.{head_of, sign};
 ghost use Rattle.lexical_parse_integer.specs.Plain.{keeps_zero_rule};
@@ -14,7 +14,6 @@ ghost use Rattle.lexical_parse_integer.specs.Plain.{keeps_zero_rule};
 mod threes;
 pub(crate) mod validity;
 
-use crate::affixes::matches;
 use crate::algorithm::front::{Head, sign_of};
 use crate::algorithm::plain::keeps_zero_rule;
 use crate::algorithm::punctuated::threes::value_of_threes;
@@ -24,6 +23,15 @@ use lexical_digits::nibbles::value_of_nibbles;
 use lexical_digits::table::value_by_table;
 use lexical_util::format::NumberFormat;
 use lexical_util::num::Integer;
+
+// Whether a byte is the letter `x`, with or without regard to its case.
+#[inline(always)]
+#[tactic(auto, unfolding(crate::specs::Affixes::matches))]
+fn is_x(byte: u8, is_case_sensitive: bool) -> bool
+    ensures { IsTrue result → matches is_case_sensitive letter_x byte ≡ true }
+{
+    byte == b'x' || (byte == b'X' && !is_case_sensitive)
+}
 
 // Whether `0x` stands at a place at which a zero stands, where the effective radix is then 16.
 #[inline(always)]
@@ -35,7 +43,7 @@ fn is_behind_x(bytes: &[u8], format: &NumberFormat, start: usize) -> bool
     if bytes.len() - start < 2 {
         return false;
     }
-    if !matches(format.case_sensitive_base_prefix(), b'x', bytes[start + 1]) {
+    if !is_x(bytes[start + 1], format.case_sensitive_base_prefix()) {
         return false;
     }
     match format.base_prefix() {

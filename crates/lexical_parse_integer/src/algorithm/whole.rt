@@ -9,7 +9,7 @@ ghost use Rattle.lexical_parse_integer.specs.Head.{sign};
 ghost use Rattle.lexical_parse_integer.specs.Plain.{IsPlain};
 
 use crate::algorithm::front::{complete_from_front, sign_of};
-use crate::algorithm::plain::faults::{answer_after_digits, place_after_digits};
+use crate::algorithm::plain::faults::{answer_after_digits, fault_if_long, place_after_digits, place_after_few};
 use crate::algorithm::plain::{
     has_forbidden_zero, is_plain, value_behind_plus, value_of_decimal, value_of_plain,
 };
@@ -123,25 +123,25 @@ pub(crate) fn complete_if_decimal<T: Integer>(bytes: &[u8], format: &NumberForma
     decimal_if_left::<T>(bytes, format)
 }
 
-/// The complete answer under the standard format for such a text.
+/// The complete answer under the standard format for such a text, by calls that know the format: each answers in registers.
 #[inline(always)]
 pub(crate) fn standard_if_left<T: Integer>(bytes: &[u8]) -> Result<T>
     ensures { view_of T.number result ≡ complete standard T.TYPE bytes.now }
 {
-    decimal_if_left::<T>(bytes, &format::STANDARD)
-}
-
-// The value under any format, where `value_if_short` has left the text.
-#[inline(always)]
-fn value_if_not_short<T: Integer>(bytes: &[u8], format: &NumberFormat) -> Option<T>
-    ensures valid { IfSome result (λ value. IsNone (fault format.now)) }
-    ensures answer { IfSome result
-        (λ value. complete format.now T.TYPE bytes.now ≡ Ok (T.number value)) }
-{
-    if !is_plain(format) {
-        return value_if_punctuated::<T>(bytes, format);
+    if let Some(value) = value_behind_plus::<T>(bytes, &format::STANDARD) {
+        return Ok(value);
     }
-    value_of_plain::<T>(bytes, format)
+    if bytes.len() > T::overflow_digits(10) {
+        return match fault_if_long::<T>(bytes) {
+            Some(fault) => Err(fault),
+            None => complete_from_front::<T>(bytes, &format::STANDARD),
+        };
+    }
+    match place_after_few::<T>(bytes) {
+        Some(place) if place < bytes.len() => Err(Error::InvalidDigit(place)),
+        Some(place) => Err(Error::Empty(place)),
+        None => complete_from_front::<T>(bytes, &format::STANDARD),
+    }
 }
 
 /// The complete answer under a format that may be invalid, for a text that `value_if_short` has left: a short decimal one is
@@ -150,10 +150,16 @@ fn value_if_not_short<T: Integer>(bytes: &[u8], format: &NumberFormat) -> Option
 pub(crate) fn complete_if_not_short<T: Integer>(bytes: &[u8], format: &NumberFormat) -> Result<T>
     ensures { view_of T.number result ≡ complete_if_valid format.now T.TYPE bytes.now }
 {
-    if bytes.len() <= 16 && is_plain(format) && format.mantissa_radix() == 10 {
+    if !is_plain(format) {
+        return match value_if_punctuated::<T>(bytes, format) {
+            Some(value) => Ok(value),
+            None => complete_from_front::<T>(bytes, format),
+        };
+    }
+    if bytes.len() <= 16 && format.mantissa_radix() == 10 {
         return complete_if_decimal::<T>(bytes, format);
     }
-    match value_if_not_short::<T>(bytes, format) {
+    match value_of_plain::<T>(bytes, format) {
         Some(value) => Ok(value),
         None => complete_if_left::<T>(bytes, format),
     }

@@ -1,8 +1,7 @@
 // Every integer type, read from bytes.
 ghost use Rattle.std.specs.Prelude.{◌≡◌};
-ghost use Rattle.lexical_util.specs.Format.{standard};
 ghost use Rattle.lexical_parse_integer.specs.Answer.{with_place, view_of};
-ghost use Rattle.lexical_parse_integer.specs.Grammar.{complete, complete_if_valid, partial_if_valid};
+ghost use Rattle.lexical_parse_integer.specs.Grammar.{complete_if_valid, partial_if_valid};
 
 use crate::algorithm::front::partial_from_front;
 use crate::algorithm::plain::{front_if_plain, value_if_short};
@@ -25,14 +24,6 @@ pub fn complete_under_if_not_short<T: Integer>(bytes: &[u8], format: &NumberForm
     whole::complete_if_not_short::<T>(bytes, format)
 }
 
-// The complete answer under the standard format, in one call.
-#[inline(never)]
-fn standard_complete<T: Integer>(bytes: &[u8]) -> Result<T>
-    ensures { view_of T.number result ≡ complete standard T.TYPE bytes.now }
-{
-    standard_if_left::<T>(bytes)
-}
-
 // The partial answer for every text, in one call.
 #[inline(never)]
 fn partial_if_valid<T: Integer>(bytes: &[u8], format: &NumberFormat) -> Result<(T, usize)>
@@ -49,7 +40,7 @@ impl<T: Integer> FromLexical for T {
     fn from_lexical(bytes: &[u8]) -> Result<T> {
         match value_for_format::<T>(bytes, &format::STANDARD) {
             Some(value) => Ok(value),
-            None => standard_complete::<T>(bytes),
+            None => standard_if_left::<T>(bytes),
         }
     }
 

@@ -3,6 +3,7 @@
 // `None` says nothing. Why each is a call of its own: docs/DECISIONS.md, code.
 ghost use Rattle.std.specs.Prelude.{◌≡◌, ◌<◌, ◌≤◌, Err, IfSome, IsNone, Ok, get_or, length, take};
 ghost use Rattle.lexical_util.specs.Digit.{digit};
+ghost use Rattle.lexical_util.specs.Format.{standard};
 ghost use Rattle.lexical_util.specs.declared.error.Error.TheVariants.{Empty, InvalidDigit};
 ghost use Rattle.lexical_digits.specs.Words.{AreDigits};
 ghost use Rattle.lexical_parse_integer.specs.Answer.{view_of};
@@ -11,12 +12,13 @@ ghost use Rattle.lexical_parse_integer.specs.Head.{sign};
 ghost use Rattle.lexical_parse_integer.specs.Plain.{IsPlain};
 
 use crate::algorithm::digits::join_checked;
+use crate::algorithm::front::sign_of;
 use crate::algorithm::plain::keeps_zero_rule;
 use crate::seek::digit_at;
 use lexical_digits::fronts::{number_behind, number_in_front, value_of_digits};
 use lexical_util::digit::char_to_digit;
 use lexical_util::error::Error;
-use lexical_util::format::NumberFormat;
+use lexical_util::format::{self, NumberFormat};
 use lexical_util::num::Integer;
 use lexical_util::result::Result;
 
@@ -58,15 +60,15 @@ pub(in crate::algorithm) fn place_after_digits<T: Integer>(
     ensures end { IfSome result (λ place. length bytes.now ≤ place
         → complete format.now T.TYPE bytes.now ≡ Err (Empty place)) }
 {
-    if bytes.len() <= start {
+    if digit_at(bytes, 10, start).is_none() {
+        if start < bytes.len() {
+            return Some(start);
+        }
         return if format.required_digits() {
             Some(start)
         } else {
             None
         };
-    }
-    if digit_at(bytes, 10, start).is_none() {
-        return Some(start);
     }
     let digits = &bytes[start..];
     let count = digits_in_front(digits);
@@ -112,4 +114,39 @@ pub(in crate::algorithm) fn answer_after_digits<T: Integer>(
         count += 1;
     }
     Some(Ok(value))
+}
+
+// The place of such a text under the standard format.
+#[inline(never)]
+pub(in crate::algorithm) fn place_after_few<T: Integer>(bytes: &[u8]) -> Option<usize>
+    ensures byte { IfSome result (λ place. place < length bytes.now
+        → complete standard T.TYPE bytes.now ≡ Err (InvalidDigit place)) }
+    ensures end { IfSome result (λ place. length bytes.now ≤ place
+        → complete standard T.TYPE bytes.now ≡ Err (Empty place)) }
+{
+    let Ok((is_negative, start)) = sign_of::<T>(bytes, &format::STANDARD) else {
+        return None;
+    };
+    place_after_digits::<T>(bytes, &format::STANDARD, is_negative, start)
+}
+
+// The fault of a text under the standard format that is longer than its type has surely digits, and has no zero in front.
+#[inline(never)]
+pub(in crate::algorithm) fn fault_if_long<T: Integer>(bytes: &[u8]) -> Option<Error>
+    ensures { IfSome result (λ error. complete standard T.TYPE bytes.now ≡ Err error) }
+{
+    let Ok((is_negative, start)) = sign_of::<T>(bytes, &format::STANDARD) else {
+        return None;
+    };
+    if start < bytes.len() && bytes[start] == b'0' {
+        return None;
+    }
+    match answer_after_digits::<T>(bytes, &format::STANDARD, is_negative, start) {
+        Some(Ok(_)) => None,
+        Some(Err(fault)) => Some(fault),
+        None => match place_after_digits::<T>(bytes, &format::STANDARD, is_negative, start) {
+            Some(place) if place < bytes.len() => Some(Error::InvalidDigit(place)),
+            _ => None,
+        },
+    }
 }
