@@ -46,7 +46,6 @@ pub(crate) fn put_parsed<T: ParseInteger>(
 /// digits were left, so they aren't read as such again.
 ///
 /// It is for a [`TableColumn`](crate::TableColumn) of one's own. The slice has to have that place.
-// Why out of line: docs/DECISIONS.md, code.
 #[inline(never)]
 pub fn put_standard_parsed<T: ParseInteger>(
     values: &mut [T],

@@ -309,7 +309,8 @@ fn read_by_own(text: &[u8]) -> (Answer, [i64; 6], [i64; 6]) {
 // Short and long cells, and such as aren't had at once. Behind the first ones many bytes follow, and few behind the last.
 #[test]
 fn a_column_of_ones_own_reads_all_cells(rt: HostRuntime) {
-    let text = b"1,-22\n-9223372036854775808,123456789012\n+5,00000000000000000000000000000000000007\n1234567890123456,-1234567\n-1,9223372036854775807\n+7,65";
+    let text =
+        b"1,-22\n-9223372036854775808,123456789012\n+5,00000000000000000000000000000000000007\n1234567890123456,-1234567\n-1,9223372036854775807\n+7,65";
     answers(
         &rt,
         read_by_own(text),
@@ -325,7 +326,8 @@ fn a_column_of_ones_own_reads_all_cells(rt: HostRuntime) {
         read_by_own(b"1x,2\n3,4"),
         (letter(0, 1), [9; 6], [9; 6]),
     );
-    let late = b"1,2\n3x,4\n123456789012345678,123456789012345678\n123456789012345678,12345678901234";
+    let late =
+        b"1,2\n3x,4\n123456789012345678,123456789012345678\n123456789012345678,12345678901234";
     answers(
         &rt,
         read_by_own(late),
@@ -335,11 +337,19 @@ fn a_column_of_ones_own_reads_all_cells(rt: HostRuntime) {
 
 // What `put_cell` and `put_standard_cell` put at place 1 for a cell at place 5, and tell of it.
 fn put_both(cell: &[u8], ahead: &[u8]) -> [(Option<Error>, [i16; 2]); 2]
-    requires { cell.now ≡ take (length cell.now) ahead.now }
-    requires { length cell.now < 100 }
+    requires front { cell.now ≡ take (length cell.now) ahead.now }
+    requires short { length cell.now < 100 }
 {
     let mut numbers = [9; 2];
-    let told = put_cell(&mut numbers, 1, 5, cell, ahead, &STANDARD, &options::STANDARD);
+    let told = put_cell(
+        &mut numbers,
+        1,
+        5,
+        cell,
+        ahead,
+        &STANDARD,
+        &options::STANDARD,
+    );
     let mut others = [9; 2];
     let also = put_standard_cell(&mut others, 1, 5, cell, ahead, &options::STANDARD);
     [(told, numbers), (also, others)]
