@@ -19,6 +19,7 @@ are_zeros text at word below within is zeros =
   where
     past : (k : ℕ) → 8 ≤ k → get_or (take 8 (drop at text)) k 0 ≡ 0
     past k l = get_or-eq_default (take 8 (drop at text)) 0 (let size = length-take-le 8 (drop at text) (let e = length-drop at text in omega arith) in omega arith)
+
     taken : (k : ℕ) → get_or (take 8 (drop at text)) k 0 < 256
     taken k = elim (cases_lt k 8) [
       | inl l ↦ let e = get_or-take 8 (drop at text) k 0 l ∙ get_or-drop at text k 0 in let b = below (at + k) in omega arith

@@ -10,7 +10,7 @@ ghost use Rattle.lexical_fields.specs.Search.{AreMarks};
 use crate::marked::{next_marks, split_marked};
 use crate::split::split_field;
 use lexical_parse_integer::parse::ParseInteger;
-use lexical_parse_integer::quick::{complete_if_left, value_for_format};
+use lexical_parse_integer::quick::{complete_valid_if_not_short, value_if_short};
 use lexical_parse_integer::{Error, NumberFormat, Result};
 
 // The first field, what is behind its separator, and the marks of that: by the marks of the text, or by a look for the
@@ -31,15 +31,15 @@ fn cut_field(text: &[u8], marks: u64, separator: u8) -> (&[u8], &[u8], u64)
     (&text[..size], behind, more)
 }
 
-// The number of a field, or its fault: by the reader for the format's kind, or by the parser.
+// The number of a field, or its fault: a short decimal one in place.
 #[inline(always)]
 fn number_of_field<T: ParseInteger>(field: &[u8], format: &NumberFormat) -> Result<T>
     requires valid { IsNone (fault format.now) }
     ensures { view_of T.number result ≡ complete format.now T.TYPE field.now }
 {
-    match value_for_format::<T>(field, format) {
+    match value_if_short::<T>(field, format) {
         Some(value) => Ok(value),
-        None => complete_if_left::<T>(field, format),
+        None => complete_valid_if_not_short::<T>(field, format),
     }
 }
 

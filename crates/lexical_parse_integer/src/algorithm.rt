@@ -24,11 +24,10 @@ mod zeros;
 use crate::algorithm::front::partial_from_front;
 use crate::algorithm::head::{is_prefix_alone, read_head};
 use crate::algorithm::numeral::read_numeral;
-use crate::algorithm::plain::front_if_plain;
-use crate::algorithm::whole::value_for_format;
+use crate::algorithm::plain::{front_if_plain, value_if_short};
+use crate::algorithm::whole::complete_valid_if_not_short;
 use crate::cursor::Cursor;
 use crate::options::Options;
-use crate::quick::complete_if_left;
 pub use head::parse_sign;
 pub use lexical_digits::words::{is_4digits, is_8digits, parse_4digits, parse_8digits};
 use lexical_util::error::Error;
@@ -158,9 +157,9 @@ pub fn algorithm_complete<T: Integer>(
     requires valid { IsNone (fault format.now) }
     ensures { view_of T.number result ≡ complete format.now T.TYPE bytes.now }
 {
-    match value_for_format::<T>(bytes, format) {
+    match value_if_short::<T>(bytes, format) {
         Some(value) => Ok(value),
-        None => complete_if_left::<T>(bytes, format),
+        None => complete_valid_if_not_short::<T>(bytes, format),
     }
 }
 

@@ -42,17 +42,17 @@ pub fn value_for_format<T: Integer>(bytes: &[u8], format: &NumberFormat) -> Opti
     whole::value_for_format::<T>(bytes, format)
 }
 
-/// The integer that the whole text stands for under a valid format, or its fault, for a text that `value_for_format` has
-/// left.
+/// The integer that the whole text stands for under a valid format, for a text that `value_if_short` has left: it isn't read
+/// as short decimal digits again.
 #[inline(always)]
-pub fn complete_if_left<T: Integer>(bytes: &[u8], format: &NumberFormat) -> Result<T>
+pub fn complete_valid_if_not_short<T: Integer>(bytes: &[u8], format: &NumberFormat) -> Result<T>
     requires valid { IsNone (fault format.now) }
     ensures { view_of T.number result ≡ complete format.now T.TYPE bytes.now }
 {
-    whole::complete_if_left::<T>(bytes, format)
+    whole::complete_valid_if_not_short::<T>(bytes, format)
 }
 
-/// The same under the standard format.
+/// The integer that the whole text stands for under the standard format, for a text that `value_for_format` has left.
 #[inline(always)]
 pub fn standard_if_left<T: Integer>(bytes: &[u8]) -> Result<T>
     ensures { view_of T.number result ≡ complete standard T.TYPE bytes.now }

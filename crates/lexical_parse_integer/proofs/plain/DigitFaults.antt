@@ -1,8 +1,8 @@
 -- Digits at the front of a text, and the byte behind them: for the answers of `algorithm::plain::faults`.
-use Rattle.std.proofs.Common.{◌≡◌, ℕ, zero, suc, ◌+◌, ◌-◌, ◌^◌, ◌<◌, ◌≤◌, ◌&&◌, not, Bool, true, false, List, [], ◌∷◌, length, get_or, take, refl, sym, ap, ◌∙◌, subst, arith, Ok, Err, inl, inr}
-use Rattle.std.specs.Prelude.{◌==◌, slice_range, ℤ, IsNone, is_some, nat_le, nat_lt}
+use Rattle.std.proofs.Common.{◌≡◌, ◌≢◌, ℕ, zero, suc, ◌+◌, ◌-◌, ◌^◌, ◌<◌, ◌≤◌, ◌&&◌, not, Bool, true, false, List, [], ◌∷◌, length, get_or, take, refl, sym, ap, ◌∙◌, subst, arith, Ok, Err, inl, inr}
+use Rattle.std.specs.Prelude.{◌==◌, slice_index, slice_range, ℤ, IsNone, is_some, nat_le, nat_lt}
 use Rattle.std.proofs.Math.Bool.{and-false}
-use Rattle.std.proofs.lemmas.Bool.{cases_lt, false≢true, le-ltb, lt-ltb}
+use Rattle.std.proofs.lemmas.Bool.{cases_lt, false≢true, le-ltb, lt-ltb, ne_eqb}
 use Rattle.std.proofs.lemmas.Bool.Decides.{nat_tests}
 use Rattle.std.proofs.lemmas.List.{get_or-drop, length-drop, length-take-le}
 use Rattle.lexical_util.specs.declared.error.Error.TheVariants.{Empty, InvalidDigit}
@@ -42,6 +42,12 @@ none_behind text j n count within w few more =
     let size : length (slice_range text j (length text)) ≡ length text - j = ap length (rest_is text j) ∙ length-drop j text in
     let byte : get_or (slice_range text j (length text)) count 0 ≡ get_or text (j + count) 0 = ap (λ (bs : List ℕ). get_or bs count 0) (rest_is text j) ∙ get_or-drop j text count 0 in
     subst (λ k. IsNone (digit 10 k)) byte (w.stops few (omega arith))
+
+-- digits without a zero in front keep the zero rule
+pub nonzero_keeps : (f : Format) (digits : List ℕ) → slice_index digits 0 ≢ 48 → keeps_zero_rule f digits ≡ true
+nonzero_keeps f digits other =
+    let none : (slice_index digits 0 == 48) ≡ false = ne_eqb (slice_index digits 0) 48 other in
+    rw (none, and-false (f.no_integer_leading_zeros && nat_le 2 (length digits))) refl
 
 -- fewer digits keep the zero rule too
 pub fewer_keep : (f : Format) (k : ℕ) (digits : List ℕ) → 1 ≤ k → k ≤ length digits → keeps_zero_rule f digits ≡ true → keeps_zero_rule f (take k digits) ≡ true

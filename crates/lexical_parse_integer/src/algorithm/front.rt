@@ -348,7 +348,7 @@ pub(crate) fn partial_from_front<T: Integer>(
 
 // The answer for a whole text by that for its front: what the front stands for, if reading stops at the text's end.
 #[inline(always)]
-fn completion<T: Integer>(bytes: &[u8], front: Result<(T, usize)>) -> Result<T>
+pub(super) fn completion<T: Integer>(bytes: &[u8], front: Result<(T, usize)>) -> Result<T>
     ensures { view_of T.number result
         ≡ completion_of (length bytes.now) (view_of (with_place T.number) front) }
 {

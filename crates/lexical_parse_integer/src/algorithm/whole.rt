@@ -8,12 +8,14 @@ ghost use Rattle.lexical_parse_integer.specs.Grammar.{complete, complete_if_vali
 ghost use Rattle.lexical_parse_integer.specs.Head.{sign};
 ghost use Rattle.lexical_parse_integer.specs.Plain.{IsPlain};
 
-use crate::algorithm::front::{complete_from_front, sign_of};
-use crate::algorithm::plain::faults::{answer_after_digits, fault_if_long, place_after_digits, place_after_few};
+use crate::algorithm::front::{complete_from_front, completion, front_behind, head_of, sign_of};
+use crate::algorithm::plain::faults::{
+    answer_after_digits, fault_after_many, place_after_digits, place_after_few,
+};
 use crate::algorithm::plain::{
     has_forbidden_zero, is_plain, value_behind_plus, value_of_decimal, value_of_plain,
 };
-use crate::algorithm::punctuated::{value_of_groups, value_of_row};
+use crate::algorithm::punctuated::{value_behind_head, value_of_groups, value_of_row};
 use lexical_util::error::Error;
 use lexical_util::format::{self, NumberFormat};
 use lexical_util::num::Integer;
@@ -132,10 +134,12 @@ pub(crate) fn standard_if_left<T: Integer>(bytes: &[u8]) -> Result<T>
         return Ok(value);
     }
     if bytes.len() > T::overflow_digits(10) {
-        return match fault_if_long::<T>(bytes) {
-            Some(fault) => Err(fault),
-            None => complete_from_front::<T>(bytes, &format::STANDARD),
-        };
+        if let Some(fault) = fault_after_many::<T>(bytes) {
+            return Err(fault);
+        }
+        if bytes[0] == b'0' {
+            return complete_from_front::<T>(bytes, &format::STANDARD);
+        }
     }
     match place_after_few::<T>(bytes) {
         Some(place) if place < bytes.len() => Err(Error::InvalidDigit(place)),
@@ -174,4 +178,33 @@ pub(crate) fn complete_if_left<T: Integer>(bytes: &[u8], format: &NumberFormat) 
         return complete_if_decimal::<T>(bytes, format);
     }
     complete_from_front::<T>(bytes, format)
+}
+
+// The complete answer under a valid format with punctuation: its head is found once, and what isn't digits alone behind it is
+// read from there. Why out of line: docs/DECISIONS.md, code.
+#[inline(never)]
+fn complete_if_punctuated<T: Integer>(bytes: &[u8], format: &NumberFormat) -> Result<T>
+    requires valid { IsNone (fault format.now) }
+    ensures { view_of T.number result ≡ complete format.now T.TYPE bytes.now }
+{
+    let head = head_of::<T>(bytes, format)?;
+    if let Some(value) = value_behind_head::<T>(bytes, format, head) {
+        return Ok(value);
+    }
+    completion::<T>(bytes, front_behind::<T>(bytes, format, head))
+}
+
+/// The complete answer under a valid format, for such a text.
+#[inline(always)]
+pub(crate) fn complete_valid_if_not_short<T: Integer>(
+    bytes: &[u8],
+    format: &NumberFormat,
+) -> Result<T>
+    requires valid { IsNone (fault format.now) }
+    ensures { view_of T.number result ≡ complete format.now T.TYPE bytes.now }
+{
+    if !is_plain(format) {
+        return complete_if_punctuated::<T>(bytes, format);
+    }
+    complete_if_not_short::<T>(bytes, format)
 }

@@ -81,8 +81,8 @@ pub(in crate::algorithm) fn place_after_digits<T: Integer>(
     Some(start + count)
 }
 
-// The answer for a text that has more digits than its type has surely room for: the number that they stand for, or the fault
-// at the digit with which the number leaves the type, or at the first byte that is no digit.
+// The answer for a text that has more digits than its type has surely room for, and no zero in front: the number that they
+// stand for, or the fault at the digit with which the number leaves the type, or at the first byte that is no digit.
 #[inline(always)]
 pub(in crate::algorithm) fn answer_after_digits<T: Integer>(
     bytes: &[u8],
@@ -98,7 +98,7 @@ pub(in crate::algorithm) fn answer_after_digits<T: Integer>(
 {
     let digits = &bytes[start..];
     let mut count = T::overflow_digits(10);
-    if digits.len() <= count || !keeps_zero_rule(format, digits) {
+    if digits.len() <= count || digits[0] == b'0' {
         return None;
     }
     let mut value = value_of_digits::<T>(&digits[..count], is_negative)?;
@@ -130,23 +130,16 @@ pub(in crate::algorithm) fn place_after_few<T: Integer>(bytes: &[u8]) -> Option<
     place_after_digits::<T>(bytes, &format::STANDARD, is_negative, start)
 }
 
-// The fault of a text under the standard format that is longer than its type has surely digits, and has no zero in front.
+// The fault of a text under the standard format that has more digits than its type has surely room for, and no zero in front.
 #[inline(never)]
-pub(in crate::algorithm) fn fault_if_long<T: Integer>(bytes: &[u8]) -> Option<Error>
+pub(in crate::algorithm) fn fault_after_many<T: Integer>(bytes: &[u8]) -> Option<Error>
     ensures { IfSome result (λ error. complete standard T.TYPE bytes.now ≡ Err error) }
 {
     let Ok((is_negative, start)) = sign_of::<T>(bytes, &format::STANDARD) else {
         return None;
     };
-    if start < bytes.len() && bytes[start] == b'0' {
-        return None;
-    }
     match answer_after_digits::<T>(bytes, &format::STANDARD, is_negative, start) {
-        Some(Ok(_)) => None,
         Some(Err(fault)) => Some(fault),
-        None => match place_after_digits::<T>(bytes, &format::STANDARD, is_negative, start) {
-            Some(place) if place < bytes.len() => Some(Error::InvalidDigit(place)),
-            _ => None,
-        },
+        _ => None,
     }
 }

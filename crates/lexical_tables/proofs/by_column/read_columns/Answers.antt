@@ -1,5 +1,5 @@
-use Rattle.std.proofs.Common.{◌≡◌, ◌∙◌, Some, ap, sym}
-use Rattle.lexical_tables.specs.ByColumn.{column_count, marked_separator}
+use Rattle.std.proofs.Common.{ap, sym}
+use Rattle.lexical_tables.specs.ByColumn.{column_count}
 use Rattle.lexical_tables.proofs.by_column.read_columns.Goals as goal
 
 pub read_marked_rows-requires-clause-columns : goal.read_marked_rows-requires-clause-columns

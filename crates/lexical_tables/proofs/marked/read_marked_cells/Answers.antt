@@ -1,8 +1,7 @@
-use Rattle.std.proofs.Common.{◌≡◌, ◌∙◌, ℕ, ◌+◌, ◌-◌, ◌<◌, None, Some, inl, inr, arith, rules, refl, ap, sym, length, drop, map, subst}
+use Rattle.std.proofs.Common.{◌∙◌, ◌+◌, ◌-◌, ◌<◌, Some, inl, inr, arith, rules, refl, ap, sym, length, drop, map, subst}
 use Rattle.std.proofs.lemmas.Bool.Decides.{nat_tests}
 use Rattle.std.proofs.lemmas.List.{take_rest}
-use Rattle.lexical_fields.specs.Fields.{FieldView}
-use Rattle.lexical_tables.specs.ByColumn.{AreCellMarks, answer_at, end_fault, fault_in, kinds_of, put_read_at}
+use Rattle.lexical_tables.specs.ByColumn.{AreCellMarks, end_fault, kinds_of}
 use Rattle.lexical_tables.specs.Rows.{view_of_row}
 use Rattle.lexical_tables.proofs.CellsLeft.{all_left, ended_left, next_left, start_left}
 use Rattle.lexical_tables.proofs.ColumnSteps.{after_cell, after_fault, count_in, row_ends, row_starts}

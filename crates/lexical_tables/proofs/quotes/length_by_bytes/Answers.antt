@@ -1,4 +1,4 @@
-use Rattle.std.proofs.Common.{◌≡◌, ◌≢◌, ◌∙◌, ◌<◌, length, get_or, arith, sym}
+use Rattle.std.proofs.Common.{◌∙◌, ◌<◌, length, get_or, arith, sym}
 use Rattle.std.proofs.lemmas.Bool.Decides.{nat_tests}
 use Rattle.lexical_tables.proofs.Passed.{passes_end, passes_one, seen_here, seen_other, stepped, stopped, turned_once}
 use Rattle.lexical_tables.proofs.quotes.length_by_bytes.Goals as goal
