@@ -118,8 +118,8 @@ fn keeps_rule_behind(format: &NumberFormat, head: Head, digits: &[u8]) -> bool
     head.chooses_radix() || keeps_zero_rule(format, digits)
 }
 
-// The value of the whole text, where digits of the effective radix alone stand behind its head, or decimal ones with a
-// separator before each three.
+// The value of the whole text, where decimal or hexadecimal digits alone stand behind its head, or decimal ones with a
+// separator before each three. Others, and those before a suffix, are read from the left at once.
 #[inline(always)]
 pub(super) fn value_behind_head<T: Integer>(
     bytes: &[u8],
@@ -137,6 +137,9 @@ pub(super) fn value_behind_head<T: Integer>(
     ensures { IfSome result (λ value. complete format.now T.TYPE bytes.now ≡ Ok (T.number value)) }
 {
     if bytes.len() <= head.start || !keeps_rule_behind(format, head, &bytes[head.start..]) {
+        return None;
+    }
+    if (head.radix != 10 && head.radix != 16) || format.base_suffix().is_some() {
         return None;
     }
     match format.digit_separator() {
@@ -189,7 +192,7 @@ fn sign_at_once<T: Integer>(bytes: &[u8], format: &NumberFormat) -> Option<(bool
 }
 
 // The head of a text whose sign was read, where nothing but `0x` can be its prefix, something stands behind it, and no zero
-// that the format forbids. `None` says nothing.
+// that the format forbids or takes for octal. `None` says nothing.
 #[inline(always)]
 fn head_at_once<T: Integer>(
     bytes: &[u8],
@@ -234,10 +237,13 @@ fn head_at_once<T: Integer>(
     if !is_unnamed(bytes[start + 1], format) {
         return None;
     }
-    if format.no_integer_leading_zeros() & !is_octal {
+    if is_octal {
         return None;
     }
-    Some(bare_head(format, is_negative, start, is_octal))
+    if format.no_integer_leading_zeros() {
+        return None;
+    }
+    Some(bare_head(format, is_negative, start, false))
 }
 
 // The value of the whole text under a format without separator that may be invalid, where digits alone stand behind its

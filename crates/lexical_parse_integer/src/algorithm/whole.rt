@@ -137,9 +137,6 @@ pub(crate) fn standard_if_left<T: Integer>(bytes: &[u8]) -> Result<T>
         if let Some(fault) = fault_after_many::<T>(bytes) {
             return Err(fault);
         }
-        if bytes[0] == b'0' {
-            return complete_from_front::<T>(bytes, &format::STANDARD);
-        }
     }
     match place_after_few::<T>(bytes) {
         Some(place) if place < bytes.len() => Err(Error::InvalidDigit(place)),
@@ -160,7 +157,7 @@ pub(crate) fn complete_if_not_short<T: Integer>(bytes: &[u8], format: &NumberFor
             None => complete_from_front::<T>(bytes, format),
         };
     }
-    if bytes.len() <= 16 && format.mantissa_radix() == 10 {
+    if format.mantissa_radix() == 10 && bytes.len() <= 16 {
         return complete_if_decimal::<T>(bytes, format);
     }
     match value_of_plain::<T>(bytes, format) {

@@ -22,25 +22,27 @@ use lexical_util::format::{self, NumberFormat};
 use lexical_util::num::Integer;
 use lexical_util::result::Result;
 
-// How many digits a text begins with: counted by words, whose numbers nobody asks for.
+// How many digits a text begins with, or more than so many: counted by words, whose numbers nobody asks for.
 #[inline(always)]
-fn digits_in_front(text: &[u8]) -> usize
+fn digits_in_front(text: &[u8], most: usize) -> usize
     requires some { 1 ≤ length text.now }
     ensures within { result ≤ length text.now }
     ensures digits { AreDigits 10 (take result text.now) }
-    ensures stops { result < length text.now → IsNone (digit 10 (get_or text.now result 0)) }
+    ensures stops { result ≤ most → result < length text.now
+        → IsNone (digit 10 (get_or text.now result 0)) }
 {
     let (_, mut count) = number_in_front(text);
     if count < 8 {
         return count;
     }
-    loop {
+    while count <= most {
         let (_, more) = number_behind(text, count);
         count += more;
         if more < 8 {
             return count;
         }
     }
+    count
 }
 
 // The place at which reading stops, where no digit stands behind the sign, or a byte behind digits for which their type
@@ -71,8 +73,9 @@ pub(in crate::algorithm) fn place_after_digits<T: Integer>(
         };
     }
     let digits = &bytes[start..];
-    let count = digits_in_front(digits);
-    if count == digits.len() || count > T::overflow_digits(10) {
+    let most = T::overflow_digits(10);
+    let count = digits_in_front(digits, most);
+    if count == digits.len() || count > most {
         return None;
     }
     if !keeps_zero_rule(format, &digits[..count]) {

@@ -23,7 +23,7 @@ returns-then-is_behind_x-clause-head g c =
 
 pub returns-clause-head : goal.returns-clause-head
 returns-clause-head g c =
-    head_bare _ _ c.args.bytes.now (c.args.is_negative, c.args.start) c.literal_octal_zero-is_octal.result _ c.requires.sign
+    head_bare _ _ c.args.bytes.now (c.args.is_negative, c.args.start) false c.args.format.now.mantissa_radix c.requires.sign
     (no_prefix_unnamed c.args.format.now c.args.bytes.now c.args.start (omega (arith, c.requires.some, c.if-bytes-start-eq1.false)) (c.is_unnamed.ensures c.if-not-is_unnamed.false))
-    (c.literal_octal_zero-is_octal.ensures ∙ octal_here c.args.format.now c.args.bytes.now c.args.start c.requires.some c.if-bytes-start-ne48.false) refl
+    (sym c.if-is_octal.false ∙ c.literal_octal_zero-is_octal.ensures ∙ octal_here c.args.format.now c.args.bytes.now c.args.start c.requires.some c.if-bytes-start-ne48.false) refl
     ∙ ap told_head (sym c.bare_head-2.ensures)

@@ -20,7 +20,7 @@ pub returns-then-more-lt8-clause-within : goal.returns-then-more-lt8-clause-with
 returns-then-more-lt8-clause-within c = reaches _ _ _ _ c.number_behind-more.ensures.front c.loop-count.invariant.within
 
 pub returns-then-more-lt8-clause-stops : goal.returns-then-more-lt8-clause-stops
-returns-then-more-lt8-clause-stops c = none_behind _ _ _ _ c.loop-count.invariant.within c.number_behind-more.ensures.front (omega (arith, c.if-more-lt8.true))
+returns-then-more-lt8-clause-stops c = λ _. none_behind _ _ _ _ c.loop-count.invariant.within c.number_behind-more.ensures.front (omega (arith, c.if-more-lt8.true))
 
 pub loop-count-preserved : goal.loop-count-preserved
 loop-count-preserved c =

@@ -1,4 +1,4 @@
-use Rattle.std.proofs.Common.{◌≡◌, ◌-◌, ap, arith, length, sym, ◌∙◌}
+use Rattle.std.proofs.Common.{◌≡◌, ◌≤◌, ◌-◌, ap, arith, length, sym, ◌∙◌}
 use Rattle.std.specs.Prelude.{is_some, slice_range}
 use Rattle.std.proofs.lemmas.List.{length-drop}
 use Rattle.lexical_digits.proofs.WordsInFront.{rest_is}
@@ -29,7 +29,8 @@ returns-clause-byte g c more =
     let front = c.digits_in_front-count.ensures in
     let within = front.within in
     let less = c.if-count-digits.false in
+    let few : c.digits_in_front-count.result ≤ c.overflow_digits-most.result = omega (arith, c.if-count-most.false) in
     let signed = c.requires.sign in
-    let some = some_digit c.args.format.now g.T.Integer.TYPE c.args.bytes.now (c.args.is_negative, c.args.start) c.digits_in_front-count.result c.requires.plain c.requires.decimal signed (ap is_some (sym c.digit_at.ensures) ∙ c.if-is_none.ensures) within front.stops in
-    byte_behind_few c.args.format.now g.T.Integer.TYPE c.args.bytes.now (c.args.is_negative, c.args.start) _ c.requires.plain c.requires.decimal signed _ c.overflow_digits.ensures.room (omega (arith, c.if-count-overflow_digits.false))
-    some (omega arith) (front.stops (omega arith)) (sym c.keeps_zero_rule.ensures ∙ c.if-not-keeps_zero_rule.false) front.digits
+    let some = some_digit c.args.format.now g.T.Integer.TYPE c.args.bytes.now (c.args.is_negative, c.args.start) c.digits_in_front-count.result c.requires.plain c.requires.decimal signed (ap is_some (sym c.digit_at.ensures) ∙ c.if-is_none.ensures) within (front.stops few) in
+    byte_behind_few c.args.format.now g.T.Integer.TYPE c.args.bytes.now (c.args.is_negative, c.args.start) _ c.requires.plain c.requires.decimal signed _ c.overflow_digits-most.ensures.room few
+    some (omega arith) (front.stops few (omega arith)) (sym c.keeps_zero_rule.ensures ∙ c.if-not-keeps_zero_rule.false) front.digits
