@@ -62,7 +62,13 @@ pub record WritesGroups (separator radix : ℕ) (text : List ℕ) (start number 
 pub record StartsAt (format : Format) (is_prefixed : Bool) (radix : ℕ) (text : List ℕ) (start : ℕ)
     : Type 0 where
   pub head : head_of format (integer_type 128 false) text
-      ≡ Ok (record { is_negative = false; is_prefixed = is_prefixed; is_octal = false; start = start; radix = radix })
+      ≡ Ok (record {
+        is_negative = false;
+        is_prefixed = is_prefixed;
+        is_octal = false;
+        start = start;
+        radix = radix;
+      })
   pub zeros : is_prefixed ≡ false → (slice_index text start == digit_zero) ≡ true
       → format.no_integer_leading_zeros ≡ false
   pub separator : (byte : ℕ) → format.digit_separator ≡ Some byte → digit radix byte ≡ None

@@ -1,21 +1,17 @@
 -- Where surely neither a prefix nor an octal zero stands.
-use Rattle.std.proofs.Common.{◌≡◌, ◌≢◌, ◌==◌, ℕ, ◌+◌, ◌-◌, ◌<◌, ◌≤◌, Bool, true, false, ◌&&◌, cond, List, [], ◌∷◌, length, refl, sym, ap, ◌∙◌, arith, Option, Some, None, Ok, Result}
-use Rattle.std.specs.Prelude.{IfSome, nat_le, slice_get, slice_index, slice_range}
-use Rattle.std.proofs.Math.Bool.{and-false, and-true}
+use Rattle.std.proofs.Common.{◌≡◌, ◌≢◌, ℕ, ◌+◌, ◌<◌, ◌≤◌, Bool, true, false, ◌&&◌, cond, List, length, refl, sym, ap, ◌∙◌, arith, Option, Some, None, Ok, Result}
+use Rattle.std.specs.Prelude.{IfSome, slice_get, slice_index}
+use Rattle.std.proofs.Math.Bool.{and-false}
 use Rattle.std.proofs.lemmas.Bool.{ne_eqb}
 use Rattle.std.proofs.lemmas.Bool.Decides.{nat_tests}
-use Rattle.std.proofs.lemmas.List.{get_or-drop, length-drop}
 use Rattle.std.proofs.lemmas.Option.{slice_get-get_or, slice_get_past}
 use Rattle.lexical_util.specs.Format.{Format}
-use Rattle.lexical_util.specs.Number.{IntegerType}
 use Rattle.lexical_util.specs.Validity.{lower_case}
 use Rattle.lexical_parse_integer.specs.Affixes.{is_affix, literal_radix, matches, named_radix, octal_zero_at, prefix_radix}
 use Rattle.lexical_util.specs.declared.error.Error.{Error}
 use Rattle.lexical_parse_integer.specs.declared.algorithm.front.Head as Told
-use Rattle.lexical_parse_integer.specs.Head.{Head, sign}
-use Rattle.lexical_parse_integer.specs.Plain.{keeps_zero_rule}
+use Rattle.lexical_parse_integer.specs.Head.{Head}
 use Rattle.lexical_parse_integer.specs.Runs.{are_same}
-use Rattle.lexical_digits.proofs.WordsInFront.{rest_is}
 
 -- ---- another byte than a zero
 
@@ -30,13 +26,6 @@ no_prefix_here f text k low other = sym (ap (λ (b : Bool). cond b (named_radix 
 pub no_octal_here : (f : Format) (text : List ℕ) (k : ℕ) → k < length text → slice_index text k ≢ 48 → false ≡ octal_zero_at f text k
 unfolding octal_zero_at
 no_octal_here f text k low other = sym (ap (λ (b : Bool). f.literal_octal_zero && b) (no_zero text k low other) ∙ and-false f.literal_octal_zero)
-
--- a zero is octal where the format says that
-pub octal_here : (f : Format) (text : List ℕ) (k : ℕ) → k < length text → slice_index text k ≡ 48 → f.literal_octal_zero ≡ octal_zero_at f text k
-unfolding octal_zero_at are_same
-octal_here f text k low is =
-    let here : slice_get text k ≡ Some 48 = slice_get-get_or text k 0 low ∙ ap Some is in
-    sym (ap (λ (o : Option ℕ). f.literal_octal_zero && are_same (Some 48) o) here ∙ and-true f.literal_octal_zero)
 
 -- ---- no letter behind a zero
 
@@ -111,36 +100,6 @@ behind_own_x f text k is_zero more is own radix = behind_zero f text k is_zero m
 
 pub behind_literal_x : (f : Format) (text : List ℕ) (k : ℕ) → slice_index text k ≡ 48 → k + 1 < length text → matches f.case_sensitive_base_prefix 120 (slice_index text (k + 1)) ≡ true → f.base_prefix ≡ None → f.literal_prefixes ≡ true → Some 16 ≡ prefix_radix f text k
 behind_literal_x f text k is_zero more is none literal = behind_zero f text k is_zero more (x_literal f _ is (none, literal))
-
--- ---- the sign
-
--- no byte from `0` on is a sign
-pub no_sign_from_0 : (f : Format) (t : IntegerType) (text : List ℕ) → 0 < length text → 48 ≤ slice_index text 0 → f.required_mantissa_sign ≡ false → sign f t text ≡ Ok (false, 0)
-unfolding sign
-no_sign_from_0 f t [] some high unasked = absurd (omega arith)
-no_sign_from_0 f t (c ∷ cs) some high unasked =
-    let plus : (c == 43) ≡ false = ne_eqb c 43 (λ e. omega arith) in
-    let minus : (c == 45) ≡ false = ne_eqb c 45 (λ e. omega arith) in
-    rw (plus, minus, unasked) refl
-
--- ---- the rule on zeros
-
-behind_at : (text : List ℕ) (k : ℕ) → slice_index (slice_range text k (length text)) 0 ≡ slice_index text k
-behind_at text k = ap (λ (bs : List ℕ). slice_index bs 0) (rest_is text k) ∙ get_or-drop k text 0 0 ∙ ap (slice_index text) (omega arith)
-
-pub other_keeps : (f : Format) (text : List ℕ) (k : ℕ) → slice_index text k ≢ 48 → keeps_zero_rule f (slice_range text k (length text)) ≡ true
-other_keeps f text k other =
-    let none : (slice_index (slice_range text k (length text)) 0 == 48) ≡ false = ap (λ b. b == 48) (behind_at text k) ∙ ne_eqb (slice_index text k) 48 other in
-    rw (none, and-false (f.no_integer_leading_zeros && nat_le 2 (length (slice_range text k (length text))))) refl
-
-pub lone_keeps : (f : Format) (text : List ℕ) (k : ℕ) → k + 1 ≡ length text → keeps_zero_rule f (slice_range text k (length text)) ≡ true
-lone_keeps f text k end =
-    let size : length (slice_range text k (length text)) ≡ length text - k = ap length (rest_is text k) ∙ length-drop k text in
-    let one : nat_le 2 (length (slice_range text k (length text))) ≡ false = grind (arith, nat_tests) in
-    rw (one, and-false f.no_integer_leading_zeros) refl
-
-pub free_keeps : (f : Format) (digits : List ℕ) → f.no_integer_leading_zeros ≡ false → keeps_zero_rule f digits ≡ true
-free_keeps f digits free = rw free refl
 
 -- ---- the head that a function answers
 

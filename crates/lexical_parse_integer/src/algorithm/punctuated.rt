@@ -3,10 +3,10 @@
 //
 // As under formats without punctuation, only what is sure is answered: a value that its type has. `None` says nothing: what
 // is left is read from its front.
-ghost use Rattle.std.specs.Prelude.{◌≡◌, ◌<◌, ◌||◌, IfSome, IsNone, IsTrue, None, Some, Ok, false, length, slice_index, slice_range, true, if◌then◌else◌};
+ghost use Rattle.std.specs.Prelude.{◌≡◌, ◌<◌, ◌||◌, IfSome, IsNone, IsTrue, None, Some, Ok, false, length, slice_index, true};
 ghost use Rattle.lexical_util.specs.Ascii.{digit_zero, letter_x};
 ghost use Rattle.lexical_util.specs.Validity.{fault};
-ghost use Rattle.lexical_parse_integer.specs.Affixes.{matches, named_radix, prefix_radix};
+ghost use Rattle.lexical_parse_integer.specs.Affixes.{matches, named_radix, octal_zero_at, prefix_radix};
 ghost use Rattle.lexical_parse_integer.specs.Grammar.{complete};
 ghost use Rattle.lexical_parse_integer.specs.Head.{head_of, sign};
 ghost use Rattle.lexical_parse_integer.specs.Plain.{keeps_zero_rule};
@@ -65,24 +65,48 @@ fn is_unnamed(byte: u8, format: &NumberFormat) -> bool
     !format.literal_prefixes() && (byte <= b'F' || (byte >= b'a' && byte <= b'f'))
 }
 
-// The head of a text with no prefix behind its sign, and with an octal zero there or none.
+// Whether surely neither a prefix nor an octal zero stands at a place at which a zero stands.
 #[inline(always)]
-fn bare_head(format: &NumberFormat, is_negative: bool, start: usize, is_octal: bool) -> Head
+#[tactic(auto, unfolding(crate::specs::Affixes::octal_zero_at))]
+fn is_bare(bytes: &[u8], format: &NumberFormat, start: usize) -> bool
+    requires letter { IfSome format.now.base_prefix (λ prefix. 102 < prefix) }
+    requires some { start < length bytes.now }
+    ensures prefix { IsTrue result → None ≡ prefix_radix format.now bytes.now start }
+    ensures octal { IsTrue result → false ≡ octal_zero_at format.now bytes.now start }
+{
+    if format.literal_octal_zero() {
+        return false;
+    }
+    bytes.len() - start == 1 || is_unnamed(bytes[start + 1], format)
+}
+
+// The head of a text with neither a prefix nor an octal zero behind its sign.
+#[inline(always)]
+fn bare_head(format: &NumberFormat, is_negative: bool, start: usize) -> Head
     ensures { result ≡ record {
       is_negative = is_negative;
       is_prefixed = false;
-      is_octal = is_octal;
+      is_octal = false;
       start = start;
-      radix = if is_octal then 8 else format.now.mantissa_radix;
+      radix = format.now.mantissa_radix;
     } }
 {
     Head {
         is_negative,
         is_prefixed: false,
-        is_octal,
+        is_octal: false,
         start,
-        radix: if is_octal { 8 } else { format.mantissa_radix() },
+        radix: format.mantissa_radix(),
     }
+}
+
+// Whether no zero stands in front of another digit behind the head, where the format forbids that.
+#[inline(always)]
+fn keeps_rule_behind(format: &NumberFormat, head: Head, digits: &[u8]) -> bool
+    ensures { result ≡ ((head.is_prefixed || head.is_octal)
+        || keeps_zero_rule format.now digits.now) }
+{
+    head.chooses_radix() || keeps_zero_rule(format, digits)
 }
 
 // The value of the whole text, where digits of the effective radix alone stand behind its head.
@@ -96,12 +120,15 @@ fn value_behind<T: Integer>(bytes: &[u8], format: &NumberFormat, head: Head) -> 
       start = head.start;
       radix = head.radix;
     }) }
-    requires some { head.start < length bytes.now }
-    requires rule { ((head.is_prefixed || head.is_octal) || keeps_zero_rule format.now
-        (slice_range bytes.now head.start (length bytes.now))) ≡ true }
     ensures { IfSome result (λ value. complete format.now T.TYPE bytes.now ≡ Ok (T.number value)) }
 {
+    if bytes.len() <= head.start {
+        return None;
+    }
     let digits = &bytes[head.start..];
+    if !keeps_rule_behind(format, head, digits) {
+        return None;
+    }
     match head.radix {
         10 => value_of_digits::<T>(digits, head.is_negative),
         16 => value_of_nibbles::<T>(digits, head.is_negative),
@@ -109,46 +136,8 @@ fn value_behind<T: Integer>(bytes: &[u8], format: &NumberFormat, head: Head) -> 
     }
 }
 
-// Whether no zero stands in front of another digit behind the head, where the format forbids that.
-#[inline(always)]
-fn keeps_rule_behind(format: &NumberFormat, head: Head, digits: &[u8]) -> bool
-    ensures { result ≡ ((head.is_prefixed || head.is_octal)
-        || keeps_zero_rule format.now digits.now) }
-{
-    head.chooses_radix() || keeps_zero_rule(format, digits)
-}
-
-// The value of the whole text, where decimal or hexadecimal digits alone stand behind its head, or decimal ones with a
-// separator before each three. Others, and those before a suffix, are read from the left at once.
-#[inline(always)]
-pub(super) fn value_behind_head<T: Integer>(
-    bytes: &[u8],
-    format: &NumberFormat,
-    head: Head,
-) -> Option<T>
-    requires valid { IsNone (fault format.now) }
-    requires head { head_of format.now T.TYPE bytes.now ≡ Ok (record {
-      is_negative = head.is_negative;
-      is_prefixed = head.is_prefixed;
-      is_octal = head.is_octal;
-      start = head.start;
-      radix = head.radix;
-    }) }
-    ensures { IfSome result (λ value. complete format.now T.TYPE bytes.now ≡ Ok (T.number value)) }
-{
-    if bytes.len() <= head.start || !keeps_rule_behind(format, head, &bytes[head.start..]) {
-        return None;
-    }
-    if (head.radix != 10 && head.radix != 16) || format.base_suffix().is_some() {
-        return None;
-    }
-    match format.digit_separator() {
-        Some(separator) => value_if_grouped::<T>(bytes, format, separator, head),
-        None => value_behind::<T>(bytes, format, head),
-    }
-}
-
-// The same under a format with a separator.
+// The value of the whole text under a format with a separator, where digits alone stand behind its head, or decimal ones with
+// a separator before each three.
 #[inline(always)]
 fn value_if_grouped<T: Integer>(
     bytes: &[u8],
@@ -165,34 +154,45 @@ fn value_if_grouped<T: Integer>(
       start = head.start;
       radix = head.radix;
     }) }
-    requires some { head.start < length bytes.now }
-    requires rule { ((head.is_prefixed || head.is_octal) || keeps_zero_rule format.now
-        (slice_range bytes.now head.start (length bytes.now))) ≡ true }
     ensures { IfSome result (λ value. complete format.now T.TYPE bytes.now ≡ Ok (T.number value)) }
 {
     if head.radix != 10 || T::BITS < 32 || !format.integer_internal_digit_separator() {
         return value_behind::<T>(bytes, format, head);
     }
+    if bytes.len() <= head.start || !keeps_rule_behind(format, head, &bytes[head.start..]) {
+        return None;
+    }
     value_of_threes::<T>(&bytes[head.start..], format, separator, head.is_negative)
 }
 
-// The sign of a text, where it has one that the format takes, or may lack it. Most texts begin with a digit.
+// The value of the whole text, where decimal or hexadecimal digits stand behind its head as these two read them. Others, and
+// those before a suffix, are read from the left at once.
 #[inline(always)]
-fn sign_at_once<T: Integer>(bytes: &[u8], format: &NumberFormat) -> Option<(bool, usize)>
-    requires some { 0 < length bytes.now }
-    ensures { IfSome result (λ s. sign format.now T.TYPE bytes.now ≡ Ok s) }
+pub(super) fn value_behind_head<T: Integer>(
+    bytes: &[u8],
+    format: &NumberFormat,
+    head: Head,
+) -> Option<T>
+    requires valid { IsNone (fault format.now) }
+    requires head { head_of format.now T.TYPE bytes.now ≡ Ok (record {
+      is_negative = head.is_negative;
+      is_prefixed = head.is_prefixed;
+      is_octal = head.is_octal;
+      start = head.start;
+      radix = head.radix;
+    }) }
+    ensures { IfSome result (λ value. complete format.now T.TYPE bytes.now ≡ Ok (T.number value)) }
 {
-    if bytes[0] < b'0' {
-        return sign_of::<T>(bytes, format).ok();
-    }
-    if format.required_mantissa_sign() {
+    if (head.radix != 10 && head.radix != 16) || format.base_suffix().is_some() {
         return None;
     }
-    Some((false, 0))
+    match format.digit_separator() {
+        Some(separator) => value_if_grouped::<T>(bytes, format, separator, head),
+        None => value_behind::<T>(bytes, format, head),
+    }
 }
 
-// The head of a text whose sign was read, where nothing but `0x` can be its prefix, something stands behind it, and no zero
-// that the format forbids or takes for octal. `None` says nothing.
+// The head of a text whose sign was read, where nothing but `0x` can be its prefix. `None` says nothing.
 #[inline(always)]
 fn head_at_once<T: Integer>(
     bytes: &[u8],
@@ -203,29 +203,18 @@ fn head_at_once<T: Integer>(
     requires letter { IfSome format.now.base_prefix (λ prefix. 102 < prefix) }
     requires some { start < length bytes.now }
     requires sign { sign format.now T.TYPE bytes.now ≡ Ok (is_negative, start) }
-    ensures head { IfSome result (λ head. head_of format.now T.TYPE bytes.now ≡ Ok (record {
+    ensures { IfSome result (λ head. head_of format.now T.TYPE bytes.now ≡ Ok (record {
       is_negative = head.is_negative;
       is_prefixed = head.is_prefixed;
       is_octal = head.is_octal;
       start = head.start;
       radix = head.radix;
     })) }
-    ensures some { IfSome result (λ head. head.start < length bytes.now) }
-    ensures rule { IfSome result (λ head. ((head.is_prefixed || head.is_octal)
-        || keeps_zero_rule format.now (slice_range bytes.now head.start (length bytes.now)))
-        ≡ true) }
 {
     if bytes[start] != b'0' {
-        return Some(bare_head(format, is_negative, start, false));
-    }
-    let is_octal = format.literal_octal_zero();
-    if bytes.len() - start == 1 {
-        return Some(bare_head(format, is_negative, start, is_octal));
+        return Some(bare_head(format, is_negative, start));
     }
     if is_behind_x(bytes, format, start) {
-        if bytes.len() - start == 2 {
-            return None;
-        }
         return Some(Head {
             is_negative,
             is_prefixed: true,
@@ -234,16 +223,10 @@ fn head_at_once<T: Integer>(
             radix: 16,
         });
     }
-    if !is_unnamed(bytes[start + 1], format) {
-        return None;
+    if is_bare(bytes, format, start) {
+        return Some(bare_head(format, is_negative, start));
     }
-    if is_octal {
-        return None;
-    }
-    if format.no_integer_leading_zeros() {
-        return None;
-    }
-    Some(bare_head(format, is_negative, start, false))
+    None
 }
 
 // The value of the whole text under a format without separator that may be invalid, where digits alone stand behind its
@@ -255,10 +238,12 @@ pub(super) fn value_of_row<T: Integer>(bytes: &[u8], format: &NumberFormat) -> O
     ensures answer { IfSome result
         (λ value. complete format.now T.TYPE bytes.now ≡ Ok (T.number value)) }
 {
-    if !is_valid_without_separator(format) || bytes.is_empty() {
+    if !is_valid_without_separator(format) {
         return None;
     }
-    let (is_negative, start) = sign_at_once::<T>(bytes, format)?;
+    let Ok((is_negative, start)) = sign_of::<T>(bytes, format) else {
+        return None;
+    };
     if bytes.len() <= start {
         return None;
     }
@@ -279,10 +264,12 @@ pub(super) fn value_of_groups<T: Integer>(
     ensures answer { IfSome result
         (λ value. complete format.now T.TYPE bytes.now ≡ Ok (T.number value)) }
 {
-    if !is_valid_with_separator(format, separator) || bytes.is_empty() {
+    if !is_valid_with_separator(format, separator) {
         return None;
     }
-    let (is_negative, start) = sign_at_once::<T>(bytes, format)?;
+    let Ok((is_negative, start)) = sign_of::<T>(bytes, format) else {
+        return None;
+    };
     if bytes.len() <= start {
         return None;
     }

@@ -1,4 +1,4 @@
-use Rattle.std.proofs.Common.{◌≡◌, ℕ, None, subst}
+use Rattle.std.proofs.Common.{◌≡◌, ◌∙◌, ℕ, None, subst, sym}
 use Rattle.lexical_util.specs.Digit.{digit}
 use Rattle.lexical_parse_integer.proofs.punctuated.PunctuatedAnswers.{fits_head, groups_read, head_signed, if_both}
 use Rattle.lexical_parse_integer.proofs.algorithm.punctuated.value_if_grouped.Goals as goal
@@ -14,5 +14,5 @@ value_of_threes-requires-clause-minus g c = head_signed _ _ c.args.bytes.now _ c
 pub returns : goal.returns
 returns g c =
     if_both c.value_of_threes.result
-    (λ v grouped worth. groups_read _ _ c.args.bytes.now _ _ 10 c.requires.valid c.requires.head c.if-head-ne10.false c.requires.some c.requires.rule grouped worth)
+    (λ v grouped worth. groups_read _ _ c.args.bytes.now _ _ 10 c.requires.valid c.requires.head c.if-head-ne10.false c.if-bytes-head.false (sym c.keeps_rule_behind.ensures ∙ c.if-not-keeps_rule_behind.false) grouped worth)
     c.value_of_threes.ensures.grouped c.value_of_threes.ensures.worth
