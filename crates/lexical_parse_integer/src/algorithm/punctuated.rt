@@ -136,37 +136,8 @@ fn value_behind<T: Integer>(bytes: &[u8], format: &NumberFormat, head: Head) -> 
     }
 }
 
-// The value of the whole text under a format with a separator, where digits alone stand behind its head, or decimal ones with
-// a separator before each three.
-#[inline(always)]
-fn value_if_grouped<T: Integer>(
-    bytes: &[u8],
-    format: &NumberFormat,
-    separator: u8,
-    head: Head,
-) -> Option<T>
-    requires valid { IsNone (fault format.now) }
-    requires separator { format.now.digit_separator ≡ Some separator }
-    requires head { head_of format.now T.TYPE bytes.now ≡ Ok (record {
-      is_negative = head.is_negative;
-      is_prefixed = head.is_prefixed;
-      is_octal = head.is_octal;
-      start = head.start;
-      radix = head.radix;
-    }) }
-    ensures { IfSome result (λ value. complete format.now T.TYPE bytes.now ≡ Ok (T.number value)) }
-{
-    if head.radix != 10 || T::BITS < 32 || !format.integer_internal_digit_separator() {
-        return value_behind::<T>(bytes, format, head);
-    }
-    if bytes.len() <= head.start || !keeps_rule_behind(format, head, &bytes[head.start..]) {
-        return None;
-    }
-    value_of_threes::<T>(&bytes[head.start..], format, separator, head.is_negative)
-}
-
-// The value of the whole text, where decimal or hexadecimal digits stand behind its head as these two read them. Others, and
-// those before a suffix, are read from the left at once.
+// The value of the whole text, where decimal or hexadecimal digits alone stand behind its head. Others, and those before a
+// suffix, are read from the left at once.
 #[inline(always)]
 pub(super) fn value_behind_head<T: Integer>(
     bytes: &[u8],
@@ -186,10 +157,7 @@ pub(super) fn value_behind_head<T: Integer>(
     if (head.radix != 10 && head.radix != 16) || format.base_suffix().is_some() {
         return None;
     }
-    match format.digit_separator() {
-        Some(separator) => value_if_grouped::<T>(bytes, format, separator, head),
-        None => value_behind::<T>(bytes, format, head),
-    }
+    value_behind::<T>(bytes, format, head)
 }
 
 // The head of a text whose sign was read, where nothing but `0x` can be its prefix. `None` says nothing.
@@ -278,5 +246,11 @@ pub(super) fn value_of_groups<T: Integer>(
         return None;
     }
     let head = head_at_once::<T>(bytes, format, is_negative, start)?;
-    value_if_grouped::<T>(bytes, format, separator, head)
+    if head.radix != 10 || T::BITS < 32 || !format.integer_internal_digit_separator() {
+        return value_behind::<T>(bytes, format, head);
+    }
+    if bytes.len() <= head.start || !keeps_rule_behind(format, head, &bytes[head.start..]) {
+        return None;
+    }
+    value_of_threes::<T>(&bytes[head.start..], format, separator, head.is_negative)
 }

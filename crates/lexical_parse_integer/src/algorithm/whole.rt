@@ -177,8 +177,8 @@ pub(crate) fn complete_if_left<T: Integer>(bytes: &[u8], format: &NumberFormat) 
     complete_from_front::<T>(bytes, format)
 }
 
-// The complete answer under a valid format with punctuation: its head is found once, and what isn't digits alone behind it is
-// read from there. Why out of line: docs/DECISIONS.md, code.
+// The complete answer under a valid format with punctuation and no separator: the text's head is found once, and what isn't
+// digits alone behind it is read from there. Why out of line: docs/DECISIONS.md, code.
 #[inline(never)]
 fn complete_if_punctuated<T: Integer>(bytes: &[u8], format: &NumberFormat) -> Result<T>
     requires valid { IsNone (fault format.now) }
@@ -200,7 +200,7 @@ pub(crate) fn complete_valid_if_not_short<T: Integer>(
     requires valid { IsNone (fault format.now) }
     ensures { view_of T.number result ≡ complete format.now T.TYPE bytes.now }
 {
-    if !is_plain(format) {
+    if !is_plain(format) && format.digit_separator().is_none() {
         return complete_if_punctuated::<T>(bytes, format);
     }
     complete_if_not_short::<T>(bytes, format)

@@ -1,0 +1,25 @@
+use Rattle.std.proofs.Common.{◌≡◌, ℕ, None, refl, subst, sym, ◌∙◌}
+use Rattle.std.specs.Prelude.{IsNone}
+use Rattle.lexical_util.specs.Digit.{digit}
+use Rattle.lexical_util.specs.Validity.{fault}
+use Rattle.lexical_parse_integer.proofs.punctuated.PunctuatedAnswers.{groups_read, head_signed, if_both, valid_from}
+use Rattle.lexical_parse_integer.proofs.reading.FormatBytes.{fits}
+use Rattle.lexical_parse_integer.proofs.algorithm.punctuated.value_of_groups.Goals as goal
+
+pub value_of_threes-requires-clause-no_digit : goal.value_of_threes-requires-clause-no_digit
+value_of_threes-requires-clause-no_digit g c =
+    let told = c.if-not-is_valid_with_separator.ensures in
+    let fit = fits c.args.format.now (valid_from _ (told.valid refl)) in
+    subst (λ (r : ℕ). digit r c.args.separator ≡ None) (told.decimal refl) (fit.separator c.args.separator c.requires)
+
+pub value_of_threes-requires-clause-minus : goal.value_of_threes-requires-clause-minus
+value_of_threes-requires-clause-minus g c = head_signed _ _ c.args.bytes.now _ c.in_ok-head.ensures
+
+pub returns-clause-answer : goal.returns-clause-answer
+returns-clause-answer g c =
+    let told = c.if-not-is_valid_with_separator.ensures in
+    let valid : IsNone (fault c.args.format.now) = valid_from _ (told.valid refl) in
+    let rule = sym c.keeps_rule_behind.ensures ∙ c.if-not-keeps_rule_behind.false in
+    if_both c.value_of_threes.result
+    (λ v grouped worth. groups_read _ _ c.args.bytes.now _ _ 10 valid c.in_ok-head.ensures c.if-head-ne10.false c.if-bytes-head.false rule grouped worth)
+    c.value_of_threes.ensures.grouped c.value_of_threes.ensures.worth
