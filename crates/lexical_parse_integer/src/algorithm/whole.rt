@@ -34,9 +34,12 @@ fn value_if_punctuated<T: Integer>(bytes: &[u8], format: &NumberFormat) -> Optio
     }
 }
 
-// The value under any format: in place where that is decimal and has no punctuation.
+/// The integer that the whole text stands for under a valid format, where the reader for the format's kind has it at once:
+/// of digits alone behind a sign and a prefix, or of decimal digits in groups of three.
+///
+/// `None` says nothing of the text.
 #[inline(always)]
-pub(crate) fn value_for_format<T: Integer>(bytes: &[u8], format: &NumberFormat) -> Option<T>
+pub fn value_for_format<T: Integer>(bytes: &[u8], format: &NumberFormat) -> Option<T>
     ensures valid { IfSome result (λ value. IsNone (fault format.now)) }
     ensures answer { IfSome result
         (λ value. complete format.now T.TYPE bytes.now ≡ Ok (T.number value)) }
@@ -125,9 +128,10 @@ pub(crate) fn complete_if_decimal<T: Integer>(bytes: &[u8], format: &NumberForma
     decimal_if_left::<T>(bytes, format)
 }
 
-/// The complete answer under the standard format for such a text, by calls that know the format: each answers in registers.
+/// The integer that the whole text stands for under the standard format, for a text that `value_for_format` has left.
+// By calls that know the format: each answers in registers.
 #[inline(always)]
-pub(crate) fn standard_if_left<T: Integer>(bytes: &[u8]) -> Result<T>
+pub fn standard_if_left<T: Integer>(bytes: &[u8]) -> Result<T>
     ensures { view_of T.number result ≡ complete standard T.TYPE bytes.now }
 {
     if let Some(value) = value_behind_plus::<T>(bytes, &format::STANDARD) {
@@ -145,10 +149,11 @@ pub(crate) fn standard_if_left<T: Integer>(bytes: &[u8]) -> Result<T>
     }
 }
 
-/// The complete answer under a format that may be invalid, for a text that `value_if_short` has left: a short decimal one is
-/// mostly at fault, and others are read by the reader for the format's kind.
+/// The integer that the whole text stands for under a format that may be invalid, for a text that `value_if_short` has
+/// left: it isn't read as short decimal digits again.
+// A short decimal text is mostly at fault then, and others are read by the reader for the format's kind.
 #[inline(always)]
-pub(crate) fn complete_if_not_short<T: Integer>(bytes: &[u8], format: &NumberFormat) -> Result<T>
+pub fn complete_under_if_not_short<T: Integer>(bytes: &[u8], format: &NumberFormat) -> Result<T>
     ensures { view_of T.number result ≡ complete_if_valid format.now T.TYPE bytes.now }
 {
     if !is_plain(format) {
@@ -191,17 +196,15 @@ fn complete_if_punctuated<T: Integer>(bytes: &[u8], format: &NumberFormat) -> Re
     completion::<T>(bytes, front_behind::<T>(bytes, format, head))
 }
 
-/// The complete answer under a valid format, for such a text.
+/// The integer that the whole text stands for under a valid format, for a text that `value_if_short` has left: it isn't read
+/// as short decimal digits again.
 #[inline(always)]
-pub(crate) fn complete_valid_if_not_short<T: Integer>(
-    bytes: &[u8],
-    format: &NumberFormat,
-) -> Result<T>
+pub fn complete_valid_if_not_short<T: Integer>(bytes: &[u8], format: &NumberFormat) -> Result<T>
     requires valid { IsNone (fault format.now) }
     ensures { view_of T.number result ≡ complete format.now T.TYPE bytes.now }
 {
     if !is_plain(format) && format.digit_separator().is_none() {
         return complete_if_punctuated::<T>(bytes, format);
     }
-    complete_if_not_short::<T>(bytes, format)
+    complete_under_if_not_short::<T>(bytes, format)
 }

@@ -7,22 +7,13 @@ use crate::algorithm::front::partial_from_front;
 use crate::algorithm::plain::{front_if_plain, value_if_short};
 use crate::algorithm::punctuated::validity::fault_of;
 use crate::algorithm::standard_partial;
-use crate::algorithm::whole::{self, standard_if_left, value_for_format};
+use crate::algorithm::whole::{complete_under_if_not_short, standard_if_left, value_for_format};
 use crate::api::{FromLexical, FromLexicalWithOptions};
 use crate::options::Options;
 use lexical_util::error::Error;
 use lexical_util::format::{self, NumberFormat};
 use lexical_util::num::Integer;
 use lexical_util::result::Result;
-
-/// The integer that the whole text stands for under a format that may be invalid, for a text that `value_if_short` has
-/// left: it isn't read as short decimal digits again.
-#[inline(always)]
-pub fn complete_under_if_not_short<T: Integer>(bytes: &[u8], format: &NumberFormat) -> Result<T>
-    ensures { view_of T.number result ≡ complete_if_valid format.now T.TYPE bytes.now }
-{
-    whole::complete_if_not_short::<T>(bytes, format)
-}
 
 // The partial answer for every text, in one call.
 #[inline(never)]
