@@ -128,8 +128,8 @@ pub(crate) fn complete_if_decimal<T: Integer>(bytes: &[u8], format: &NumberForma
     decimal_if_left::<T>(bytes, format)
 }
 
-/// The integer that the whole text stands for under the standard format, for a text that `value_for_format` has left.
 // By calls that know the format: each answers in registers.
+/// The integer that the whole text stands for under the standard format, for a text that `value_for_format` has left.
 #[inline(always)]
 pub fn standard_if_left<T: Integer>(bytes: &[u8]) -> Result<T>
     ensures { view_of T.number result ≡ complete standard T.TYPE bytes.now }
@@ -149,9 +149,9 @@ pub fn standard_if_left<T: Integer>(bytes: &[u8]) -> Result<T>
     }
 }
 
+// A short decimal text is mostly at fault then, and others are read by the reader for the format's kind.
 /// The integer that the whole text stands for under a format that may be invalid, for a text that `value_if_short` has
 /// left: it isn't read as short decimal digits again.
-// A short decimal text is mostly at fault then, and others are read by the reader for the format's kind.
 #[inline(always)]
 pub fn complete_under_if_not_short<T: Integer>(bytes: &[u8], format: &NumberFormat) -> Result<T>
     ensures { view_of T.number result ≡ complete_if_valid format.now T.TYPE bytes.now }
