@@ -182,8 +182,8 @@ pub(crate) fn complete_if_left<T: Integer>(bytes: &[u8], format: &NumberFormat) 
     complete_from_front::<T>(bytes, format)
 }
 
-// The complete answer under a valid format with punctuation and no separator: the text's head is found once, and what isn't
-// digits alone behind it is read from there. Why out of line: docs/DECISIONS.md, code.
+// The complete answer under a valid format with punctuation, as one with a suffix, or with no separator: the text's head is
+// found once, and what isn't digits alone behind it is read from there. Why out of line: docs/DECISIONS.md, code.
 #[inline(never)]
 fn complete_if_punctuated<T: Integer>(bytes: &[u8], format: &NumberFormat) -> Result<T>
     requires valid { IsNone (fault format.now) }
@@ -203,7 +203,7 @@ pub fn complete_valid_if_not_short<T: Integer>(bytes: &[u8], format: &NumberForm
     requires valid { IsNone (fault format.now) }
     ensures { view_of T.number result ≡ complete format.now T.TYPE bytes.now }
 {
-    if !is_plain(format) && format.digit_separator().is_none() {
+    if format.base_suffix().is_some() || (!is_plain(format) && format.digit_separator().is_none()) {
         return complete_if_punctuated::<T>(bytes, format);
     }
     complete_under_if_not_short::<T>(bytes, format)
