@@ -11,5 +11,6 @@ pub mod FieldsInParts
 pub mod MarkedFields
 pub mod Marks
 pub mod MovedFields
+pub mod Numerals
 pub mod ThreeDigits
 pub mod WholeFields

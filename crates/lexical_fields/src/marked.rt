@@ -1,11 +1,12 @@
 // Fields of digits, where marks of the separators in front say where each ends.
-ghost use Rattle.std.specs.Prelude.{◌≡◌, ◌≢◌, ◌+◌, ◌≤◌, ℕ, List, IfSome, IsNone, IsTrue, Ok, length, take, drop};
+ghost use Rattle.std.specs.Prelude.{◌≡◌, ◌≢◌, ◌+◌, ◌<◌, ◌≤◌, ◌^◌, ℕ, List, IfSome, IsNone, IsTrue, Ok, length, take, drop};
 ghost use Rattle.lexical_util.specs.Validity.{fault};
 ghost use Rattle.lexical_digits.specs.WrittenNumbers.{StandsFor};
 ghost use Rattle.lexical_parse_integer.specs.Grammar.{complete};
 ghost use Rattle.lexical_parse_integer.specs.Plain.{IsBehind, keeps_zero_rule};
 ghost use Rattle.lexical_parse_integer.specs.Separated.{IsSeparated};
 ghost use Rattle.lexical_fields.specs.Fields.{field_length};
+ghost use Rattle.lexical_fields.specs.Numerals.{IsNumeral};
 ghost use Rattle.lexical_fields.specs.ReadSoFar.{IsReadSoFar};
 ghost use Rattle.lexical_fields.specs.Search.{AreMarks};
 
@@ -126,6 +127,23 @@ pub fn value_of_front<T: ParseInteger>(text: &[u8], size: usize, format: &Number
         return None;
     }
     value_with_room::<T>(text, size, b' ', format)
+}
+
+/// The number that a text's first bytes, so many, write, and whether a minus stands in front, where they are one to
+/// twelve decimal digits alone or behind a minus. `None` says nothing of them. Seventeen bytes have to follow them.
+#[inline(always)]
+pub fn number_of_front(text: &[u8], size: usize) -> Option<(bool, u64)>
+    requires room { size + 17 ≤ length text.now }
+    ensures writes { IfSome result (λ found. IsNumeral found.0 found.1 (take size text.now)) }
+    ensures small { IfSome result (λ found. found.1 < 10 ^ 12) }
+{
+    let is_negative = text[0] == b'-';
+    let count = size.wrapping_sub(usize::from(is_negative));
+    if count.wrapping_sub(1) > 11 {
+        return None;
+    }
+    let (high, low) = numbers_to_12(&text[usize::from(is_negative)..], count)?;
+    Some((is_negative, u64::from(high) * 1_000_000 + u64::from(low)))
 }
 
 /// The marks that are left, or new ones where none is.
