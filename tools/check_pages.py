@@ -29,7 +29,7 @@ import source
 
 MOST_WORDS = 11400
 BUDGETS = {
-    "README.md": 720, "CONTRIBUTING.md": 820, "CHANGELOG.md": 270, "docs/ARCHITECTURE.md": 1100,
+    "README.md": 720, "CONTRIBUTING.md": 820, "CHANGELOG.md": 270, "docs/ARCHITECTURE.md": 1250,
     "docs/DECISIONS.md": 1850, "docs/DIFFERENCES.md": 1200, "docs/GRAMMAR.md": 2000,
     "docs/PERF.md": 1500, "docs/PROOFS.md": 1740, "docs/RELEASING.md": 250, "docs/SPEED.md": 500,
 }

@@ -1,5 +1,6 @@
 -- The proofs beside the functions, a file for each idea.
 pub mod ColumnArrays
+pub mod ColumnCodes
 pub mod ColumnRows
 pub mod SureAnswers
 pub mod TableBits

@@ -1,5 +1,5 @@
 -- Columns with bits that say where a number is missing.
-use Rattle.std.proofs.Common.{◌≡◌, ◌+◌, ◌*◌, ◌/◌, ◌≤◌, ◌<◌, ◌∙◌, ℕ, Bool, true, false, cond, List, length, map, nat_eq, Option, Some, None, Result, Ok, Err, refl, ap, sym, subst, arith, length-set}
+use Rattle.std.proofs.Common.{◌≡◌, ◌*◌, ◌/◌, ◌≤◌, ◌∙◌, ℕ, Bool, true, false, cond, List, length, map, nat_eq, Option, Some, None, Result, Ok, Err, refl, ap, sym, subst, arith, length-set}
 use Rattle.std.specs.Prelude.{IfSome, is_some, option_map}
 use Rattle.std.proofs.Math.IntN.{ℤ, pos}
 use Rattle.lexical_util.specs.declared.error.Error.{Error}

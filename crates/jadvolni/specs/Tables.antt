@@ -36,6 +36,17 @@ number_type column =
     (type_or (length column.i16s.now) I16 (type_or (length column.u16s.now) U16
     (type_or (length column.i8s.now) I8 (type_or (length column.u8s.now) U8 None)))))))
 
+-- a type, by its width and sign
+abbrev pub type_named : NumberType → IntegerType
+type_named U8 = unsigned 8
+type_named U16 = unsigned 16
+type_named U32 = unsigned 32
+type_named U64 = unsigned 64
+type_named I8 = signed 8
+type_named I16 = signed 16
+type_named I32 = signed 32
+type_named I64 = signed 64
+
 -- the bits of a column, if there is room for any
 abbrev pub bits_of : List ℕ → Option (List ℕ)
 bits_of bytes = if length bytes == 0 then None else Some bytes
@@ -76,6 +87,10 @@ abbrev pub put_number : ℕ → FieldView → TargetView → TargetView
 put_number row text target = record target {
   numbers = with_number row (text_answer target text) target.numbers;
 }
+
+-- a target with a number at a row's place
+abbrev pub put_at : ℕ → ℤ → TargetView → TargetView
+put_at row number target = record target { numbers = set target.numbers row number }
 
 -- a target with 0 at a row's place
 abbrev pub put_zero : ℕ → TargetView → TargetView

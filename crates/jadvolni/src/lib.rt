@@ -2,6 +2,7 @@
 #![tactic(auto)]
 
 pub mod calls;
+mod coded_columns;
 pub mod columns;
 pub mod format;
 pub mod fronts;

@@ -1,15 +1,16 @@
 //! The columns of a table, as C writes them.
 
-ghost use Rattle.std.specs.Prelude.{◌≡◌, ◌+◌, ◌<◌, ◌≤◌, ◌^◌, ℕ, IsTrue, None, false, length, take, option_map};
+ghost use Rattle.std.specs.Prelude.{◌≡◌, ◌+◌, ◌<◌, ◌≤◌, ◌^◌, ℕ, IsTrue, None, false, length, take, option_map, true};
 ghost use Rattle.lexical_util.specs.Format.{standard};
 ghost use Rattle.lexical_tables.specs.ByColumn.{IsUsable};
-ghost use Rattle.lexical_tables.specs.Targets.{text_fault};
+ghost use Rattle.lexical_tables.specs.Targets.{has_bits, text_fault};
 ghost use Rattle.jadvolni.specs.FormatFields.{format_of};
 ghost use Rattle.jadvolni.specs.Tables.{bits_of, column_status, lacks_bits, number_type, put_number, put_presence, put_zero, target_of};
 
 use crate::format::FormatFields;
 use lexical_parse_integer::format::STANDARD;
 use lexical_parse_integer::{Error, Options};
+use lexical_tables::codes::{self, NOT_READ, UNKNOWN, WITH_BITS};
 use lexical_tables::{TableColumn, put_at_once, put_bit, put_cell, put_standard_parsed, put_zero};
 
 /// The status of a table that no text can be read by.
@@ -87,15 +88,26 @@ impl ColumnFields<'_> {
         !self.present.is_empty() && rows > 0 && self.present.len() <= (rows - 1) / 8
     }
 
+    // Sets the bit of a row, or clears it, in a column that has bits.
+    #[inline(always)]
+    #[tactic(auto, using(crate::proofs::TableBits::bits_put, crate::proofs::TableBits::bits_there, crate::proofs::TableBits::slice_stays))]
+    fn put_row_bit(&mut self, row: usize, is_there: bool)
+        requires bits { has_bits (target_of self.old) ≡ true }
+        requires usable { IsUsable (row + 1) (target_of self.old) }
+        ensures { target_of self.new ≡ option_map (put_presence row is_there) (target_of self.old) }
+    {
+        put_bit(self.present, row, is_there);
+    }
+
     // Sets the bit of a row, or clears it, if the column is read and has bits.
     #[inline(always)]
-    #[tactic(auto, using(crate::proofs::TableBits::bits_put, crate::proofs::TableBits::bits_there, crate::proofs::TableBits::no_bit, crate::proofs::TableBits::slice_stays))]
+    #[tactic(auto, using(crate::proofs::TableBits::no_bit))]
     fn put_presence(&mut self, row: usize, is_there: bool)
         requires usable { IsUsable (row + 1) (target_of self.old) }
         ensures { target_of self.new ≡ option_map (put_presence row is_there) (target_of self.old) }
     {
         if self.may_miss() {
-            put_bit(self.present, row, is_there);
+            self.put_row_bit(row, is_there);
         }
     }
 
@@ -152,7 +164,7 @@ impl ColumnFields<'_> {
     // Puts the number of a text that isn't had at once into a row's place, or tells the text's fault. Under the standard
     // format, as most columns have it, it isn't tried at once again; under another one it wasn't tried.
     #[inline(always)]
-    fn put_number(
+    fn put_parsed_number(
         &mut self,
         row: usize,
         start: usize,
@@ -292,10 +304,36 @@ impl TableColumn for ColumnFields<'_> {
         ahead: &[u8],
         options: &Options,
     ) -> Option<Error> {
-        if let Some(error) = self.put_number(row, start, text, ahead, options) {
+        if let Some(error) = self.put_parsed_number(row, start, text, ahead, options) {
             return Some(error);
         }
         self.put_presence(row, true);
         None
+    }
+
+    #[inline(always)]
+    fn code(&self) -> u8 {
+        let Some(number_type) = self.number_type() else {
+            return NOT_READ;
+        };
+        if !self.format.is_standard() {
+            return UNKNOWN;
+        }
+        let code = number_type.code();
+        if self.present.is_empty() {
+            return code;
+        }
+        code + WITH_BITS
+    }
+
+    #[inline(always)]
+    fn put_number(&mut self, code: u8, row: usize, is_negative: bool, number: u64) -> bool {
+        if !self.put_coded_number(code, row, is_negative, number) {
+            return false;
+        }
+        if code >= codes::U8 + WITH_BITS {
+            self.put_row_bit(row, true);
+        }
+        true
     }
 }

@@ -5,6 +5,7 @@ use Rattle.std.proofs.lemmas.List.{length-map, map-set}
 use Rattle.lexical_fields.specs.Fields.{FieldView}
 use Rattle.lexical_tables.specs.ByColumn.{AreUsable, IsUsable, answer_at, fault_in, kind_of, kinds_of, put_read, put_read_at}
 use Rattle.lexical_tables.specs.Cells.{Kind, answer_as, quote_fault, unless}
+use Rattle.lexical_tables.specs.Codes.{AreCodes, IsCodeIn}
 use Rattle.lexical_tables.specs.Targets.{TargetView}
 use Rattle.lexical_tables.specs.declared.answers.CellFault.{CellFault}
 use Rattle.lexical_tables.specs.declared.dialect.Dialect.{Dialect}
@@ -26,6 +27,18 @@ quotes_told (Some fault) = refl
 none_of : (target : Option TargetView) → is_some target ≡ false → target ≡ None
 none_of None none = refl
 none_of (Some target) none = absurd cc
+
+-- a target that is put where it stands
+set_same : {X : Type 0} (xs : List X) (i : ℕ) (d : X) → i < length xs → set xs i (get_or xs i d) ≡ xs
+set_same [] i d low = refl
+set_same (x ∷ xs) zero d low = refl
+set_same (x ∷ xs) (suc i) d low = ap (λ l. x ∷ l) (set_same xs i d (omega arith))
+
+-- what has a place is there, whatever stands for what has none
+default_is : {X : Type 0} (xs : List (Option X)) (i : ℕ) (d : Option X) → i < length xs → get_or xs i None ≡ get_or xs i d
+default_is [] i d low = absurd (omega arith)
+default_is (x ∷ xs) zero d low = refl
+default_is (x ∷ xs) (suc i) d low = default_is xs i d (omega arith)
 
 -- a column that has a place among the targets
 module _ {C : Type 0} (target_of : C → Option TargetView) (d : Dialect) (targets : List C) (column : ℕ) (cell : FieldView)
@@ -58,6 +71,19 @@ module _ {C : Type 0} (target_of : C → Option TargetView) (d : Dialect) (targe
       (target_of e) low_seen
       (ap (option_map (put_read row (answer_at d (kinds_of targets_seen) column cell))) target_is
       ∙ ap (λ a. option_map (put_read row a) (target_of (get_or targets column e))) (sym answer_told) ∙ sym told)
+
+  -- whose target stays
+  pub same_told : (new : C) → target_of new ≡ target_of (get_or targets column e) → map target_of (set targets column new) ≡ targets_seen
+  same_told new same =
+      map-set target_of targets column new ∙ ap (set targets_seen column) (same ∙ sym target_is)
+      ∙ set_same targets_seen column (target_of e) low_seen
+
+  -- that has a code
+  pub code_told : (codes : List ℕ) → column < length codes → AreCodes d codes targets_seen
+      → IsCodeIn d (get_or codes column 0) (target_of (get_or targets column e))
+  code_told codes coded are =
+      subst (IsCodeIn d (get_or codes column 0)) (default_is targets_seen column (target_of e) low_seen ∙ target_is)
+      (are column coded low_seen)
 
   -- that isn't read
   pub unread_fault : is_some (target_of (get_or targets column e)) ≡ false

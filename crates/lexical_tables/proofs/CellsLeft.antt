@@ -1,10 +1,11 @@
 -- The cells of what is left of a row: the first, and those behind it.
-use Rattle.std.proofs.Common.{◌≡◌, ◌∙◌, ℕ, ◌+◌, ◌-◌, ◌≤◌, List, [], ◌∷◌, length, take, drop, Bool, true, false, not, cond, eqb, Option, Some, refl, ap, sym, subst, arith, length-take-le}
+use Rattle.std.proofs.Common.{◌≡◌, ◌∙◌, ℕ, ◌+◌, ◌-◌, ◌≤◌, List, [], ◌∷◌, length, take, drop, Bool, true, false, not, cond, eqb, Option, Some, refl, ap, sym, arith, length-drop, length-take-le}
 use Rattle.std.specs.Bool.{then_some}
 use Rattle.std.specs.Prelude.{nat_lt}
 use Rattle.lexical_fields.specs.Fields.{FieldView}
-use Rattle.lexical_tables.specs.ByColumn.{cells_by_width, cells_left, cells_of, first_start, lacks_cell, lacks_width, marked_separator}
+use Rattle.lexical_tables.specs.ByColumn.{cells_by_width, cells_left, cells_of, first_start, lacks_cell, lacks_width}
 use Rattle.lexical_tables.specs.Quotes.{length_outside}
+use Rattle.lexical_tables.specs.RowSoFar.{cells_behind}
 use Rattle.lexical_tables.specs.Rows.{RowView}
 use Rattle.lexical_tables.specs.declared.dialect.Dialect.{Dialect}
 use Rattle.lexical_tables.specs.declared.dialect.Layout.{Layout}
@@ -45,7 +46,7 @@ none_left (Separated s columns) q column place text lacks = absurd cc
 none_left (Widths widths) q column place text lacks = none_by_width (drop column widths.now) place text lacks
 none_left (Records widths) q column place text lacks = none_by_width (drop column widths.now) place text lacks
 
-starts_left : (layout : Layout) (q : Bool) (column place : ℕ) (text : List ℕ) → lacks_cell layout column text ≡ false
+pub starts_left : (layout : Layout) (q : Bool) (column place : ℕ) (text : List ℕ) → lacks_cell layout column text ≡ false
     → first_start (cells_left layout q column place text) ≡ Some place
 starts_left (Separated s columns) q column place text there =
     let n = length_outside q s text in
@@ -54,18 +55,6 @@ starts_left (Separated s columns) q column place text there =
 starts_left (Widths widths) q column place text there = starts_by_width (drop column widths.now) place text there
 starts_left (Records widths) q column place text there = starts_by_width (drop column widths.now) place text there
 
--- marks find cells only between separators that no quote hides
-pub marked_is : (layout : Layout) (q : Bool) (s : ℕ) → Some s ≡ marked_separator layout q → (P : Layout → Bool → Type 0)
-    → ((columns : ℕ) → P (Separated s columns) false) → P layout q
-marked_is (Separated t columns) false s is P right =
-    let same : s ≡ t = cc in
-    subst (λ k. P (Separated k columns) false) same (right columns)
-marked_is (Separated t columns) true s is P right = absurd cc
-marked_is (Widths widths) false s is P right = absurd cc
-marked_is (Widths widths) true s is P right = absurd cc
-marked_is (Records widths) false s is P right = absurd cc
-marked_is (Records widths) true s is P right = absurd cc
-
 -- ---- of a row that is read
 
 -- what is left of a row, as cells at their places in the text: none, if its last cell was read
@@ -73,12 +62,21 @@ abbrev pub left_in : Dialect → RowView → ℕ → Bool → List ℕ → List 
 left_in d row column ended rest =
     cond ended [] (cells_left d.layout d.has_quotes column (row.start + (length row.text - length rest)) rest)
 
-pub all_left : (d : Dialect) (row : RowView) (ended : Bool) → ended ≡ lacks_cell d.layout 0 row.text
-    → left_in d row 0 ended row.text ≡ cells_of d row
-all_left d row true lacks = sym (none_left d.layout d.has_quotes 0 row.start row.text (sym lacks))
-all_left d row false there =
-    let place : row.start + (length row.text - length row.text) ≡ row.start = omega arith in
-    ap (λ p. cells_left d.layout d.has_quotes 0 p row.text) place
+pub all_left : (d : Dialect) (row : RowView) (column passed : ℕ) → passed ≤ length row.text → (ended : Bool)
+    → ended ≡ lacks_cell d.layout column (drop passed row.text)
+    → left_in d row column ended (drop passed row.text) ≡ cells_behind d row column passed
+all_left d row column passed low true lacks =
+    sym (none_left d.layout d.has_quotes column (row.start + passed) (drop passed row.text) (sym lacks))
+all_left d row column passed low false there =
+    let place : row.start + (length row.text - length (drop passed row.text)) ≡ row.start + passed =
+    omega (arith, low, length-drop passed row.text) in
+    ap (λ p. cells_left d.layout d.has_quotes column p (drop passed row.text)) place
+
+-- of the whole row
+pub cells_begin : (d : Dialect) (row : RowView) → cells_behind d row 0 0 ≡ cells_of d row
+cells_begin d row =
+    let same : row.start + 0 ≡ row.start = omega arith in
+    ap (λ p. cells_left d.layout d.has_quotes 0 p row.text) same
 
 -- the first cell of what is left, and those behind it
 pub next_left : (d : Dialect) (row : RowView) (column : ℕ) (ended : Bool) (rest cell behind : List ℕ) (now_ended : Bool)

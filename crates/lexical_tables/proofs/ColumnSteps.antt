@@ -3,43 +3,15 @@ use Rattle.std.proofs.Common.{◌≡◌, ◌∙◌, ℕ, suc, ◌+◌, ◌-◌, 
 use Rattle.std.proofs.lemmas.List.{drop_all, drop-drop, take_all}
 use Rattle.lexical_fields.specs.Columns as columns
 use Rattle.lexical_fields.specs.Fields.{FieldView}
-use Rattle.lexical_tables.specs.ByColumn.{AreUsable, answer_at, cell_answers, cells_of, column_count, end_fault, fault_in, fault_of, first_start, kinds_of, put_read_at, put_row, row_answers, row_fault, row_values, wrong_cell}
+use Rattle.lexical_tables.specs.ByColumn.{AreUsable, answer_at, cell_answers, cells_of, end_fault, fault_in, fault_of, first_start, kinds_of, put_read_at, put_row, row_answers, row_values, wrong_cell}
 use Rattle.lexical_tables.specs.Cells.{Kind}
+use Rattle.lexical_tables.specs.RowSoFar.{IsRowDone, IsRowPut, answers_left, count_in}
 use Rattle.lexical_tables.specs.Rows.{RowView}
 use Rattle.lexical_tables.specs.Targets.{TargetView}
 use Rattle.lexical_tables.specs.declared.answers.CellFault.{CellFault}
 use Rattle.lexical_tables.specs.declared.answers.TableError.{TableError}
 use Rattle.lexical_tables.specs.declared.dialect.Dialect.{Dialect}
 use Rattle.lexical_tables.proofs.PutSteps.{answers_go, kinds_put, put_nothing, row_goes, use_put}
-
--- how many columns a row has
-abbrev pub count_in : Dialect → ℕ
-count_in d = column_count d.layout
-
--- what those of the cells that are left stand for that have a column
-abbrev pub answers_left : List (Option Kind) → Dialect → ℕ → List FieldView → List (Result (Option ℤ) CellFault)
-answers_left kinds d column left = cell_answers d (drop column kinds) (take (count_in d - column) left)
-
--- So many cells of a row were read, and what is read of those that are left, with them, is what is read of the row.
-pub record IsRowPut (kinds : List (Option Kind)) (d : Dialect) (index : ℕ) (row : RowView)
-    (old now : List (Option TargetView)) (column : ℕ) (left : List FieldView) : Type 0 where
-  pub few : column ≤ count_in d
-  pub place : drop column (cells_of d row) ≡ left
-  pub counted : column + length left ≡ length (cells_of d row)
-  pub kinds_are : kinds_of now ≡ kinds
-  pub usable : AreUsable (index + 1) now
-  pub values : take column now
-      ++ put_row index (columns.values_before_fault (answers_left kinds d column left)) (drop column now)
-      ≡ put_row index (row_values kinds d row) old
-  pub size : column + length (columns.values_before_fault (answers_left kinds d column left))
-      ≡ length (row_values kinds d row)
-  pub first : columns.first_fault (answers_left kinds d column left) ≡ columns.first_fault (row_answers kinds d row)
-
--- What is answered of a row, and what the targets then are.
-pub record IsRowDone (kinds : List (Option Kind)) (d : Dialect) (index : ℕ) (row : RowView)
-    (old now : List (Option TargetView)) (answer : Option TableError) : Type 0 where
-  pub fault_is : answer ≡ row_fault kinds d index row
-  pub targets_are : now ≡ put_row index (row_values kinds d row) old
 
 -- before the first cell
 pub row_starts : (kinds : List (Option Kind)) (d : Dialect) (index : ℕ) (row : RowView) (old : List (Option TargetView))

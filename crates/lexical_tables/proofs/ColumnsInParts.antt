@@ -22,7 +22,7 @@ use Rattle.lexical_tables.specs.declared.answers.TableError.{TableError}
 use Rattle.lexical_tables.specs.declared.dialect.Dialect.{Dialect}
 use Rattle.lexical_tables.specs.declared.dialect.Layout.{Layout}
 use Rattle.lexical_tables.specs.declared.dialect.Layout.TheVariants.{Records, Separated, Widths}
-use Rattle.lexical_tables.proofs.ColumnSteps.{count_in}
+use Rattle.lexical_tables.specs.RowSoFar.{count_in}
 use Rattle.lexical_tables.proofs.RowsInParts.{long_moved, row_behind, rows_split, whole_within}
 
 take_map : {X Y : Type 0} (f : X → Y) (n : ℕ) (xs : List X) → take n (map f xs) ≡ map f (take n xs)

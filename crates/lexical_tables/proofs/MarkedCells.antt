@@ -1,9 +1,7 @@
 -- The cells of a row, found by the marks of the text from there on.
-use Rattle.std.proofs.Common.{◌≡◌, ◌∙◌, ℕ, zero, suc, ◌+◌, ◌-◌, ◌<◌, ◌≤◌, List, [], ◌∷◌, Bool, true, false, not, cond, eqb, length, length-drop, take, drop, refl, ap, sym, subst, arith, Option, Some, None}
+use Rattle.std.proofs.Common.{◌≡◌, ◌∙◌, ℕ, zero, suc, ◌+◌, ◌-◌, ◌<◌, ◌≤◌, List, [], ◌∷◌, Bool, true, false, not, cond, eqb, length, length-drop, take, drop, refl, ap, sym, arith}
 use Rattle.std.proofs.lemmas.List.{drop-drop, drop-take, length-take, length-take-le, take-take}
 use Rattle.lexical_fields.specs.Fields.{field_length}
-use Rattle.lexical_fields.proofs.Marks.{no_marks}
-use Rattle.lexical_tables.specs.ByColumn.{AreCellMarks}
 
 -- a first field that ends in front of a place does so in the bytes up to there
 ends_before : (s : ℕ) (bs : List ℕ) (n : ℕ) → field_length s bs < n → field_length s (take n bs) ≡ field_length s bs
@@ -40,32 +38,30 @@ pub field_last : (s : ℕ) (rest ahead : List ℕ) (size : ℕ) → rest ≡ tak
     → length rest ≤ size → field_length s rest ≡ length rest
 field_last s rest ahead size front is high = ap (field_length s) front ∙ ends_behind s ahead (length rest) (omega (arith, is))
 
--- What is left of a row stands in front of the text from there on, whose separators are marked.
-pub record IsAhead (marked : Option ℕ) (row ahead rest : List ℕ) (marks : ℕ) : Type 0 where
+-- What is left of a row stands in front of the text from there on.
+pub record IsAhead (row ahead rest : List ℕ) : Type 0 where
   pub within : length rest ≤ length row
   pub front : rest ≡ take (length rest) (drop (length row - length rest) ahead)
-  pub marks_are : AreCellMarks marked (drop (length row - length rest) ahead) marks
 
--- before the first cell
-pub ahead_starts : (marked : Option ℕ) (row ahead : List ℕ) → row ≡ take (length row) ahead → IsAhead marked row ahead row 0
-ahead_starts marked row ahead front =
-    let none : length row - length row ≡ 0 = omega arith in
+-- behind so many bytes of the row
+pub ahead_starts : (row ahead : List ℕ) (passed : ℕ) → passed ≤ length row → row ≡ take (length row) ahead
+    → IsAhead row ahead (drop passed row)
+ahead_starts row ahead passed low front =
+    let left = length row - passed in
+    let whole : length row ≡ passed + left = omega arith in
+    let size : length (drop passed row) ≡ left = length-drop passed row in
+    let at : length row - left ≡ passed = omega arith in
     record {
-      within = omega arith;
-      front = front ∙ ap (λ k. take (length row) (drop k ahead)) (sym none);
-      marks_are = unmarked marked (drop (length row - length row) ahead);
+      within = omega (arith, size);
+      front =
+          ap (drop passed) (front ∙ ap (λ k. take k ahead) whole) ∙ drop-take passed left ahead
+          ∙ sym (ap (λ n. take n (drop (length row - n) ahead)) size ∙ ap (λ k. take left (drop k ahead)) at);
     }
-  where
-    unmarked : (marked : Option ℕ) (text : List ℕ) → AreCellMarks marked text 0
-    unmarked None text = tt
-    unmarked (Some s) text = no_marks s text
 
 -- behind a cell
-pub behind_ahead : (marked : Option ℕ) (row ahead rest behind : List ℕ) (marks more : ℕ) → IsAhead marked row ahead rest marks
-    → behind ≡ drop (length rest - length behind) rest → length behind ≤ length rest
-    → AreCellMarks marked (drop (length rest - length behind) (drop (length row - length rest) ahead)) more
-    → IsAhead marked row ahead behind more
-behind_ahead marked row ahead rest behind marks more here cut shorter there =
+pub behind_ahead : (row ahead rest behind : List ℕ) → IsAhead row ahead rest
+    → behind ≡ drop (length rest - length behind) rest → length behind ≤ length rest → IsAhead row ahead behind
+behind_ahead row ahead rest behind here cut shorter =
     let from = length row - length rest in
     let by = length rest - length behind in
     let place : from + by ≡ length row - length behind = omega (arith, here.within) in
@@ -77,7 +73,6 @@ behind_ahead marked row ahead rest behind marks more here cut shorter there =
       front =
           cut ∙ ap (drop by) (here.front ∙ ap (λ k. take k (drop from ahead)) (sym whole))
           ∙ drop-take by (length behind) (drop from ahead) ∙ ap (take (length behind)) at;
-      marks_are = subst (λ l. AreCellMarks marked l more) at there;
     }
 
 -- ---- bytes within a cell

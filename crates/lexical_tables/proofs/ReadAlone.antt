@@ -16,7 +16,7 @@ use Rattle.lexical_tables.specs.declared.answers.Table.{Table}
 use Rattle.lexical_tables.specs.declared.answers.TableError.{TableError}
 use Rattle.lexical_tables.specs.declared.dialect.Dialect.{Dialect}
 use Rattle.lexical_tables.proofs.CellsAlone.{alone_fine, alone_value, answers_long, end_at, told_at, values_all}
-use Rattle.lexical_tables.proofs.ColumnSteps.{count_in}
+use Rattle.lexical_tables.specs.RowSoFar.{count_in}
 
 -- ---- rows
 

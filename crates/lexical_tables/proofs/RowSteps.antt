@@ -64,6 +64,13 @@ behind_less (Separated s columns) q bytes = omega (arith, length-drop (length_ou
 behind_less (Widths widths) q bytes = omega (arith, length-drop (length_outside q line_feed bytes + 1) bytes)
 behind_less (Records widths) q bytes = omega (arith, length-drop (record_size widths.now) bytes)
 
+pub behind_shorter : (layout : Layout) (q : Bool) (bytes : List ℕ) → 0 < length bytes
+    → length (behind_piece layout q bytes) < length bytes
+behind_shorter (Separated s columns) q bytes some = omega (arith, some, length-drop (length_outside q line_feed bytes + 1) bytes)
+behind_shorter (Widths widths) q bytes some = omega (arith, some, length-drop (length_outside q line_feed bytes + 1) bytes)
+behind_shorter (Records widths) q bytes some =
+    omega (arith, some, size_low widths.now, length-drop (record_size widths.now) bytes)
+
 -- what is left behind a first line or record of what is left of a text
 pub piece_goes : (layout : Layout) (q : Bool) (text rest behind : List ℕ) → length rest ≤ length text
     → rest ≡ drop (length text - length rest) text → behind ≡ behind_piece layout q rest

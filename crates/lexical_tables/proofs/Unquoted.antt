@@ -28,18 +28,20 @@ no_quote_first text none =
       | inr other ↦ other
     ]
 
+-- it doesn't begin with one
+pub begins_unquoted : (text : List ℕ) → ((k : ℕ) → k < length text → get_or text k 0 ≢ quote) → begins_with_quote text ≡ false
+begins_unquoted [] none = refl
+begins_unquoted (b ∷ bs) none = elim (either (b == quote)) [
+  | inl same ↦ absurd (none 0 (omega arith) (eqb-true b quote same))
+  | inr other ↦ and_right (nat_lt 0 (length (b ∷ bs))) (b == quote) other
+]
+
+-- so none is out of place
 pub unquoted_fault : (quotes is_read : Bool) (cell : FieldView)
     → ((k : ℕ) → k < length cell.text → get_or cell.text k 0 ≢ quote) → None ≡ quote_fault quotes is_read cell
 unquoted_fault false is_read cell none = refl
 unquoted_fault true is_read cell none =
     sym (ap (λ t. option_map (λ place. MisplacedQuote (cell.start + place))
     (cond t (cond is_read (fault_round_number (length cell.text) (first_quote (drop 1 cell.text))) (fault_round_text cell.text))
-    (first_quote cell.text))) (begins cell.text none)
+    (first_quote cell.text))) (begins_unquoted cell.text none)
     ∙ ap (option_map (λ place. MisplacedQuote (cell.start + place))) (no_quote_first cell.text none))
-  where
-    begins : (text : List ℕ) → ((k : ℕ) → k < length text → get_or text k 0 ≢ quote) → begins_with_quote text ≡ false
-    begins [] none = refl
-    begins (b ∷ bs) none = elim (either (b == quote)) [
-      | inl same ↦ absurd (none 0 (omega arith) (eqb-true b quote same))
-      | inr other ↦ and_right (nat_lt 0 (length (b ∷ bs))) (b == quote) other
-    ]

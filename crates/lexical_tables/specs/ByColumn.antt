@@ -3,7 +3,6 @@ use Rattle.std.specs.Prelude.{◌≡◌, ◌==◌, ◌+◌, ◌*◌, ◌≤◌, 
 use Rattle.lexical_util.specs.Validity.{fault}
 use Rattle.lexical_fields.specs.Columns as columns
 use Rattle.lexical_fields.specs.Fields.{FieldView}
-use Rattle.lexical_fields.specs.Search.{AreMarks}
 pub use Rattle.lexical_tables.specs.Cells.{Kind, answer_as, first_of, unless}
 use Rattle.lexical_tables.specs.Quotes.{pieces_outside}
 use Rattle.lexical_tables.specs.Rows.{RowView, next_start, rows, rows_from}
@@ -163,15 +162,6 @@ abbrev pub separator_of : Layout → Option ℕ
 separator_of (Separated separator columns) = Some separator
 separator_of (Widths widths) = None
 separator_of (Records widths) = None
-
--- the separator, if marks find cells: quotes have no meaning
-abbrev pub marked_separator : Layout → Bool → Option ℕ
-marked_separator layout has_quotes = if has_quotes then None else separator_of layout
-
--- a text's separators are marked, if marks find cells
-abbrev pub AreCellMarks : Option ℕ → List ℕ → ℕ → Type 0
-AreCellMarks None text marks = Unit {0}
-AreCellMarks (Some separator) text marks = AreMarks separator text marks
 
 -- the fault of an answer
 abbrev pub fault_in : Result (Option ℤ) CellFault → Option CellFault

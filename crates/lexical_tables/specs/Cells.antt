@@ -1,8 +1,9 @@
 -- What one cell of a row stands for.
-use Rattle.std.specs.Prelude.{◌==◌, ◌&&◌, ◌||◌, ◌+◌, ◌-◌, ℕ, ℤ, Bool, false, true, not, if◌then◌else◌, List, length, take, drop, nat_lt, option_map, position, slice_index, Option, Some, None, Result, Ok, Err}
+use Rattle.std.specs.Prelude.{◌==◌, ◌&&◌, ◌||◌, ◌+◌, ◌-◌, ℕ, ℤ, Bool, false, true, not, if◌then◌else◌, List, length, take, drop, is_some, nat_lt, option_map, position, slice_index, Option, Some, None, Result, Ok, Err}
 use Rattle.std.specs.List.{prefix_len, range_with_len, suffix_len}
 use Rattle.std.specs.Str.{bytes_eq}
 use Rattle.lexical_util.specs.declared.error.Error.{Error}
+use Rattle.lexical_util.specs.Digit.{digit}
 use Rattle.lexical_util.specs.Format.{Format}
 use Rattle.lexical_util.specs.Number.{IntegerType}
 use Rattle.lexical_fields.specs.Fields.{FieldView}
@@ -108,6 +109,10 @@ abbrev pub content : Bool → Bool → FieldView → FieldView
 content has_quotes allows_blanks cell =
     let held = without_quotes has_quotes cell in
     if allows_blanks then without_blanks held else held
+
+-- whether a text's last byte is a decimal digit
+abbrev pub ends_in_digit : List ℕ → Bool
+ends_in_digit text = is_some (digit 10 (slice_index text (length text - 1)))
 
 -- ---- what it stands for
 

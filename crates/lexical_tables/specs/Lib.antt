@@ -1,10 +1,13 @@
 -- The definitions that contracts name, a file for each subject.
 pub mod ByColumn
 pub mod Cells
+pub mod Codes
+pub mod Ends
 pub mod Header
 pub mod Looks
 pub mod OneColumn
 pub mod Parts
 pub mod Quotes
+pub mod RowSoFar
 pub mod Rows
 pub mod Targets

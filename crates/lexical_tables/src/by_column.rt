@@ -1,19 +1,20 @@
 //! Tables whose columns go into slices of their own.
 
-ghost use Rattle.std.specs.Prelude.{◌≡◌, ◌≢◌, ◌+◌, ◌-◌, ◌<◌, ◌≤◌, ◌^◌, ℕ, length, take, drop, map, is_some, option_map, slice_index, true, IfOk, IsTrue};
-ghost use Rattle.lexical_tables.specs.ByColumn.{AreUsable, IsUsable, StopsAt, answer_at, column_count, columns_answer, columns_put, end_fault, fault_in, kind_of, kinds_of, marked_separator, put_read, put_read_at, put_row, row_fault, row_values};
-ghost use Rattle.lexical_tables.specs.Cells.{answer_as, quote_fault, view_of_cell};
+ghost use Rattle.std.specs.Prelude.{◌≡◌, ◌≢◌, ◌+◌, ◌-◌, ◌<◌, ◌≤◌, ◌^◌, ℕ, List, Option, length, take, drop, map, is_some, option_map, slice_index, true, IfOk, IsTrue};
+ghost use Rattle.lexical_tables.specs.ByColumn.{AreUsable, IsUsable, StopsAt, answer_at, columns_answer, columns_put, end_fault, fault_in, kind_of, kinds_of, put_read, put_read_at, put_row, row_fault, row_values};
+ghost use Rattle.lexical_tables.specs.Cells.{Kind, answer_as, quote_fault, view_of_cell};
 ghost use Rattle.lexical_tables.specs.Quotes.{quote};
-ghost use Rattle.lexical_tables.specs.Rows.{view_of_row};
-ghost use Rattle.lexical_tables.specs.Targets.{put_text, text_fault};
+ghost use Rattle.lexical_tables.specs.RowSoFar.{IsRowDone, IsRowPut, cells_behind, wrong_in};
+ghost use Rattle.lexical_tables.specs.Rows.{behind_piece, first_row, view_of_row};
+ghost use Rattle.lexical_tables.specs.Targets.{TargetView, put_text, text_fault};
 
 use crate::answers::{CellFault, Table, TableError};
-use crate::cells::{Shape, lacks_cell, next_cell, shape_of};
+use crate::cells::{column_count, lacks_cell, next_cell};
 use crate::content::{Cell, content};
-use crate::dialect::{Dialect, Layout};
-use crate::marked::read_marked_rows;
+use crate::dialect::Dialect;
 use crate::misplaced::quote_fault;
-use crate::rows::{Row, first_row, without_empty_rows};
+use crate::pass::read_rows;
+use crate::rows::{Row, first_row};
 use crate::targets::TableColumn;
 use lexical_parse_integer::{Error, Options};
 
@@ -162,37 +163,59 @@ pub(crate) fn end_fault(
     })
 }
 
-// The numbers of a row go to its place in the targets, up to the row's fault. What is ahead begins with the row.
+// Reads a cell as `read_cell` does: where it isn't had at once. Why out of line: docs/DECISIONS.md, code.
+#[inline(never)]
+pub(crate) fn read_by_column<C: TableColumn>(
+    targets: &mut [C],
+    column: usize,
+    row: usize,
+    cell: Cell<'_>,
+    dialect: &Dialect<'_>,
+    options: &Options,
+) -> Option<CellFault>
+    requires usable { AreUsable (row + 1) (map C.target targets.old) }
+    requires front { cell.text.now ≡ take (length cell.text.now) cell.ahead.now }
+    requires fits { cell.start + length cell.text.now < 2 ^ 64 }
+    ensures fault { result ≡ fault_in (answer_at dialect.now (kinds_of (map C.target targets.old))
+        column (view_of_cell cell.entry)) }
+    ensures targets { map C.target targets.new ≡ put_read_at row column (answer_at dialect.now
+        (kinds_of (map C.target targets.old)) column (view_of_cell cell.entry))
+        (map C.target targets.old) }
+{
+    read_cell(targets, column, row, cell, false, dialect, options)
+}
+
+// The numbers of a row's cells behind so many bytes and columns go to its place in the targets, up to the row's fault. What is
+// ahead begins with the row.
 #[inline(always)]
 fn read_cells<C: TableColumn>(
     row: &Row<'_>,
     ahead: &[u8],
+    passed: usize,
+    first: usize,
     index: usize,
-    shape: Shape,
     dialect: &Dialect<'_>,
     options: &Options,
     targets: &mut [C],
 ) -> Option<TableError>
-    requires columns { shape.columns ≡ column_count dialect.now.layout }
-    requires marked { shape.marked
-        ≡ marked_separator dialect.now.layout dialect.now.has_quotes }
+    requires passed { passed ≤ length row.now.text.now }
     requires usable { AreUsable (index + 1) (map C.target targets.old) }
     requires front { row.now.text.now ≡ take (length row.now.text.now) ahead.now }
     requires fits { row.now.start + length row.now.text.now < 2 ^ 64 }
-    ensures fault { result ≡ row_fault (kinds_of (map C.target targets.old)) dialect.now index
-        (view_of_row row.now) }
-    ensures targets { map C.target targets.new ≡ put_row index (row_values
-        (kinds_of (map C.target targets.old)) dialect.now (view_of_row row.now))
-        (map C.target targets.old) }
+    ensures { (kinds : List (Option Kind)) (old : List (Option TargetView))
+        → IsRowPut kinds dialect.now index (view_of_row row.now) old (map C.target targets.old)
+        first (cells_behind dialect.now (view_of_row row.now) first passed)
+        → IsRowDone kinds dialect.now index (view_of_row row.now) old (map C.target targets.new)
+        result }
 {
-    let mut rest = row.text;
-    let mut ended = lacks_cell(rest, 0, dialect);
-    let mut column = 0;
-    let mut marks = 0;
-    while column < shape.columns && !ended {
+    let columns = column_count(dialect);
+    let mut rest = &row.text[passed..];
+    let mut ended = lacks_cell(rest, first, dialect);
+    let mut column = first;
+    while column < columns && !ended {
         let place = row.text.len() - rest.len();
         let left = &ahead[place..];
-        let next = next_cell(rest, left, marks, column, shape.marked, dialect);
+        let next = next_cell(rest, left, column, dialect);
         let cell = Cell {
             start: row.start + place,
             text: next.text,
@@ -215,45 +238,45 @@ fn read_cells<C: TableColumn>(
         }
         ended = next.ended;
         rest = next.behind;
-        marks = next.marks;
         column += 1;
     }
     let next = row.start + (row.text.len() - rest.len());
     let extra = (!ended).then_some(next);
-    end_fault(row, index, shape.columns, column, extra)
+    end_fault(row, index, columns, column, extra)
 }
 
-// `read_columns` of any table. Why out of line: docs/DECISIONS.md, code.
+// The numbers of the first row of a text go to its place in the targets, behind so many bytes and columns of the row that were
+// read, up to the row's fault: what is behind it. Why out of line: docs/DECISIONS.md, code.
 #[inline(never)]
-fn read_rows<C: TableColumn>(
-    text: &[u8],
+pub(crate) fn read_rest<'a, C: TableColumn>(
+    start: usize,
+    text: &'a [u8],
+    passed: usize,
+    first: usize,
+    index: usize,
     dialect: &Dialect<'_>,
     options: &Options,
-    rows: usize,
     targets: &mut [C],
-) -> Result<Table, TableError>
-    requires usable { AreUsable rows (map C.target targets.old) }
-    ensures answer { result ≡ columns_answer (kinds_of (map C.target targets.old)) dialect.now rows
-        text.now }
-    ensures targets { map C.target targets.new ≡ columns_put dialect.now rows text.now
-        (map C.target targets.old) }
-    ensures goes_on { IfOk result (StopsAt dialect.now rows text.now) }
+) -> Result<&'a [u8], TableError>
+    requires some { 0 < length text.now }
+    requires passed { passed ≤ length (first_row dialect.now start text.now).text }
+    requires usable { AreUsable (index + 1) (map C.target targets.old) }
+    requires fits { start + length text.now < 2 ^ 64 }
+    ensures done { (kinds : List (Option Kind)) (old : List (Option TargetView))
+        → IsRowPut kinds dialect.now index (first_row dialect.now start text.now) old
+        (map C.target targets.old) first
+        (cells_behind dialect.now (first_row dialect.now start text.now) first passed)
+        → IsRowDone kinds dialect.now index (first_row dialect.now start text.now) old
+        (map C.target targets.new) (wrong_in result) }
+    ensures behind { IfOk result (λ behind. behind.now
+        ≡ behind_piece dialect.now.layout dialect.now.has_quotes text.now) }
+    ensures shorter { IfOk result (λ behind. length behind.now < length text.now) }
 {
-    let shape = shape_of(dialect);
-    let mut rest = without_empty_rows(text, dialect);
-    let mut count = 0;
-    while count < rows && !rest.is_empty() {
-        let (row, behind) = first_row(text.len() - rest.len(), rest, dialect);
-        if let Some(error) = read_cells(&row, rest, count, shape, dialect, options, targets) {
-            return Err(error);
-        }
-        rest = without_empty_rows(behind, dialect);
-        count += 1;
+    let (row, behind) = first_row(start, text, dialect);
+    match read_cells(&row, text, passed, first, index, dialect, options, targets) {
+        Some(error) => Err(error),
+        None => Ok(behind),
     }
-    Ok(Table {
-        rows: count,
-        stop: text.len() - rest.len(),
-    })
 }
 
 /// Reads a table's columns into slices of their own, for as many rows as are asked for at most.
@@ -283,15 +306,5 @@ pub fn read_columns<C: TableColumn>(
         (map C.target targets.old) }
     ensures goes_on { IfOk result (StopsAt dialect.now rows text.now) }
 {
-    if dialect.has_quotes || dialect.allows_blanks {
-        return read_rows(text, dialect, options, rows, targets);
-    }
-    match dialect.layout {
-        Layout::Separated { separator, columns } => {
-            read_marked_rows(text, columns, separator, dialect, options, rows, targets)
-        }
-        Layout::Widths { .. } | Layout::Records { .. } => {
-            read_rows(text, dialect, options, rows, targets)
-        }
-    }
+    read_rows(text, dialect, options, rows, targets)
 }

@@ -1,39 +1,21 @@
 //! The cells of a row, found one after another.
 
-ghost use Rattle.std.specs.Prelude.{◌≡◌, ◌≢◌, ◌==◌, ◌+◌, ◌-◌, ◌<◌, ◌≤◌, ℕ, [], ◌∷◌, IfSome, IsTrue, false, length, take, drop, slice_index, if◌then◌else◌};
-ghost use Rattle.lexical_fields.specs.Fields.{field_length};
-ghost use Rattle.lexical_fields.specs.Search.{AreMarks};
-ghost use Rattle.lexical_tables.specs.ByColumn.{AreCellMarks, cells_by_width, cells_left, column_count, lacks_cell, lacks_width, marked_separator};
-ghost use Rattle.lexical_tables.specs.Quotes.{hidden, length_outside, quote};
+ghost use Rattle.std.specs.Prelude.{◌≡◌, ◌≢◌, ◌==◌, ◌+◌, ◌-◌, ◌<◌, ◌≤◌, ℕ, [], ◌∷◌, IsTrue, false, length, take, drop, slice_index, if◌then◌else◌};
+ghost use Rattle.lexical_tables.specs.ByColumn.{cells_by_width, cells_left, column_count, lacks_cell, lacks_width};
+ghost use Rattle.lexical_tables.specs.Quotes.{length_outside, quote};
 
 use crate::dialect::{Dialect, Layout};
 use crate::quotes::near_length;
 use crate::rows::split;
-use lexical_fields::{field_length, next_marks, split_marked};
 
-// What all rows have in common: how many columns there are, and the separator, if marks find cells: these stand between
-// such, and quotes have no meaning.
-#[derive(Copy, Clone)]
-pub(crate) struct Shape {
-    pub columns: usize,
-    pub marked: Option<u8>,
-}
-
-// The shape of a table's rows.
-pub(crate) fn shape_of(dialect: &Dialect<'_>) -> Shape
-    ensures columns { result.columns ≡ column_count dialect.now.layout }
-    ensures marked { result.marked
-        ≡ marked_separator dialect.now.layout dialect.now.has_quotes }
+// How many columns a table has.
+#[inline(always)]
+pub(crate) fn column_count(dialect: &Dialect<'_>) -> usize
+    ensures { result ≡ column_count dialect.now.layout }
 {
     match dialect.layout {
-        Layout::Separated { separator, columns } => Shape {
-            columns,
-            marked: (!dialect.has_quotes).then_some(separator),
-        },
-        Layout::Widths { widths } | Layout::Records { widths } => Shape {
-            columns: widths.len(),
-            marked: None,
-        },
+        Layout::Separated { columns, .. } => columns,
+        Layout::Widths { widths } | Layout::Records { widths } => widths.len(),
     }
 }
 
@@ -61,13 +43,11 @@ pub(crate) fn lacks_cell(text: &[u8], column: usize, dialect: &Dialect<'_>) -> b
     }
 }
 
-// A cell, what is left of its row behind it, the marks of what is ahead there, whether no cell is left, and whether the cell
-// was seen to have no quote.
+// A cell, what is left of its row behind it, whether no cell is left, and whether the cell was seen to have no quote.
 #[derive(Copy, Clone)]
 pub(crate) struct NextCell<'a> {
     pub text: &'a [u8],
     pub behind: &'a [u8],
-    pub marks: u64,
     pub ended: bool,
     pub has_no_quote: bool,
 }
@@ -94,7 +74,6 @@ fn wide_cell<'a>(rest: &'a [u8], column: usize, widths: &[usize]) -> NextCell<'a
     NextCell {
         text,
         behind,
-        marks: 0,
         ended: lacks_width(behind, column + 1, widths),
         has_no_quote: false,
     }
@@ -110,14 +89,12 @@ fn sized_cell(rest: &[u8], size: usize, has_no_quote: bool) -> NextCell<'_>
     ensures size { length result.text.now ≡ size }
     ensures left { length result.behind.now ≤ length rest.now }
     ensures ended { result.ended ≡ (length result.text.now == length rest.now) }
-    ensures marks { result.marks ≡ 0 }
     ensures seen { result.has_no_quote ≡ has_no_quote }
 {
     if size == rest.len() {
         return NextCell {
             text: rest,
             behind: &rest[size..],
-            marks: 0,
             ended: true,
             has_no_quote,
         };
@@ -125,66 +102,9 @@ fn sized_cell(rest: &[u8], size: usize, has_no_quote: bool) -> NextCell<'_>
     NextCell {
         text: &rest[..size],
         behind: &rest[size + 1..],
-        marks: 0,
         ended: false,
         has_no_quote,
     }
-}
-
-// The first cell of what is left of a row, whose separators marks find. What is ahead begins with that.
-#[inline(always)]
-pub(crate) fn marked_cell<'a>(
-    rest: &'a [u8],
-    ahead: &[u8],
-    marks: u64,
-    separator: u8,
-) -> NextCell<'a>
-    requires rest { rest.now ≡ take (length rest.now) ahead.now }
-    requires marks { AreMarks separator ahead.now marks }
-    ensures front { result.text.now ≡ take (length_outside false separator rest.now) rest.now }
-    ensures behind { result.behind.now
-        ≡ drop (length_outside false separator rest.now + 1) rest.now }
-    ensures within { length result.text.now ≤ length rest.now }
-    ensures size { length result.text.now ≡ length_outside false separator rest.now }
-    ensures left { length result.behind.now ≤ length rest.now }
-    ensures tail { result.behind.now
-        ≡ drop (length rest.now - length result.behind.now) rest.now }
-    ensures ended { result.ended ≡ (length result.text.now == length rest.now) }
-    ensures marks { AreMarks separator
-        (drop (length rest.now - length result.behind.now) ahead.now) result.marks }
-    ensures unseen { result.has_no_quote ≡ false }
-{
-    let known = next_marks(ahead, marks, separator);
-    if known == 0 {
-        return sized_cell(rest, unmarked_length(rest, separator), false);
-    }
-    let (size, _, more) = split_marked(ahead, known, separator);
-    if size >= rest.len() {
-        return NextCell {
-            text: rest,
-            behind: &rest[rest.len()..],
-            marks: 0,
-            ended: true,
-            has_no_quote: false,
-        };
-    }
-    NextCell {
-        text: &rest[..size],
-        behind: &rest[size + 1..],
-        marks: more,
-        ended: false,
-        has_no_quote: false,
-    }
-}
-
-// How many bytes the first cell of what is left of a row has, where no mark is ahead: at a text's end, and where a cell is
-// long. Why out of line: docs/DECISIONS.md, code.
-#[inline(never)]
-fn unmarked_length(rest: &[u8], separator: u8) -> usize
-    ensures value { result ≡ length_outside false separator rest.now }
-    ensures within { result ≤ length rest.now }
-{
-    field_length(rest, separator)
 }
 
 // The first cell of what is left of a row, whose separators are searched for. What is ahead begins with that.
@@ -199,7 +119,6 @@ fn parted_cell<'a>(rest: &'a [u8], ahead: &[u8], separator: u8, has_quotes: bool
     ensures size { length result.text.now ≡ length_outside has_quotes separator rest.now }
     ensures left { length result.behind.now ≤ length rest.now }
     ensures ended { result.ended ≡ (length result.text.now == length rest.now) }
-    ensures marks { result.marks ≡ 0 }
     ensures no_quote { IsTrue result.has_no_quote → (k : ℕ) → k < length result.text.now
         → slice_index result.text.now k ≢ quote }
 {
@@ -212,7 +131,6 @@ fn parted_cell<'a>(rest: &'a [u8], ahead: &[u8], separator: u8, has_quotes: bool
     NextCell {
         text,
         behind,
-        marks: 0,
         ended: text.len() == rest.len(),
         has_no_quote: false,
     }
@@ -223,14 +141,10 @@ fn parted_cell<'a>(rest: &'a [u8], ahead: &[u8], separator: u8, has_quotes: bool
 pub(crate) fn next_cell<'a>(
     rest: &'a [u8],
     ahead: &[u8],
-    marks: u64,
     column: usize,
-    marked: Option<u8>,
     dialect: &Dialect<'_>,
 ) -> NextCell<'a>
     requires rest { rest.now ≡ take (length rest.now) ahead.now }
-    requires marked { marked ≡ marked_separator dialect.now.layout dialect.now.has_quotes }
-    requires marks { AreCellMarks marked ahead.now marks }
     requires column { column < column_count dialect.now.layout }
     requires there { lacks_cell dialect.now.layout column rest.now ≡ false }
     ensures cells { (place : ℕ)
@@ -245,14 +159,9 @@ pub(crate) fn next_cell<'a>(
     ensures left { length result.behind.now ≤ length rest.now }
     ensures tail { result.behind.now
         ≡ drop (length rest.now - length result.behind.now) rest.now }
-    ensures marks { AreCellMarks marked
-        (drop (length rest.now - length result.behind.now) ahead.now) result.marks }
     ensures no_quote { IsTrue result.has_no_quote → (k : ℕ) → k < length result.text.now
         → slice_index result.text.now k ≢ quote }
 {
-    if let Some(separator) = marked {
-        return marked_cell(rest, ahead, marks, separator);
-    }
     match dialect.layout {
         Layout::Separated { separator, .. } => {
             parted_cell(rest, ahead, separator, dialect.has_quotes)

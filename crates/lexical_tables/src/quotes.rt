@@ -6,7 +6,7 @@ ghost use Rattle.lexical_tables.specs.Quotes.{hidden, length_outside, quote};
 ghost use Rattle.lexical_tables.specs.Looks.{IsPassed};
 
 mod looks;
-mod parities;
+pub(crate) mod parities;
 
 use self::looks::look_at_16;
 use lexical_fields::{field_length, lowest_mark, next_marks, split_marked};

@@ -1,13 +1,17 @@
 //! Where the numbers of a table's columns go.
 
-ghost use Rattle.std.specs.Prelude.{◌≡◌, ◌+◌, ◌*◌, ◌<◌, ◌≤◌, ◌^◌, ℕ, Ok, Option, None, Some, false, length, take, map, set, is_some, option_map, pos, IfSome, IsNone, IsTrue};
+ghost use Rattle.std.specs.Prelude.{◌≡◌, ◌+◌, ◌*◌, ◌<◌, ◌≤◌, ◌^◌, ℕ, Ok, Option, None, Some, false, length, take, map, set, is_some, option_map, pos, IfSome, IsNone, IsTrue, true};
+ghost use Rattle.lexical_digits.specs.Value.{with_sign};
 ghost use Rattle.lexical_util.specs.Format.{standard};
+ghost use Rattle.lexical_util.specs.Number.{IsNumber};
 ghost use Rattle.lexical_util.specs.Validity.{fault};
 ghost use Rattle.lexical_fields.specs.ReadFields.{field_answer};
 ghost use Rattle.lexical_tables.specs.ByColumn.{IsUsable};
+ghost use Rattle.lexical_tables.specs.Codes.{IsCode};
 ghost use Rattle.lexical_tables.specs.Targets.{TargetView, error_in, has_bits, put_text, put_value, text_answer, text_fault, view_of_target, with_number, with_row_bit};
 
 use crate::at_once::put_at_once;
+use crate::codes::{NOT_READ, UNKNOWN};
 use crate::parsed::{put_parsed, put_standard_parsed};
 use lexical_parse_integer::parse::ParseInteger;
 use lexical_parse_integer::{Error, NumberFormat, Options, format};
@@ -201,6 +205,38 @@ pub trait TableColumn {
     {
         self.read(row, start, text, ahead, options)
     }
+
+    /// What the column says of all its cells, as one of [`codes`](crate::codes): it is asked once a call. `UNKNOWN`, as a
+    /// column says that doesn't write it, is always right.
+    ///
+    /// A column with the code of a type has to write `put_number` too, if its numbers are to be put by that.
+    #[inline(always)]
+    fn code(&self) -> u8
+        ensures { IsCode result (target self.now) }
+    {
+        UNKNOWN
+    }
+
+    /// Puts a number with its sign into a row's place, and sets the row's bit, where the column's type has it, and tells
+    /// whether it did. Else it puts nothing. The code has to be that of the column, and of a type.
+    ///
+    /// A column that doesn't write it puts none.
+    #[inline(always)]
+    fn put_number(&mut self, code: u8, row: usize, is_negative: bool, number: u64) -> bool
+        requires code { IsCode code (target self.old) }
+        requires read { 2 ≤ code }
+        requires usable { IsUsable (row + 1) (target self.old) }
+        requires small { number < 2 ^ 63 }
+        ensures fits { IsTrue result → IfSome (target self.old)
+            (λ target. IsNumber target.type (with_sign is_negative number)) }
+        ensures minus { IsTrue result → IsTrue is_negative → IfSome (target self.old)
+            (λ target. target.type.is_signed ≡ true) }
+        ensures target { IsTrue result → target self.new
+            ≡ option_map (put_value row (Some (with_sign is_negative number))) (target self.old) }
+        ensures kept { result ≡ false → target self.new ≡ target self.old }
+    {
+        false
+    }
 }
 
 impl TableColumn for Option<Target<'_>> {
@@ -263,6 +299,22 @@ impl TableColumn for Option<Target<'_>> {
             None => None,
         }
     }
+
+    #[inline(always)]
+    fn code(&self) -> u8 {
+        match self {
+            Some(target) => target.code(),
+            None => NOT_READ,
+        }
+    }
+
+    #[inline(always)]
+    fn put_number(&mut self, code: u8, row: usize, is_negative: bool, number: u64) -> bool {
+        match self {
+            Some(target) => target.put_with_sign(row, is_negative, number),
+            None => unreachable!(),
+        }
+    }
 }
 
 impl Target<'_> {
@@ -318,7 +370,7 @@ impl Target<'_> {
         ensures target { view_of_target self.new ≡ put_text row
             (record { start = start; text = text.now }) (view_of_target self.old) }
     {
-        if let Some(error) = self.put_number(row, start, text) {
+        if let Some(error) = self.put_parsed_number(row, start, text) {
             return Some(error);
         }
         self.put_presence(row, true);
@@ -327,7 +379,7 @@ impl Target<'_> {
 
     // Puts the number of a text that isn't had at once into a row's place, or tells the text's fault.
     #[inline(always)]
-    fn put_number(&mut self, row: usize, start: usize, text: &[u8]) -> Option<Error>
+    fn put_parsed_number(&mut self, row: usize, start: usize, text: &[u8]) -> Option<Error>
         requires valid { IsNone (fault self.old.format) }
         requires room { row < length (view_of_target self.old).numbers }
         requires fits { start + length text.now < 2 ^ 64 }

@@ -25,3 +25,16 @@ pub(crate) fn odd_to_16(marks: u64) -> u64
     let of_eight = with_marks_below(of_four, 4);
     with_marks_below(of_eight, 8)
 }
+
+// Whether an odd number of marks stands up to a place, that counted, a bit for each of 64: by two steps more.
+#[inline(always)]
+pub(crate) fn odd_to_64(marks: u64) -> u64
+    ensures { (k : ℕ) → k < 64 → bit_at result k ≡ bits_below marks (k + 1) % 2 }
+{
+    let among_two = with_marks_below(marks, 1);
+    let among_four = with_marks_below(among_two, 2);
+    let among_eight = with_marks_below(among_four, 4);
+    let among_sixteen = with_marks_below(among_eight, 8);
+    let among_half = with_marks_below(among_sixteen, 16);
+    with_marks_below(among_half, 32)
+}

@@ -1,18 +1,24 @@
-use Rattle.std.proofs.Common.{◌≡◌, ◌-◌, false, map}
-use Rattle.lexical_tables.specs.ByColumn.{kinds_of, lacks_cell}
+use Rattle.std.proofs.Common.{◌≡◌, ◌-◌, ◌+◌, List, Option, false, map}
+use Rattle.lexical_tables.specs.ByColumn.{AreUsable, column_count, lacks_cell}
+use Rattle.lexical_tables.specs.Cells.{Kind}
+use Rattle.lexical_tables.specs.RowSoFar.{IsRowPut, cells_behind}
 use Rattle.lexical_tables.specs.Rows.{view_of_row}
+use Rattle.lexical_tables.specs.Targets.{TargetView}
 use Rattle.lexical_tables.proofs.CellsLeft.{left_in}
-use Rattle.lexical_tables.proofs.ColumnSteps.{IsRowPut}
 use Rattle.lexical_tables.proofs.MarkedCells.{IsAhead}
 use Rattle.lexical_tables.proofs.by_column.read_cells.Given as goal
 
 -- so many cells were read
 abbrev pub invariant-loop-column : goal.invariant-loop-column
 invariant-loop-column g l =
-    IsAhead l.shape.marked l.row.text.now l.ahead l.rest l.marks
+    IsAhead l.row.text.now l.ahead l.rest
     × (l.ended ≡ false → lacks_cell l.dialect.layout l.column l.rest ≡ false)
-    × IsRowPut (kinds_of (map g.C.TableColumn.target l.initial.targets)) l.dialect l.index (view_of_row l.row) (map g.C.TableColumn.target l.initial.targets)
-    (map g.C.TableColumn.target l.targets) l.column (left_in l.dialect (view_of_row l.row) l.column l.ended l.rest)
+    × AreUsable (l.index + 1) (map g.C.TableColumn.target l.targets)
+    × ((kinds : List (Option Kind)) (old : List (Option TargetView))
+    → IsRowPut kinds l.dialect l.index (view_of_row l.row) old (map g.C.TableColumn.target l.initial.targets)
+    l.fn.first (cells_behind l.dialect (view_of_row l.row) l.fn.first l.fn.passed)
+    → IsRowPut kinds l.dialect l.index (view_of_row l.row) old (map g.C.TableColumn.target l.targets) l.column
+    (left_in l.dialect (view_of_row l.row) l.column l.ended l.rest))
 
 abbrev pub decreases-loop-column : goal.decreases-loop-column
-decreases-loop-column g l = l.shape.columns - l.column
+decreases-loop-column g l = column_count l.dialect.layout - l.column

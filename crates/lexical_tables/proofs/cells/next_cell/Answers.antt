@@ -1,21 +1,8 @@
-use Rattle.std.proofs.Common.{◌≡◌, ◌∙◌, ◌+◌, ◌-◌, ◌∷◌, [], false, cond, sym, subst, ap, length}
+use Rattle.std.proofs.Common.{◌≡◌, ◌∙◌, ◌+◌, ◌-◌, ◌∷◌, [], cond, sym, subst, ap, length}
 use Rattle.lexical_tables.specs.ByColumn.{cells_left}
 use Rattle.lexical_tables.specs.Quotes.{pieces_outside}
-use Rattle.lexical_tables.proofs.CellsLeft.{marked_is}
 use Rattle.lexical_tables.proofs.OutsideSteps.{next_piece}
 use Rattle.lexical_tables.proofs.cells.next_cell.Goals as goal
-
-pub returns-in-Some-clause-cells : goal.returns-in-Some-clause-cells
-returns-in-Some-clause-cells c = λ place.
-    let cell = c.marked_cell.result in
-    let at = place + (length c.args.rest.now - length cell.behind.now) in
-    marked_is c.args.dialect.now.layout c.args.dialect.now.has_quotes c.in-Some.separator (sym c.in-Some.is ∙ c.requires.marked)
-    (λ l q. cells_left l q c.args.column place c.args.rest.now ≡ record { start = place; text = cell.text.now }
-    ∷ cond cell.ended [] (cells_left l q (c.args.column + 1) at cell.behind.now))
-    (λ columns. next_piece false c.in-Some.separator place c.args.rest.now cell.text.now cell.behind.now
-    c.marked_cell.ensures.front c.marked_cell.ensures.behind c.marked_cell.ensures.size
-    ∙ ap (λ t. record { start = place; text = cell.text.now }
-    ∷ cond t [] (pieces_outside false c.in-Some.separator at cell.behind.now)) (sym c.marked_cell.ensures.ended))
 
 pub returns-in-Separated-clause-cells : goal.returns-in-Separated-clause-cells
 returns-in-Separated-clause-cells c = λ place.

@@ -6,16 +6,16 @@ use Rattle.jadvolni.proofs.table_columns.ColumnFieldsTableColumn.read_left.Goals
 pub returns-in-Some-clause-target : goal.returns-in-Some-clause-target
 returns-in-Some-clause-target c =
     number_failed c.args.row (record { start = c.args.start; text = c.args.text.now }) (target_of c.args.self.now)
-    (target_of c.put_number.new.self) c.in-Some.error c.in-Some.ensures.fault c.in-Some.ensures.target
+    (target_of c.put_parsed_number.new.self) c.in-Some.error c.in-Some.ensures.fault c.in-Some.ensures.target
 
 pub put_presence-requires : goal.put_presence-requires
 put_presence-requires c = record {
   usable = number_usable (c.args.row + 1) c.args.row (record { start = c.args.start; text = c.args.text.now })
-      (target_of c.args.self.now) (target_of c.put_number.new.self) c.requires.usable c.in_default.ensures.target;
+      (target_of c.args.self.now) (target_of c.put_parsed_number.new.self) c.requires.usable c.in_default.ensures.target;
 }
 
 pub returns-clause-target : goal.returns-clause-target
 returns-clause-target c =
     number_read c.args.row (record { start = c.args.start; text = c.args.text.now }) (target_of c.args.self.now)
-    (target_of c.put_number.new.self) (target_of c.put_presence.new.self) c.in_default.ensures.fault
+    (target_of c.put_parsed_number.new.self) (target_of c.put_presence.new.self) c.in_default.ensures.fault
     c.in_default.ensures.target c.put_presence.ensures

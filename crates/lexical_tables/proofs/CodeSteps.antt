@@ -1,0 +1,98 @@
+-- The codes of columns stay right while numbers are put.
+use Rattle.std.proofs.Common.{◌≡◌, ◌∙◌, ℕ, zero, suc, ◌<◌, List, [], ◌∷◌, length, get_or, ℤ, Result, Option, Some, None, refl, ap, sym, subst, arith}
+use Rattle.std.proofs.lemmas.List.{length-map}
+use Rattle.std.specs.Prelude.{is_some, nat_le, option_map, slice_index}
+use Rattle.lexical_util.specs.Format.{standard}
+use Rattle.lexical_tables.specs.ByColumn.{kind_of, kinds_of, put_read_at, put_row}
+use Rattle.lexical_tables.specs.Cells.{Kind}
+use Rattle.lexical_tables.specs.Codes.{AreCodes, IsCodeIn, IsReadAs, coded_type}
+use Rattle.lexical_tables.specs.Targets.{TargetView}
+use Rattle.lexical_tables.specs.declared.answers.CellFault.{CellFault}
+use Rattle.lexical_tables.specs.declared.dialect.Dialect.{Dialect}
+use Rattle.lexical_tables.proofs.PutSteps.{kinds_put, kinds_put_row}
+
+-- what a code says of a column, it says of what that is read as
+abbrev IsKindAs : ℕ → Option Kind → Type 0
+IsKindAs code None = ⊥
+IsKindAs code (Some kind) = (kind.format ≡ standard) × (kind.type ≡ coded_type code) × (kind.may_miss ≡ nat_le 10 code)
+
+to_kind : (code : ℕ) (target : Option TargetView) → IsReadAs code target → IsKindAs code (option_map kind_of target)
+to_kind code None read = read
+to_kind code (Some target) read = read
+
+from_kind : (code : ℕ) (target : Option TargetView) → IsKindAs code (option_map kind_of target) → IsReadAs code target
+from_kind code None read = read
+from_kind code (Some target) read = read
+
+there_is : (target : Option TargetView) → is_some (option_map kind_of target) ≡ is_some target
+there_is None = refl
+there_is (Some target) = refl
+
+-- so the code stays right where the column is read as before
+same_code : (dialect : Dialect) (code : ℕ) (old new : Option TargetView)
+    → option_map kind_of new ≡ option_map kind_of old → IsCodeIn dialect code old → IsCodeIn dialect code new
+same_code dialect code old new same is = record {
+  column = record {
+    unread = λ one. sym (there_is new) ∙ ap is_some same ∙ there_is old ∙ is.column.unread one;
+    read = λ some. from_kind code new (subst (IsKindAs code) (sym same) (to_kind code old (is.column.read some)));
+  };
+  no_blanks = is.no_blanks;
+  no_number = is.no_number;
+}
+
+-- what the column at a place is read as
+kind_at : (targets : List (Option TargetView)) (k : ℕ)
+    → get_or (kinds_of targets) k None ≡ option_map kind_of (get_or targets k None)
+kind_at [] k = refl
+kind_at (t ∷ ts) zero = refl
+kind_at (t ∷ ts) (suc k) = kind_at ts k
+
+-- codes stay right while no column is read otherwise
+pub codes_stay : (dialect : Dialect) (codes : List ℕ) (old new : List (Option TargetView)) → kinds_of new ≡ kinds_of old
+    → AreCodes dialect codes old → AreCodes dialect codes new
+codes_stay dialect codes old new same are = λ k coded low.
+    let as_many : length new ≡ length old =
+    sym (length-map new (option_map kind_of)) ∙ ap length same ∙ length-map old (option_map kind_of) in
+    same_code dialect (slice_index codes k) (get_or old k None) (get_or new k None)
+    (sym (kind_at new k) ∙ ap (λ kinds. get_or kinds k None) same ∙ kind_at old k)
+    (are k coded (omega (arith, as_many, low)))
+
+-- the numbers of a cell and of a row change no code
+pub codes_put : (dialect : Dialect) (codes : List ℕ) (row column : ℕ) (answer : Result (Option ℤ) CellFault)
+    (targets : List (Option TargetView)) → AreCodes dialect codes targets
+    → AreCodes dialect codes (put_read_at row column answer targets)
+codes_put dialect codes row column answer targets =
+    codes_stay dialect codes targets (put_read_at row column answer targets) (kinds_put row column answer targets)
+
+pub codes_put_row : (dialect : Dialect) (codes : List ℕ) (row : ℕ) (values : List (Option ℤ))
+    (targets : List (Option TargetView)) → AreCodes dialect codes targets
+    → AreCodes dialect codes (put_row row values targets)
+codes_put_row dialect codes row values targets =
+    codes_stay dialect codes targets (put_row row values targets) (kinds_put_row row values targets)
+
+-- the code of a column, whatever stands for one that isn't there
+any_default : (targets : List (Option TargetView)) (k : ℕ) (c d : Option TargetView) → k < length targets
+    → get_or targets k c ≡ get_or targets k d
+any_default [] k c d low = absurd (omega arith)
+any_default (t ∷ ts) zero c d low = refl
+any_default (t ∷ ts) (suc k) c d low = any_default ts k c d (omega arith)
+
+pub code_at : (dialect : Dialect) (codes : List ℕ) (targets : List (Option TargetView)) (k : ℕ) (d : Option TargetView)
+    → AreCodes dialect codes targets → k < length codes → k < length targets
+    → IsCodeIn dialect (slice_index codes k) (get_or targets k d)
+code_at dialect codes targets k d are coded low =
+    subst (IsCodeIn dialect (slice_index codes k)) (any_default targets k None d low) (are k coded low)
+
+-- nothing is known of any column
+pub unknown_codes : (dialect : Dialect) (codes : List ℕ) (targets : List (Option TargetView))
+    → ((k : ℕ) → k < length codes → slice_index codes k ≡ 0) → AreCodes dialect codes targets
+unknown_codes dialect codes targets unknown k coded low =
+    let none = unknown k coded in
+    record {
+      column = record {
+        unread = λ is. absurd (omega (arith, none, is));
+        read = λ read. absurd (omega (arith, none, read));
+      };
+      no_blanks = λ read. absurd (omega (arith, none, read));
+      no_number = λ bits. absurd (omega (arith, none, bits));
+    }

@@ -1,0 +1,136 @@
+-- Cells of digits, alone or within quotes: each stands for the number that the digits write.
+use Rattle.std.proofs.Common.{◌≡◌, ◌≢◌, ◌∙◌, ℕ, ◌+◌, ◌-◌, ◌<◌, ◌≤◌, ◌==◌, ◌&&◌, Bool, true, false, cond, List, length, take, drop, get_or, Some, None, Ok, refl, ap, ap₂, sym, subst, arith, length-drop, length-take-le}
+use Rattle.std.specs.Prelude.{nat_lt, option_map}
+use Rattle.std.specs.Str.{bytes_eq}
+use Rattle.std.proofs.lemmas.Bool.{and_right, eq-eqb, eqb-true, false_from_ne_true, false≢true, lt-ltb}
+use Rattle.std.proofs.lemmas.Grind.{get_or_after_one}
+use Rattle.std.proofs.lemmas.List.{get_or-take}
+use Rattle.std.proofs.lemmas.List.Sums.{position_or_len_is}
+use Rattle.std.proofs.lemmas.Slice.Eq.{bytes_eq-Decides}
+use Rattle.lexical_util.specs.Format.{standard}
+use Rattle.lexical_util.specs.Number.{IsNumber}
+use Rattle.lexical_parse_integer.specs.Value.{with_sign}
+use Rattle.lexical_fields.specs.Fields.{FieldView}
+use Rattle.lexical_fields.specs.Numerals.{IsNumeral}
+use Rattle.lexical_fields.specs.ReadFields.{field_answer}
+use Rattle.lexical_fields.proofs.FieldAnswers.{answered}
+use Rattle.lexical_fields.proofs.Numerals.{numeral_complete, numeral_ends, numeral_without}
+use Rattle.lexical_tables.specs.Cells.{Kind, answer_as, begins_with_quote, content, ends_in_digit, fault_round_number, first_quote, misplaced_quote, number_at, quote_fault, some_number, unless, within_quotes}
+use Rattle.lexical_tables.specs.Quotes.{quote}
+use Rattle.lexical_tables.specs.declared.answers.CellFault.TheVariants.{MisplacedQuote}
+use Rattle.lexical_tables.specs.declared.dialect.Dialect.{Dialect}
+use Rattle.lexical_tables.proofs.Unquoted.{begins_unquoted, no_quote_fault, unquoted_fault}
+
+-- a cell that isn't read stands for nothing, where quotes have no meaning
+pub unread_answer : (d : Dialect) (cell : FieldView) → d.has_quotes ≡ false → answer_as d None cell ≡ Ok None
+unread_answer d cell no_quotes = ap (λ found. unless found (Ok None)) (sym (no_quote_fault d no_quotes cell))
+
+-- a numeral isn't the mark, where that doesn't end in a digit
+not_mark : (may_miss is_negative : Bool) (number : ℕ) (text mark : List ℕ) → IsNumeral is_negative number text
+    → (may_miss ≡ true → ends_in_digit mark ≡ false) → (may_miss && bytes_eq text mark) ≡ false
+not_mark false is_negative number text mark n other = refl
+not_mark true is_negative number text mark n other = false_from_ne_true (bytes_eq text mark) same_no
+  where
+    same_no : bytes_eq text mark ≡ true → ⊥
+    same_no same =
+        false≢true (sym (other refl) ∙ ap ends_in_digit (sym ((bytes_eq-Decides text mark).0 same))
+        ∙ numeral_ends is_negative number text n)
+
+-- a numeral is what its place stands for
+number_here : (mark : List ℕ) (kind : Kind) (held : FieldView) (is_negative : Bool) (number : ℕ)
+    → IsNumeral is_negative number held.text → kind.format ≡ standard → IsNumber kind.type (with_sign is_negative number)
+    → (is_negative ≡ true → kind.type.is_signed ≡ true) → (kind.may_miss ≡ true → ends_in_digit mark ≡ false)
+    → number_at mark kind held ≡ Ok (Some (with_sign is_negative number))
+number_here mark kind held is_negative number n is_standard fits signed other =
+    ap (λ is_mark. cond is_mark (Ok None) (some_number (field_answer kind.format kind.type held)))
+    (not_mark kind.may_miss is_negative number held.text mark n other)
+    ∙ ap (λ format. some_number (field_answer format kind.type held)) is_standard
+    ∙ ap some_number (sym (answered standard kind.type held.start held.text (Ok (with_sign is_negative number)) refl
+    (sym (numeral_complete kind.type is_negative number held.text n signed fits))))
+
+-- no byte of a numeral is a quote
+unquoted : (is_negative : Bool) (number : ℕ) (text : List ℕ) → IsNumeral is_negative number text → (k : ℕ)
+    → k < length text → get_or text k 0 ≢ quote
+unquoted is_negative number text n k low =
+    numeral_without quote refl (λ same. omega (arith, same)) is_negative number text n k low
+
+-- a cell without blanks and quotes is what it holds
+held_whole : (quotes blanks : Bool) (cell : FieldView) → blanks ≡ false → begins_with_quote cell.text ≡ false
+    → content quotes blanks cell ≡ cell
+held_whole quotes blanks cell no_blanks unquoted =
+    rw no_blanks (ap (λ t. cond t (within_quotes cell) cell) (and_right quotes (begins_with_quote cell.text) unquoted))
+
+-- a numeral alone
+pub plain_answer : (d : Dialect) (kind : Kind) (cell : FieldView) (is_negative : Bool) (number : ℕ)
+    → d.allows_blanks ≡ false → IsNumeral is_negative number cell.text → kind.format ≡ standard
+    → IsNumber kind.type (with_sign is_negative number) → (is_negative ≡ true → kind.type.is_signed ≡ true)
+    → (kind.may_miss ≡ true → ends_in_digit d.missing.now ≡ false)
+    → answer_as d (Some kind) cell ≡ Ok (Some (with_sign is_negative number))
+plain_answer d kind cell is_negative number no_blanks n is_standard fits signed other =
+    let none = unquoted is_negative number cell.text n in
+    ap (λ found. unless found (number_at d.missing.now kind (content d.has_quotes d.allows_blanks cell)))
+    (sym (unquoted_fault d.has_quotes true cell none))
+    ∙ ap (number_at d.missing.now kind)
+    (held_whole d.has_quotes d.allows_blanks cell no_blanks (begins_unquoted cell.text none))
+    ∙ number_here d.missing.now kind cell is_negative number n is_standard fits signed other
+
+-- ---- within quotes
+
+-- a text of two quotes and a numeral between them
+module _ (text : List ℕ) (two : 2 ≤ length text) (first : get_or text 0 0 ≡ quote)
+    (last : get_or text (length text - 1) 0 ≡ quote) where
+  -- it begins with a quote
+  begins : begins_with_quote text ≡ true
+  begins = ap₂ (λ a b. a && b) (lt-ltb 0 (length text) (omega (arith, two))) (ap (λ byte. byte == quote) first)
+
+  module _ (is_negative : Bool) (number : ℕ)
+      (n : IsNumeral is_negative number (take (length text - 2) (drop 1 text))) where
+    -- the next quote is the last byte
+    next_quote : first_quote (drop 1 text) ≡ Some (length text - 2)
+    next_quote =
+        let m : ℕ = length text - 2 in
+        let left : length (drop 1 text) ≡ length text - 1 = length-drop 1 text in
+        let size : length (take m (drop 1 text)) ≡ m = length-take-le m (drop 1 text) (omega (arith, left)) in
+        let before : (k : ℕ) → k < m → (get_or (drop 1 text) k 0 == quote) ≡ false = λ k low.
+        false_from_ne_true (get_or (drop 1 text) k 0 == quote) (λ same. unquoted is_negative number (take m (drop 1 text))
+        n k (omega (arith, size, low)) (get_or-take m (drop 1 text) k 0 low ∙ eqb-true (get_or (drop 1 text) k 0) quote same)) in
+        let last_is : 1 + m ≡ length text - 1 = omega (arith, two) in
+        let at : get_or (drop 1 text) m 0 ≡ quote =
+        get_or_after_one text m 0 ∙ ap (λ k. get_or text k 0) last_is ∙ last in
+        let place = position_or_len_is (λ byte. byte == quote) (drop 1 text) m 0 (omega (arith, left)) before
+        (λ _. ap (λ byte. byte == quote) at) in
+        ap (λ k. cond (nat_lt k (length (drop 1 text))) (Some k) None) place
+        ∙ ap (λ t. cond t (Some m) None) (lt-ltb m (length (drop 1 text)) (omega (arith, left, two)))
+
+    -- so none is out of place
+    none_misplaced : misplaced_quote true text ≡ None
+    none_misplaced =
+        let closes : length text - 2 + 2 ≡ length text = omega (arith, two) in
+        ap (λ t. cond t (fault_round_number (length text) (first_quote (drop 1 text))) (first_quote text)) begins
+        ∙ ap (fault_round_number (length text)) next_quote
+        ∙ ap (λ t. cond t None (Some (length text - 2 + 1))) (eq-eqb (length text - 2 + 2) (length text) closes)
+
+    -- what stands within them
+    numeral_within : IsNumeral is_negative number (take (length (drop 1 text) - 1) (drop 1 text))
+    numeral_within =
+        let left : length (drop 1 text) ≡ length text - 1 = length-drop 1 text in
+        let size : length text - 2 ≡ length (drop 1 text) - 1 = omega (arith, left) in
+        subst (λ k. IsNumeral is_negative number (take k (drop 1 text))) size n
+
+-- a numeral within quotes, where these have a meaning
+pub quoted_answer : (d : Dialect) (kind : Kind) (cell : FieldView) (is_negative : Bool) (number : ℕ)
+    → d.allows_blanks ≡ false → d.has_quotes ≡ true → 2 ≤ length cell.text → get_or cell.text 0 0 ≡ quote
+    → get_or cell.text (length cell.text - 1) 0 ≡ quote
+    → IsNumeral is_negative number (take (length cell.text - 2) (drop 1 cell.text)) → kind.format ≡ standard
+    → IsNumber kind.type (with_sign is_negative number) → (is_negative ≡ true → kind.type.is_signed ≡ true)
+    → (kind.may_miss ≡ true → ends_in_digit d.missing.now ≡ false)
+    → answer_as d (Some kind) cell ≡ Ok (Some (with_sign is_negative number))
+quoted_answer d kind cell is_negative number no_blanks quotes two first last n is_standard fits signed other =
+    let mark = d.missing.now in
+    let text = cell.text in
+    ap₂ (λ q b. unless (quote_fault q true cell) (number_at mark kind (content q b cell))) quotes no_blanks
+    ∙ ap (λ found. unless (option_map (λ place. MisplacedQuote (cell.start + place)) found)
+    (number_at mark kind (content true false cell))) (none_misplaced text two first last is_negative number n)
+    ∙ ap (λ t. number_at mark kind (cond t (within_quotes cell) cell)) (begins text two first last)
+    ∙ number_here mark kind (within_quotes cell) is_negative number
+    (numeral_within text two first last is_negative number n) is_standard fits signed other

@@ -1,0 +1,270 @@
+use Rattle.std.proofs.Common.{◌≡◌, ◌∙◌, ◌+◌, ◌-◌, ◌≤◌, ◌∷◌, [], None, ap, arith, cond, inl, inr, length, map, refl, subst, sym, take}
+use Rattle.std.proofs.lemmas.Bool.Decides.{nat_tests}
+use Rattle.lexical_tables.specs.ByColumn.{answer_at, end_fault, fault_in, kinds_of, put_read_at}
+use Rattle.lexical_fields.specs.Fields.{FieldView}
+use Rattle.lexical_tables.specs.Codes.{AreCodes}
+use Rattle.lexical_tables.specs.RowSoFar.{cells_behind, count_in}
+use Rattle.lexical_tables.specs.Rows.{first_row}
+use Rattle.lexical_tables.proofs.CellsLeft.{cells_begin}
+use Rattle.lexical_tables.proofs.CodeSteps.{codes_put}
+use Rattle.lexical_tables.proofs.ColumnSteps.{after_cell, after_fault, row_ends, row_starts}
+use Rattle.lexical_tables.proofs.PassSteps.{IsCellRead, cell_starts, passed_low, read_kept, row_begins, row_size, too_many}
+use Rattle.lexical_tables.proofs.pass.read_marked_row.Goals.{then-not-read_coded_cell+in_default, else-not-read_coded_cell}
+use Rattle.lexical_tables.proofs.pass.read_marked_row.Goals as goal
+
+pub loop-column-init : goal.loop-column-init
+loop-column-init g c =
+    let d = c.args.dialect.now in
+    let text = c.args.text.text.now in
+    let row = first_row d c.args.start text in
+    let none : length text - length text ≡ 0 = omega arith in (
+      row_begins d c.args.separator c.requires.marked c.args.start text,
+      c.requires.marks,
+      c.requires.codes,
+      row_starts (kinds_of (map g.C.TableColumn.target c.args.targets.now)) d c.args.index row
+          (map g.C.TableColumn.target c.args.targets.now) _ refl c.requires.usable
+          (ap (cells_behind d row 0) none ∙ cells_begin d row),
+    )
+
+pub read_rest-requires-clause-passed : goal.read_rest-requires-clause-passed
+read_rest-requires-clause-passed g c =
+    let d = c.args.dialect.now in
+    let text = c.args.text.text.now in
+    let left = c.loop-column.left.text.now in
+    omega (
+      arith,
+      passed_low d c.args.separator c.requires.marked c.args.start text left c.loop-column.invariant.0,
+      row_size d c.args.separator c.requires.marked c.args.start text,
+    )
+
+pub returns-in-Some-clause-fault : goal.returns-in-Some-clause-fault
+returns-in-Some-clause-fault g c =
+    let d = c.args.dialect.now in
+    let text = c.args.text.text.now in
+    let left = c.loop-column.left.text.now in
+    let row = first_row d c.args.start text in
+    let column = c.loop-column.column in
+    let part = c.next_part-part in
+    let kinds = kinds_of (map g.C.TableColumn.target c.args.targets.now) in
+    let old = map g.C.TableColumn.target c.args.targets.now in
+    let before = map g.C.TableColumn.target c.loop-column.targets in
+    let cell : FieldView = record { start = c.args.start + (length text - length left); text = take part.result.size left } in
+    let kept = c.if-not-read_coded_cell.ensures.kept refl in
+    let done = after_fault kinds d c.args.index row old before column
+    _ c.loop-column.invariant.3 cell _ (part.ensures.cells c.args.start column) (grind (arith, nat_tests))
+    (map g.C.TableColumn.target c.read_by_column.new.targets) c.in-Some.fault
+    (c.in-Some.ensures.fault ∙ ap (λ l. fault_in (answer_at d (kinds_of l) column cell)) kept)
+    (c.in-Some.ensures.targets ∙ ap (λ l. put_read_at c.args.index column (answer_at d (kinds_of l) column cell) l) kept) in
+    done.fault_is
+
+pub returns-in-Some-clause-targets : goal.returns-in-Some-clause-targets
+returns-in-Some-clause-targets g c =
+    let d = c.args.dialect.now in
+    let text = c.args.text.text.now in
+    let left = c.loop-column.left.text.now in
+    let row = first_row d c.args.start text in
+    let column = c.loop-column.column in
+    let part = c.next_part-part in
+    let kinds = kinds_of (map g.C.TableColumn.target c.args.targets.now) in
+    let old = map g.C.TableColumn.target c.args.targets.now in
+    let before = map g.C.TableColumn.target c.loop-column.targets in
+    let cell : FieldView = record { start = c.args.start + (length text - length left); text = take part.result.size left } in
+    let kept = c.if-not-read_coded_cell.ensures.kept refl in
+    let done = after_fault kinds d c.args.index row old before column
+    _ c.loop-column.invariant.3 cell _ (part.ensures.cells c.args.start column) (grind (arith, nat_tests))
+    (map g.C.TableColumn.target c.read_by_column.new.targets) c.in-Some.fault
+    (c.in-Some.ensures.fault ∙ ap (λ l. fault_in (answer_at d (kinds_of l) column cell)) kept)
+    (c.in-Some.ensures.targets ∙ ap (λ l. put_read_at c.args.index column (answer_at d (kinds_of l) column cell) l) kept) in
+    done.targets_are
+
+pub loop-column-preserved : goal.loop-column-preserved
+loop-column-preserved g c =
+    let d = c.args.dialect.now in
+    let text = c.args.text.text.now in
+    let left = c.loop-column.left.text.now in
+    let row = first_row d c.args.start text in
+    let column = c.loop-column.column in
+    let part = c.next_part-part in
+    let kinds = kinds_of (map g.C.TableColumn.target c.args.targets.now) in
+    let old = map g.C.TableColumn.target c.args.targets.now in
+    let before = map g.C.TableColumn.target c.loop-column.targets in
+    let cell : FieldView = record { start = c.args.start + (length text - length left); text = take part.result.size left } in
+    let now = map g.C.TableColumn.target c.if-not-read_coded_cell.targets in
+    let read : IsCellRead d c.args.index column cell before now = elim c.if-not-read_coded_cell.branch [
+      | then-not-read_coded_cell+in_default w ↦ read_kept d c.args.index column cell before _ now
+          (w.if-not-read_coded_cell.ensures.kept refl)
+          (record { fine = w.in_default.ensures.fault; put = ap (map g.C.TableColumn.target) w.targets-is ∙ w.in_default.ensures.targets })
+      | else-not-read_coded_cell w ↦ record {
+        fine = sym (w.if-not-read_coded_cell.ensures.fault refl);
+        put = ap (map g.C.TableColumn.target) w.targets-is ∙ w.if-not-read_coded_cell.ensures.targets refl;
+      }
+    ] in
+    let at = part.ensures.cells c.args.start column
+    ∙ ap (λ t. cell ∷ cond t [] (cells_behind d row (column + 1) (length text - length part.result.behind.text.now))) c.if-part.false in (
+      part.ensures.goes c.if-part.false,
+      part.ensures.marks,
+      subst (AreCodes d c.args.codes.now) (sym read.put)
+          (codes_put d c.args.codes.now c.args.index column (answer_at d (kinds_of before) column cell) before c.loop-column.invariant.2),
+      after_cell kinds d c.args.index row old before column _ c.loop-column.invariant.3 cell _ at (grind (arith, nat_tests))
+          now read.fine read.put,
+    )
+
+pub returns-in-Some-end_fault-clause-fault : goal.returns-in-Some-end_fault-clause-fault
+returns-in-Some-end_fault-clause-fault g c =
+    let d = c.args.dialect.now in
+    let text = c.args.text.text.now in
+    let left = c.loop-column.left.text.now in
+    let row = first_row d c.args.start text in
+    let column = c.loop-column.column in
+    let part = c.next_part-part in
+    let kinds = kinds_of (map g.C.TableColumn.target c.args.targets.now) in
+    let old = map g.C.TableColumn.target c.args.targets.now in
+    let before = map g.C.TableColumn.target c.loop-column.targets in
+    let cell : FieldView = record { start = c.args.start + (length text - length left); text = take part.result.size left } in
+    let now = map g.C.TableColumn.target c.if-not-read_coded_cell.targets in
+    let read : IsCellRead d c.args.index column cell before now = elim c.if-not-read_coded_cell.branch [
+      | then-not-read_coded_cell+in_default w ↦ read_kept d c.args.index column cell before _ now
+          (w.if-not-read_coded_cell.ensures.kept refl)
+          (record { fine = w.in_default.ensures.fault; put = ap (map g.C.TableColumn.target) w.targets-is ∙ w.in_default.ensures.targets })
+      | else-not-read_coded_cell w ↦ record {
+        fine = sym (w.if-not-read_coded_cell.ensures.fault refl);
+        put = ap (map g.C.TableColumn.target) w.targets-is ∙ w.if-not-read_coded_cell.ensures.targets refl;
+      }
+    ] in
+    let at = part.ensures.cells c.args.start column
+    ∙ ap (λ t. cell ∷ cond t [] (cells_behind d row (column + 1) (length text - length part.result.behind.text.now))) c.if-part.true in
+    let put = after_cell kinds d c.args.index row old before column _ c.loop-column.invariant.3 cell _ at (grind (arith, nat_tests))
+    now read.fine read.put in
+    let done = row_ends kinds d c.args.index row old now (column + 1) [] put c.end_fault.result (inl refl)
+    (c.end_fault.ensures ∙ ap (λ r. end_fault c.args.columns c.args.index r (column + 1) None) (part.ensures.row c.if-part.true c.args.start)
+    ∙ ap (λ n. end_fault n c.args.index row (column + 1) None) c.requires.columns) in
+    sym c.in-Some-end_fault.is ∙ done.fault_is
+
+pub returns-in-Some-end_fault-clause-targets : goal.returns-in-Some-end_fault-clause-targets
+returns-in-Some-end_fault-clause-targets g c =
+    let d = c.args.dialect.now in
+    let text = c.args.text.text.now in
+    let left = c.loop-column.left.text.now in
+    let row = first_row d c.args.start text in
+    let column = c.loop-column.column in
+    let part = c.next_part-part in
+    let kinds = kinds_of (map g.C.TableColumn.target c.args.targets.now) in
+    let old = map g.C.TableColumn.target c.args.targets.now in
+    let before = map g.C.TableColumn.target c.loop-column.targets in
+    let cell : FieldView = record { start = c.args.start + (length text - length left); text = take part.result.size left } in
+    let now = map g.C.TableColumn.target c.if-not-read_coded_cell.targets in
+    let read : IsCellRead d c.args.index column cell before now = elim c.if-not-read_coded_cell.branch [
+      | then-not-read_coded_cell+in_default w ↦ read_kept d c.args.index column cell before _ now
+          (w.if-not-read_coded_cell.ensures.kept refl)
+          (record { fine = w.in_default.ensures.fault; put = ap (map g.C.TableColumn.target) w.targets-is ∙ w.in_default.ensures.targets })
+      | else-not-read_coded_cell w ↦ record {
+        fine = sym (w.if-not-read_coded_cell.ensures.fault refl);
+        put = ap (map g.C.TableColumn.target) w.targets-is ∙ w.if-not-read_coded_cell.ensures.targets refl;
+      }
+    ] in
+    let at = part.ensures.cells c.args.start column
+    ∙ ap (λ t. cell ∷ cond t [] (cells_behind d row (column + 1) (length text - length part.result.behind.text.now))) c.if-part.true in
+    let put = after_cell kinds d c.args.index row old before column _ c.loop-column.invariant.3 cell _ at (grind (arith, nat_tests))
+    now read.fine read.put in
+    let done = row_ends kinds d c.args.index row old now (column + 1) [] put c.end_fault.result (inl refl)
+    (c.end_fault.ensures ∙ ap (λ r. end_fault c.args.columns c.args.index r (column + 1) None) (part.ensures.row c.if-part.true c.args.start)
+    ∙ ap (λ n. end_fault n c.args.index row (column + 1) None) c.requires.columns) in
+    done.targets_are
+
+pub returns-in-None-clause-fault : goal.returns-in-None-clause-fault
+returns-in-None-clause-fault g c =
+    let d = c.args.dialect.now in
+    let text = c.args.text.text.now in
+    let left = c.loop-column.left.text.now in
+    let row = first_row d c.args.start text in
+    let column = c.loop-column.column in
+    let part = c.next_part-part in
+    let kinds = kinds_of (map g.C.TableColumn.target c.args.targets.now) in
+    let old = map g.C.TableColumn.target c.args.targets.now in
+    let before = map g.C.TableColumn.target c.loop-column.targets in
+    let cell : FieldView = record { start = c.args.start + (length text - length left); text = take part.result.size left } in
+    let now = map g.C.TableColumn.target c.if-not-read_coded_cell.targets in
+    let read : IsCellRead d c.args.index column cell before now = elim c.if-not-read_coded_cell.branch [
+      | then-not-read_coded_cell+in_default w ↦ read_kept d c.args.index column cell before _ now
+          (w.if-not-read_coded_cell.ensures.kept refl)
+          (record { fine = w.in_default.ensures.fault; put = ap (map g.C.TableColumn.target) w.targets-is ∙ w.in_default.ensures.targets })
+      | else-not-read_coded_cell w ↦ record {
+        fine = sym (w.if-not-read_coded_cell.ensures.fault refl);
+        put = ap (map g.C.TableColumn.target) w.targets-is ∙ w.if-not-read_coded_cell.ensures.targets refl;
+      }
+    ] in
+    let at = part.ensures.cells c.args.start column
+    ∙ ap (λ t. cell ∷ cond t [] (cells_behind d row (column + 1) (length text - length part.result.behind.text.now))) c.if-part.true in
+    let put = after_cell kinds d c.args.index row old before column _ c.loop-column.invariant.3 cell _ at (grind (arith, nat_tests))
+    now read.fine read.put in
+    let done = row_ends kinds d c.args.index row old now (column + 1) [] put c.end_fault.result (inl refl)
+    (c.end_fault.ensures ∙ ap (λ r. end_fault c.args.columns c.args.index r (column + 1) None) (part.ensures.row c.if-part.true c.args.start)
+    ∙ ap (λ n. end_fault n c.args.index row (column + 1) None) c.requires.columns) in
+    sym c.in-None.is ∙ done.fault_is
+
+pub returns-in-None-clause-targets : goal.returns-in-None-clause-targets
+returns-in-None-clause-targets g c =
+    let d = c.args.dialect.now in
+    let text = c.args.text.text.now in
+    let left = c.loop-column.left.text.now in
+    let row = first_row d c.args.start text in
+    let column = c.loop-column.column in
+    let part = c.next_part-part in
+    let kinds = kinds_of (map g.C.TableColumn.target c.args.targets.now) in
+    let old = map g.C.TableColumn.target c.args.targets.now in
+    let before = map g.C.TableColumn.target c.loop-column.targets in
+    let cell : FieldView = record { start = c.args.start + (length text - length left); text = take part.result.size left } in
+    let now = map g.C.TableColumn.target c.if-not-read_coded_cell.targets in
+    let read : IsCellRead d c.args.index column cell before now = elim c.if-not-read_coded_cell.branch [
+      | then-not-read_coded_cell+in_default w ↦ read_kept d c.args.index column cell before _ now
+          (w.if-not-read_coded_cell.ensures.kept refl)
+          (record { fine = w.in_default.ensures.fault; put = ap (map g.C.TableColumn.target) w.targets-is ∙ w.in_default.ensures.targets })
+      | else-not-read_coded_cell w ↦ record {
+        fine = sym (w.if-not-read_coded_cell.ensures.fault refl);
+        put = ap (map g.C.TableColumn.target) w.targets-is ∙ w.if-not-read_coded_cell.ensures.targets refl;
+      }
+    ] in
+    let at = part.ensures.cells c.args.start column
+    ∙ ap (λ t. cell ∷ cond t [] (cells_behind d row (column + 1) (length text - length part.result.behind.text.now))) c.if-part.true in
+    let put = after_cell kinds d c.args.index row old before column _ c.loop-column.invariant.3 cell _ at (grind (arith, nat_tests))
+    now read.fine read.put in
+    let done = row_ends kinds d c.args.index row old now (column + 1) [] put c.end_fault.result (inl refl)
+    (c.end_fault.ensures ∙ ap (λ r. end_fault c.args.columns c.args.index r (column + 1) None) (part.ensures.row c.if-part.true c.args.start)
+    ∙ ap (λ n. end_fault n c.args.index row (column + 1) None) c.requires.columns) in
+    done.targets_are
+
+pub returns-clause-fault : goal.returns-clause-fault
+returns-clause-fault g c =
+    let d = c.args.dialect.now in
+    let text = c.args.text.text.now in
+    let left = c.loop-column.left.text.now in
+    let row = first_row d c.args.start text in
+    let column = c.loop-column.column in
+    let put = c.loop-column.invariant.3 in
+    let full : count_in d ≤ column = grind (arith, nat_tests) in
+    let all : count_in d ≡ column = omega (arith, put.few, full) in
+    let done = row_ends (kinds_of (map g.C.TableColumn.target c.args.targets.now)) d c.args.index row
+    (map g.C.TableColumn.target c.args.targets.now) (map g.C.TableColumn.target c.loop-column.targets) column
+    _ put _ (inr full)
+    (too_many (count_in d) c.args.index column (c.args.start + (length text - length left)) row all
+    ∙ ap (end_fault (count_in d) c.args.index row column)
+    (sym (cell_starts d c.args.separator c.requires.marked c.args.start text left c.loop-column.invariant.0 column))) in
+    done.fault_is
+
+pub returns-clause-targets : goal.returns-clause-targets
+returns-clause-targets g c =
+    let d = c.args.dialect.now in
+    let text = c.args.text.text.now in
+    let left = c.loop-column.left.text.now in
+    let row = first_row d c.args.start text in
+    let column = c.loop-column.column in
+    let put = c.loop-column.invariant.3 in
+    let full : count_in d ≤ column = grind (arith, nat_tests) in
+    let all : count_in d ≡ column = omega (arith, put.few, full) in
+    let done = row_ends (kinds_of (map g.C.TableColumn.target c.args.targets.now)) d c.args.index row
+    (map g.C.TableColumn.target c.args.targets.now) (map g.C.TableColumn.target c.loop-column.targets) column
+    _ put _ (inr full)
+    (too_many (count_in d) c.args.index column (c.args.start + (length text - length left)) row all
+    ∙ ap (end_fault (count_in d) c.args.index row column)
+    (sym (cell_starts d c.args.separator c.requires.marked c.args.start text left c.loop-column.invariant.0 column))) in
+    done.targets_are

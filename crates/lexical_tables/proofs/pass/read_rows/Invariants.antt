@@ -1,0 +1,16 @@
+use Rattle.std.proofs.Common.{◌-◌, map}
+use Rattle.lexical_tables.specs.Codes.{AreCodes}
+use Rattle.lexical_tables.specs.Ends.{AreEndsIf}
+use Rattle.lexical_tables.proofs.ColumnTables.{IsTablePut}
+use Rattle.lexical_tables.proofs.pass.read_rows.Given as goal
+
+-- so many rows were read
+abbrev pub invariant-loop-count : goal.invariant-loop-count
+invariant-loop-count g l =
+    IsTablePut l.dialect l.rows l.text (map g.C.TableColumn.target l.initial.targets) (map g.C.TableColumn.target l.targets)
+    l.count l.left.text.now
+    × AreEndsIf l.marked l.dialect.has_quotes l.left.text.now l.left.marks
+    × AreCodes l.dialect l.codes (map g.C.TableColumn.target l.targets)
+
+abbrev pub decreases-loop-count : goal.decreases-loop-count
+decreases-loop-count g l = l.rows - l.count

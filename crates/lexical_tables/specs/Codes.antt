@@ -1,0 +1,59 @@
+-- What a column says of all its cells, as a byte.
+-- 0: nothing is known, and the column is asked at each cell. 1: its cells aren't read. 2 and more: they are read under the
+-- standard format, as numbers of u8, u16, u32, u64, i8, i16, i32 or i64 in this order, and no number may be missing. 10 and
+-- more: the same, and a number may be missing.
+use Rattle.std.specs.Prelude.{◌≡◌, ◌-◌, ◌*◌, ◌%◌, ◌^◌, ◌<◌, ◌≤◌, ◌⊎◌, ℕ, Bool, false, true, IfSome, IsTrue, List, get_or, length, nat_le, slice_index, Option, Some, None, is_some, option_map}
+use Rattle.lexical_util.specs.Format.{standard}
+use Rattle.lexical_util.specs.Number.{IntegerType, IsNumber, integer_type}
+use Rattle.lexical_parse_integer.specs.Value.{with_sign}
+use Rattle.lexical_fields.specs.Numerals.{IsNumeral}
+use Rattle.lexical_tables.specs.Cells.{ends_in_digit}
+use Rattle.lexical_tables.specs.Quotes.{quote}
+use Rattle.lexical_tables.specs.Targets.{TargetView, put_value}
+use Rattle.lexical_tables.specs.declared.dialect.Dialect.{Dialect}
+
+-- the type at a place among u8, u16, u32, u64, i8, i16, i32 and i64
+abbrev pub type_at : ℕ → IntegerType
+type_at place = integer_type (8 * 2 ^ (place % 4)) (nat_le 4 place)
+
+-- the type of the numbers of a column with a code
+abbrev pub coded_type : ℕ → IntegerType
+coded_type code = type_at ((code - 2) % 8)
+
+-- a column is read as a code says
+abbrev pub IsReadAs : ℕ → Option TargetView → Type 0
+IsReadAs code None = ⊥
+IsReadAs code (Some target) = (target.format ≡ standard) × (target.type ≡ coded_type code)
+    × (is_some target.present ≡ nat_le 10 code)
+
+-- A code is right for a column.
+pub record IsCode (code : ℕ) (target : Option TargetView) : Type 0 where
+  pub unread : code ≡ 1 → is_some target ≡ false
+  pub read : 2 ≤ code → IsReadAs code target
+
+-- A code is right for a column in a table: where it says how its cells are read, no blanks stand there, and what stands for
+-- a missing number is none itself.
+pub record IsCodeIn (dialect : Dialect) (code : ℕ) (target : Option TargetView) : Type 0 where
+  pub column : IsCode code target
+  pub no_blanks : 2 ≤ code → dialect.allows_blanks ≡ false
+  pub no_number : 10 ≤ code → ends_in_digit dialect.missing.now ≡ false
+
+-- each column with a place among the codes has its code
+abbrev pub AreCodes : Dialect → List ℕ → List (Option TargetView) → Type 0
+AreCodes dialect codes targets = (k : ℕ) → k < length codes → k < length targets
+    → IsCodeIn dialect (slice_index codes k) (get_or targets k None)
+
+-- So many quotes stand round what a cell holds: one on each side, where quotes have a meaning, or none.
+abbrev pub AreQuotesRound : Bool → List ℕ → ℕ → Type 0
+AreQuotesRound has_quotes text count = (count ≡ 0) ⊎ ((count ≡ 1) × (has_quotes ≡ true)
+    × (2 ≤ length text) × (slice_index text 0 ≡ quote)
+    × (slice_index text (length text - 1) ≡ quote))
+
+-- The number of a text of digits was put into a row's place, and the column's type has it.
+pub record IsNumberPut (row : ℕ) (text : List ℕ) (old new : Option TargetView) : Type 0 where
+  pub is_negative : Bool
+  pub number : ℕ
+  pub numeral : IsNumeral is_negative number text
+  pub fits : IfSome old (λ target. IsNumber target.type (with_sign is_negative number))
+  pub minus : IsTrue is_negative → IfSome old (λ target. target.type.is_signed ≡ true)
+  pub put : new ≡ option_map (put_value row (Some (with_sign is_negative number))) old

@@ -1,0 +1,26 @@
+-- What ends the cells of a text: a separator or a line feed, outside quotes.
+use Rattle.std.specs.Prelude.{◌≡◌, ◌==◌, ◌||◌, ◌+◌, ◌<◌, ◌≤◌, ℕ, Bool, List, Option, None, Some, if◌then◌else◌, length, slice_index}
+use Rattle.std.specs.Int.{bit_at}
+use Rattle.lexical_tables.specs.Quotes.{seen}
+use Rattle.lexical_tables.specs.Rows.{line_feed}
+
+-- whether the byte at a place ends a cell: it is a separator or a line feed outside quotes
+abbrev pub is_end : Bool → ℕ → List ℕ → ℕ → Bool
+is_end has_quotes separator bytes place =
+    (slice_index (seen has_quotes separator bytes) place == separator)
+    || (slice_index (seen has_quotes line_feed bytes) place == line_feed)
+
+-- Of the first places of some bytes, so many, those are marked by a bit where a cell ends, and no other bit is set. Sixteen
+-- bytes more stand behind them.
+pub record AreEnds (has_quotes : Bool) (separator : ℕ) (bytes : List ℕ) (marks : ℕ) : Type 0 where
+  pub seen : ℕ
+  pub few : seen ≤ 64
+  pub room : 0 < seen → seen + 16 ≤ length bytes
+  pub here : (k : ℕ) → k < seen
+      → bit_at marks k ≡ (if is_end has_quotes separator bytes k then 1 else 0)
+  pub beyond : (k : ℕ) → seen ≤ k → bit_at marks k ≡ 0
+
+-- where a separator is known, the ends of cells are marked by it
+abbrev pub AreEndsIf : Option ℕ → Bool → List ℕ → ℕ → Type 0
+AreEndsIf None has_quotes bytes marks = Unit {0}
+AreEndsIf (Some separator) has_quotes bytes marks = AreEnds has_quotes separator bytes marks

@@ -1,0 +1,70 @@
+-- A row of which some cells were read.
+use Rattle.std.specs.Prelude.{◌≡◌, ◌≢◌, ◌+◌, ◌-◌, ◌<◌, ◌≤◌, ℕ, ℤ, true, List, ◌++◌, length, slice_index, take, drop, Option, Some, None, Result, Ok, Err}
+use Rattle.lexical_fields.specs.Columns as columns
+use Rattle.lexical_fields.specs.Fields.{FieldView}
+use Rattle.lexical_tables.specs.ByColumn.{AreUsable, cell_answers, cells_left, cells_of, column_count, kinds_of, put_row, row_answers, row_fault, row_values, separator_of}
+use Rattle.lexical_tables.specs.Cells.{Kind}
+use Rattle.lexical_tables.specs.Quotes.{length_outside, quote}
+use Rattle.lexical_tables.specs.Rows.{RowView, carriage_return, line_feed}
+use Rattle.lexical_tables.specs.Targets.{TargetView}
+use Rattle.lexical_tables.specs.declared.answers.CellFault.{CellFault}
+use Rattle.lexical_tables.specs.declared.answers.TableError.{TableError}
+use Rattle.lexical_tables.specs.declared.dialect.Dialect.{Dialect}
+
+-- how many columns a row has
+abbrev pub count_in : Dialect → ℕ
+count_in dialect = column_count dialect.layout
+
+-- what those of the cells that are left stand for that have a column
+abbrev pub answers_left : List (Option Kind) → Dialect → ℕ → List FieldView
+    → List (Result (Option ℤ) CellFault)
+answers_left kinds dialect column left =
+    cell_answers dialect (drop column kinds) (take (count_in dialect - column) left)
+
+-- the cells of a row behind so many others that have so many bytes
+abbrev pub cells_behind : Dialect → RowView → ℕ → ℕ → List FieldView
+cells_behind dialect row column passed =
+    cells_left dialect.layout dialect.has_quotes column (row.start + passed) (drop passed row.text)
+
+-- So many cells of a row were read, and what is read of those that are left, with them, is what is read of the row.
+pub record IsRowPut (kinds : List (Option Kind)) (dialect : Dialect) (index : ℕ) (row : RowView)
+    (old now : List (Option TargetView)) (column : ℕ) (left : List FieldView) : Type 0 where
+  pub few : column ≤ count_in dialect
+  pub place : drop column (cells_of dialect row) ≡ left
+  pub counted : column + length left ≡ length (cells_of dialect row)
+  pub kinds_are : kinds_of now ≡ kinds
+  pub usable : AreUsable (index + 1) now
+  pub values : take column now ++ put_row index
+      (columns.values_before_fault (answers_left kinds dialect column left)) (drop column now)
+      ≡ put_row index (row_values kinds dialect row) old
+  pub size : column + length (columns.values_before_fault (answers_left kinds dialect column left))
+      ≡ length (row_values kinds dialect row)
+  pub first : columns.first_fault (answers_left kinds dialect column left)
+      ≡ columns.first_fault (row_answers kinds dialect row)
+
+-- What is answered of a row, and what the targets then are.
+pub record IsRowDone (kinds : List (Option Kind)) (dialect : Dialect) (index : ℕ) (row : RowView)
+    (old now : List (Option TargetView)) (answer : Option TableError) : Type 0 where
+  pub fault_is : answer ≡ row_fault kinds dialect index row
+  pub targets_are : now ≡ put_row index (row_values kinds dialect row) old
+
+-- the fault of an answer of a row
+abbrev pub wrong_in : {A : Type 0} → Result A TableError → Option TableError
+wrong_in (Ok found) = None
+wrong_in (Err error) = Some error
+
+-- One pass of marks finds the cells and the rows of a table: a separator parts the cells, which is no quote that has a
+-- meaning, and no return that is asked for.
+pub record IsMarked (dialect : Dialect) (separator : ℕ) : Type 0 where
+  pub parts : separator_of dialect.layout ≡ Some separator
+  pub no_quote : dialect.has_quotes ≡ true → separator ≢ quote
+  pub no_return : dialect.has_returns ≡ true → separator ≢ carriage_return
+
+-- What is left of a text from a cell of its first row on.
+pub record IsOnRow (dialect : Dialect) (separator : ℕ) (text left : List ℕ) : Type 0 where
+  pub within : length left ≤ length text
+  pub tail : left ≡ drop (length text - length left) text
+  pub line : length_outside dialect.has_quotes line_feed text
+      ≡ (length text - length left) + length_outside dialect.has_quotes line_feed left
+  pub behind_separator : 0 < length text - length left
+      → slice_index text (length text - length left - 1) ≡ separator

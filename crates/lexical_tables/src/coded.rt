@@ -1,0 +1,97 @@
+//! The codes of targets, and numbers that are put into these by their sign.
+
+ghost use Rattle.std.specs.Prelude.{◌≡◌, ◌+◌, ◌<◌, ◌≤◌, ◌^◌, IsTrue, Some, false, length, set, true};
+ghost use Rattle.lexical_digits.specs.Value.{with_sign};
+ghost use Rattle.lexical_util.specs.Number.{IsNumber};
+ghost use Rattle.lexical_tables.specs.ByColumn.{IsUsable};
+ghost use Rattle.lexical_tables.specs.Codes.{IsCode, coded_type};
+ghost use Rattle.lexical_tables.specs.Targets.{put_value, type_of, view_of_target};
+
+use crate::codes::{self, UNKNOWN, WITH_BITS};
+use crate::column_integer::put_with_sign;
+use crate::targets::{Numbers, Target};
+use lexical_parse_integer::format;
+
+impl Numbers<'_> {
+    // The code of a column of such numbers, of which none may be missing.
+    fn code(&self) -> u8
+        ensures numbers { type_of self.now ≡ coded_type result }
+        ensures read { 2 ≤ result }
+        ensures bare { result < 10 }
+    {
+        match self {
+            Numbers::U8(_) => codes::U8,
+            Numbers::U16(_) => codes::U16,
+            Numbers::U32(_) => codes::U32,
+            Numbers::U64(_) => codes::U64,
+            Numbers::I8(_) => codes::I8,
+            Numbers::I16(_) => codes::I16,
+            Numbers::I32(_) => codes::I32,
+            Numbers::I64(_) => codes::I64,
+        }
+    }
+}
+
+impl Target<'_> {
+    // What the column says of all its cells.
+    pub(crate) fn code(&self) -> u8
+        ensures { IsCode result (Some (view_of_target self.now)) }
+    {
+        if self.format != format::STANDARD {
+            return UNKNOWN;
+        }
+        let code = self.numbers.code();
+        if self.present.is_some() {
+            return code + WITH_BITS;
+        }
+        code
+    }
+
+    // Puts a number with its sign into a row's place, and sets the row's bit, where the column's type has it, and tells whether
+    // it did.
+    #[inline(always)]
+    pub(crate) fn put_with_sign(&mut self, row: usize, is_negative: bool, number: u64) -> bool
+        requires usable { IsUsable (row + 1) (Some (view_of_target self.old)) }
+        requires small { number < 2 ^ 63 }
+        ensures fits { IsTrue result
+            → IsNumber (view_of_target self.old).type (with_sign is_negative number) }
+        ensures minus { IsTrue result → IsTrue is_negative
+            → (view_of_target self.old).type.is_signed ≡ true }
+        ensures target { IsTrue result → view_of_target self.new
+            ≡ put_value row (Some (with_sign is_negative number)) (view_of_target self.old) }
+        ensures kept { result ≡ false → view_of_target self.new ≡ view_of_target self.old }
+    {
+        if !self.put_number(row, is_negative, number) {
+            return false;
+        }
+        self.put_presence(row, true);
+        true
+    }
+
+    // Puts a number with its sign into a row's place, where the column's type has it, and tells whether it did.
+    #[inline(always)]
+    fn put_number(&mut self, row: usize, is_negative: bool, number: u64) -> bool
+        requires room { row < length (view_of_target self.old).numbers }
+        requires small { number < 2 ^ 63 }
+        ensures fits { IsTrue result
+            → IsNumber (view_of_target self.old).type (with_sign is_negative number) }
+        ensures minus { IsTrue result → IsTrue is_negative
+            → (view_of_target self.old).type.is_signed ≡ true }
+        ensures target { IsTrue result → view_of_target self.new
+            ≡ record (view_of_target self.old) {
+              numbers = set (view_of_target self.old).numbers row (with_sign is_negative number);
+            } }
+        ensures kept { result ≡ false → view_of_target self.new ≡ view_of_target self.old }
+    {
+        match &mut self.numbers {
+            Numbers::U8(values) => put_with_sign::<u8>(values, row, is_negative, number),
+            Numbers::U16(values) => put_with_sign::<u16>(values, row, is_negative, number),
+            Numbers::U32(values) => put_with_sign::<u32>(values, row, is_negative, number),
+            Numbers::U64(values) => put_with_sign::<u64>(values, row, is_negative, number),
+            Numbers::I8(values) => put_with_sign::<i8>(values, row, is_negative, number),
+            Numbers::I16(values) => put_with_sign::<i16>(values, row, is_negative, number),
+            Numbers::I32(values) => put_with_sign::<i32>(values, row, is_negative, number),
+            Numbers::I64(values) => put_with_sign::<i64>(values, row, is_negative, number),
+        }
+    }
+}

@@ -1,0 +1,108 @@
+//! What a column says of all its cells, as a byte, which a table's reader asks once a call.
+//!
+//! [`UNKNOWN`] is right for each column: then it is asked at each cell. The code of a type is for a column whose cells are read
+//! under the standard format, with [`WITH_BITS`] added where a number may be missing.
+
+ghost use Rattle.std.specs.Prelude.{◌≡◌, ◌+◌, ◌-◌, ◌%◌, ◌≤◌, false, map};
+ghost use Rattle.lexical_tables.specs.Cells.{ends_in_digit};
+ghost use Rattle.lexical_tables.specs.Codes.{AreCodes, IsCode};
+
+use crate::dialect::Dialect;
+use crate::targets::TableColumn;
+use lexical_util::digit::char_is_digit;
+
+/// Nothing is known of the column's cells.
+pub const UNKNOWN: u8 = 0;
+
+/// The column's cells aren't read.
+pub const NOT_READ: u8 = 1;
+
+/// Numbers of 8 bits without a sign.
+pub const U8: u8 = 2;
+
+/// Numbers of 16 bits without a sign.
+pub const U16: u8 = 3;
+
+/// Numbers of 32 bits without a sign.
+pub const U32: u8 = 4;
+
+/// Numbers of 64 bits without a sign.
+pub const U64: u8 = 5;
+
+/// Numbers of 8 bits with a sign.
+pub const I8: u8 = 6;
+
+/// Numbers of 16 bits with a sign.
+pub const I16: u8 = 7;
+
+/// Numbers of 32 bits with a sign.
+pub const I32: u8 = 8;
+
+/// Numbers of 64 bits with a sign.
+pub const I64: u8 = 9;
+
+/// What is added to the code of a type where a number may be missing.
+pub const WITH_BITS: u8 = 8;
+
+/// The code of the same type where no number may be missing.
+///
+/// It is for a [`TableColumn`](crate::TableColumn) of one's own. The code has to be that of a type.
+#[inline(always)]
+pub fn without_bits(code: u8) -> u8
+    requires read { 2 ≤ code }
+    ensures { result ≡ (code - 2) % 8 + 2 }
+{
+    (code - U8) % WITH_BITS + U8
+}
+
+// How many columns of a table may have a code. Those behind them are asked at each cell.
+pub(crate) const CODED: usize = 256;
+
+// Whether a text's last byte is a decimal digit.
+#[tactic(auto, using(crate::proofs::CodeLists::no_digit))]
+fn ends_in_digit(text: &[u8]) -> bool
+    ensures { result ≡ ends_in_digit text.now }
+{
+    if text.is_empty() {
+        return false;
+    }
+    char_is_digit(text[text.len() - 1], 10)
+}
+
+// A column's code in a table: none where blanks are passed, or where the mark may be a number too.
+#[inline(always)]
+fn code_in<C: TableColumn>(target: &C, allows_blanks: bool, is_mark_number: bool) -> u8
+    ensures column { IsCode result (C.target target.now) }
+    ensures no_blanks { 2 ≤ result → allows_blanks ≡ false }
+    ensures no_number { 10 ≤ result → is_mark_number ≡ false }
+{
+    let code = target.code();
+    if code < U8 {
+        return code;
+    }
+    if allows_blanks {
+        return UNKNOWN;
+    }
+    if is_mark_number {
+        if code >= U8 + WITH_BITS {
+            return UNKNOWN;
+        }
+    }
+    code
+}
+
+// Asks each column that may have a code for it.
+#[inline(never)]
+pub(crate) fn put_codes<C: TableColumn>(
+    dialect: &Dialect<'_>,
+    targets: &[C],
+    codes: &mut [u8; CODED],
+)
+    ensures { AreCodes dialect.now codes.new (map C.target targets.now) }
+{
+    let is_mark_number = ends_in_digit(dialect.missing);
+    let count = targets.len().min(CODED);
+    for column in 0..count {
+        codes[column] = code_in(&targets[column], dialect.allows_blanks, is_mark_number);
+    }
+}

@@ -1,0 +1,118 @@
+// Where a row's cells end: at separators and line feeds outside quotes, which one look at 64 bytes marks.
+ghost use Rattle.std.specs.Prelude.{◌≡◌, ◌≢◌, ◌==◌, ◌||◌, ◌+◌, ◌/◌, ◌%◌, ◌^◌, ◌<◌, ◌≤◌, ℕ, true, if◌then◌else◌, length, drop, slice_index};
+ghost use Rattle.std.specs.Int.{bit_at};
+ghost use Rattle.lexical_tables.specs.Ends.{AreEnds};
+ghost use Rattle.lexical_tables.specs.Looks.{bits_below};
+ghost use Rattle.lexical_tables.specs.Quotes.{length_outside, quote};
+ghost use Rattle.lexical_tables.specs.Rows.{line_feed};
+
+use crate::quotes::parities::odd_to_64;
+use lexical_fields::lowest_mark;
+use std::simd::prelude::*;
+
+// A text of so many bytes has marks: of its first 64, since sixteen more have to stand behind each.
+pub(crate) const LEAST_MARKED: usize = 80;
+
+// A bit for each of 64 bytes, set where that is the byte.
+#[inline(always)]
+fn marks_of_one(bytes: &[u8], byte: u8) -> u64
+    requires { length bytes.now ≡ 64 }
+    ensures { (k : ℕ) → k < 64
+        → bit_at result k ≡ (if slice_index bytes.now k == byte then 1 else 0) }
+{
+    u8x64::from_slice(bytes)
+        .simd_eq(u8x64::splat(byte))
+        .to_bitmask()
+}
+
+// A bit for each of 64 bytes, set where that is one of two.
+#[inline(always)]
+fn marks_of_two(bytes: &[u8], first: u8, second: u8) -> u64
+    requires { length bytes.now ≡ 64 }
+    ensures { (k : ℕ) → k < 64 → bit_at result k
+        ≡ (if (slice_index bytes.now k == first) || (slice_index bytes.now k == second)
+        then 1 else 0) }
+{
+    let lanes = u8x64::from_slice(bytes);
+    (lanes.simd_eq(u8x64::splat(first)) | lanes.simd_eq(u8x64::splat(second))).to_bitmask()
+}
+
+// The marks that stand outside quotes, by the marks of the quotes. Most looks see none of these.
+#[inline(always)]
+fn marks_outside(marks: u64, quotes: u64) -> u64
+    ensures { (k : ℕ) → k < 64 → bit_at result k
+        ≡ (if bits_below quotes k % 2 == 1 then 0 else bit_at marks k) }
+{
+    if quotes == 0 {
+        return marks;
+    }
+    let odd_before = odd_to_64(quotes) ^ quotes;
+    marks & !odd_before
+}
+
+// The ends of cells among the first bytes of a text, a bit for each, and none where the text is short.
+#[inline(always)]
+fn ends_in_front(text: &[u8], separator: u8, has_quotes: bool) -> u64
+    requires quoted { has_quotes ≡ true → separator ≢ quote }
+    ensures { AreEnds has_quotes separator text.now result }
+{
+    if text.len() < LEAST_MARKED {
+        return 0;
+    }
+    let near = &text[..64];
+    let ends = marks_of_two(near, separator, b'\n');
+    if !has_quotes {
+        return ends;
+    }
+    marks_outside(ends, marks_of_one(near, b'"'))
+}
+
+// The marks that are left, or new ones where none is. The text begins at a cell's start, so outside quotes.
+#[inline(always)]
+pub(crate) fn next_ends(text: &[u8], marks: u64, separator: u8, has_quotes: bool) -> u64
+    requires marks { AreEnds has_quotes separator text.now marks }
+    requires quoted { has_quotes ≡ true → separator ≢ quote }
+    ensures { AreEnds has_quotes separator text.now result }
+{
+    if marks == 0 {
+        ends_in_front(text, separator, has_quotes)
+    } else {
+        marks
+    }
+}
+
+// How many bytes the first cell has where its end is marked. That is a separator, or the line feed that ends the row.
+#[inline(always)]
+pub(crate) fn first_end(text: &[u8], marks: u64, separator: u8, has_quotes: bool) -> usize
+    requires some { marks ≢ 0 }
+    requires marks { AreEnds has_quotes separator text.now marks }
+    requires quoted { has_quotes ≡ true → separator ≢ quote }
+    ensures room { result + 17 ≤ length text.now }
+    ensures few { result < 64 }
+    ensures line { slice_index text.now result ≡ line_feed
+        → length_outside has_quotes line_feed text.now ≡ result }
+    ensures last { slice_index text.now result ≡ line_feed
+        → result ≤ length_outside has_quotes separator text.now }
+    ensures cell { slice_index text.now result ≢ line_feed
+        → length_outside has_quotes separator text.now ≡ result }
+    ensures parts { slice_index text.now result ≢ line_feed
+        → slice_index text.now result ≡ separator }
+    ensures before { slice_index text.now result ≢ line_feed
+        → result < length_outside has_quotes line_feed text.now }
+    ensures behind { slice_index text.now result ≢ line_feed
+        → length_outside has_quotes line_feed text.now
+        ≡ result + 1 + length_outside has_quotes line_feed (drop (result + 1) text.now) }
+    ensures left { AreEnds has_quotes separator (drop (result + 1) text.now)
+        (marks / 2 ^ result / 2) }
+{
+    lowest_mark(marks)
+}
+
+// The marks of what stands behind an end at a place, so many bytes from the first.
+#[inline(always)]
+pub(crate) fn behind_end(marks: u64, size: usize) -> u64
+    requires { size < 64 }
+    ensures { result ≡ marks / 2 ^ size / 2 }
+{
+    marks >> size >> 1
+}

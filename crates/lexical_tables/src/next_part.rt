@@ -1,0 +1,110 @@
+//! The next cell of a row, as marks find it.
+
+ghost use Rattle.std.specs.Prelude.{◌≡◌, ◌≢◌, ◌==◌, ◌+◌, ◌-◌, ◌<◌, ◌≤◌, ◌&&◌, ℕ, [], ◌∷◌, IsTrue, false, if◌then◌else◌, length, not, slice_index, take, true};
+ghost use Rattle.lexical_tables.specs.Ends.{AreEnds};
+ghost use Rattle.lexical_tables.specs.RowSoFar.{IsMarked, IsOnRow, cells_behind};
+ghost use Rattle.lexical_tables.specs.Rows.{behind_piece, carriage_return, first_row};
+
+use crate::dialect::Dialect;
+use crate::ends::{behind_end, first_end};
+
+// What is left of a text, and the marks of where its first cells end.
+#[derive(Copy, Clone)]
+pub(crate) struct Left<'a> {
+    pub text: &'a [u8],
+    pub marks: u64,
+}
+
+// A cell: how many bytes it has, what is left of the text behind what ends it, whether it is its row's last, and whether that
+// row lacks its return.
+#[derive(Copy, Clone)]
+pub(crate) struct Part<'a> {
+    pub size: usize,
+    pub behind: Left<'a>,
+    pub is_last: bool,
+    pub lacks_return: bool,
+}
+
+// How many bytes a cell has that ends at a place: the return in front of a row's end is none of them, where it is asked for.
+#[inline(always)]
+fn cell_size(left: &[u8], end: usize, is_last: bool, has_returns: bool) -> usize
+    requires end { end ≤ length left.now }
+    ensures within { result ≤ end }
+    ensures cell { IsTrue (not (is_last && has_returns)) → result ≡ end }
+    ensures bare { is_last ≡ true → has_returns ≡ true → result ≡ end → 0 < end
+        → slice_index left.now (end - 1) ≢ carriage_return }
+    ensures returned { result ≢ end → (result + 1 ≡ end)
+        × (slice_index left.now result ≡ carriage_return) × IsTrue (is_last && has_returns) }
+{
+    if !is_last {
+        return end;
+    }
+    if !has_returns {
+        return end;
+    }
+    if end == 0 {
+        return end;
+    }
+    if left[end - 1] != b'\r' {
+        return end;
+    }
+    end - 1
+}
+
+// Whether the row that a cell of so many bytes ends lacks its return.
+#[inline(always)]
+fn lacks_return(size: usize, end: usize, is_last: bool, has_returns: bool) -> bool
+    ensures { is_last ≡ true → result ≡ (has_returns && (size == end)) }
+{
+    is_last && has_returns && size == end
+}
+
+// The next cell of the first row of a text, of which this is left.
+#[inline(always)]
+pub(crate) fn next_part<'a>(
+    text: &[u8],
+    left: &'a [u8],
+    marks: u64,
+    separator: u8,
+    dialect: &Dialect<'_>,
+) -> Part<'a>
+    requires some { marks ≢ 0 }
+    requires marks { AreEnds dialect.now.has_quotes separator left.now marks }
+    requires here { IsOnRow dialect.now separator text.now left.now }
+    requires marked { IsMarked dialect.now separator }
+    ensures room { result.size + 17 ≤ length left.now }
+    ensures cells { (start column : ℕ) → cells_behind dialect.now
+        (first_row dialect.now start text.now) column (length text.now - length left.now)
+        ≡ record {
+          start = start + (length text.now - length left.now);
+          text = take result.size left.now;
+        }
+        ∷ (if result.is_last then []
+        else cells_behind dialect.now (first_row dialect.now start text.now) (column + 1)
+        (length text.now - length result.behind.text.now)) }
+    ensures goes { result.is_last ≡ false
+        → IsOnRow dialect.now separator text.now result.behind.text.now }
+    ensures row { result.is_last ≡ true → (start : ℕ) → record {
+      start = start;
+      text = take (length text.now - length left.now + result.size) text.now;
+      lacks_return = result.lacks_return;
+    } ≡ first_row dialect.now start text.now }
+    ensures line { result.is_last ≡ true → result.behind.text.now
+        ≡ behind_piece dialect.now.layout dialect.now.has_quotes text.now }
+    ensures marks { AreEnds dialect.now.has_quotes separator result.behind.text.now
+        result.behind.marks }
+    ensures shorter { length result.behind.text.now < length left.now }
+{
+    let end = first_end(left, marks, separator, dialect.has_quotes);
+    let is_last = left[end] == b'\n';
+    let size = cell_size(left, end, is_last, dialect.has_returns);
+    Part {
+        size,
+        behind: Left {
+            text: &left[end + 1..],
+            marks: behind_end(marks, end),
+        },
+        is_last,
+        lacks_return: lacks_return(size, end, is_last, dialect.has_returns),
+    }
+}

@@ -1,0 +1,274 @@
+//! Rows whose cells are found in one pass, and whose numbers are mostly had at once.
+
+ghost use Rattle.std.specs.Prelude.{◌≡◌, ◌≢◌, ◌==◌, ◌+◌, ◌-◌, ◌<◌, ◌≤◌, ◌^◌, ◌&&◌, ℕ, IfOk, IfSome, IsTrue, None, Some, drop, false, length, map, not, slice_index, take, true};
+ghost use Rattle.lexical_tables.specs.ByColumn.{AreUsable, StopsAt, answer_at, column_count, columns_answer, columns_put, fault_in, kinds_of, put_read_at, put_row, row_fault, row_values};
+ghost use Rattle.lexical_tables.specs.Cells.{view_of_cell};
+ghost use Rattle.lexical_tables.specs.Codes.{AreCodes};
+ghost use Rattle.lexical_tables.specs.Ends.{AreEnds, AreEndsIf};
+ghost use Rattle.lexical_tables.specs.Quotes.{quote};
+ghost use Rattle.lexical_tables.specs.RowSoFar.{IsMarked, wrong_in};
+ghost use Rattle.lexical_tables.specs.Rows.{FirstCounts, behind_piece, carriage_return, first_row, rows_from};
+
+use crate::answers::{CellFault, Table, TableError};
+use crate::by_column::{end_fault, read_by_column, read_rest};
+use crate::cells::column_count;
+use crate::codes::{CODED, UNKNOWN, put_codes};
+use crate::content::Cell;
+use crate::dialect::{Dialect, Layout};
+use crate::digit_cells::read_coded;
+use crate::ends::{LEAST_MARKED, next_ends};
+use crate::next_part::{Left, next_part};
+use crate::rows::{Row, without_empty_rows};
+use crate::targets::TableColumn;
+use lexical_parse_integer::Options;
+
+// The byte between cells, if one pass of marks finds these and the rows.
+fn marked_separator(dialect: &Dialect<'_>) -> Option<u8>
+    ensures { IfSome result (λ separator. IsMarked dialect.now separator) }
+{
+    let Layout::Separated { separator, .. } = dialect.layout else {
+        return None;
+    };
+    if dialect.has_quotes && separator == b'"' {
+        return None;
+    }
+    if dialect.has_returns && separator == b'\r' {
+        return None;
+    }
+    Some(separator)
+}
+
+// Reads the cell of a column at once, by the column's code, and tells whether it did.
+#[inline(always)]
+fn read_coded_cell<C: TableColumn>(
+    targets: &mut [C],
+    codes: &[u8; CODED],
+    column: usize,
+    row: usize,
+    cell: Cell<'_>,
+    dialect: &Dialect<'_>,
+) -> bool
+    requires codes { AreCodes dialect.now codes.now (map C.target targets.old) }
+    requires usable { AreUsable (row + 1) (map C.target targets.old) }
+    requires front { cell.text.now ≡ take (length cell.text.now) cell.ahead.now }
+    requires room { length cell.text.now + 17 ≤ length cell.ahead.now }
+    ensures fault { IsTrue result → fault_in (answer_at dialect.now
+        (kinds_of (map C.target targets.old)) column (view_of_cell cell.entry)) ≡ None }
+    ensures targets { IsTrue result → map C.target targets.new ≡ put_read_at row column
+        (answer_at dialect.now (kinds_of (map C.target targets.old)) column
+        (view_of_cell cell.entry)) (map C.target targets.old) }
+    ensures kept { result ≡ false → map C.target targets.new ≡ map C.target targets.old }
+{
+    if column >= CODED {
+        return false;
+    }
+    if column >= targets.len() {
+        return false;
+    }
+    read_coded(&mut targets[column], codes[column], row, cell, dialect)
+}
+
+// The numbers of the first row of a text go to its place in the targets, up to the row's fault, where one pass of marks finds
+// its cells: what is left of the text behind it.
+#[inline(always)]
+fn read_marked_row<'a, C: TableColumn>(
+    start: usize,
+    text: Left<'a>,
+    index: usize,
+    columns: usize,
+    separator: u8,
+    codes: &[u8; CODED],
+    dialect: &Dialect<'_>,
+    options: &Options,
+    targets: &mut [C],
+) -> Result<Left<'a>, TableError>
+    requires some { 0 < length text.text.now }
+    requires marks { AreEnds dialect.now.has_quotes separator text.text.now text.marks }
+    requires columns { columns ≡ column_count dialect.now.layout }
+    requires marked { IsMarked dialect.now separator }
+    requires codes { AreCodes dialect.now codes.now (map C.target targets.old) }
+    requires usable { AreUsable (index + 1) (map C.target targets.old) }
+    requires fits { start + length text.text.now < 2 ^ 64 }
+    ensures fault { wrong_in result ≡ row_fault (kinds_of (map C.target targets.old)) dialect.now
+        index (first_row dialect.now start text.entry.text.now) }
+    ensures targets { map C.target targets.new ≡ put_row index (row_values
+        (kinds_of (map C.target targets.old)) dialect.now
+        (first_row dialect.now start text.entry.text.now)) (map C.target targets.old) }
+    ensures behind { IfOk result (λ left. left.text.now
+        ≡ behind_piece dialect.now.layout dialect.now.has_quotes text.entry.text.now) }
+    ensures shorter { IfOk result (λ left. length left.text.now < length text.entry.text.now) }
+    ensures marks { IfOk result (λ left.
+        AreEnds dialect.now.has_quotes separator left.text.now left.marks) }
+{
+    let mut left = text;
+    let mut column = 0;
+    while column < columns {
+        let passed = text.text.len() - left.text.len();
+        let marks = next_ends(left.text, left.marks, separator, dialect.has_quotes);
+        if marks == 0 {
+            return match read_rest(
+                start, text.text, passed, column, index, dialect, options, targets,
+            ) {
+                Ok(behind) => Ok(Left {
+                    text: behind,
+                    marks: 0,
+                }),
+                Err(error) => Err(error),
+            };
+        }
+        let part = next_part(text.text, left.text, marks, separator, dialect);
+        let cell = Cell {
+            start: start + passed,
+            text: &left.text[..part.size],
+            ahead: left.text,
+        };
+        if !read_coded_cell(targets, codes, column, index, cell, dialect) {
+            if let Some(fault) = read_by_column(targets, column, index, cell, dialect, options) {
+                return Err(TableError {
+                    row: index,
+                    column,
+                    fault,
+                });
+            }
+        }
+        left = part.behind;
+        column += 1;
+        if part.is_last {
+            let row = Row {
+                start,
+                text: &text.text[..passed + part.size],
+                lacks_return: part.lacks_return,
+            };
+            return match end_fault(&row, index, columns, column, None) {
+                Some(error) => Err(error),
+                None => Ok(left),
+            };
+        }
+    }
+    Err(TableError {
+        row: index,
+        column,
+        fault: CellFault::TooManyCells(start + (text.text.len() - left.text.len())),
+    })
+}
+
+// The numbers of the first row of a text go to its place in the targets, up to the row's fault: what is left of the text
+// behind it.
+#[inline(always)]
+fn read_row<'a, C: TableColumn>(
+    start: usize,
+    text: Left<'a>,
+    index: usize,
+    columns: usize,
+    marked: Option<u8>,
+    codes: &[u8; CODED],
+    dialect: &Dialect<'_>,
+    options: &Options,
+    targets: &mut [C],
+) -> Result<Left<'a>, TableError>
+    requires some { 0 < length text.text.now }
+    requires marks { AreEndsIf marked dialect.now.has_quotes text.text.now text.marks }
+    requires columns { columns ≡ column_count dialect.now.layout }
+    requires marked { IfSome marked (λ separator. IsMarked dialect.now separator) }
+    requires codes { AreCodes dialect.now codes.now (map C.target targets.old) }
+    requires usable { AreUsable (index + 1) (map C.target targets.old) }
+    requires fits { start + length text.text.now < 2 ^ 64 }
+    ensures fault { wrong_in result ≡ row_fault (kinds_of (map C.target targets.old)) dialect.now
+        index (first_row dialect.now start text.entry.text.now) }
+    ensures targets { map C.target targets.new ≡ put_row index (row_values
+        (kinds_of (map C.target targets.old)) dialect.now
+        (first_row dialect.now start text.entry.text.now)) (map C.target targets.old) }
+    ensures behind { IfOk result (λ left. left.text.now
+        ≡ behind_piece dialect.now.layout dialect.now.has_quotes text.entry.text.now) }
+    ensures shorter { IfOk result (λ left. length left.text.now < length text.entry.text.now) }
+    ensures marks { IfOk result (λ left.
+        AreEndsIf marked dialect.now.has_quotes left.text.now left.marks) }
+{
+    if let Some(separator) = marked {
+        return read_marked_row(
+            start, text, index, columns, separator, codes, dialect, options, targets,
+        );
+    }
+    match read_rest(start, text.text, 0, 0, index, dialect, options, targets) {
+        Ok(behind) => Ok(Left {
+            text: behind,
+            marks: 0,
+        }),
+        Err(error) => Err(error),
+    }
+}
+
+// What is left of a text behind the empty rows in front of it, where these are skipped.
+#[inline(always)]
+fn behind_empty_rows<'a>(left: Left<'a>, marked: Option<u8>, dialect: &Dialect<'_>) -> Left<'a>
+    requires marks { AreEndsIf marked dialect.now.has_quotes left.text.now left.marks }
+    ensures within { length result.text.now ≤ length left.entry.text.now }
+    ensures tail { result.text.now
+        ≡ drop (length left.entry.text.now - length result.text.now) left.entry.text.now }
+    ensures rows { (place : ℕ) → rows_from dialect.now place left.entry.text.now
+        ≡ rows_from dialect.now
+        (place + (length left.entry.text.now - length result.text.now)) result.text.now }
+    ensures first { FirstCounts dialect.now result.text.now }
+    ensures marks { AreEndsIf marked dialect.now.has_quotes result.text.now result.marks }
+{
+    let text = without_empty_rows(left.text, dialect);
+    if text.len() == left.text.len() {
+        return left;
+    }
+    Left { text, marks: 0 }
+}
+
+// Asks the columns for their codes, where a text is long enough for marks: else no cell is read by them.
+#[inline(always)]
+fn ask_codes<C: TableColumn>(
+    text: &[u8],
+    dialect: &Dialect<'_>,
+    targets: &[C],
+    codes: &mut [u8; CODED],
+)
+    requires unknown { (k : ℕ) → k < length codes.old → slice_index codes.old k ≡ 0 }
+    ensures { AreCodes dialect.now codes.new (map C.target targets.now) }
+{
+    if text.len() < LEAST_MARKED {
+        return;
+    }
+    put_codes(dialect, targets, codes);
+}
+
+// `read_columns`, out of line: docs/DECISIONS.md, code.
+#[inline(never)]
+pub(crate) fn read_rows<C: TableColumn>(
+    text: &[u8],
+    dialect: &Dialect<'_>,
+    options: &Options,
+    rows: usize,
+    targets: &mut [C],
+) -> Result<Table, TableError>
+    requires usable { AreUsable rows (map C.target targets.old) }
+    ensures answer { result ≡ columns_answer (kinds_of (map C.target targets.old)) dialect.now rows
+        text.now }
+    ensures targets { map C.target targets.new ≡ columns_put dialect.now rows text.now
+        (map C.target targets.old) }
+    ensures goes_on { IfOk result (StopsAt dialect.now rows text.now) }
+{
+    let marked = marked_separator(dialect);
+    let columns = column_count(dialect);
+    let mut codes = [UNKNOWN; CODED];
+    ask_codes(text, dialect, targets, &mut codes);
+    let mut left = behind_empty_rows(Left { text, marks: 0 }, marked, dialect);
+    let mut count = 0;
+    while count < rows && !left.text.is_empty() {
+        let start = text.len() - left.text.len();
+        match read_row(
+            start, left, count, columns, marked, &codes, dialect, options, targets,
+        ) {
+            Ok(behind) => left = behind_empty_rows(behind, marked, dialect),
+            Err(error) => return Err(error),
+        }
+        count += 1;
+    }
+    Ok(Table {
+        rows: count,
+        stop: text.len() - left.text.len(),
+    })
+}
