@@ -1,15 +1,17 @@
 #!/usr/bin/env python3
 """Measures columns: the C call and Python's, beside what their users would write instead.
 
-    bench/columns.py [--numbers N] [--rounds N] [--seed N]
+    bench/columns.py [--numbers N] [--rounds N] [--seed N] [--against CHECKOUT]
 
 A column has 1,000,000 numbers of u64, a line feed after each. The C call and a loop of
 std::from_chars take turns in one run, so that their ratio holds on a busy machine too; the others
 have runs of their own. Of each the least time counts, and of those two that of four links, each of
 which has its code sixteen bytes further on. All have to read the same numbers before their time
-counts. It needs the library of `make lib`, a C++ compiler and Python's headers; rustc and NumPy are
-taken where they are there. It writes bench/columns.tsv and a table of docs/SPEED.md, and prints
-what it sees. The gate runs none of this.
+counts. It needs the library of `make lib`, or that which JADVOLNI_LIBRARY names, a C++ compiler and
+Python's headers; rustc and NumPy are taken where they are there. It writes bench/columns.tsv and a
+table of docs/SPEED.md, and prints what it sees. Against another built checkout it writes nothing:
+it prints what the readers in C++ take with this library and with that one, by turns. The gate runs
+none of this.
 """
 from __future__ import annotations
 
@@ -24,9 +26,10 @@ import subprocess
 import sys
 import tempfile
 import time
+from dataclasses import dataclass
 from pathlib import Path
 from types import ModuleType
-from typing import Callable, Iterable
+from typing import Callable, Iterable, Sequence
 
 import drivers
 import page
@@ -34,13 +37,46 @@ import page
 HERE = os.path.dirname(os.path.abspath(__file__))
 TOP = os.path.dirname(HERE)
 PYTHON = os.path.join(TOP, "bindings", "python")
-FLAGS = ["-std=c++17", "-O3", "-march=x86-64-v2", f"-I{os.path.join(TOP, 'include')}"]
+FLAGS = ["-std=c++20", "-O3", "-march=x86-64-v2"]
+# In how many turns two checkouts are compared, by each of their drivers.
+TURNS = 5
 
-# What draws a number, and what reads a text: it gives blocks, each of which has its columns.
+# A cell is a number, a word that isn't read, or None for a missing number. What draws them.
+Cell = int | str | None
 Number = Callable[[random.Random], int]
+Draw = Callable[[random.Random], Cell]
+# What reads a text: it gives blocks, each of which has its columns.
 Reader = Callable[[], Iterable[Iterable[Iterable[int]]]]
 Readers = dict[str, Reader]
 Seen = dict[str, dict[str, float]]
+
+
+@dataclass
+class Text:
+    """A text that is read: what draws the cells of each column, and how they are written.
+
+    The drivers in C++ know that by the word `kind`. All other readers know the plain one alone,
+    which has no word."""
+
+    columns: Sequence[Draw]
+    kind: str = ""
+    end: str = "\n"
+    quote: str = ""
+
+    def drawn(self, asked: page.Asked) -> list[list[Cell]]:
+        """The cells of each column."""
+        random_, rows = random.Random(asked.seed), range(max(asked.size // len(self.columns), 1))
+        return [[draw(random_) for _ in rows] for draw in self.columns]
+
+    def words(self, rounds: int) -> list[str]:
+        """What a driver is asked: to read such a text so often."""
+        return [str(rounds), *self.kind.split()]
+
+    def written(self, cells: list[list[Cell]]) -> bytes:
+        """The text of such columns."""
+        shown = [[f"{self.quote}{'' if cell is None else cell}{self.quote}" for cell in column]
+                 for column in cells]
+        return "".join(",".join(row) + self.end for row in zip(*shown)).encode()
 
 
 def digits(random_: random.Random, count: int) -> int:
@@ -65,28 +101,42 @@ SETS: dict[str, Number] = {
 ABOUT = "The numbers are of `u64`, with a line feed after each."
 
 
-def built(folder: str, name: str) -> list[list[str]]:
-    """The drivers of a name in C++ and, where rustc is there, in Rust."""
-    drivers.run(["make", "-s", "lib"], TOP)
-    library = os.path.join(TOP, "build", "libjadvolni.a")
-    source = os.path.join(HERE, "driver", name)
+def library() -> str:
+    """This checkout's library: the one that JADVOLNI_LIBRARY names, or else that of `make lib`."""
+    if "JADVOLNI_LIBRARY" not in os.environ:
+        drivers.run(["make", "-s", "lib"], TOP)
+        os.environ["JADVOLNI_LIBRARY"] = os.path.join(TOP, "build", "libjadvolni.a")
+    return os.environ["JADVOLNI_LIBRARY"]
+
+
+def built(folder: str, name: str, checkout: str = "") -> list[str]:
+    """The drivers of a name in C++, over this checkout's library, or over that of another one."""
+    top = os.path.abspath(checkout) if checkout else TOP
+    archive = os.path.join(top, "build", "libjadvolni.a") if checkout else library()
+    if not os.path.exists(archive):
+        sys.exit(f"bench: there is no {archive}")
+    source = os.path.join(HERE, "driver", f"{name}.cpp")
+    words = [*FLAGS, f"-I{os.path.join(top, 'include')}", source, archive]
     found = []
     for skipped in range(16, 80, 16):
-        driver = os.path.join(folder, f"cpp_{skipped}")
-        words = [*FLAGS, f'-DSKIPPED="{skipped}"', f"{source}.cpp", library, "-o", driver]
-        drivers.run(["c++", *words], folder)
-        found.append([driver])
-    if shutil.which("rustc"):
-        peer, flags = os.path.join(folder, "rs"), ["-O", "-Ctarget-cpu=x86-64-v2"]
-        drivers.run(["rustc", *flags, f"{source}.rs", "-o", peer], folder)
-        found.append([peer])
+        found.append(os.path.join(folder, f"cpp_{skipped}"))
+        drivers.run(["c++", f'-DSKIPPED="{skipped}"', *words, "-o", found[-1]], folder)
     return found
+
+
+def built_in_rust(folder: str, name: str) -> list[str]:
+    """The driver of a name in Rust, where rustc is there."""
+    if not shutil.which("rustc"):
+        return []
+    driver, source = os.path.join(folder, "rs"), os.path.join(HERE, "driver", f"{name}.rs")
+    drivers.run(["rustc", "-O", "-Ctarget-cpu=x86-64-v2", source, "-o", driver], folder)
+    return [driver]
 
 
 def binding(folder: str) -> ModuleType:
     """The module for Python, made in a folder."""
     sys.path.insert(0, PYTHON)
-    os.environ.setdefault("JADVOLNI_LIBRARY", os.path.join(TOP, "build", "libjadvolni.a"))
+    library()
     build_wheel = importlib.import_module("build_wheel")
     for name, content in build_wheel.contents().items():
         file = Path(folder) / name
@@ -124,20 +174,30 @@ def readers(jadvolni: ModuleType, text: bytes) -> Readers:
     return found
 
 
-def measured(programs: list[list[str]], peers: Readers, text: bytes, numbers: list[list[int]],
-             rounds: int) -> dict[str, float]:
-    """Nanoseconds a number of each reader of a text, whose columns these are."""
+def timed(programs: list[str], words: list[str], text: bytes, total: int) -> dict[str, float]:
+    """Nanoseconds a cell of each reader of some drivers, whose numbers have to have this sum."""
     found: dict[str, float] = {}
     for driver in programs:
-        ran = subprocess.run([*driver, str(rounds)], input=text, capture_output=True, check=True)
+        ran = subprocess.run([driver, *words], input=text, capture_output=True, check=True)
         for line in ran.stdout.decode().splitlines():
-            peer, taken, total = line.split("\t")
-            need_same(peer, int(total), sum(itertools.chain(*numbers)) % 2 ** 64)
+            peer, taken, summed = line.split("\t")
+            need_same(peer, int(summed), total)
             found[peer] = min(float(taken), found.get(peer, float("inf")))
+    return found
+
+
+def timed_in_python(peers: Readers, numbers: list[list[Cell]], rounds: int) -> dict[str, float]:
+    """Nanoseconds a number of each reader in Python of a text, whose columns these are."""
+    found = {}
     for peer, read in peers.items():
         need_same(peer, [list(itertools.chain(*one)) for one in zip(*read())], numbers)
         found[peer] = least_time(read, sum(map(len, numbers)), max(rounds // 5, 3))
     return found
+
+
+def total_of(cells: list[list[Cell]]) -> int:
+    """The sum of all numbers, as the drivers have it."""
+    return sum(cell for cell in itertools.chain(*cells) if isinstance(cell, int)) % 2 ** 64
 
 
 def need_same(peer: str, answer: object, wanted: object) -> None:
@@ -153,12 +213,13 @@ def lines_of(seen: Seen) -> list[str]:
 
 
 def table(seen: Seen, unit: str) -> list[str]:
-    """The same as a table: what a reader takes where from_chars takes 1."""
+    """The same as a table: what a reader takes where from_chars takes 1. Not each reads all."""
     peers = [peer for peer in next(iter(seen.values())) if peer != "from_chars"]
     rows = []
     for name, found in seen.items():
         one = found["from_chars"]
-        rows.append([name, f"{one:.1f}", *(f"{found[peer] / one:.2f}" for peer in peers)])
+        rows.append([name, f"{one:.1f}", *(f"{found[peer] / one:.2f}" if peer in found else ""
+                                           for peer in peers)])
     return page.table([unit, "from_chars, ns", *peers], rows)
 
 
@@ -176,30 +237,59 @@ def write(kind: str, seen: Seen, asked: page.Asked, lacking: list[str], about: s
     page.write(f"bench/{kind}.py", said)
 
 
-def measure(kind: str, asked: page.Asked, sets: dict[str, list[Number]],
+def measure(kind: str, asked: page.Asked, sets: dict[str, Text],
             readers_of: Callable[[ModuleType, bytes], Readers], packages: list[str],
             about: str) -> None:
-    """Measures all readers of texts of such columns, and writes what it sees and which it lacks."""
-    page.need("make", "cc", "c++")
+    """Measures all readers of such texts, and writes what it sees and which it lacks."""
     seen: Seen = {}
     with tempfile.TemporaryDirectory() as folder:
-        programs, jadvolni = built(folder, kind), binding(folder)
-        for name, columns in sets.items():
-            random_, rows = random.Random(asked.seed), range(max(asked.size // len(columns), 1))
-            numbers = [[number(random_) for _ in rows] for number in columns]
-            text = "".join(",".join(map(str, row)) + "\n" for row in zip(*numbers)).encode()
-            peers = readers_of(jadvolni, text)
-            seen[name] = measured(programs, peers, text, numbers, asked.rounds)
+        programs, in_rust = built(folder, kind), built_in_rust(folder, kind)
+        jadvolni = binding(folder)
+        for name, how in sets.items():
+            cells, words = how.drawn(asked), how.words(asked.rounds)
+            text, total = how.written(cells), total_of(cells)
+            seen[name] = timed(programs, words, text, total)
+            if not how.kind:
+                seen[name] |= timed(in_rust, words, text, total)
+                seen[name] |= timed_in_python(readers_of(jadvolni, text), cells, asked.rounds)
             print("\n".join(lines_of({name: seen[name]})), flush=True)
     write(kind, seen, asked, [name for name in packages if not is_installed(name)], about)
 
 
+def compare(kind: str, asked: page.Asked, sets: dict[str, Text]) -> None:
+    """Prints what the readers in C++ take over this library and over that of another checkout.
+
+    The drivers of both take turns. Readers without the library show how far to trust the ratios."""
+    with tempfile.TemporaryDirectory() as here, tempfile.TemporaryDirectory() as there:
+        pairs = list(zip(built(here, kind), built(there, kind, asked.against)))
+        print(f"{asked.unit}\treader\tns here\tns there\there to there", flush=True)
+        for name, how in sets.items():
+            cells, words = how.drawn(asked), how.words(max(asked.rounds // TURNS, 1))
+            text, total = how.written(cells), total_of(cells)
+            turns = [[timed([driver], words, text, total) for driver in pair]
+                     for pair in pairs * TURNS]
+            for peer in turns[0][0]:
+                ours, theirs = (min(turn[peer] for turn in side) for side in zip(*turns))
+                print(f"{name}\t{peer}\t{ours:.2f}\t{theirs:.2f}\t{ours / theirs:.2f}", flush=True)
+
+
+def run(kind: str, asked: page.Asked, sets: dict[str, Text],
+        readers_of: Callable[[ModuleType, bytes], Readers], packages: list[str],
+        about: str) -> int:
+    """Measures such texts, or compares two checkouts over them, as it is asked."""
+    page.need("make", "cc", "c++")
+    if asked.against:
+        compare(kind, asked, sets)
+    else:
+        measure(kind, asked, sets, readers_of, packages, about)
+    return 0
+
+
 def main() -> int:
     """The command line."""
-    asked = page.asked(__doc__, "numbers", size=1_000_000, rounds=25)
-    sets = {name: [number] for name, number in SETS.items()}
-    measure("columns", asked, sets, readers, ["NumPy"], ABOUT)
-    return 0
+    asked = page.asked(__doc__, "numbers", size=1_000_000, rounds=25, compares=True)
+    sets = {name: Text([number]) for name, number in SETS.items()}
+    return run("columns", asked, sets, readers, ["NumPy"], ABOUT)
 
 
 if __name__ == "__main__":

@@ -57,6 +57,7 @@ class Asked:
     rounds: int
     seed: int
     load: float
+    against: str = ""
 
     def measured_on(self) -> str:
         """What a page says of this: the day, the machine and what was asked for."""
@@ -65,12 +66,16 @@ class Asked:
                 f"{self.size} {self.unit}, seed {self.seed}, {self.rounds} rounds.")
 
 
-def asked(about: str, unit: str, size: int, rounds: int) -> Asked:
-    """What the command line asks of a script, which else reads so many units so often."""
+def asked(about: str, unit: str, size: int, rounds: int, compares: bool = False) -> Asked:
+    """What the command line asks of a script, which else reads so many units so often. One that
+    compares may be asked for another checkout."""
     parser = options(about, rounds)
     parser.add_argument(f"--{unit}", type=positive, default=size, help=f"{unit} of a text")
+    if compares:
+        parser.add_argument("--against", default="", help="another built checkout")
     found = parser.parse_args()
-    return Asked(unit, getattr(found, unit), found.rounds, found.seed, os.getloadavg()[0])
+    return Asked(unit, getattr(found, unit), found.rounds, found.seed, os.getloadavg()[0],
+                 found.against if compares else "")
 
 
 def table(head: list[str], rows: list[list[str]]) -> list[str]:

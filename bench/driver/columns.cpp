@@ -10,7 +10,7 @@ namespace {
 
 // The numbers of the lines, by a loop around std::from_chars. A line that is none stops it.
 std::size_t by_from_chars(const std::string &text, Columns<std::uint64_t> &columns) {
-    auto &values = columns[0];
+    auto &values = columns[0].numbers;
     const char *at = text.data(), *last = at + text.size();
     std::size_t count = 0;
     while (at != last && count < values.size()) {
@@ -23,11 +23,12 @@ std::size_t by_from_chars(const std::string &text, Columns<std::uint64_t> &colum
 }
 
 std::size_t by_column(const std::string &text, Columns<std::uint64_t> &columns) {
-    return jadvolni::parse_column(text, '\n', columns[0]).count();
+    return jadvolni::parse_column(text, '\n', columns[0].numbers).count();
 }
-
-Peer<std::uint64_t> peers[] = {{"C call", by_column}, {"from_chars", by_from_chars}};
 
 }  // namespace
 
-int main(int count, char **words) { return take_turns(peers, count, words); }
+int main(int count, char **words) {
+    if (count != 2) return 2;
+    return take_turns<std::uint64_t>({{"C call", by_column}, {"from_chars", by_from_chars}}, words[1]);
+}

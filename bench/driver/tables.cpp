@@ -1,6 +1,8 @@
 // A table of i64 on standard input, a comma between two cells, read by the C call and by a loop of std::from_chars.
 //
-//     tables ROUNDS
+//     tables ROUNDS [KIND]
+#include <emmintrin.h>
+
 #include <charconv>
 #include <cstring>
 
@@ -11,40 +13,92 @@ namespace {
 
 using Numbers = Columns<std::int64_t>;
 
-// The numbers of the cells, by a loop around std::from_chars. A wrong cell, or a wrong number of them, stops it.
-std::size_t by_from_chars(const std::string &text, Numbers &columns) {
+// How a table is written.
+struct Kind {
+    bool has_returns = false;  // a carriage return stands before each line feed
+    bool has_missing = false;  // an empty cell is a missing number
+    bool has_quotes = false;   // a cell may stand within quotes
+    bool has_text = false;     // the first column isn't read
+};
+
+// Whether a byte stands at a place.
+bool stands(char byte, const char *at, const char *last) { return at != last && *at == byte; }
+
+// The number at a place. Where one may be missing, no digit is 0 without a bit: the loop sees whether the cell ends there.
+template <Kind kind>
+std::from_chars_result read_number(const char *at, const char *last, std::size_t row, Column<std::int64_t> &column) {
+    auto [stop, fault] = std::from_chars(at, last, column.numbers[row]);
+    if constexpr (kind.has_missing) {
+        if (fault == std::errc::invalid_argument) {
+            column.numbers[row] = 0;
+            return {at, std::errc()};
+        }
+        column.present[row / 8] |= 1 << row % 8;
+    }
+    return {stop, fault};
+}
+
+// The same of a cell. A quote in front of a number asks for one behind it: a number has no others.
+template <Kind kind>
+std::from_chars_result read_cell(const char *at, const char *last, std::size_t row, Column<std::int64_t> &column) {
+    if (!kind.has_quotes || !stands('"', at, last)) return read_number<kind>(at, last, row, column);
+    auto [stop, fault] = read_number<kind>(at + 1, last, row, column);
+    if (fault != std::errc() || !stands('"', stop, last)) return {stop, std::errc::invalid_argument};
+    return {stop + 1, fault};
+}
+
+// The numbers of the cells, by a loop around std::from_chars: the least that a user writes for the kind. A wrong cell, or
+// a wrong number of them, stops it. All is put in place, as it is in a program with one such loop.
+template <Kind kind>
+[[gnu::flatten]] std::size_t by_from_chars(const std::string &text, Numbers &columns) {
     const char *at = text.data(), *last = at + text.size();
-    for (std::size_t row = 0; row < columns[0].size(); row++) {
+    for (std::size_t row = 0; row < columns[0].numbers.size(); row++) {
+        if constexpr (kind.has_text) {
+            at = std::find(at, last, ',');
+            if (at++ == last) return row;
+        }
         for (std::size_t column = 0; column < columns.size(); column++) {
-            auto [stop, fault] = std::from_chars(at, last, columns[column][row]);
-            char end = column + 1 < columns.size() ? ',' : '\n';
-            if (fault != std::errc() || stop == last || *stop != end) return row;
+            auto [stop, fault] = read_cell<kind>(at, last, row, columns[column]);
+            bool ends_row = column + 1 == columns.size();
+            if (fault != std::errc()) return row;
+            if (kind.has_returns && ends_row && !stands('\r', stop++, last)) return row;
+            if (!stands(ends_row ? '\n' : ',', stop, last)) return row;
             at = stop + 1;
         }
     }
-    return columns[0].size();
+    return columns[0].numbers.size();
 }
 
 // The C call on a part of the text, whose numbers go behind those of the rows before it.
+template <Kind kind>
 jadvolni::table_result by_part(std::string_view part, bool is_last, std::size_t row, Numbers &columns) {
-    std::vector<jadvolni::table_column> targets;
-    std::size_t room = columns[0].size() - row;
-    for (auto &column : columns) targets.push_back(jadvolni::column_into(column.data() + row, room));
+    std::vector<jadvolni::table_column> targets(kind.has_text);
+    std::size_t room = columns[0].numbers.size() - row;
+    for (auto &[numbers, present] : columns) {
+        targets.push_back(jadvolni::column_into(numbers.data() + row, room));
+        if (kind.has_missing) targets.back().present = {present.data(), present.size()};
+    }
     jadvolni::table how{};
     how.separator = ',';
+    how.has_returns = kind.has_returns;
+    how.has_quotes = kind.has_quotes;
     return jadvolni::parse_table_part(part, is_last, how, room, targets);
 }
 
-std::size_t by_call(const std::string &text, Numbers &columns) { return by_part(text, true, 0, columns).rows(); }
+template <Kind kind>
+std::size_t by_call(const std::string &text, Numbers &columns) {
+    return by_part<kind>(text, true, 0, columns).rows();
+}
 
 // As of a file: each block is copied behind what was left of the one before.
+template <Kind kind>
 std::size_t by_blocks(const std::string &text, Numbers &columns) {
     static char block[1 << 16];
     std::size_t row = 0, kept = 0, at = 0;
     while (at < text.size()) {
         std::size_t got = text.copy(block + kept, sizeof block - kept, at);
         at += got;
-        auto part = by_part({block, kept + got}, at == text.size(), row, columns);
+        auto part = by_part<kind>({block, kept + got}, at == text.size(), row, columns);
         if (!part || part.rows() == 0) return row;
         row += part.rows();
         kept += got - part.place();
@@ -53,9 +107,58 @@ std::size_t by_blocks(const std::string &text, Numbers &columns) {
     return row;
 }
 
-Peer<std::int64_t> peers[] = {
-    {"C call", by_call}, {"C call, by blocks", by_blocks}, {"from_chars", by_from_chars}};
+// How often a byte stands in 64 bytes, as two counts.
+__m128i count_of(const char *text, char byte) {
+    __m128i found = _mm_setzero_si128();
+    for (int lane = 0; lane < 4; lane++) {
+        __m128i bytes = _mm_loadu_si128(reinterpret_cast<const __m128i *>(text) + lane);
+        found = _mm_sub_epi8(found, _mm_cmpeq_epi8(bytes, _mm_set1_epi8(byte)));
+    }
+    return _mm_sad_epu8(found, _mm_setzero_si128());
+}
+
+// The rows of a text, and nothing of its cells but how many there are: what any reader by such lanes takes at the least.
+template <bool has_text>
+std::size_t by_pass(const std::string &text, Numbers &columns) {
+    __m128i feeds = _mm_setzero_si128(), commas = feeds;
+    const char *at = text.data(), *last = at + text.size();
+    for (; last - at >= 64; at += 64) {
+        feeds = _mm_add_epi64(feeds, count_of(at, '\n'));
+        commas = _mm_add_epi64(commas, count_of(at, ','));
+    }
+    auto total = [&](__m128i counts, char byte) {
+        std::int64_t halves[2];
+        std::memcpy(halves, &counts, sizeof halves);
+        return static_cast<std::size_t>(halves[0] + halves[1] + std::count(at, last, byte));
+    };
+    std::size_t rows = total(feeds, '\n'), separators = columns.size() - 1 + has_text;
+    return total(commas, ',') == rows * separators ? rows : 0;
+}
+
+template <Kind kind>
+int measure(const char *rounds) {
+    std::vector<Peer<std::int64_t>> peers{{"C call", by_call<kind>}, {"from_chars", by_from_chars<kind>}};
+    // The bits of each part begin at a byte, so those of blocks don't go behind each other.
+    if (!kind.has_missing) peers.insert(peers.begin() + 1, {"C call, by blocks", by_blocks<kind>});
+    peers.push_back({"one pass over the bytes", by_pass<kind.has_text>, false});
+    return take_turns(peers, rounds, kind.has_text);
+}
+
+const struct {
+    std::string_view word;
+    int (*measure)(const char *rounds);
+} kinds[] = {
+    {"plain", measure<Kind{}>},
+    {"returns", measure<Kind{.has_returns = true}>},
+    {"missing", measure<Kind{.has_missing = true}>},
+    {"quotes", measure<Kind{.has_quotes = true}>},
+    {"text", measure<Kind{.has_text = true}>},
+};
 
 }  // namespace
 
-int main(int count, char **words) { return take_turns(peers, count, words); }
+int main(int count, char **words) {
+    for (auto &[word, measure] : kinds)
+        if ((count == 2 && word == "plain") || (count == 3 && word == words[2])) return measure(words[1]);
+    return 2;
+}
