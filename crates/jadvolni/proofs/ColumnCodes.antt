@@ -3,15 +3,34 @@ use Rattle.std.proofs.Common.{◌≡◌, ◌∙◌, ℕ, true, false, Option, So
 use Rattle.std.specs.Prelude.{nat_le, option_map}
 use Rattle.std.proofs.Math.IntN.{ℤ}
 use Rattle.lexical_tables.specs.ByColumn.{IsUsable}
-use Rattle.lexical_tables.specs.Codes.{IsReadAs}
+use Rattle.lexical_tables.specs.Codes.{IsPutAs}
 use Rattle.lexical_tables.specs.Targets.{TargetView, has_bits, put_value}
-use Rattle.jadvolni.specs.Tables.{put_at, put_presence}
+use Rattle.jadvolni.specs.FormatFields.{format_of}
+use Rattle.jadvolni.specs.Tables.{put_at, put_presence, target_as}
+use Rattle.jadvolni.specs.declared.table_columns.ColumnFields.{ColumnFields}
+use Rattle.jadvolni.specs.declared.table_columns.NumberType.{NumberType}
+use Rattle.jadvolni.specs.declared.table_columns.NumberType.TheVariants.{I16, I32, I64, I8, U16, U32, U64, U8}
 use Rattle.jadvolni.proofs.TableBits.{no_bit}
 
 -- a column has bits where its code says so
-pub bits_said : (code : ℕ) (target : Option TargetView) → IsReadAs code target → has_bits target ≡ nat_le 10 code
+pub bits_said : (code : ℕ) (target : Option TargetView) → IsPutAs code target → has_bits target ≡ nat_le 10 code
 bits_said code None read = absurd read
-bits_said code (Some target) read = read.2
+bits_said code (Some target) read = read.1
+
+-- a column that is read has its own format
+pub format_said : (column : ColumnFields) (type : Option NumberType) (code : ℕ) → IsPutAs code (target_as column type)
+    → (P : Option TargetView → Type 0)
+    → ((target : TargetView) → target.format ≡ format_of column.format → IsPutAs code (Some target) → P (Some target))
+    → P (target_as column type)
+format_said column None code put P all = absurd put
+format_said column (Some U8) code put P all = all _ refl put
+format_said column (Some U16) code put P all = all _ refl put
+format_said column (Some U32) code put P all = all _ refl put
+format_said column (Some U64) code put P all = all _ refl put
+format_said column (Some I8) code put P all = all _ refl put
+format_said column (Some I16) code put P all = all _ refl put
+format_said column (Some I32) code put P all = all _ refl put
+format_said column (Some I64) code put P all = all _ refl put
 
 module _ (row : ℕ) (number : ℤ) where
   -- a number that is put changes no bits, and the column stays usable

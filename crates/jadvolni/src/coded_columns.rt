@@ -4,11 +4,11 @@ ghost use Rattle.std.specs.Prelude.{◌≡◌, ◌+◌, ◌<◌, ◌≤◌, ◌^
 ghost use Rattle.lexical_digits.specs.Value.{with_sign};
 ghost use Rattle.lexical_util.specs.Number.{IsNumber};
 ghost use Rattle.lexical_tables.specs.ByColumn.{IsUsable};
-ghost use Rattle.lexical_tables.specs.Codes.{IsReadAs, coded_type};
+ghost use Rattle.lexical_tables.specs.Codes.{IsPutAs, coded_type};
 ghost use Rattle.jadvolni.specs.Tables.{number_type, put_at, target_of, type_named};
 
 use crate::table_columns::{ColumnFields, NumberType};
-use lexical_tables::codes::{self, without_bits};
+use lexical_tables::codes::{self, WITH_BITS, without_bits};
 use lexical_tables::put_with_sign;
 
 impl NumberType {
@@ -32,10 +32,25 @@ impl NumberType {
 }
 
 impl ColumnFields<'_> {
+    // The column's code, if its format were the standard one.
+    #[inline(always)]
+    pub(crate) fn standard_code(&self, numbers: NumberType) -> u8
+        requires numbers { number_type self.now ≡ Some numbers }
+        ensures column { IsPutAs result (target_of self.now) }
+        ensures read { 2 ≤ result }
+        ensures standard { result < 18 }
+    {
+        let code = numbers.code();
+        if self.present.is_empty() {
+            return code;
+        }
+        code + WITH_BITS
+    }
+
     // The type of the first array that has room, as the column's code says it.
     #[inline(always)]
     fn type_of_code(&self, code: u8) -> NumberType
-        requires column { IsReadAs code (target_of self.now) }
+        requires column { IsPutAs code (target_of self.now) }
         requires read { 2 ≤ code }
         ensures { number_type self.now ≡ Some result }
     {
@@ -61,7 +76,7 @@ impl ColumnFields<'_> {
         is_negative: bool,
         number: u64,
     ) -> bool
-        requires column { IsReadAs code (target_of self.old) }
+        requires column { IsPutAs code (target_of self.old) }
         requires read { 2 ≤ code }
         requires usable { IsUsable (row + 1) (target_of self.old) }
         requires small { number < 2 ^ 63 }

@@ -10,7 +10,7 @@ ghost use Rattle.jadvolni.specs.Tables.{bits_of, column_status, lacks_bits, numb
 use crate::format::FormatFields;
 use lexical_parse_integer::format::STANDARD;
 use lexical_parse_integer::{Error, Options};
-use lexical_tables::codes::{self, NOT_READ, UNKNOWN, WITH_BITS};
+use lexical_tables::codes::{self, NOT_READ, WITH_BITS, under_format};
 use lexical_tables::{TableColumn, put_at_once, put_bit, put_cell, put_standard_parsed, put_zero};
 
 /// The status of a table that no text can be read by.
@@ -316,14 +316,11 @@ impl TableColumn for ColumnFields<'_> {
         let Some(number_type) = self.number_type() else {
             return NOT_READ;
         };
-        if !self.format.is_standard() {
-            return UNKNOWN;
-        }
-        let code = number_type.code();
-        if self.present.is_empty() {
+        let code = self.standard_code(number_type);
+        if self.format.is_standard() {
             return code;
         }
-        code + WITH_BITS
+        under_format(code, &self.format.format())
     }
 
     #[inline(always)]

@@ -1,30 +1,38 @@
 -- Texts of decimal digits alone or behind a minus: what they stand for, and what their bytes are.
-use Rattle.std.proofs.Common.{◌≡◌, ◌≢◌, ◌∙◌, ℕ, zero, suc, ◌-◌, ◌<◌, ◌≤◌, Bool, true, false, List, [], ◌∷◌, length, get_or, is_some, Ok, refl, ap, sym, subst, arith, ◌⊎◌, inl, inr}
+use Rattle.std.proofs.Common.{◌≡◌, ◌≢◌, ◌∙◌, ℕ, zero, suc, ◌-◌, ◌^◌, ◌<◌, ◌≤◌, Bool, true, false, List, [], ◌∷◌, length, length-take-le, take, get_or, is_some, Ok, refl, ap, sym, subst, arith, ◌⊎◌, inl, inr}
+use Rattle.std.proofs.Math.Nat.{pow-le-pow_right}
 use Rattle.std.specs.Prelude.{if◌then◌else◌}
 use Rattle.std.proofs.lemmas.Bool.{false≢true}
 use Rattle.lexical_util.specs.Ascii.{minus}
+use Rattle.lexical_util.specs.Compare.{pos-injective}
 use Rattle.lexical_util.specs.Digit.{digit}
-use Rattle.lexical_util.specs.Format.{standard}
+use Rattle.lexical_util.specs.Format.{Format}
 use Rattle.lexical_util.specs.Number.{IntegerType, IsNumber}
 use Rattle.lexical_digits.specs.Value.{with_sign}
 use Rattle.lexical_digits.specs.Words.{AreDigits}
-use Rattle.lexical_digits.proofs.LongNumbers.{stands}
+use Rattle.lexical_digits.specs.WrittenNumbers.{WritesDecimal}
+use Rattle.lexical_digits.proofs.LongNumbers.{decimal_is_front, stands}
 use Rattle.lexical_digits.proofs.WordsOfDigits.{raised_none}
 use Rattle.lexical_parse_integer.specs.Grammar.{complete}
-use Rattle.lexical_parse_integer.specs.Plain.{IsBehind, IsPlain}
+use Rattle.lexical_parse_integer.specs.Plain.{IsBehind, IsPlain, keeps_zero_rule}
 use Rattle.lexical_parse_integer.proofs.ForCallers.{table_read}
 use Rattle.lexical_fields.specs.Numerals.{IsNumeral}
 
--- the standard format has no punctuation
-standard_plain : IsPlain standard
-standard_plain = record {
-  no_separator = refl;
-  no_prefix = refl;
-  no_suffix = refl;
-  no_literals = refl;
-  no_octal_zeros = refl;
-  no_sign = refl;
-}
+-- a number is below the power of ten that has one digit more
+pub written_below : (digits : List ℕ) (number : ℕ) → WritesDecimal 0 digits number → number < 10 ^ length digits
+written_below digits number writes =
+    let front = decimal_is_front digits number writes in
+    subst (λ n. n < 10 ^ length digits) (sym (pos-injective number _ front.worth)) front.below
+
+-- up to six digits write a number below a million
+pub below_million : (count : ℕ) (digits : List ℕ) (number : ℕ) → count ≤ 6 → count ≤ length digits
+    → WritesDecimal 0 (take count digits) number → number < 1000000
+below_million count digits number few low writes =
+    let size = length-take-le count digits low in
+    let below : number < 10 ^ count =
+    subst (λ n. number < 10 ^ n) size (written_below (take count digits) number writes) in
+    let most : 10 ^ count ≤ 10 ^ 6 = pow-le-pow_right (omega arith) few in
+    omega (arith, below, most)
 
 -- a minus in front of digits is a sign, where the type has numbers below 0
 behind_sign : (is_negative : Bool) (type : IntegerType) (text digits : List ℕ)
@@ -33,15 +41,17 @@ behind_sign : (is_negative : Bool) (type : IntegerType) (text digits : List ℕ)
 behind_sign false type text digits is signed = is
 behind_sign true type text digits is signed = (is, signed refl)
 
--- a numeral stands for its number, where the type has it
-pub numeral_complete : (type : IntegerType) (is_negative : Bool) (number : ℕ) (text : List ℕ)
-    → IsNumeral is_negative number text → (is_negative ≡ true → type.is_signed ≡ true)
+-- a numeral stands for its number under a format without punctuation, where it keeps that one's rule on zeros and the type
+-- has the number
+pub numeral_complete : (format : Format) (type : IntegerType) (is_negative : Bool) (number : ℕ) (text : List ℕ)
+    (n : IsNumeral is_negative number text) → IsPlain format → format.mantissa_radix ≡ 10
+    → keeps_zero_rule format n.digits ≡ true → (is_negative ≡ true → type.is_signed ≡ true)
     → IsNumber type (with_sign is_negative number)
-    → complete standard type text ≡ Ok (with_sign is_negative number)
-numeral_complete type is_negative number text n signed fits =
-    table_read standard type 10 is_negative text n.digits (with_sign is_negative number) standard_plain refl
+    → complete format type text ≡ Ok (with_sign is_negative number)
+numeral_complete format type is_negative number text n plain ten rule signed fits =
+    table_read format type 10 is_negative text n.digits (with_sign is_negative number) plain ten
     (record { low = omega arith; high = omega arith }) (behind_sign is_negative type text n.digits n.text_is signed)
-    (omega (arith, n.some)) refl (stands type is_negative n.digits number (with_sign is_negative number) n.writes refl fits)
+    (omega (arith, n.some)) rule (stands type is_negative n.digits number (with_sign is_negative number) n.writes refl fits)
 
 -- ---- its bytes
 

@@ -1,7 +1,7 @@
 // Fields of digits, where marks of the separators in front say where each ends.
 ghost use Rattle.std.specs.Prelude.{◌≡◌, ◌≢◌, ◌+◌, ◌<◌, ◌≤◌, ◌^◌, ℕ, List, IfSome, IsNone, IsTrue, Ok, length, take, drop};
 ghost use Rattle.lexical_util.specs.Validity.{fault};
-ghost use Rattle.lexical_digits.specs.WrittenNumbers.{StandsFor};
+ghost use Rattle.lexical_digits.specs.WrittenNumbers.{StandsFor, WritesDecimal};
 ghost use Rattle.lexical_parse_integer.specs.Grammar.{complete};
 ghost use Rattle.lexical_parse_integer.specs.Plain.{IsBehind, keeps_zero_rule};
 ghost use Rattle.lexical_parse_integer.specs.Separated.{IsSeparated};
@@ -129,21 +129,53 @@ pub fn value_of_front<T: ParseInteger>(text: &[u8], size: usize, format: &Number
     value_with_room::<T>(text, size, b' ', format)
 }
 
+// The number of up to twelve digits with room behind them.
+#[inline(always)]
+fn number_to_12(digits: &[u8], count: usize) -> Option<u64>
+    requires few { count ≤ 12 }
+    requires room { 16 ≤ length digits.now }
+    ensures writes { IfSome result (λ number. WritesDecimal 0 (take count digits.now) number) }
+    ensures small { IfSome result (λ number. number < 10 ^ 12) }
+{
+    let (high, low) = numbers_to_12(digits, count)?;
+    Some(u64::from(high) * 1_000_000 + u64::from(low))
+}
+
+// The number of thirteen to eighteen digits with room behind them: the last twelve, and those before. Why out of line:
+// docs/DECISIONS.md, code.
+#[inline(never)]
+fn number_from_13(digits: &[u8], count: usize) -> Option<u64>
+    requires room { count ≤ 18 → count + 16 ≤ length digits.now }
+    ensures least { IfSome result (λ number. 13 ≤ count) }
+    ensures most { IfSome result (λ number. count ≤ 18) }
+    ensures writes { IfSome result (λ number. WritesDecimal 0 (take count digits.now) number) }
+    ensures small { IfSome result (λ number. number < 10 ^ 18) }
+{
+    if count < 13 || count > 18 {
+        return None;
+    }
+    let first = number_to_12(digits, count - 12)?;
+    let last = number_to_12(&digits[count - 12..], 12)?;
+    Some(first * 1_000_000_000_000 + last)
+}
+
 /// The number that a text's first bytes, so many, write, and whether a minus stands in front, where they are one to
-/// twelve decimal digits alone or behind a minus. `None` says nothing of them. Seventeen bytes have to follow them.
+/// eighteen decimal digits alone or behind a minus. `None` says nothing of them. Seventeen bytes have to follow them.
 #[inline(always)]
 pub fn number_of_front(text: &[u8], size: usize) -> Option<(bool, u64)>
     requires room { size + 17 ≤ length text.now }
     ensures writes { IfSome result (λ found. IsNumeral found.0 found.1 (take size text.now)) }
-    ensures small { IfSome result (λ found. found.1 < 10 ^ 12) }
+    ensures small { IfSome result (λ found. found.1 < 10 ^ 18) }
 {
     let is_negative = text[0] == b'-';
+    let digits = &text[usize::from(is_negative)..];
     let count = size.wrapping_sub(usize::from(is_negative));
     if count.wrapping_sub(1) > 11 {
-        return None;
+        let number = number_from_13(digits, count)?;
+        return Some((is_negative, number));
     }
-    let (high, low) = numbers_to_12(&text[usize::from(is_negative)..], count)?;
-    Some((is_negative, u64::from(high) * 1_000_000 + u64::from(low)))
+    let number = number_to_12(digits, count)?;
+    Some((is_negative, number))
 }
 
 /// The marks that are left, or new ones where none is.

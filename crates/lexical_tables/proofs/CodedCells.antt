@@ -3,13 +3,11 @@ use Rattle.std.proofs.Common.{◌≡◌, ◌∙◌, ℕ, ◌+◌, ◌-◌, ◌*�
 use Rattle.std.specs.Prelude.{is_some, nat_le, option_map}
 use Rattle.std.proofs.lemmas.Bool.{leb-true}
 use Rattle.std.proofs.lemmas.List.{drop-take, take-take}
-use Rattle.lexical_util.specs.Format.{standard}
 use Rattle.lexical_parse_integer.specs.Value.{with_sign}
 use Rattle.lexical_fields.specs.Fields.{FieldView}
-use Rattle.lexical_fields.specs.Numerals.{IsNumeral}
-use Rattle.lexical_tables.specs.ByColumn.{fault_in, kind_of, put_read}
+use Rattle.lexical_tables.specs.ByColumn.{IsUsable, fault_in, kind_of, put_read}
 use Rattle.lexical_tables.specs.Cells.{answer_as, ends_in_digit}
-use Rattle.lexical_tables.specs.Codes.{AreQuotesRound, IsCodeIn, IsNumberPut, coded_type}
+use Rattle.lexical_tables.specs.Codes.{AreQuotesRound, IsCodeIn, IsDecimal, IsNumberPut, IsNumeralUnder, coded_type, without_zero_rule}
 use Rattle.lexical_tables.specs.Targets.{TargetView}
 use Rattle.lexical_tables.specs.declared.dialect.Dialect.{Dialect}
 use Rattle.lexical_tables.proofs.PlainCells.{plain_answer, quoted_answer, unread_answer}
@@ -27,19 +25,20 @@ unread_put d row cell (Some target) none unquoted = absurd cc
 
 -- one whose cells are read
 pub digits_put : (d : Dialect) (code row : ℕ) (cell : FieldView) (ahead : List ℕ) (quotes : ℕ) (old new : Option TargetView)
-    → IsCodeIn d code old → 2 ≤ code → cell.text ≡ take (length cell.text) ahead → AreQuotesRound d.has_quotes cell.text quotes
+    → IsCodeIn d code old → 2 ≤ code → IsUsable (row + 1) old → cell.text ≡ take (length cell.text) ahead → AreQuotesRound d.has_quotes cell.text quotes
     → IsNumberPut row (take (length cell.text - 2 * quotes) (drop quotes ahead)) old new → IsCellPut d row cell old new
-digits_put d code row cell ahead quotes None new coded read front round put = absurd (coded.column.read read)
-digits_put d code row cell ahead quotes (Some target) new coded read front round put = record {
+digits_put d code row cell ahead quotes None new coded read usable front round put = absurd (coded.column.read read).1
+digits_put d code row cell ahead quotes (Some target) new coded read usable front round put = record {
   fault = ap fault_in (answer_is round);
   target = put.put ∙ ap (λ a. Some (put_read row a target)) (sym (answer_is round));
 }
   where
-    as_kind : (target.format ≡ standard) × (target.type ≡ coded_type code) × (is_some target.present ≡ nat_le 10 code)
+    as_kind : IsDecimal target.format (nat_le 18 code) × ((target.type ≡ coded_type (without_zero_rule code))
+        × (is_some target.present ≡ nat_le 10 (without_zero_rule code)))
     as_kind = coded.column.read read
 
     no_mark : is_some target.present ≡ true → ends_in_digit d.missing.now ≡ false
-    no_mark misses = coded.no_number (leb-true 10 code (sym as_kind.2 ∙ misses))
+    no_mark misses = coded.no_number (leb-true 10 (without_zero_rule code) (sym as_kind.1.1 ∙ misses))
 
     answer_is : AreQuotesRound d.has_quotes cell.text quotes
         → answer_as d (Some (kind_of target)) cell ≡ Ok (Some (with_sign put.is_negative put.number))
@@ -48,14 +47,14 @@ digits_put d code row cell ahead quotes (Some target) new coded read front round
         let text : take (length cell.text - 2 * quotes) (drop quotes ahead) ≡ cell.text =
         ap (λ n. take n (drop quotes ahead)) size ∙ ap (λ q. take (length cell.text) (drop q ahead)) none ∙ sym front in
         plain_answer d (kind_of target) cell put.is_negative put.number (coded.no_blanks read)
-        (subst (IsNumeral put.is_negative put.number) text put.numeral) as_kind.0 put.fits put.minus no_mark
+        (subst (IsNumeralUnder target.format put.is_negative put.number) text put.numeral) usable.0 as_kind.0.plain as_kind.0.decimal put.fits put.minus no_mark
     answer_is (inr one) =
         let size : length cell.text - 2 * quotes ≡ length cell.text - 2 = omega (arith, one.0) in
         let text : take (length cell.text - 2 * quotes) (drop quotes ahead) ≡ take (length cell.text - 2) (drop 1 cell.text) =
         ap (λ n. take n (drop quotes ahead)) size ∙ ap (λ q. take (length cell.text - 2) (drop q ahead)) one.0
         ∙ within one.2 in
         quoted_answer d (kind_of target) cell put.is_negative put.number (coded.no_blanks read) one.1 one.2 one.3 one.4
-        (subst (IsNumeral put.is_negative put.number) text put.numeral) as_kind.0 put.fits put.minus no_mark
+        (subst (IsNumeralUnder target.format put.is_negative put.number) text put.numeral) usable.0 as_kind.0.plain as_kind.0.decimal put.fits put.minus no_mark
       where
         within : 2 ≤ length cell.text → take (length cell.text - 2) (drop 1 ahead)
             ≡ take (length cell.text - 2) (drop 1 cell.text)

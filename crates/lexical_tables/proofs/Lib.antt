@@ -35,3 +35,4 @@ pub mod SeenBytes
 pub mod Unquoted
 pub mod WholeRows
 pub mod WidthRows
+mod ZeroRule

@@ -1,14 +1,17 @@
 -- Cells of digits, alone or within quotes: each stands for the number that the digits write.
-use Rattle.std.proofs.Common.{◌≡◌, ◌≢◌, ◌∙◌, ℕ, ◌+◌, ◌-◌, ◌<◌, ◌≤◌, ◌==◌, ◌&&◌, Bool, true, false, cond, List, length, take, drop, get_or, Some, None, Ok, refl, ap, ap₂, sym, subst, arith, length-drop, length-take-le}
-use Rattle.std.specs.Prelude.{nat_lt, option_map}
+use Rattle.std.proofs.Common.{◌≡◌, ◌≢◌, ◌∙◌, ℕ, ◌+◌, ◌-◌, ◌<◌, ◌≤◌, ◌==◌, ◌&&◌, Bool, true, false, cond, List, length, take, drop, get_or, Option, Some, None, Ok, refl, ap, ap₂, sym, subst, arith, length-drop, length-take-le}
+use Rattle.std.specs.Prelude.{IsNone, nat_lt, option_map}
 use Rattle.std.specs.Str.{bytes_eq}
 use Rattle.std.proofs.lemmas.Bool.{and_right, eq-eqb, eqb-true, false_from_ne_true, false≢true, lt-ltb}
 use Rattle.std.proofs.lemmas.Grind.{get_or_after_one}
 use Rattle.std.proofs.lemmas.List.{get_or-take}
 use Rattle.std.proofs.lemmas.List.Sums.{position_or_len_is}
 use Rattle.std.proofs.lemmas.Slice.Eq.{bytes_eq-Decides}
-use Rattle.lexical_util.specs.Format.{standard}
+use Rattle.lexical_util.specs.declared.error.Error.{Error}
+use Rattle.lexical_util.specs.Format.{Format}
 use Rattle.lexical_util.specs.Number.{IsNumber}
+use Rattle.lexical_util.specs.Validity.{fault}
+use Rattle.lexical_parse_integer.specs.Plain.{IsPlain}
 use Rattle.lexical_parse_integer.specs.Value.{with_sign}
 use Rattle.lexical_fields.specs.Fields.{FieldView}
 use Rattle.lexical_fields.specs.Numerals.{IsNumeral}
@@ -16,6 +19,7 @@ use Rattle.lexical_fields.specs.ReadFields.{field_answer}
 use Rattle.lexical_fields.proofs.FieldAnswers.{answered}
 use Rattle.lexical_fields.proofs.Numerals.{numeral_complete, numeral_ends, numeral_without}
 use Rattle.lexical_tables.specs.Cells.{Kind, answer_as, begins_with_quote, content, ends_in_digit, fault_round_number, first_quote, misplaced_quote, number_at, quote_fault, some_number, unless, within_quotes}
+use Rattle.lexical_tables.specs.Codes.{IsNumeralUnder}
 use Rattle.lexical_tables.specs.Quotes.{quote}
 use Rattle.lexical_tables.specs.declared.answers.CellFault.TheVariants.{MisplacedQuote}
 use Rattle.lexical_tables.specs.declared.dialect.Dialect.{Dialect}
@@ -36,17 +40,23 @@ not_mark true is_negative number text mark n other = false_from_ne_true (bytes_e
         false≢true (sym (other refl) ∙ ap ends_in_digit (sym ((bytes_eq-Decides text mark).0 same))
         ∙ numeral_ends is_negative number text n)
 
+-- a fault that isn't there
+none_of : (found : Option Error) → found ≡ None → IsNone found
+none_of None none = refl
+none_of (Some error) none = absurd cc
+
 -- a numeral is what its place stands for
 number_here : (mark : List ℕ) (kind : Kind) (held : FieldView) (is_negative : Bool) (number : ℕ)
-    → IsNumeral is_negative number held.text → kind.format ≡ standard → IsNumber kind.type (with_sign is_negative number)
+    → IsNumeralUnder kind.format is_negative number held.text → fault kind.format ≡ None → IsPlain kind.format
+    → kind.format.mantissa_radix ≡ 10 → IsNumber kind.type (with_sign is_negative number)
     → (is_negative ≡ true → kind.type.is_signed ≡ true) → (kind.may_miss ≡ true → ends_in_digit mark ≡ false)
     → number_at mark kind held ≡ Ok (Some (with_sign is_negative number))
-number_here mark kind held is_negative number n is_standard fits signed other =
+number_here mark kind held is_negative number n valid plain ten fits signed other =
     ap (λ is_mark. cond is_mark (Ok None) (some_number (field_answer kind.format kind.type held)))
-    (not_mark kind.may_miss is_negative number held.text mark n other)
-    ∙ ap (λ format. some_number (field_answer format kind.type held)) is_standard
-    ∙ ap some_number (sym (answered standard kind.type held.start held.text (Ok (with_sign is_negative number)) refl
-    (sym (numeral_complete kind.type is_negative number held.text n signed fits))))
+    (not_mark kind.may_miss is_negative number held.text mark n.numeral other)
+    ∙ ap some_number (sym (answered kind.format kind.type held.start held.text (Ok (with_sign is_negative number))
+    (none_of (fault kind.format) valid) (sym (numeral_complete kind.format kind.type is_negative number held.text n.numeral
+    plain ten n.rule signed fits))))
 
 -- no byte of a numeral is a quote
 unquoted : (is_negative : Bool) (number : ℕ) (text : List ℕ) → IsNumeral is_negative number text → (k : ℕ)
@@ -62,17 +72,17 @@ held_whole quotes blanks cell no_blanks unquoted =
 
 -- a numeral alone
 pub plain_answer : (d : Dialect) (kind : Kind) (cell : FieldView) (is_negative : Bool) (number : ℕ)
-    → d.allows_blanks ≡ false → IsNumeral is_negative number cell.text → kind.format ≡ standard
-    → IsNumber kind.type (with_sign is_negative number) → (is_negative ≡ true → kind.type.is_signed ≡ true)
+    → d.allows_blanks ≡ false → IsNumeralUnder kind.format is_negative number cell.text → fault kind.format ≡ None
+    → IsPlain kind.format → kind.format.mantissa_radix ≡ 10 → IsNumber kind.type (with_sign is_negative number) → (is_negative ≡ true → kind.type.is_signed ≡ true)
     → (kind.may_miss ≡ true → ends_in_digit d.missing.now ≡ false)
     → answer_as d (Some kind) cell ≡ Ok (Some (with_sign is_negative number))
-plain_answer d kind cell is_negative number no_blanks n is_standard fits signed other =
-    let none = unquoted is_negative number cell.text n in
+plain_answer d kind cell is_negative number no_blanks n valid plain ten fits signed other =
+    let none = unquoted is_negative number cell.text n.numeral in
     ap (λ found. unless found (number_at d.missing.now kind (content d.has_quotes d.allows_blanks cell)))
     (sym (unquoted_fault d.has_quotes true cell none))
     ∙ ap (number_at d.missing.now kind)
     (held_whole d.has_quotes d.allows_blanks cell no_blanks (begins_unquoted cell.text none))
-    ∙ number_here d.missing.now kind cell is_negative number n is_standard fits signed other
+    ∙ number_here d.missing.now kind cell is_negative number n valid plain ten fits signed other
 
 -- ---- within quotes
 
@@ -110,27 +120,29 @@ module _ (text : List ℕ) (two : 2 ≤ length text) (first : get_or text 0 0 �
         ∙ ap (fault_round_number (length text)) next_quote
         ∙ ap (λ t. cond t None (Some (length text - 2 + 1))) (eq-eqb (length text - 2 + 2) (length text) closes)
 
-    -- what stands within them
-    numeral_within : IsNumeral is_negative number (take (length (drop 1 text) - 1) (drop 1 text))
-    numeral_within =
-        let left : length (drop 1 text) ≡ length text - 1 = length-drop 1 text in
-        let size : length text - 2 ≡ length (drop 1 text) - 1 = omega (arith, left) in
-        subst (λ k. IsNumeral is_negative number (take k (drop 1 text))) size n
+  -- what stands within them
+  numeral_within : (format : Format) (is_negative : Bool) (number : ℕ)
+      → IsNumeralUnder format is_negative number (take (length text - 2) (drop 1 text))
+      → IsNumeralUnder format is_negative number (take (length (drop 1 text) - 1) (drop 1 text))
+  numeral_within format is_negative number n =
+      let left : length (drop 1 text) ≡ length text - 1 = length-drop 1 text in
+      let size : length text - 2 ≡ length (drop 1 text) - 1 = omega (arith, left) in
+      subst (λ k. IsNumeralUnder format is_negative number (take k (drop 1 text))) size n
 
 -- a numeral within quotes, where these have a meaning
 pub quoted_answer : (d : Dialect) (kind : Kind) (cell : FieldView) (is_negative : Bool) (number : ℕ)
     → d.allows_blanks ≡ false → d.has_quotes ≡ true → 2 ≤ length cell.text → get_or cell.text 0 0 ≡ quote
     → get_or cell.text (length cell.text - 1) 0 ≡ quote
-    → IsNumeral is_negative number (take (length cell.text - 2) (drop 1 cell.text)) → kind.format ≡ standard
-    → IsNumber kind.type (with_sign is_negative number) → (is_negative ≡ true → kind.type.is_signed ≡ true)
+    → IsNumeralUnder kind.format is_negative number (take (length cell.text - 2) (drop 1 cell.text))
+    → fault kind.format ≡ None → IsPlain kind.format → kind.format.mantissa_radix ≡ 10 → IsNumber kind.type (with_sign is_negative number) → (is_negative ≡ true → kind.type.is_signed ≡ true)
     → (kind.may_miss ≡ true → ends_in_digit d.missing.now ≡ false)
     → answer_as d (Some kind) cell ≡ Ok (Some (with_sign is_negative number))
-quoted_answer d kind cell is_negative number no_blanks quotes two first last n is_standard fits signed other =
+quoted_answer d kind cell is_negative number no_blanks quotes two first last n valid plain ten fits signed other =
     let mark = d.missing.now in
     let text = cell.text in
     ap₂ (λ q b. unless (quote_fault q true cell) (number_at mark kind (content q b cell))) quotes no_blanks
     ∙ ap (λ found. unless (option_map (λ place. MisplacedQuote (cell.start + place)) found)
-    (number_at mark kind (content true false cell))) (none_misplaced text two first last is_negative number n)
+    (number_at mark kind (content true false cell))) (none_misplaced text two first last is_negative number n.numeral)
     ∙ ap (λ t. number_at mark kind (cond t (within_quotes cell) cell)) (begins text two first last)
     ∙ number_here mark kind (within_quotes cell) is_negative number
-    (numeral_within text two first last is_negative number n) is_standard fits signed other
+    (numeral_within text two first last kind.format is_negative number n) valid plain ten fits signed other

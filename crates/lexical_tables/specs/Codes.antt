@@ -1,10 +1,12 @@
 -- What a column says of all its cells, as a byte.
--- 0: nothing is known, and the column is asked at each cell. 1: its cells aren't read. 2 and more: they are read under the
--- standard format, as numbers of u8, u16, u32, u64, i8, i16, i32 or i64 in this order, and no number may be missing. 10 and
--- more: the same, and a number may be missing.
-use Rattle.std.specs.Prelude.{◌≡◌, ◌-◌, ◌*◌, ◌%◌, ◌^◌, ◌<◌, ◌≤◌, ◌⊎◌, ℕ, Bool, false, true, IfSome, IsTrue, List, get_or, length, nat_le, slice_index, Option, Some, None, is_some, option_map}
-use Rattle.lexical_util.specs.Format.{standard}
+-- 0: nothing is known, and the column is asked at each cell. 1: its cells aren't read. 2 and more: they are read as decimal
+-- digits behind an optional minus are, whatever else the format allows, as numbers of u8, u16, u32, u64, i8, i16, i32 or i64
+-- in this order, and no number may be missing. 10 and more: the same, and a number may be missing. 18 and more: as 2 and
+-- more, and no zero may stand in front of another digit.
+use Rattle.std.specs.Prelude.{◌≡◌, ◌-◌, ◌*◌, ◌%◌, ◌^◌, ◌<◌, ◌≤◌, ◌⊎◌, ℕ, Bool, false, true, IfSome, IsTrue, if◌then◌else◌, List, get_or, length, nat_le, slice_index, Option, Some, None, is_some, option_map}
+use Rattle.lexical_util.specs.Format.{Format}
 use Rattle.lexical_util.specs.Number.{IntegerType, IsNumber, integer_type}
+use Rattle.lexical_parse_integer.specs.Plain.{IsPlain, keeps_zero_rule}
 use Rattle.lexical_parse_integer.specs.Value.{with_sign}
 use Rattle.lexical_fields.specs.Numerals.{IsNumeral}
 use Rattle.lexical_tables.specs.Cells.{ends_in_digit}
@@ -20,11 +22,27 @@ type_at place = integer_type (8 * 2 ^ (place % 4)) (nat_le 4 place)
 abbrev pub coded_type : ℕ → IntegerType
 coded_type code = type_at ((code - 2) % 8)
 
+-- Under a format without punctuation, decimal digits behind an optional minus are a number, unless a rule that it has, or
+-- has not, forbids a zero in front of them.
+pub record IsDecimal (format : Format) (has_zero_rule : Bool) : Type 0 where
+  pub plain : IsPlain format
+  pub decimal : format.mantissa_radix ≡ 10
+  pub zeros : format.no_integer_leading_zeros ≡ has_zero_rule
+
+-- a code of a column, without what it says of zeros
+abbrev pub without_zero_rule : ℕ → ℕ
+without_zero_rule code = if nat_le 18 code then code - 16 else code
+
+-- numbers are put into a column as a code says: of this type, with bits or without
+abbrev pub IsPutAs : ℕ → Option TargetView → Type 0
+IsPutAs code None = ⊥
+IsPutAs code (Some target) = (target.type ≡ coded_type code)
+    × (is_some target.present ≡ nat_le 10 code)
+
 -- a column is read as a code says
 abbrev pub IsReadAs : ℕ → Option TargetView → Type 0
-IsReadAs code None = ⊥
-IsReadAs code (Some target) = (target.format ≡ standard) × (target.type ≡ coded_type code)
-    × (is_some target.present ≡ nat_le 10 code)
+IsReadAs code target = IfSome target (λ target. IsDecimal target.format (nat_le 18 code))
+    × IsPutAs (without_zero_rule code) target
 
 -- A code is right for a column.
 pub record IsCode (code : ℕ) (target : Option TargetView) : Type 0 where
@@ -36,7 +54,7 @@ pub record IsCode (code : ℕ) (target : Option TargetView) : Type 0 where
 pub record IsCodeIn (dialect : Dialect) (code : ℕ) (target : Option TargetView) : Type 0 where
   pub column : IsCode code target
   pub no_blanks : 2 ≤ code → dialect.allows_blanks ≡ false
-  pub no_number : 10 ≤ code → ends_in_digit dialect.missing.now ≡ false
+  pub no_number : 10 ≤ without_zero_rule code → ends_in_digit dialect.missing.now ≡ false
 
 -- each column with a place among the codes has its code
 abbrev pub AreCodes : Dialect → List ℕ → List (Option TargetView) → Type 0
@@ -49,11 +67,16 @@ AreQuotesRound has_quotes text count = (count ≡ 0) ⊎ ((count ≡ 1) × (has_
     × (2 ≤ length text) × (slice_index text 0 ≡ quote)
     × (slice_index text (length text - 1) ≡ quote))
 
--- The number of a text of digits was put into a row's place, and the column's type has it.
+-- a text is digits alone or behind a minus, which write a number, and keep a format's rule on zeros
+pub record IsNumeralUnder (format : Format) (is_negative : Bool) (number : ℕ) (text : List ℕ) : Type 0 where
+  pub numeral : IsNumeral is_negative number text
+  pub rule : keeps_zero_rule format numeral.digits ≡ true
+
+-- The number of a text of digits was put into a row's place, and the column's format and type have it.
 pub record IsNumberPut (row : ℕ) (text : List ℕ) (old new : Option TargetView) : Type 0 where
   pub is_negative : Bool
   pub number : ℕ
-  pub numeral : IsNumeral is_negative number text
+  pub numeral : IfSome old (λ target. IsNumeralUnder target.format is_negative number text)
   pub fits : IfSome old (λ target. IsNumber target.type (with_sign is_negative number))
   pub minus : IsTrue is_negative → IfSome old (λ target. target.type.is_signed ≡ true)
   pub put : new ≡ option_map (put_value row (Some (with_sign is_negative number))) old

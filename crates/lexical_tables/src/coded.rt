@@ -7,10 +7,9 @@ ghost use Rattle.lexical_tables.specs.ByColumn.{IsUsable};
 ghost use Rattle.lexical_tables.specs.Codes.{IsCode, coded_type};
 ghost use Rattle.lexical_tables.specs.Targets.{put_value, type_of, view_of_target};
 
-use crate::codes::{self, UNKNOWN, WITH_BITS};
+use crate::codes::{self, WITH_BITS, under_format};
 use crate::column_integer::put_with_sign;
 use crate::targets::{Numbers, Target};
-use lexical_parse_integer::format;
 
 impl Numbers<'_> {
     // The code of a column of such numbers, of which none may be missing.
@@ -37,14 +36,11 @@ impl Target<'_> {
     pub(crate) fn code(&self) -> u8
         ensures { IsCode result (Some (view_of_target self.now)) }
     {
-        if self.format != format::STANDARD {
-            return UNKNOWN;
-        }
         let code = self.numbers.code();
         if self.present.is_some() {
-            return code + WITH_BITS;
+            return under_format(code + WITH_BITS, &self.format);
         }
-        code
+        under_format(code, &self.format)
     }
 
     // Puts a number with its sign into a row's place, and sets the row's bit, where the column's type has it, and tells whether

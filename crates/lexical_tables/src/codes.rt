@@ -1,14 +1,18 @@
 //! What a column says of all its cells, as a byte, which a table's reader asks once a call.
 //!
 //! [`UNKNOWN`] is right for each column: then it is asked at each cell. The code of a type is for a column whose cells are read
-//! under the standard format, with [`WITH_BITS`] added where a number may be missing.
+//! under a format without punctuation in radix 10, with [`WITH_BITS`] added where a number may be missing, and
+//! [`WITH_ZERO_RULE`] where the format forbids zeros in front.
 
-ghost use Rattle.std.specs.Prelude.{◌≡◌, ◌+◌, ◌-◌, ◌%◌, ◌≤◌, false, map};
+ghost use Rattle.std.specs.Prelude.{◌≡◌, ◌+◌, ◌-◌, ◌%◌, ◌<◌, ◌≤◌, Some, false, map};
 ghost use Rattle.lexical_tables.specs.Cells.{ends_in_digit};
-ghost use Rattle.lexical_tables.specs.Codes.{AreCodes, IsCode};
+ghost use Rattle.lexical_tables.specs.Codes.{AreCodes, IsCode, IsCodeIn, IsPutAs, without_zero_rule};
+ghost use Rattle.lexical_tables.specs.Targets.{TargetView};
 
 use crate::dialect::Dialect;
 use crate::targets::TableColumn;
+use lexical_parse_integer::NumberFormat;
+use lexical_parse_integer::quick::is_separated;
 use lexical_util::digit::char_is_digit;
 
 /// Nothing is known of the column's cells.
@@ -44,9 +48,42 @@ pub const I64: u8 = 9;
 /// What is added to the code of a type where a number may be missing.
 pub const WITH_BITS: u8 = 8;
 
+/// What is added to the code of a type, with bits or without, where no zero may stand in front of another digit.
+pub const WITH_ZERO_RULE: u8 = 16;
+
+/// The code of a column under a format, by what it is under the standard one, which has to be the code of a type.
+///
+/// It is for a [`TableColumn`](crate::TableColumn) of one's own.
+pub fn under_format(code: u8, format: &NumberFormat) -> u8
+    requires read { 2 ≤ code }
+    requires standard { code < 18 }
+    ensures { (target : TargetView) → target.format ≡ format.now → IsPutAs code (Some target)
+        → IsCode result (Some target) }
+{
+    if !is_separated(format, b' ') {
+        return UNKNOWN;
+    }
+    if format.no_integer_leading_zeros() {
+        return code + WITH_ZERO_RULE;
+    }
+    code
+}
+
+// A code without what it says of zeros.
+#[inline(always)]
+pub(crate) fn without_zero_rule(code: u8) -> u8
+    ensures { result ≡ without_zero_rule code }
+{
+    if code < U8 + WITH_ZERO_RULE {
+        code
+    } else {
+        code - WITH_ZERO_RULE
+    }
+}
+
 /// The code of the same type where no number may be missing.
 ///
-/// It is for a [`TableColumn`](crate::TableColumn) of one's own. The code has to be that of a type.
+/// It is for a [`TableColumn`](crate::TableColumn) of one's own. The code has to be that of a type, without a rule on zeros.
 #[inline(always)]
 pub fn without_bits(code: u8) -> u8
     requires read { 2 ≤ code }
@@ -71,20 +108,19 @@ fn ends_in_digit(text: &[u8]) -> bool
 
 // A column's code in a table: none where blanks are passed, or where the mark may be a number too.
 #[inline(always)]
-fn code_in<C: TableColumn>(target: &C, allows_blanks: bool, is_mark_number: bool) -> u8
-    ensures column { IsCode result (C.target target.now) }
-    ensures no_blanks { 2 ≤ result → allows_blanks ≡ false }
-    ensures no_number { 10 ≤ result → is_mark_number ≡ false }
+fn code_in<C: TableColumn>(target: &C, dialect: &Dialect<'_>, is_mark_number: bool) -> u8
+    requires mark { is_mark_number ≡ ends_in_digit dialect.now.missing.now }
+    ensures { IsCodeIn dialect.now result (C.target target.now) }
 {
     let code = target.code();
     if code < U8 {
         return code;
     }
-    if allows_blanks {
+    if dialect.allows_blanks {
         return UNKNOWN;
     }
     if is_mark_number {
-        if code >= U8 + WITH_BITS {
+        if without_zero_rule(code) >= U8 + WITH_BITS {
             return UNKNOWN;
         }
     }
@@ -103,6 +139,6 @@ pub(crate) fn put_codes<C: TableColumn>(
     let is_mark_number = ends_in_digit(dialect.missing);
     let count = targets.len().min(CODED);
     for column in 0..count {
-        codes[column] = code_in(&targets[column], dialect.allows_blanks, is_mark_number);
+        codes[column] = code_in(&targets[column], dialect, is_mark_number);
     }
 }

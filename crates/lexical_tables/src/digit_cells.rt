@@ -1,11 +1,13 @@
 //! Cells of digits alone, whose numbers are put by their columns' codes.
 
-ghost use Rattle.std.specs.Prelude.{◌≡◌, ◌+◌, ◌-◌, ◌*◌, ◌<◌, ◌≤◌, IsTrue, None, false, length, take, drop, option_map, true};
+ghost use Rattle.std.specs.Prelude.{◌≡◌, ◌+◌, ◌-◌, ◌*◌, ◌<◌, ◌≤◌, ℕ, IsTrue, None, false, length, nat_le, take, drop, option_map, true};
+ghost use Rattle.lexical_util.specs.Format.{Format};
+ghost use Rattle.lexical_fields.specs.Numerals.{IsNumeral};
 ghost use Rattle.lexical_tables.specs.ByColumn.{IsUsable, fault_in, kind_of, put_read};
 ghost use Rattle.lexical_tables.specs.Cells.{answer_as, view_of_cell};
-ghost use Rattle.lexical_tables.specs.Codes.{AreQuotesRound, IsCode, IsCodeIn, IsNumberPut};
+ghost use Rattle.lexical_tables.specs.Codes.{AreQuotesRound, IsCodeIn, IsDecimal, IsNumberPut, IsNumeralUnder, IsReadAs};
 
-use crate::codes::NOT_READ;
+use crate::codes::{NOT_READ, U8, WITH_ZERO_RULE, without_zero_rule};
 use crate::content::Cell;
 use crate::dialect::Dialect;
 use crate::targets::TableColumn;
@@ -30,8 +32,23 @@ fn quotes_round(text: &[u8], has_quotes: bool) -> usize
     usize::from(text[text.len() - 1] == b'"')
 }
 
+// Whether digits, so many bytes of a text with the minus in front, keep the rule on zeros, if a column's code has it.
+#[inline(always)]
+fn keeps_zero_rule(code: u8, ahead: &[u8], size: usize, is_negative: bool) -> bool
+    requires room { size + 17 ≤ length ahead.now }
+    ensures { IsTrue result → (format : Format) (number : ℕ) → IsDecimal format (nat_le 18 code)
+        → IsNumeral is_negative number (take size ahead.now)
+        → IsNumeralUnder format is_negative number (take size ahead.now) }
+{
+    if code < U8 + WITH_ZERO_RULE {
+        return true;
+    }
+    let first = usize::from(is_negative);
+    ahead[first] != b'0' || size == first + 1
+}
+
 // Puts the number of a text's first bytes, so many, into a row's place, where they are digits alone or behind a minus and the
-// column's type has it, and tells whether it did.
+// column's format and type have it, and tells whether it did.
 #[inline(always)]
 fn put_digits<C: TableColumn>(
     target: &mut C,
@@ -40,7 +57,7 @@ fn put_digits<C: TableColumn>(
     ahead: &[u8],
     size: usize,
 ) -> bool
-    requires code { IsCode code (C.target target.old) }
+    requires column { IsReadAs code (C.target target.old) }
     requires read { 2 ≤ code }
     requires usable { IsUsable (row + 1) (C.target target.old) }
     requires room { size + 17 ≤ length ahead.now }
@@ -48,10 +65,13 @@ fn put_digits<C: TableColumn>(
         → IsNumberPut row (take size ahead.now) (C.target target.old) (C.target target.new) }
     ensures kept { result ≡ false → C.target target.new ≡ C.target target.old }
 {
-    match number_of_front(ahead, size) {
-        Some((is_negative, number)) => target.put_number(code, row, is_negative, number),
-        None => false,
+    let Some((is_negative, number)) = number_of_front(ahead, size) else {
+        return false;
+    };
+    if !keeps_zero_rule(code, ahead, size, is_negative) {
+        return false;
     }
+    target.put_number(without_zero_rule(code), row, is_negative, number)
 }
 
 // Reads a cell at once, where its column isn't read, or it is digits alone, behind a minus or within quotes, and tells

@@ -13,7 +13,7 @@ returns-clause-fault g c = λ did.
     let old = g.C.TableColumn.target c.args.target.now in
     let new = g.C.TableColumn.target c.put_digits.new.target in
     (digits_put c.args.dialect.now c.args.code c.args.row (view_of_cell c.args.cell) c.args.cell.ahead.now quotes old new
-    c.requires.code read c.requires.front c.quotes_round-quotes.ensures.round
+    c.requires.code read c.requires.usable c.requires.front c.quotes_round-quotes.ensures.round
     (subst (λ l. IsNumberPut c.args.row (take (length c.args.cell.text.now - 2 * quotes) l) old new)
     (take_rest c.args.cell.ahead.now quotes) (c.put_digits.ensures.put did))).fault
 
@@ -24,6 +24,6 @@ returns-clause-target g c = λ did.
     let old = g.C.TableColumn.target c.args.target.now in
     let new = g.C.TableColumn.target c.put_digits.new.target in
     (digits_put c.args.dialect.now c.args.code c.args.row (view_of_cell c.args.cell) c.args.cell.ahead.now quotes old new
-    c.requires.code read c.requires.front c.quotes_round-quotes.ensures.round
+    c.requires.code read c.requires.usable c.requires.front c.quotes_round-quotes.ensures.round
     (subst (λ l. IsNumberPut c.args.row (take (length c.args.cell.text.now - 2 * quotes) l) old new)
     (take_rest c.args.cell.ahead.now quotes) (c.put_digits.ensures.put did))).target

@@ -11,7 +11,7 @@ put_row_bit-requires-clause-bits c =
     let many : nat_le 10 c.args.code ≡ true = grind (arith, nat_tests) in
     bits_stay c.args.row (with_sign c.args.is_negative c.args.number) (target_of c.args.self.now)
     (target_of c.put_coded_number.new.self) (c.if-not-put_coded_number.ensures.target refl)
-    ∙ bits_said c.args.code (target_of c.args.self.now) (c.requires.code.read c.requires.read) ∙ many
+    ∙ bits_said c.args.code (target_of c.args.self.now) c.requires.code ∙ many
 
 pub put_row_bit-requires-clause-usable : goal.put_row_bit-requires-clause-usable
 put_row_bit-requires-clause-usable c =
@@ -33,4 +33,4 @@ returns-else-code-clause-target c = λ put.
     let told = c.if-not-put_coded_number.ensures.target refl in
     put_alone c.args.row number before after told
     (bits_stay c.args.row number before after told
-    ∙ bits_said c.args.code before (c.requires.code.read c.requires.read) ∙ few)
+    ∙ bits_said c.args.code before c.requires.code ∙ few)
