@@ -13,7 +13,7 @@ use Rattle.jadvolni.specs.declared.table_columns.NumberType.TheVariants.{I16, I3
 use Rattle.jadvolni.proofs.TableBits.{no_bit}
 
 -- a column has bits where its code says so
-pub bits_said : (code : ℕ) (target : Option TargetView) → IsPutAs code target → has_bits target ≡ nat_le 10 code
+pub bits_said : (code : ℕ) (target : Option TargetView) → IsPutAs code target → has_bits target ≡ nat_le 16 code
 bits_said code None read = absurd read
 bits_said code (Some target) read = read.1
 

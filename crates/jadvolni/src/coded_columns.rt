@@ -8,15 +8,15 @@ ghost use Rattle.lexical_tables.specs.Codes.{IsPutAs, coded_type};
 ghost use Rattle.jadvolni.specs.Tables.{number_type, put_at, target_of, type_named};
 
 use crate::table_columns::{ColumnFields, NumberType};
-use lexical_tables::codes::{self, WITH_BITS, without_bits};
+use lexical_tables::codes::{self, WITH_BITS};
 use lexical_tables::put_with_sign;
 
 impl NumberType {
     // The code of a column of such numbers, of which none may be missing.
     pub(crate) fn code(self) -> u8
         ensures numbers { coded_type result ≡ type_named self }
-        ensures read { 2 ≤ result }
-        ensures bare { result < 10 }
+        ensures read { 8 ≤ result }
+        ensures bare { result < 16 }
     {
         match self {
             NumberType::U8 => codes::U8,
@@ -37,8 +37,8 @@ impl ColumnFields<'_> {
     pub(crate) fn standard_code(&self, numbers: NumberType) -> u8
         requires numbers { number_type self.now ≡ Some numbers }
         ensures column { IsPutAs result (target_of self.now) }
-        ensures read { 2 ≤ result }
-        ensures standard { result < 18 }
+        ensures read { 8 ≤ result }
+        ensures standard { result < 24 }
     {
         let code = numbers.code();
         if self.present.is_empty() {
@@ -51,18 +51,18 @@ impl ColumnFields<'_> {
     #[inline(always)]
     fn type_of_code(&self, code: u8) -> NumberType
         requires column { IsPutAs code (target_of self.now) }
-        requires read { 2 ≤ code }
+        requires read { 8 ≤ code }
         ensures { number_type self.now ≡ Some result }
     {
-        match without_bits(code) {
-            codes::U8 => NumberType::U8,
-            codes::U16 => NumberType::U16,
-            codes::U32 => NumberType::U32,
-            codes::U64 => NumberType::U64,
-            codes::I8 => NumberType::I8,
-            codes::I16 => NumberType::I16,
-            codes::I32 => NumberType::I32,
-            codes::I64 => NumberType::I64,
+        match code % 8 {
+            0 => NumberType::U8,
+            1 => NumberType::U16,
+            2 => NumberType::U32,
+            3 => NumberType::U64,
+            4 => NumberType::I8,
+            5 => NumberType::I16,
+            6 => NumberType::I32,
+            7 => NumberType::I64,
             _ => unreachable!(),
         }
     }
@@ -77,7 +77,7 @@ impl ColumnFields<'_> {
         number: u64,
     ) -> bool
         requires column { IsPutAs code (target_of self.old) }
-        requires read { 2 ≤ code }
+        requires read { 8 ≤ code }
         requires usable { IsUsable (row + 1) (target_of self.old) }
         requires small { number < 2 ^ 63 }
         ensures fits { IsTrue result → IfSome (target_of self.old)

@@ -13,10 +13,10 @@ use Rattle.lexical_tables.proofs.PutSteps.{kinds_put, kinds_put_row}
 -- what a code says of a column, it says of what that is read as
 abbrev IsKindPut : ℕ → Option Kind → Type 0
 IsKindPut code None = ⊥
-IsKindPut code (Some kind) = (kind.type ≡ coded_type code) × (kind.may_miss ≡ nat_le 10 code)
+IsKindPut code (Some kind) = (kind.type ≡ coded_type code) × (kind.may_miss ≡ nat_le 16 code)
 
 abbrev IsKindAs : ℕ → Option Kind → Type 0
-IsKindAs code kind = IfSome kind (λ kind. IsDecimal kind.format (nat_le 18 code)) × IsKindPut (without_zero_rule code) kind
+IsKindAs code kind = IfSome kind (λ kind. IsDecimal kind.format (nat_le 24 code)) × IsKindPut (without_zero_rule code) kind
 
 to_kind : (code : ℕ) (target : Option TargetView) → IsReadAs code target → IsKindAs code (option_map kind_of target)
 to_kind code None read = read

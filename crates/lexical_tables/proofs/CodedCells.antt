@@ -1,5 +1,5 @@
 -- A cell of digits that is read by its column's code.
-use Rattle.std.proofs.Common.{◌≡◌, ◌∙◌, ℕ, ◌+◌, ◌-◌, ◌*◌, ◌≤◌, List, true, false, length, take, drop, Option, Some, None, Ok, refl, ap, sym, subst, arith, inl, inr}
+use Rattle.std.proofs.Common.{◌≡◌, ◌∙◌, ℕ, ◌+◌, ◌-◌, ◌*◌, ◌≤◌, List, true, false, length, length-take-le, take, drop, Option, Some, None, Ok, refl, ap, sym, subst, arith, inl, inr}
 use Rattle.std.specs.Prelude.{is_some, nat_le, option_map}
 use Rattle.std.proofs.lemmas.Bool.{leb-true}
 use Rattle.std.proofs.lemmas.List.{drop-take, take-take}
@@ -23,44 +23,53 @@ pub unread_put : (d : Dialect) (row : ℕ) (cell : FieldView) (target : Option T
 unread_put d row cell None none unquoted = record { fault = ap fault_in (unread_answer d cell unquoted); target = refl }
 unread_put d row cell (Some target) none unquoted = absurd cc
 
--- one whose cells are read
-pub digits_put : (d : Dialect) (code row : ℕ) (cell : FieldView) (ahead : List ℕ) (quotes : ℕ) (old new : Option TargetView)
-    → IsCodeIn d code old → 2 ≤ code → IsUsable (row + 1) old → cell.text ≡ take (length cell.text) ahead → AreQuotesRound d.has_quotes cell.text quotes
-    → IsNumberPut row (take (length cell.text - 2 * quotes) (drop quotes ahead)) old new → IsCellPut d row cell old new
-digits_put d code row cell ahead quotes None new coded read usable front round put = absurd (coded.column.read read).1
-digits_put d code row cell ahead quotes (Some target) new coded read usable front round put = record {
-  fault = ap fault_in (answer_is round);
-  target = put.put ∙ ap (λ a. Some (put_read row a target)) (sym (answer_is round));
-}
-  where
-    as_kind : IsDecimal target.format (nat_le 18 code) × ((target.type ≡ coded_type (without_zero_rule code))
-        × (is_some target.present ≡ nat_le 10 (without_zero_rule code)))
-    as_kind = coded.column.read read
+module _ (start size : ℕ) (ahead : List ℕ) where
+  abbrev cell : FieldView
+  cell = record { start = start; text = take size ahead }
 
-    no_mark : is_some target.present ≡ true → ends_in_digit d.missing.now ≡ false
-    no_mark misses = coded.no_number (leb-true 10 (without_zero_rule code) (sym as_kind.1.1 ∙ misses))
+  -- one whose cells are read
+  pub digits_put : (d : Dialect) (code row quotes : ℕ) (old new : Option TargetView)
+      → IsCodeIn d code old → 8 ≤ code → IsUsable (row + 1) old → size ≤ length ahead
+      → AreQuotesRound d.has_quotes cell.text quotes
+      → IsNumberPut row (take (size - 2 * quotes) (drop quotes ahead)) old new
+      → IsCellPut d row cell old new
+  digits_put d code row quotes None new coded read usable low round put = absurd (coded.column.read read).1
+  digits_put d code row quotes (Some target) new coded read usable low round put = record {
+    fault = ap fault_in (answer_is round);
+    target = put.put ∙ ap (λ a. Some (put_read row a target)) (sym (answer_is round));
+  }
+    where
+      long : length cell.text ≡ size
+      long = length-take-le size ahead low
 
-    answer_is : AreQuotesRound d.has_quotes cell.text quotes
-        → answer_as d (Some (kind_of target)) cell ≡ Ok (Some (with_sign put.is_negative put.number))
-    answer_is (inl none) =
-        let size : length cell.text - 2 * quotes ≡ length cell.text = omega (arith, none) in
-        let text : take (length cell.text - 2 * quotes) (drop quotes ahead) ≡ cell.text =
-        ap (λ n. take n (drop quotes ahead)) size ∙ ap (λ q. take (length cell.text) (drop q ahead)) none ∙ sym front in
-        plain_answer d (kind_of target) cell put.is_negative put.number (coded.no_blanks read)
-        (subst (IsNumeralUnder target.format put.is_negative put.number) text put.numeral) usable.0 as_kind.0.plain as_kind.0.decimal put.fits put.minus no_mark
-    answer_is (inr one) =
-        let size : length cell.text - 2 * quotes ≡ length cell.text - 2 = omega (arith, one.0) in
-        let text : take (length cell.text - 2 * quotes) (drop quotes ahead) ≡ take (length cell.text - 2) (drop 1 cell.text) =
-        ap (λ n. take n (drop quotes ahead)) size ∙ ap (λ q. take (length cell.text - 2) (drop q ahead)) one.0
-        ∙ within one.2 in
-        quoted_answer d (kind_of target) cell put.is_negative put.number (coded.no_blanks read) one.1 one.2 one.3 one.4
-        (subst (IsNumeralUnder target.format put.is_negative put.number) text put.numeral) usable.0 as_kind.0.plain as_kind.0.decimal put.fits put.minus no_mark
-      where
-        within : 2 ≤ length cell.text → take (length cell.text - 2) (drop 1 ahead)
-            ≡ take (length cell.text - 2) (drop 1 cell.text)
-        within long =
-            let n = length cell.text - 1 in
-            let whole : length cell.text ≡ 1 + n = omega (arith, long) in
-            sym (ap (λ l. take (length cell.text - 2) (drop 1 l)) (front ∙ ap (λ k. take k ahead) whole)
-            ∙ ap (take (length cell.text - 2)) (drop-take 1 n ahead)
-            ∙ take-take (length cell.text - 2) n (drop 1 ahead) (omega arith))
+      as_kind : IsDecimal target.format (nat_le 24 code) × ((target.type ≡ coded_type (without_zero_rule code))
+          × (is_some target.present ≡ nat_le 16 (without_zero_rule code)))
+      as_kind = coded.column.read read
+
+      no_mark : is_some target.present ≡ true → ends_in_digit d.missing.now ≡ false
+      no_mark misses = coded.no_number (leb-true 16 (without_zero_rule code) (sym as_kind.1.1 ∙ misses))
+
+      answer_is : AreQuotesRound d.has_quotes cell.text quotes
+          → answer_as d (Some (kind_of target)) cell ≡ Ok (Some (with_sign put.is_negative put.number))
+      answer_is (inl none) =
+          let whole : size - 2 * quotes ≡ size = omega (arith, none) in
+          let text : take (size - 2 * quotes) (drop quotes ahead) ≡ cell.text =
+          ap (λ n. take n (drop quotes ahead)) whole ∙ ap (λ q. take size (drop q ahead)) none in
+          plain_answer d (kind_of target) cell put.is_negative put.number (coded.no_blanks read)
+          (subst (IsNumeralUnder target.format put.is_negative put.number) text put.numeral) usable.0 as_kind.0.plain as_kind.0.decimal put.fits put.minus no_mark
+      answer_is (inr one) =
+          let within : size - 2 * quotes ≡ length cell.text - 2 = omega (arith, one.0, long) in
+          let some : 2 ≤ size = omega (arith, one.2, long) in
+          let text : take (size - 2 * quotes) (drop quotes ahead) ≡ take (length cell.text - 2) (drop 1 cell.text) =
+          ap (λ n. take n (drop quotes ahead)) within ∙ ap (λ q. take (length cell.text - 2) (drop q ahead)) one.0
+          ∙ inner some in
+          quoted_answer d (kind_of target) cell put.is_negative put.number (coded.no_blanks read) one.1 one.2 one.3 one.4
+          (subst (IsNumeralUnder target.format put.is_negative put.number) text put.numeral) usable.0 as_kind.0.plain as_kind.0.decimal put.fits put.minus no_mark
+        where
+          inner : 2 ≤ size → take (length cell.text - 2) (drop 1 ahead) ≡ take (length cell.text - 2) (drop 1 cell.text)
+          inner some =
+              let n = size - 1 in
+              let whole : size ≡ 1 + n = omega (arith, some) in
+              sym (ap (λ k. take (length cell.text - 2) (drop 1 (take k ahead))) whole
+              ∙ ap (take (length cell.text - 2)) (drop-take 1 n ahead)
+              ∙ take-take (length cell.text - 2) n (drop 1 ahead) (omega (arith, long)))

@@ -11,7 +11,7 @@ use Rattle.lexical_tables.specs.Quotes.{length_outside, pieces_outside}
 use Rattle.lexical_tables.specs.RowSoFar.{IsMarked, IsOnRow, cells_behind}
 use Rattle.lexical_tables.specs.Rows.{RowView, behind_piece, carriage_return, ends_in, first_piece, first_row, has_lines, is_ended, line_feed, row_of}
 use Rattle.lexical_tables.specs.Targets.{TargetView}
-use Rattle.lexical_tables.specs.declared.answers.CellFault.TheVariants.{TooFewCells, TooManyCells}
+use Rattle.lexical_tables.specs.declared.answers.CellFault.TheVariants.{MissingReturn, TooFewCells, TooManyCells}
 use Rattle.lexical_tables.specs.declared.dialect.Dialect.{Dialect}
 use Rattle.lexical_tables.specs.declared.dialect.Layout.{Layout}
 use Rattle.lexical_tables.specs.declared.dialect.Layout.TheVariants.{Records, Separated, Widths}
@@ -272,7 +272,7 @@ module _ (d : Dialect) (s : ℕ) (marked : IsMarked d s) (start : ℕ) (text : L
     -- ---- the last cell, which a line feed ends
 
     module _ (r size : ℕ) (room : r + 17 ≤ length left) (line_is : length_outside d.has_quotes line_feed left ≡ r)
-        (low : size ≤ r) (whole : (true && d.has_returns) ≡ false → size ≡ r)
+        (low : size ≤ r) (whole : d.has_returns ≡ false → size ≡ r)
         (bare : d.has_returns ≡ true → size ≡ r → 0 < r → get_or left (r - 1) 0 ≢ carriage_return)
         (returned : size ≢ r → (size + 1 ≡ r) × (get_or left size 0 ≡ carriage_return) × (d.has_returns ≡ true)) where
       line_at : line_length ≡ passed + r
@@ -376,6 +376,15 @@ too_many columns index column place row same =
     ap (λ n. Some (wrong_cell index n (TooManyCells place))) (sym same)
     ∙ sym (ap (λ t. cond t (Some (wrong_cell index column (TooFewCells (row.start + length row.text))))
     (Some (wrong_cell index columns (TooManyCells place)))) (le-ltb column columns (omega (arith, same))))
+
+-- nothing is wrong with the end of a row that has as many cells as there are columns, and its return
+pub end_fine : (columns index column : ℕ) (row : RowView) → columns ≡ column → row.lacks_return ≡ false
+    → None ≡ end_fault columns index row column None
+end_fine columns index column row same fine =
+    sym (ap (λ t. cond t (Some (wrong_cell index column (TooFewCells (row.start + length row.text))))
+    (cond row.lacks_return (Some (wrong_cell index columns (MissingReturn (row.start + length row.text)))) None))
+    (le-ltb column columns (omega (arith, same)))
+    ∙ ap (λ t. cond t (Some (wrong_cell index columns (MissingReturn (row.start + length row.text)))) None) fine)
 
 -- no mark is known
 pub no_ends_if : (marked : Option ℕ) (q : Bool) (text : List ℕ) → AreEndsIf marked q text 0

@@ -1,7 +1,7 @@
 -- What a column says of all its cells, as a byte.
--- 0: nothing is known, and the column is asked at each cell. 1: its cells aren't read. 2 and more: they are read as decimal
+-- 0: nothing is known, and the column is asked at each cell. 1: its cells aren't read. 8 and more: they are read as decimal
 -- digits behind an optional minus are, whatever else the format allows, as numbers of u8, u16, u32, u64, i8, i16, i32 or i64
--- in this order, and no number may be missing. 10 and more: the same, and a number may be missing. 18 and more: as 2 and
+-- in this order, and no number may be missing. 16 and more: the same, and a number may be missing. 24 and more: as 8 and
 -- more, and no zero may stand in front of another digit.
 use Rattle.std.specs.Prelude.{◌≡◌, ◌-◌, ◌*◌, ◌%◌, ◌^◌, ◌<◌, ◌≤◌, ◌⊎◌, ℕ, Bool, false, true, IfSome, IsTrue, if◌then◌else◌, List, get_or, length, nat_le, slice_index, Option, Some, None, is_some, option_map}
 use Rattle.lexical_util.specs.Format.{Format}
@@ -20,7 +20,7 @@ type_at place = integer_type (8 * 2 ^ (place % 4)) (nat_le 4 place)
 
 -- the type of the numbers of a column with a code
 abbrev pub coded_type : ℕ → IntegerType
-coded_type code = type_at ((code - 2) % 8)
+coded_type code = type_at (code % 8)
 
 -- Under a format without punctuation, decimal digits behind an optional minus are a number, unless a rule that it has, or
 -- has not, forbids a zero in front of them.
@@ -31,30 +31,30 @@ pub record IsDecimal (format : Format) (has_zero_rule : Bool) : Type 0 where
 
 -- a code of a column, without what it says of zeros
 abbrev pub without_zero_rule : ℕ → ℕ
-without_zero_rule code = if nat_le 18 code then code - 16 else code
+without_zero_rule code = if nat_le 24 code then code - 16 else code
 
 -- numbers are put into a column as a code says: of this type, with bits or without
 abbrev pub IsPutAs : ℕ → Option TargetView → Type 0
 IsPutAs code None = ⊥
 IsPutAs code (Some target) = (target.type ≡ coded_type code)
-    × (is_some target.present ≡ nat_le 10 code)
+    × (is_some target.present ≡ nat_le 16 code)
 
 -- a column is read as a code says
 abbrev pub IsReadAs : ℕ → Option TargetView → Type 0
-IsReadAs code target = IfSome target (λ target. IsDecimal target.format (nat_le 18 code))
+IsReadAs code target = IfSome target (λ target. IsDecimal target.format (nat_le 24 code))
     × IsPutAs (without_zero_rule code) target
 
 -- A code is right for a column.
 pub record IsCode (code : ℕ) (target : Option TargetView) : Type 0 where
   pub unread : code ≡ 1 → is_some target ≡ false
-  pub read : 2 ≤ code → IsReadAs code target
+  pub read : 8 ≤ code → IsReadAs code target
 
 -- A code is right for a column in a table: where it says how its cells are read, no blanks stand there, and what stands for
 -- a missing number is none itself.
 pub record IsCodeIn (dialect : Dialect) (code : ℕ) (target : Option TargetView) : Type 0 where
   pub column : IsCode code target
-  pub no_blanks : 2 ≤ code → dialect.allows_blanks ≡ false
-  pub no_number : 10 ≤ without_zero_rule code → ends_in_digit dialect.missing.now ≡ false
+  pub no_blanks : 8 ≤ code → dialect.allows_blanks ≡ false
+  pub no_number : 16 ≤ without_zero_rule code → ends_in_digit dialect.missing.now ≡ false
 
 -- each column with a place among the codes has its code
 abbrev pub AreCodes : Dialect → List ℕ → List (Option TargetView) → Type 0

@@ -1,6 +1,6 @@
 //! Tables whose columns go into slices of their own.
 
-ghost use Rattle.std.specs.Prelude.{◌≡◌, ◌≢◌, ◌+◌, ◌-◌, ◌<◌, ◌≤◌, ◌^◌, ℕ, List, Option, length, take, drop, map, is_some, option_map, slice_index, true, IfOk, IsTrue};
+ghost use Rattle.std.specs.Prelude.{◌≡◌, ◌≢◌, ◌+◌, ◌-◌, ◌<◌, ◌≤◌, ◌^◌, ℕ, List, Option, length, take, drop, map, is_some, option_map, slice_index, true, IfOk, IsTrue, None, Some};
 ghost use Rattle.lexical_tables.specs.ByColumn.{AreUsable, IsUsable, StopsAt, answer_at, columns_answer, columns_put, end_fault, fault_in, kind_of, kinds_of, put_read, put_read_at, put_row, row_fault, row_values};
 ghost use Rattle.lexical_tables.specs.Cells.{Kind, answer_as, quote_fault, view_of_cell};
 ghost use Rattle.lexical_tables.specs.Quotes.{quote};
@@ -130,6 +130,29 @@ fn read_cell<C: TableColumn>(
         );
     }
     cell_fault(dialect, false, has_no_quote, cell)
+}
+
+// What is wrong with a row's end, if so many of its cells have a column, and no other cell is there: it has too few, or lacks
+// its return.
+#[inline(never)]
+pub(crate) fn wrong_end(row: &Row<'_>, index: usize, columns: usize, count: usize) -> TableError
+    requires wrong { columns ≤ count → row.now.lacks_return ≡ true }
+    requires fits { row.now.start + length row.now.text.now < 2 ^ 64 }
+    ensures { Some result ≡ end_fault columns index (view_of_row row.now) count None }
+{
+    let end = row.start + row.text.len();
+    if count < columns {
+        return TableError {
+            row: index,
+            column: count,
+            fault: CellFault::TooFewCells(end),
+        };
+    }
+    TableError {
+        row: index,
+        column: columns,
+        fault: CellFault::MissingReturn(end),
+    }
 }
 
 // What is wrong with the number of a row's cells, or with its end, if so many have a column, and one more starts there.

@@ -15,8 +15,8 @@ impl Numbers<'_> {
     // The code of a column of such numbers, of which none may be missing.
     fn code(&self) -> u8
         ensures numbers { type_of self.now ≡ coded_type result }
-        ensures read { 2 ≤ result }
-        ensures bare { result < 10 }
+        ensures read { 8 ≤ result }
+        ensures bare { result < 16 }
     {
         match self {
             Numbers::U8(_) => codes::U8,

@@ -2,9 +2,10 @@
 //!
 //! [`UNKNOWN`] is right for each column: then it is asked at each cell. The code of a type is for a column whose cells are read
 //! under a format without punctuation in radix 10, with [`WITH_BITS`] added where a number may be missing, and
-//! [`WITH_ZERO_RULE`] where the format forbids zeros in front.
+//! [`WITH_ZERO_RULE`] where the format forbids zeros in front. The codes of types are as many, and in this order, as those from
+//! 0 to 7 to which they are equal in their three lowest bits.
 
-ghost use Rattle.std.specs.Prelude.{◌≡◌, ◌+◌, ◌-◌, ◌%◌, ◌<◌, ◌≤◌, Some, false, map};
+ghost use Rattle.std.specs.Prelude.{◌≡◌, ◌+◌, ◌<◌, ◌≤◌, Some, false, map};
 ghost use Rattle.lexical_tables.specs.Cells.{ends_in_digit};
 ghost use Rattle.lexical_tables.specs.Codes.{AreCodes, IsCode, IsCodeIn, IsPutAs, without_zero_rule};
 ghost use Rattle.lexical_tables.specs.Targets.{TargetView};
@@ -22,28 +23,28 @@ pub const UNKNOWN: u8 = 0;
 pub const NOT_READ: u8 = 1;
 
 /// Numbers of 8 bits without a sign.
-pub const U8: u8 = 2;
+pub const U8: u8 = 8;
 
 /// Numbers of 16 bits without a sign.
-pub const U16: u8 = 3;
+pub const U16: u8 = 9;
 
 /// Numbers of 32 bits without a sign.
-pub const U32: u8 = 4;
+pub const U32: u8 = 10;
 
 /// Numbers of 64 bits without a sign.
-pub const U64: u8 = 5;
+pub const U64: u8 = 11;
 
 /// Numbers of 8 bits with a sign.
-pub const I8: u8 = 6;
+pub const I8: u8 = 12;
 
 /// Numbers of 16 bits with a sign.
-pub const I16: u8 = 7;
+pub const I16: u8 = 13;
 
 /// Numbers of 32 bits with a sign.
-pub const I32: u8 = 8;
+pub const I32: u8 = 14;
 
 /// Numbers of 64 bits with a sign.
-pub const I64: u8 = 9;
+pub const I64: u8 = 15;
 
 /// What is added to the code of a type where a number may be missing.
 pub const WITH_BITS: u8 = 8;
@@ -55,8 +56,8 @@ pub const WITH_ZERO_RULE: u8 = 16;
 ///
 /// It is for a [`TableColumn`](crate::TableColumn) of one's own.
 pub fn under_format(code: u8, format: &NumberFormat) -> u8
-    requires read { 2 ≤ code }
-    requires standard { code < 18 }
+    requires read { 8 ≤ code }
+    requires standard { code < 24 }
     ensures { (target : TargetView) → target.format ≡ format.now → IsPutAs code (Some target)
         → IsCode result (Some target) }
 {
@@ -79,17 +80,6 @@ pub(crate) fn without_zero_rule(code: u8) -> u8
     } else {
         code - WITH_ZERO_RULE
     }
-}
-
-/// The code of the same type where no number may be missing.
-///
-/// It is for a [`TableColumn`](crate::TableColumn) of one's own. The code has to be that of a type, without a rule on zeros.
-#[inline(always)]
-pub fn without_bits(code: u8) -> u8
-    requires read { 2 ≤ code }
-    ensures { result ≡ (code - 2) % 8 + 2 }
-{
-    (code - U8) % WITH_BITS + U8
 }
 
 // How many columns of a table may have a code. Those behind them are asked at each cell.

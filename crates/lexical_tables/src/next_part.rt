@@ -1,6 +1,6 @@
 //! The next cell of a row, as marks find it.
 
-ghost use Rattle.std.specs.Prelude.{◌≡◌, ◌≢◌, ◌==◌, ◌+◌, ◌-◌, ◌<◌, ◌≤◌, ◌&&◌, ℕ, [], ◌∷◌, IsTrue, false, if◌then◌else◌, length, not, slice_index, take, true};
+ghost use Rattle.std.specs.Prelude.{◌≡◌, ◌≢◌, ◌==◌, ◌&&◌, ◌+◌, ◌-◌, ◌<◌, ◌≤◌, ℕ, [], ◌∷◌, false, if◌then◌else◌, length, slice_index, take, true};
 ghost use Rattle.lexical_tables.specs.Ends.{AreEnds};
 ghost use Rattle.lexical_tables.specs.RowSoFar.{IsMarked, IsOnRow, cells_behind};
 ghost use Rattle.lexical_tables.specs.Rows.{behind_piece, carriage_return, first_row};
@@ -25,20 +25,17 @@ pub(crate) struct Part<'a> {
     pub lacks_return: bool,
 }
 
-// How many bytes a cell has that ends at a place: the return in front of a row's end is none of them, where it is asked for.
+// How many bytes a row's last cell has that ends at a place: the return in front of it is none of them, where it is asked for.
 #[inline(always)]
-fn cell_size(left: &[u8], end: usize, is_last: bool, has_returns: bool) -> usize
+fn last_size(left: &[u8], end: usize, has_returns: bool) -> usize
     requires end { end ≤ length left.now }
     ensures within { result ≤ end }
-    ensures cell { IsTrue (not (is_last && has_returns)) → result ≡ end }
-    ensures bare { is_last ≡ true → has_returns ≡ true → result ≡ end → 0 < end
+    ensures cell { has_returns ≡ false → result ≡ end }
+    ensures bare { has_returns ≡ true → result ≡ end → 0 < end
         → slice_index left.now (end - 1) ≢ carriage_return }
     ensures returned { result ≢ end → (result + 1 ≡ end)
-        × (slice_index left.now result ≡ carriage_return) × IsTrue (is_last && has_returns) }
+        × (slice_index left.now result ≡ carriage_return) × (has_returns ≡ true) }
 {
-    if !is_last {
-        return end;
-    }
     if !has_returns {
         return end;
     }
@@ -51,12 +48,12 @@ fn cell_size(left: &[u8], end: usize, is_last: bool, has_returns: bool) -> usize
     end - 1
 }
 
-// Whether the row that a cell of so many bytes ends lacks its return.
+// Whether a row whose last cell has so many bytes lacks its return.
 #[inline(always)]
-fn lacks_return(size: usize, end: usize, is_last: bool, has_returns: bool) -> bool
-    ensures { is_last ≡ true → result ≡ (has_returns && (size == end)) }
+fn lacks_return(size: usize, end: usize, has_returns: bool) -> bool
+    ensures { result ≡ (has_returns && (size == end)) }
 {
-    is_last && has_returns && size == end
+    has_returns && size == end
 }
 
 // The next cell of the first row of a text, of which this is left.
@@ -96,15 +93,23 @@ pub(crate) fn next_part<'a>(
     ensures shorter { length result.behind.text.now < length left.now }
 {
     let end = first_end(left, marks, separator, dialect.has_quotes);
-    let is_last = left[end] == b'\n';
-    let size = cell_size(left, end, is_last, dialect.has_returns);
+    let behind = Left {
+        text: &left[end + 1..],
+        marks: behind_end(marks, end),
+    };
+    if left[end] != b'\n' {
+        return Part {
+            size: end,
+            behind,
+            is_last: false,
+            lacks_return: false,
+        };
+    }
+    let size = last_size(left, end, dialect.has_returns);
     Part {
         size,
-        behind: Left {
-            text: &left[end + 1..],
-            marks: behind_end(marks, end),
-        },
-        is_last,
-        lacks_return: lacks_return(size, end, is_last, dialect.has_returns),
+        behind,
+        is_last: true,
+        lacks_return: lacks_return(size, end, dialect.has_returns),
     }
 }

@@ -2,7 +2,6 @@
 
 ghost use Rattle.std.specs.Prelude.{◌≡◌, ◌≢◌, ◌==◌, ◌+◌, ◌-◌, ◌<◌, ◌≤◌, ◌^◌, ◌&&◌, ℕ, IfOk, IfSome, IsTrue, None, Some, drop, false, length, map, not, slice_index, take, true};
 ghost use Rattle.lexical_tables.specs.ByColumn.{AreUsable, StopsAt, answer_at, column_count, columns_answer, columns_put, fault_in, kinds_of, put_read_at, put_row, row_fault, row_values};
-ghost use Rattle.lexical_tables.specs.Cells.{view_of_cell};
 ghost use Rattle.lexical_tables.specs.Codes.{AreCodes};
 ghost use Rattle.lexical_tables.specs.Ends.{AreEnds, AreEndsIf};
 ghost use Rattle.lexical_tables.specs.Quotes.{quote};
@@ -10,7 +9,7 @@ ghost use Rattle.lexical_tables.specs.RowSoFar.{IsMarked, wrong_in};
 ghost use Rattle.lexical_tables.specs.Rows.{FirstCounts, behind_piece, carriage_return, first_row, rows_from};
 
 use crate::answers::{CellFault, Table, TableError};
-use crate::by_column::{end_fault, read_by_column, read_rest};
+use crate::by_column::{read_by_column, read_rest, wrong_end};
 use crate::cells::column_count;
 use crate::codes::{CODED, UNKNOWN, put_codes};
 use crate::content::Cell;
@@ -38,25 +37,26 @@ fn marked_separator(dialect: &Dialect<'_>) -> Option<u8>
     Some(separator)
 }
 
-// Reads the cell of a column at once, by the column's code, and tells whether it did.
+// Reads the cell of a column at once, the first bytes of a text, so many, by the column's code, and tells whether it did.
 #[inline(always)]
 fn read_coded_cell<C: TableColumn>(
     targets: &mut [C],
     codes: &[u8; CODED],
     column: usize,
     row: usize,
-    cell: Cell<'_>,
+    ahead: &[u8],
+    size: usize,
     dialect: &Dialect<'_>,
 ) -> bool
     requires codes { AreCodes dialect.now codes.now (map C.target targets.old) }
     requires usable { AreUsable (row + 1) (map C.target targets.old) }
-    requires front { cell.text.now ≡ take (length cell.text.now) cell.ahead.now }
-    requires room { length cell.text.now + 17 ≤ length cell.ahead.now }
-    ensures fault { IsTrue result → fault_in (answer_at dialect.now
-        (kinds_of (map C.target targets.old)) column (view_of_cell cell.entry)) ≡ None }
-    ensures targets { IsTrue result → map C.target targets.new ≡ put_read_at row column
-        (answer_at dialect.now (kinds_of (map C.target targets.old)) column
-        (view_of_cell cell.entry)) (map C.target targets.old) }
+    requires room { size + 17 ≤ length ahead.now }
+    ensures fault { IsTrue result → (start : ℕ) → fault_in (answer_at dialect.now
+        (kinds_of (map C.target targets.old)) column
+        (record { start = start; text = take size ahead.now })) ≡ None }
+    ensures targets { IsTrue result → (start : ℕ) → map C.target targets.new ≡ put_read_at row
+        column (answer_at dialect.now (kinds_of (map C.target targets.old)) column
+        (record { start = start; text = take size ahead.now })) (map C.target targets.old) }
     ensures kept { result ≡ false → map C.target targets.new ≡ map C.target targets.old }
 {
     if column >= CODED {
@@ -65,7 +65,7 @@ fn read_coded_cell<C: TableColumn>(
     if column >= targets.len() {
         return false;
     }
-    read_coded(&mut targets[column], codes[column], row, cell, dialect)
+    read_coded(&mut targets[column], codes[column], row, ahead, size, dialect)
 }
 
 // The numbers of the first row of a text go to its place in the targets, up to the row's fault, where one pass of marks finds
@@ -103,9 +103,9 @@ fn read_marked_row<'a, C: TableColumn>(
     let mut left = text;
     let mut column = 0;
     while column < columns {
-        let passed = text.text.len() - left.text.len();
         let marks = next_ends(left.text, left.marks, separator, dialect.has_quotes);
         if marks == 0 {
+            let passed = text.text.len() - left.text.len();
             return match read_rest(
                 start, text.text, passed, column, index, dialect, options, targets,
             ) {
@@ -117,12 +117,12 @@ fn read_marked_row<'a, C: TableColumn>(
             };
         }
         let part = next_part(text.text, left.text, marks, separator, dialect);
-        let cell = Cell {
-            start: start + passed,
-            text: &left.text[..part.size],
-            ahead: left.text,
-        };
-        if !read_coded_cell(targets, codes, column, index, cell, dialect) {
+        if !read_coded_cell(targets, codes, column, index, left.text, part.size, dialect) {
+            let cell = Cell {
+                start: start + (text.text.len() - left.text.len()),
+                text: &left.text[..part.size],
+                ahead: left.text,
+            };
             if let Some(fault) = read_by_column(targets, column, index, cell, dialect, options) {
                 return Err(TableError {
                     row: index,
@@ -131,19 +131,19 @@ fn read_marked_row<'a, C: TableColumn>(
                 });
             }
         }
-        left = part.behind;
         column += 1;
         if part.is_last {
+            if column == columns && !part.lacks_return {
+                return Ok(part.behind);
+            }
             let row = Row {
                 start,
-                text: &text.text[..passed + part.size],
+                text: &text.text[..text.text.len() - left.text.len() + part.size],
                 lacks_return: part.lacks_return,
             };
-            return match end_fault(&row, index, columns, column, None) {
-                Some(error) => Err(error),
-                None => Ok(left),
-            };
+            return Err(wrong_end(&row, index, columns, column));
         }
+        left = part.behind;
     }
     Err(TableError {
         row: index,

@@ -224,7 +224,7 @@ pub trait TableColumn {
     #[inline(always)]
     fn put_number(&mut self, code: u8, row: usize, is_negative: bool, number: u64) -> bool
         requires code { IsPutAs code (target self.old) }
-        requires read { 2 ≤ code }
+        requires read { 8 ≤ code }
         requires usable { IsUsable (row + 1) (target self.old) }
         requires small { number < 2 ^ 63 }
         ensures fits { IsTrue result → IfSome (target self.old)

@@ -1,4 +1,4 @@
-use Rattle.std.proofs.Common.{◌≡◌, ◌∙◌, ◌+◌, ◌-◌, ◌≤◌, ◌∷◌, [], None, ap, arith, cond, inl, inr, length, map, refl, subst, sym, take}
+use Rattle.std.proofs.Common.{◌≡◌, ◌∙◌, ◌+◌, ◌-◌, ◌≤◌, ◌∷◌, [], Some, None, ap, arith, cond, inl, inr, length, map, refl, subst, sym, take}
 use Rattle.std.proofs.lemmas.Bool.Decides.{nat_tests}
 use Rattle.lexical_tables.specs.ByColumn.{answer_at, end_fault, fault_in, kinds_of, put_read_at}
 use Rattle.lexical_fields.specs.Fields.{FieldView}
@@ -8,7 +8,7 @@ use Rattle.lexical_tables.specs.Rows.{first_row}
 use Rattle.lexical_tables.proofs.CellsLeft.{cells_begin}
 use Rattle.lexical_tables.proofs.CodeSteps.{codes_put}
 use Rattle.lexical_tables.proofs.ColumnSteps.{after_cell, after_fault, row_ends, row_starts}
-use Rattle.lexical_tables.proofs.PassSteps.{IsCellRead, cell_starts, passed_low, read_kept, row_begins, row_size, too_many}
+use Rattle.lexical_tables.proofs.PassSteps.{IsCellRead, cell_starts, end_fine, passed_low, read_kept, row_begins, row_size, too_many}
 use Rattle.lexical_tables.proofs.pass.read_marked_row.Goals.{then-not-read_coded_cell+in_default, else-not-read_coded_cell}
 use Rattle.lexical_tables.proofs.pass.read_marked_row.Goals as goal
 
@@ -95,8 +95,8 @@ loop-column-preserved g c =
           (w.if-not-read_coded_cell.ensures.kept refl)
           (record { fine = w.in_default.ensures.fault; put = ap (map g.C.TableColumn.target) w.targets-is ∙ w.in_default.ensures.targets })
       | else-not-read_coded_cell w ↦ record {
-        fine = sym (w.if-not-read_coded_cell.ensures.fault refl);
-        put = ap (map g.C.TableColumn.target) w.targets-is ∙ w.if-not-read_coded_cell.ensures.targets refl;
+        fine = sym (w.if-not-read_coded_cell.ensures.fault refl cell.start);
+        put = ap (map g.C.TableColumn.target) w.targets-is ∙ w.if-not-read_coded_cell.ensures.targets refl cell.start;
       }
     ] in
     let at = part.ensures.cells c.args.start column
@@ -109,8 +109,8 @@ loop-column-preserved g c =
           now read.fine read.put,
     )
 
-pub returns-in-Some-end_fault-clause-fault : goal.returns-in-Some-end_fault-clause-fault
-returns-in-Some-end_fault-clause-fault g c =
+pub returns-then-not-part-clause-fault : goal.returns-then-not-part-clause-fault
+returns-then-not-part-clause-fault g c =
     let d = c.args.dialect.now in
     let text = c.args.text.text.now in
     let left = c.loop-column.left.text.now in
@@ -127,21 +127,21 @@ returns-in-Some-end_fault-clause-fault g c =
           (w.if-not-read_coded_cell.ensures.kept refl)
           (record { fine = w.in_default.ensures.fault; put = ap (map g.C.TableColumn.target) w.targets-is ∙ w.in_default.ensures.targets })
       | else-not-read_coded_cell w ↦ record {
-        fine = sym (w.if-not-read_coded_cell.ensures.fault refl);
-        put = ap (map g.C.TableColumn.target) w.targets-is ∙ w.if-not-read_coded_cell.ensures.targets refl;
+        fine = sym (w.if-not-read_coded_cell.ensures.fault refl cell.start);
+        put = ap (map g.C.TableColumn.target) w.targets-is ∙ w.if-not-read_coded_cell.ensures.targets refl cell.start;
       }
     ] in
     let at = part.ensures.cells c.args.start column
     ∙ ap (λ t. cell ∷ cond t [] (cells_behind d row (column + 1) (length text - length part.result.behind.text.now))) c.if-part.true in
     let put = after_cell kinds d c.args.index row old before column _ c.loop-column.invariant.3 cell _ at (grind (arith, nat_tests))
     now read.fine read.put in
-    let done = row_ends kinds d c.args.index row old now (column + 1) [] put c.end_fault.result (inl refl)
-    (c.end_fault.ensures ∙ ap (λ r. end_fault c.args.columns c.args.index r (column + 1) None) (part.ensures.row c.if-part.true c.args.start)
-    ∙ ap (λ n. end_fault n c.args.index row (column + 1) None) c.requires.columns) in
-    sym c.in-Some-end_fault.is ∙ done.fault_is
+    let done = row_ends kinds d c.args.index row old now (column + 1) [] put None (inl refl)
+    (end_fine (count_in d) c.args.index (column + 1) row (grind (arith, nat_tests))
+    (sym (ap (λ r. r.lacks_return) (part.ensures.row c.if-part.true c.args.start)) ∙ (grind (arith, nat_tests)))) in
+    done.fault_is
 
-pub returns-in-Some-end_fault-clause-targets : goal.returns-in-Some-end_fault-clause-targets
-returns-in-Some-end_fault-clause-targets g c =
+pub returns-then-part-clause-fault : goal.returns-then-part-clause-fault
+returns-then-part-clause-fault g c =
     let d = c.args.dialect.now in
     let text = c.args.text.text.now in
     let left = c.loop-column.left.text.now in
@@ -158,21 +158,52 @@ returns-in-Some-end_fault-clause-targets g c =
           (w.if-not-read_coded_cell.ensures.kept refl)
           (record { fine = w.in_default.ensures.fault; put = ap (map g.C.TableColumn.target) w.targets-is ∙ w.in_default.ensures.targets })
       | else-not-read_coded_cell w ↦ record {
-        fine = sym (w.if-not-read_coded_cell.ensures.fault refl);
-        put = ap (map g.C.TableColumn.target) w.targets-is ∙ w.if-not-read_coded_cell.ensures.targets refl;
+        fine = sym (w.if-not-read_coded_cell.ensures.fault refl cell.start);
+        put = ap (map g.C.TableColumn.target) w.targets-is ∙ w.if-not-read_coded_cell.ensures.targets refl cell.start;
       }
     ] in
     let at = part.ensures.cells c.args.start column
     ∙ ap (λ t. cell ∷ cond t [] (cells_behind d row (column + 1) (length text - length part.result.behind.text.now))) c.if-part.true in
     let put = after_cell kinds d c.args.index row old before column _ c.loop-column.invariant.3 cell _ at (grind (arith, nat_tests))
     now read.fine read.put in
-    let done = row_ends kinds d c.args.index row old now (column + 1) [] put c.end_fault.result (inl refl)
-    (c.end_fault.ensures ∙ ap (λ r. end_fault c.args.columns c.args.index r (column + 1) None) (part.ensures.row c.if-part.true c.args.start)
+    let done = row_ends kinds d c.args.index row old now (column + 1) [] put (Some c.wrong_end.result) (inl refl)
+    (c.wrong_end.ensures ∙ ap (λ r. end_fault c.args.columns c.args.index r (column + 1) None) (part.ensures.row c.if-part.true c.args.start)
     ∙ ap (λ n. end_fault n c.args.index row (column + 1) None) c.requires.columns) in
+    done.fault_is
+
+pub returns-then-not-part-clause-targets : goal.returns-then-not-part-clause-targets
+returns-then-not-part-clause-targets g c =
+    let d = c.args.dialect.now in
+    let text = c.args.text.text.now in
+    let left = c.loop-column.left.text.now in
+    let row = first_row d c.args.start text in
+    let column = c.loop-column.column in
+    let part = c.next_part-part in
+    let kinds = kinds_of (map g.C.TableColumn.target c.args.targets.now) in
+    let old = map g.C.TableColumn.target c.args.targets.now in
+    let before = map g.C.TableColumn.target c.loop-column.targets in
+    let cell : FieldView = record { start = c.args.start + (length text - length left); text = take part.result.size left } in
+    let now = map g.C.TableColumn.target c.if-not-read_coded_cell.targets in
+    let read : IsCellRead d c.args.index column cell before now = elim c.if-not-read_coded_cell.branch [
+      | then-not-read_coded_cell+in_default w ↦ read_kept d c.args.index column cell before _ now
+          (w.if-not-read_coded_cell.ensures.kept refl)
+          (record { fine = w.in_default.ensures.fault; put = ap (map g.C.TableColumn.target) w.targets-is ∙ w.in_default.ensures.targets })
+      | else-not-read_coded_cell w ↦ record {
+        fine = sym (w.if-not-read_coded_cell.ensures.fault refl cell.start);
+        put = ap (map g.C.TableColumn.target) w.targets-is ∙ w.if-not-read_coded_cell.ensures.targets refl cell.start;
+      }
+    ] in
+    let at = part.ensures.cells c.args.start column
+    ∙ ap (λ t. cell ∷ cond t [] (cells_behind d row (column + 1) (length text - length part.result.behind.text.now))) c.if-part.true in
+    let put = after_cell kinds d c.args.index row old before column _ c.loop-column.invariant.3 cell _ at (grind (arith, nat_tests))
+    now read.fine read.put in
+    let done = row_ends kinds d c.args.index row old now (column + 1) [] put None (inl refl)
+    (end_fine (count_in d) c.args.index (column + 1) row (grind (arith, nat_tests))
+    (sym (ap (λ r. r.lacks_return) (part.ensures.row c.if-part.true c.args.start)) ∙ (grind (arith, nat_tests)))) in
     done.targets_are
 
-pub returns-in-None-clause-fault : goal.returns-in-None-clause-fault
-returns-in-None-clause-fault g c =
+pub returns-then-part-clause-targets : goal.returns-then-part-clause-targets
+returns-then-part-clause-targets g c =
     let d = c.args.dialect.now in
     let text = c.args.text.text.now in
     let left = c.loop-column.left.text.now in
@@ -189,47 +220,16 @@ returns-in-None-clause-fault g c =
           (w.if-not-read_coded_cell.ensures.kept refl)
           (record { fine = w.in_default.ensures.fault; put = ap (map g.C.TableColumn.target) w.targets-is ∙ w.in_default.ensures.targets })
       | else-not-read_coded_cell w ↦ record {
-        fine = sym (w.if-not-read_coded_cell.ensures.fault refl);
-        put = ap (map g.C.TableColumn.target) w.targets-is ∙ w.if-not-read_coded_cell.ensures.targets refl;
+        fine = sym (w.if-not-read_coded_cell.ensures.fault refl cell.start);
+        put = ap (map g.C.TableColumn.target) w.targets-is ∙ w.if-not-read_coded_cell.ensures.targets refl cell.start;
       }
     ] in
     let at = part.ensures.cells c.args.start column
     ∙ ap (λ t. cell ∷ cond t [] (cells_behind d row (column + 1) (length text - length part.result.behind.text.now))) c.if-part.true in
     let put = after_cell kinds d c.args.index row old before column _ c.loop-column.invariant.3 cell _ at (grind (arith, nat_tests))
     now read.fine read.put in
-    let done = row_ends kinds d c.args.index row old now (column + 1) [] put c.end_fault.result (inl refl)
-    (c.end_fault.ensures ∙ ap (λ r. end_fault c.args.columns c.args.index r (column + 1) None) (part.ensures.row c.if-part.true c.args.start)
-    ∙ ap (λ n. end_fault n c.args.index row (column + 1) None) c.requires.columns) in
-    sym c.in-None.is ∙ done.fault_is
-
-pub returns-in-None-clause-targets : goal.returns-in-None-clause-targets
-returns-in-None-clause-targets g c =
-    let d = c.args.dialect.now in
-    let text = c.args.text.text.now in
-    let left = c.loop-column.left.text.now in
-    let row = first_row d c.args.start text in
-    let column = c.loop-column.column in
-    let part = c.next_part-part in
-    let kinds = kinds_of (map g.C.TableColumn.target c.args.targets.now) in
-    let old = map g.C.TableColumn.target c.args.targets.now in
-    let before = map g.C.TableColumn.target c.loop-column.targets in
-    let cell : FieldView = record { start = c.args.start + (length text - length left); text = take part.result.size left } in
-    let now = map g.C.TableColumn.target c.if-not-read_coded_cell.targets in
-    let read : IsCellRead d c.args.index column cell before now = elim c.if-not-read_coded_cell.branch [
-      | then-not-read_coded_cell+in_default w ↦ read_kept d c.args.index column cell before _ now
-          (w.if-not-read_coded_cell.ensures.kept refl)
-          (record { fine = w.in_default.ensures.fault; put = ap (map g.C.TableColumn.target) w.targets-is ∙ w.in_default.ensures.targets })
-      | else-not-read_coded_cell w ↦ record {
-        fine = sym (w.if-not-read_coded_cell.ensures.fault refl);
-        put = ap (map g.C.TableColumn.target) w.targets-is ∙ w.if-not-read_coded_cell.ensures.targets refl;
-      }
-    ] in
-    let at = part.ensures.cells c.args.start column
-    ∙ ap (λ t. cell ∷ cond t [] (cells_behind d row (column + 1) (length text - length part.result.behind.text.now))) c.if-part.true in
-    let put = after_cell kinds d c.args.index row old before column _ c.loop-column.invariant.3 cell _ at (grind (arith, nat_tests))
-    now read.fine read.put in
-    let done = row_ends kinds d c.args.index row old now (column + 1) [] put c.end_fault.result (inl refl)
-    (c.end_fault.ensures ∙ ap (λ r. end_fault c.args.columns c.args.index r (column + 1) None) (part.ensures.row c.if-part.true c.args.start)
+    let done = row_ends kinds d c.args.index row old now (column + 1) [] put (Some c.wrong_end.result) (inl refl)
+    (c.wrong_end.ensures ∙ ap (λ r. end_fault c.args.columns c.args.index r (column + 1) None) (part.ensures.row c.if-part.true c.args.start)
     ∙ ap (λ n. end_fault n c.args.index row (column + 1) None) c.requires.columns) in
     done.targets_are
 

@@ -8,7 +8,7 @@ use Rattle.jadvolni.proofs.table_columns.ColumnFieldsTableColumn.put_number.Goal
 
 pub put_row_bit-requires-clause-bits : goal.put_row_bit-requires-clause-bits
 put_row_bit-requires-clause-bits c =
-    let many : nat_le 10 c.args.code ≡ true = grind (arith, nat_tests) in
+    let many : nat_le 16 c.args.code ≡ true = grind (arith, nat_tests) in
     bits_stay c.args.row (with_sign c.args.is_negative c.args.number) (target_of c.args.self.now)
     (target_of c.put_coded_number.new.self) (c.if-not-put_coded_number.ensures.target refl)
     ∙ bits_said c.args.code (target_of c.args.self.now) c.requires.code ∙ many
@@ -26,7 +26,7 @@ returns-then-code-clause-target c = λ put.
 
 pub returns-else-code-clause-target : goal.returns-else-code-clause-target
 returns-else-code-clause-target c = λ put.
-    let few : nat_le 10 c.args.code ≡ false = grind (arith, nat_tests) in
+    let few : nat_le 16 c.args.code ≡ false = grind (arith, nat_tests) in
     let number = with_sign c.args.is_negative c.args.number in
     let before = target_of c.args.self.now in
     let after = target_of c.put_coded_number.new.self in
