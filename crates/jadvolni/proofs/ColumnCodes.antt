@@ -1,9 +1,9 @@
 -- The codes of columns, and the numbers that are put by them.
 use Rattle.std.proofs.Common.{◌≡◌, ◌∙◌, ℕ, true, false, Option, Some, None, refl, ap, sym, subst, arith, length-set}
-use Rattle.std.specs.Prelude.{nat_le, option_map}
+use Rattle.std.specs.Prelude.{IfSome, is_some, option_map}
 use Rattle.std.proofs.Math.IntN.{ℤ}
 use Rattle.lexical_tables.specs.ByColumn.{IsUsable}
-use Rattle.lexical_tables.specs.Codes.{IsPutAs}
+use Rattle.lexical_tables.specs.Codes.{IsReadAs, coded_type, has_coded_bits}
 use Rattle.lexical_tables.specs.Targets.{TargetView, has_bits, put_value}
 use Rattle.jadvolni.specs.FormatFields.{format_of}
 use Rattle.jadvolni.specs.Tables.{put_at, put_presence, target_as}
@@ -13,24 +13,26 @@ use Rattle.jadvolni.specs.declared.table_columns.NumberType.TheVariants.{I16, I3
 use Rattle.jadvolni.proofs.TableBits.{no_bit}
 
 -- a column has bits where its code says so
-pub bits_said : (code : ℕ) (target : Option TargetView) → IsPutAs code target → has_bits target ≡ nat_le 16 code
+pub bits_said : (code : ℕ) (target : Option TargetView) → IsReadAs code target → has_bits target ≡ has_coded_bits code
 bits_said code None read = absurd read
-bits_said code (Some target) read = read.1
+bits_said code (Some target) read = read.2
 
 -- a column that is read has its own format
-pub format_said : (column : ColumnFields) (type : Option NumberType) (code : ℕ) → IsPutAs code (target_as column type)
+pub format_said : (column : ColumnFields) (type : Option NumberType) (code : ℕ) → is_some (target_as column type) ≡ true
+    → IfSome (target_as column type) (λ target. (target.type ≡ coded_type code) × (is_some target.present ≡ has_coded_bits code))
     → (P : Option TargetView → Type 0)
-    → ((target : TargetView) → target.format ≡ format_of column.format → IsPutAs code (Some target) → P (Some target))
+    → ((target : TargetView) → target.format ≡ format_of column.format → target.type ≡ coded_type code
+    → is_some target.present ≡ has_coded_bits code → P (Some target))
     → P (target_as column type)
-format_said column None code put P all = absurd put
-format_said column (Some U8) code put P all = all _ refl put
-format_said column (Some U16) code put P all = all _ refl put
-format_said column (Some U32) code put P all = all _ refl put
-format_said column (Some U64) code put P all = all _ refl put
-format_said column (Some I8) code put P all = all _ refl put
-format_said column (Some I16) code put P all = all _ refl put
-format_said column (Some I32) code put P all = all _ refl put
-format_said column (Some I64) code put P all = all _ refl put
+format_said column None code there put P all = absurd cc
+format_said column (Some U8) code there put P all = all _ refl put.0 put.1
+format_said column (Some U16) code there put P all = all _ refl put.0 put.1
+format_said column (Some U32) code there put P all = all _ refl put.0 put.1
+format_said column (Some U64) code there put P all = all _ refl put.0 put.1
+format_said column (Some I8) code there put P all = all _ refl put.0 put.1
+format_said column (Some I16) code there put P all = all _ refl put.0 put.1
+format_said column (Some I32) code there put P all = all _ refl put.0 put.1
+format_said column (Some I64) code there put P all = all _ refl put.0 put.1
 
 module _ (row : ℕ) (number : ℤ) where
   -- a number that is put changes no bits, and the column stays usable

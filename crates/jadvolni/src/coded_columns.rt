@@ -1,10 +1,10 @@
 //! The codes of columns, and numbers that are put by these.
 
-ghost use Rattle.std.specs.Prelude.{◌≡◌, ◌+◌, ◌<◌, ◌≤◌, ◌^◌, IfSome, IsTrue, Some, false, option_map, true};
+ghost use Rattle.std.specs.Prelude.{◌≡◌, ◌+◌, ◌<◌, ◌≤◌, ◌^◌, IfSome, IsTrue, Some, false, is_some, option_map, true};
 ghost use Rattle.lexical_digits.specs.Value.{with_sign};
 ghost use Rattle.lexical_util.specs.Number.{IsNumber};
 ghost use Rattle.lexical_tables.specs.ByColumn.{IsUsable};
-ghost use Rattle.lexical_tables.specs.Codes.{IsPutAs, coded_type};
+ghost use Rattle.lexical_tables.specs.Codes.{IsReadAs, coded_type, has_coded_bits};
 ghost use Rattle.jadvolni.specs.Tables.{number_type, put_at, target_of, type_named};
 
 use crate::table_columns::{ColumnFields, NumberType};
@@ -36,9 +36,11 @@ impl ColumnFields<'_> {
     #[inline(always)]
     pub(crate) fn standard_code(&self, numbers: NumberType) -> u8
         requires numbers { number_type self.now ≡ Some numbers }
-        ensures column { IsPutAs result (target_of self.now) }
+        ensures column { IfSome (target_of self.now) (λ target.
+            (target.type ≡ coded_type result) × (is_some target.present ≡ has_coded_bits result)) }
+        ensures there { is_some (target_of self.now) ≡ true }
         ensures read { 8 ≤ result }
-        ensures standard { result < 24 }
+        ensures standard { result < 32 }
     {
         let code = numbers.code();
         if self.present.is_empty() {
@@ -50,7 +52,7 @@ impl ColumnFields<'_> {
     // The type of the first array that has room, as the column's code says it.
     #[inline(always)]
     fn type_of_code(&self, code: u8) -> NumberType
-        requires column { IsPutAs code (target_of self.now) }
+        requires column { IsReadAs code (target_of self.now) }
         requires read { 8 ≤ code }
         ensures { number_type self.now ≡ Some result }
     {
@@ -76,7 +78,7 @@ impl ColumnFields<'_> {
         is_negative: bool,
         number: u64,
     ) -> bool
-        requires column { IsPutAs code (target_of self.old) }
+        requires column { IsReadAs code (target_of self.old) }
         requires read { 8 ≤ code }
         requires usable { IsUsable (row + 1) (target_of self.old) }
         requires small { number < 2 ^ 63 }

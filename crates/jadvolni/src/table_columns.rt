@@ -10,7 +10,7 @@ ghost use Rattle.jadvolni.specs.Tables.{bits_of, column_status, lacks_bits, numb
 use crate::format::FormatFields;
 use lexical_parse_integer::format::STANDARD;
 use lexical_parse_integer::{Error, Options};
-use lexical_tables::codes::{self, NOT_READ, WITH_BITS, under_format};
+use lexical_tables::codes::{NOT_READ, has_bits, under_format};
 use lexical_tables::{TableColumn, put_at_once, put_bit, put_cell, put_standard_parsed, put_zero};
 
 /// The status of a table that no text can be read by.
@@ -328,7 +328,7 @@ impl TableColumn for ColumnFields<'_> {
         if !self.put_coded_number(code, row, is_negative, number) {
             return false;
         }
-        if code >= codes::U8 + WITH_BITS {
+        if has_bits(code) {
             self.put_row_bit(row, true);
         }
         true

@@ -141,28 +141,42 @@ fn number_to_12(digits: &[u8], count: usize) -> Option<u64>
     Some(u64::from(high) * 1_000_000 + u64::from(low))
 }
 
-// The number of thirteen to eighteen digits with room behind them: the last twelve, and those before. Why out of line:
-// docs/DECISIONS.md, code.
-#[inline(never)]
+/// The number that a text's first bytes, so many, write, and whether a minus stands in front, where they are one to
+/// twelve decimal digits alone or behind a minus. `None` says nothing of them. Seventeen bytes have to follow them.
+#[inline(always)]
+pub fn number_of_front(text: &[u8], size: usize) -> Option<(bool, u64)>
+    requires room { size + 17 ≤ length text.now }
+    ensures writes { IfSome result (λ found. IsNumeral found.0 found.1 (take size text.now)) }
+    ensures small { IfSome result (λ found. found.1 < 10 ^ 12) }
+{
+    let is_negative = text[0] == b'-';
+    let digits = &text[usize::from(is_negative)..];
+    let count = size.wrapping_sub(usize::from(is_negative));
+    if count.wrapping_sub(1) > 11 {
+        return None;
+    }
+    let number = number_to_12(digits, count)?;
+    Some((is_negative, number))
+}
+
+// The number of thirteen to eighteen digits with room behind them: the last twelve, and those before.
+#[inline(always)]
 fn number_from_13(digits: &[u8], count: usize) -> Option<u64>
-    requires room { count ≤ 18 → count + 16 ≤ length digits.now }
-    ensures least { IfSome result (λ number. 13 ≤ count) }
-    ensures most { IfSome result (λ number. count ≤ 18) }
+    requires least { 13 ≤ count }
+    requires most { count ≤ 18 }
+    requires room { count + 16 ≤ length digits.now }
     ensures writes { IfSome result (λ number. WritesDecimal 0 (take count digits.now) number) }
     ensures small { IfSome result (λ number. number < 10 ^ 18) }
 {
-    if count < 13 || count > 18 {
-        return None;
-    }
     let first = number_to_12(digits, count - 12)?;
     let last = number_to_12(&digits[count - 12..], 12)?;
     Some(first * 1_000_000_000_000 + last)
 }
 
-/// The number that a text's first bytes, so many, write, and whether a minus stands in front, where they are one to
-/// eighteen decimal digits alone or behind a minus. `None` says nothing of them. Seventeen bytes have to follow them.
+/// The number that a text's first bytes, so many, write, as [`number_of_front`] has it, where they are thirteen to
+/// eighteen digits.
 #[inline(always)]
-pub fn number_of_front(text: &[u8], size: usize) -> Option<(bool, u64)>
+pub fn long_number_of_front(text: &[u8], size: usize) -> Option<(bool, u64)>
     requires room { size + 17 ≤ length text.now }
     ensures writes { IfSome result (λ found. IsNumeral found.0 found.1 (take size text.now)) }
     ensures small { IfSome result (λ found. found.1 < 10 ^ 18) }
@@ -170,11 +184,10 @@ pub fn number_of_front(text: &[u8], size: usize) -> Option<(bool, u64)>
     let is_negative = text[0] == b'-';
     let digits = &text[usize::from(is_negative)..];
     let count = size.wrapping_sub(usize::from(is_negative));
-    if count.wrapping_sub(1) > 11 {
-        let number = number_from_13(digits, count)?;
-        return Some((is_negative, number));
+    if count.wrapping_sub(13) > 5 {
+        return None;
     }
-    let number = number_to_12(digits, count)?;
+    let number = number_from_13(digits, count)?;
     Some((is_negative, number))
 }
 

@@ -1,22 +1,20 @@
 -- The codes of columns stay right while numbers are put.
 use Rattle.std.proofs.Common.{◌≡◌, ◌∙◌, ℕ, zero, suc, ◌<◌, List, [], ◌∷◌, length, get_or, ℤ, Result, Option, Some, None, refl, ap, sym, subst, arith}
 use Rattle.std.proofs.lemmas.List.{length-map}
-use Rattle.std.specs.Prelude.{IfSome, is_some, nat_le, option_map, slice_index}
+use Rattle.std.specs.Prelude.{is_some, option_map, slice_index}
 use Rattle.lexical_tables.specs.ByColumn.{kind_of, kinds_of, put_read_at, put_row}
 use Rattle.lexical_tables.specs.Cells.{Kind}
-use Rattle.lexical_tables.specs.Codes.{AreCodes, IsCodeIn, IsDecimal, IsReadAs, coded_type, without_zero_rule}
+use Rattle.lexical_tables.specs.Codes.{AreCodes, IsCodeIn, IsDecimal, IsReadAs, coded_type, has_coded_bits, has_zero_rule}
 use Rattle.lexical_tables.specs.Targets.{TargetView}
 use Rattle.lexical_tables.specs.declared.answers.CellFault.{CellFault}
 use Rattle.lexical_tables.specs.declared.dialect.Dialect.{Dialect}
 use Rattle.lexical_tables.proofs.PutSteps.{kinds_put, kinds_put_row}
 
 -- what a code says of a column, it says of what that is read as
-abbrev IsKindPut : ℕ → Option Kind → Type 0
-IsKindPut code None = ⊥
-IsKindPut code (Some kind) = (kind.type ≡ coded_type code) × (kind.may_miss ≡ nat_le 16 code)
-
 abbrev IsKindAs : ℕ → Option Kind → Type 0
-IsKindAs code kind = IfSome kind (λ kind. IsDecimal kind.format (nat_le 24 code)) × IsKindPut (without_zero_rule code) kind
+IsKindAs code None = ⊥
+IsKindAs code (Some kind) = IsDecimal kind.format (has_zero_rule code)
+    × (kind.type ≡ coded_type code) × (kind.may_miss ≡ has_coded_bits code)
 
 to_kind : (code : ℕ) (target : Option TargetView) → IsReadAs code target → IsKindAs code (option_map kind_of target)
 to_kind code None read = read
@@ -96,5 +94,5 @@ unknown_codes dialect codes targets unknown k coded low =
         read = λ read. absurd (omega (arith, none, read));
       };
       no_blanks = λ read. absurd (omega (arith, none, read));
-      no_number = λ bits. absurd (omega (arith, ap without_zero_rule none, bits));
+      no_number = λ read. absurd (omega (arith, none, read));
     }

@@ -7,7 +7,7 @@ use Rattle.lexical_parse_integer.specs.Value.{with_sign}
 use Rattle.lexical_fields.specs.Fields.{FieldView}
 use Rattle.lexical_tables.specs.ByColumn.{IsUsable, fault_in, kind_of, put_read}
 use Rattle.lexical_tables.specs.Cells.{answer_as, ends_in_digit}
-use Rattle.lexical_tables.specs.Codes.{AreQuotesRound, IsCodeIn, IsDecimal, IsNumberPut, IsNumeralUnder, coded_type, without_zero_rule}
+use Rattle.lexical_tables.specs.Codes.{AreQuotesRound, IsCodeIn, IsDecimal, IsNumberPut, IsNumeralUnder, coded_type, has_coded_bits, has_zero_rule}
 use Rattle.lexical_tables.specs.Targets.{TargetView}
 use Rattle.lexical_tables.specs.declared.dialect.Dialect.{Dialect}
 use Rattle.lexical_tables.proofs.PlainCells.{plain_answer, quoted_answer, unread_answer}
@@ -28,12 +28,12 @@ module _ (start size : ℕ) (ahead : List ℕ) where
   cell = record { start = start; text = take size ahead }
 
   -- one whose cells are read
-  pub digits_put : (d : Dialect) (code row quotes : ℕ) (old new : Option TargetView)
+  digits_put : (d : Dialect) (code row quotes : ℕ) (old new : Option TargetView)
       → IsCodeIn d code old → 8 ≤ code → IsUsable (row + 1) old → size ≤ length ahead
       → AreQuotesRound d.has_quotes cell.text quotes
       → IsNumberPut row (take (size - 2 * quotes) (drop quotes ahead)) old new
       → IsCellPut d row cell old new
-  digits_put d code row quotes None new coded read usable low round put = absurd (coded.column.read read).1
+  digits_put d code row quotes None new coded read usable low round put = absurd (coded.column.read read)
   digits_put d code row quotes (Some target) new coded read usable low round put = record {
     fault = ap fault_in (answer_is round);
     target = put.put ∙ ap (λ a. Some (put_read row a target)) (sym (answer_is round));
@@ -42,12 +42,12 @@ module _ (start size : ℕ) (ahead : List ℕ) where
       long : length cell.text ≡ size
       long = length-take-le size ahead low
 
-      as_kind : IsDecimal target.format (nat_le 24 code) × ((target.type ≡ coded_type (without_zero_rule code))
-          × (is_some target.present ≡ nat_le 16 (without_zero_rule code)))
+      as_kind : IsDecimal target.format (has_zero_rule code) × (target.type ≡ coded_type code)
+          × (is_some target.present ≡ has_coded_bits code)
       as_kind = coded.column.read read
 
       no_mark : is_some target.present ≡ true → ends_in_digit d.missing.now ≡ false
-      no_mark misses = coded.no_number (leb-true 16 (without_zero_rule code) (sym as_kind.1.1 ∙ misses))
+      no_mark misses = coded.no_number read (sym as_kind.2 ∙ misses)
 
       answer_is : AreQuotesRound d.has_quotes cell.text quotes
           → answer_as d (Some (kind_of target)) cell ≡ Ok (Some (with_sign put.is_negative put.number))
@@ -73,3 +73,16 @@ module _ (start size : ℕ) (ahead : List ℕ) where
               sym (ap (λ k. take (length cell.text - 2) (drop 1 (take k ahead))) whole
               ∙ ap (take (length cell.text - 2)) (drop-take 1 n ahead)
               ∙ take-take (length cell.text - 2) n (drop 1 ahead) (omega (arith, long)))
+
+  -- of what stands within its quotes
+  pub found_put : (d : Dialect) (code row : ℕ) (old new : Option TargetView) (held : List ℕ) (count : ℕ)
+      → IsCodeIn d code old → 8 ≤ code → IsUsable (row + 1) old → size + 17 ≤ length ahead
+      → AreQuotesRound d.has_quotes cell.text (length ahead - length held)
+      → held ≡ drop (length ahead - length held) ahead → count + 2 * (length ahead - length held) ≡ size
+      → IsNumberPut row (take count held) old new → IsCellPut d row cell old new
+  found_put d code row old new held count coded read usable room round tail is put =
+      let quotes = length ahead - length held in
+      let counted : count ≡ size - 2 * quotes = omega (arith, is) in
+      digits_put d code row quotes old new coded read usable (omega (arith, room)) round
+      (subst (λ l. IsNumberPut row (take (size - 2 * quotes) l) old new) tail
+      (subst (λ n. IsNumberPut row (take n held) old new) counted put))

@@ -377,6 +377,17 @@ too_many columns index column place row same =
     ∙ sym (ap (λ t. cond t (Some (wrong_cell index column (TooFewCells (row.start + length row.text))))
     (Some (wrong_cell index columns (TooManyCells place)))) (le-ltb column columns (omega (arith, same))))
 
+-- a row lacks its return where the line feed stands behind its last cell
+pub no_return_at : (d : Dialect) (left : List ℕ) (r size : ℕ) → get_or left r 0 ≡ line_feed
+    → (size ≢ r → (size + 1 ≡ r) × (get_or left size 0 ≡ carriage_return) × (d.has_returns ≡ true))
+    → (d.has_returns && (get_or left size 0 == line_feed)) ≡ (d.has_returns && (size == r))
+no_return_at d left r size is returned = ap (λ t. d.has_returns && t) (elim (eqb_tells size r) [
+  | inl same ↦ eq-eqb (get_or left size 0) line_feed (ap (λ k. get_or left k 0) same.1 ∙ is) ∙ sym same.0
+  | inr other ↦
+      let less = returned other.1 in
+      ap (λ byte. byte == line_feed) less.1 ∙ sym other.0
+])
+
 -- nothing is wrong with the end of a row that has as many cells as there are columns, and its return
 pub end_fine : (columns index column : ℕ) (row : RowView) → columns ≡ column → row.lacks_return ≡ false
     → None ≡ end_fault columns index row column None

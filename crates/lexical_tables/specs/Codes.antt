@@ -1,8 +1,7 @@
 -- What a column says of all its cells, as a byte.
 -- 0: nothing is known, and the column is asked at each cell. 1: its cells aren't read. 8 and more: they are read as decimal
 -- digits behind an optional minus are, whatever else the format allows, as numbers of u8, u16, u32, u64, i8, i16, i32 or i64
--- in this order, and no number may be missing. 16 and more: the same, and a number may be missing. 24 and more: as 8 and
--- more, and no zero may stand in front of another digit.
+-- in this order. 16 is added where a number may be missing, and 32 where no zero may stand in front of another digit.
 use Rattle.std.specs.Prelude.{◌≡◌, ◌-◌, ◌*◌, ◌%◌, ◌^◌, ◌<◌, ◌≤◌, ◌⊎◌, ℕ, Bool, false, true, IfSome, IsTrue, if◌then◌else◌, List, get_or, length, nat_le, slice_index, Option, Some, None, is_some, option_map}
 use Rattle.lexical_util.specs.Format.{Format}
 use Rattle.lexical_util.specs.Number.{IntegerType, IsNumber, integer_type}
@@ -29,20 +28,19 @@ pub record IsDecimal (format : Format) (has_zero_rule : Bool) : Type 0 where
   pub decimal : format.mantissa_radix ≡ 10
   pub zeros : format.no_integer_leading_zeros ≡ has_zero_rule
 
--- a code of a column, without what it says of zeros
-abbrev pub without_zero_rule : ℕ → ℕ
-without_zero_rule code = if nat_le 24 code then code - 16 else code
+-- whether a number may be missing in a column with a code
+abbrev pub has_coded_bits : ℕ → Bool
+has_coded_bits code = nat_le 16 (code % 32)
 
--- numbers are put into a column as a code says: of this type, with bits or without
-abbrev pub IsPutAs : ℕ → Option TargetView → Type 0
-IsPutAs code None = ⊥
-IsPutAs code (Some target) = (target.type ≡ coded_type code)
-    × (is_some target.present ≡ nat_le 16 code)
+-- whether no zero may stand in front of another digit
+abbrev pub has_zero_rule : ℕ → Bool
+has_zero_rule code = nat_le 32 code
 
 -- a column is read as a code says
 abbrev pub IsReadAs : ℕ → Option TargetView → Type 0
-IsReadAs code target = IfSome target (λ target. IsDecimal target.format (nat_le 24 code))
-    × IsPutAs (without_zero_rule code) target
+IsReadAs code None = ⊥
+IsReadAs code (Some target) = IsDecimal target.format (has_zero_rule code)
+    × (target.type ≡ coded_type code) × (is_some target.present ≡ has_coded_bits code)
 
 -- A code is right for a column.
 pub record IsCode (code : ℕ) (target : Option TargetView) : Type 0 where
@@ -54,7 +52,7 @@ pub record IsCode (code : ℕ) (target : Option TargetView) : Type 0 where
 pub record IsCodeIn (dialect : Dialect) (code : ℕ) (target : Option TargetView) : Type 0 where
   pub column : IsCode code target
   pub no_blanks : 8 ≤ code → dialect.allows_blanks ≡ false
-  pub no_number : 16 ≤ without_zero_rule code → ends_in_digit dialect.missing.now ≡ false
+  pub no_number : 8 ≤ code → has_coded_bits code ≡ true → ends_in_digit dialect.missing.now ≡ false
 
 -- each column with a place among the codes has its code
 abbrev pub AreCodes : Dialect → List ℕ → List (Option TargetView) → Type 0

@@ -3,6 +3,7 @@
 ghost use Rattle.std.specs.Prelude.{◌≡◌, ◌≢◌, ◌+◌, ◌-◌, ◌<◌, ◌≤◌, ◌^◌, ℕ, List, Option, length, take, drop, map, is_some, option_map, slice_index, true, IfOk, IsTrue, None, Some};
 ghost use Rattle.lexical_tables.specs.ByColumn.{AreUsable, IsUsable, StopsAt, answer_at, columns_answer, columns_put, end_fault, fault_in, kind_of, kinds_of, put_read, put_read_at, put_row, row_fault, row_values};
 ghost use Rattle.lexical_tables.specs.Cells.{Kind, answer_as, quote_fault, view_of_cell};
+ghost use Rattle.lexical_tables.specs.Codes.{AreCodes};
 ghost use Rattle.lexical_tables.specs.Quotes.{quote};
 ghost use Rattle.lexical_tables.specs.RowSoFar.{IsRowDone, IsRowPut, cells_behind, wrong_in};
 ghost use Rattle.lexical_tables.specs.Rows.{behind_piece, first_row, view_of_row};
@@ -10,9 +11,12 @@ ghost use Rattle.lexical_tables.specs.Targets.{TargetView, put_text, text_fault}
 
 use crate::answers::{CellFault, Table, TableError};
 use crate::cells::{column_count, lacks_cell, next_cell};
+use crate::coded_cells::read_long_cell;
+use crate::codes::CODED;
 use crate::content::{Cell, content};
 use crate::dialect::Dialect;
 use crate::misplaced::quote_fault;
+use crate::next_part::Left;
 use crate::pass::read_rows;
 use crate::rows::{Row, first_row};
 use crate::targets::TableColumn;
@@ -186,18 +190,25 @@ pub(crate) fn end_fault(
     })
 }
 
-// Reads a cell as `read_cell` does: where it isn't had at once. Why out of line: docs/DECISIONS.md, code.
+// How many bytes a cell may have whose digits are all read at once.
+const SHORT: usize = 12;
+
+// Reads a cell that isn't had at once: by its column's code where it has more digits, or else as `read_cell` does. Why out of
+// line: docs/DECISIONS.md, code.
 #[inline(never)]
 pub(crate) fn read_by_column<C: TableColumn>(
     targets: &mut [C],
+    codes: &[u8; CODED],
     column: usize,
     row: usize,
     cell: Cell<'_>,
     dialect: &Dialect<'_>,
     options: &Options,
 ) -> Option<CellFault>
+    requires codes { AreCodes dialect.now codes.now (map C.target targets.old) }
     requires usable { AreUsable (row + 1) (map C.target targets.old) }
     requires front { cell.text.now ≡ take (length cell.text.now) cell.ahead.now }
+    requires room { length cell.text.now + 17 ≤ length cell.ahead.now }
     requires fits { cell.start + length cell.text.now < 2 ^ 64 }
     ensures fault { result ≡ fault_in (answer_at dialect.now (kinds_of (map C.target targets.old))
         column (view_of_cell cell.entry)) }
@@ -205,6 +216,10 @@ pub(crate) fn read_by_column<C: TableColumn>(
         (kinds_of (map C.target targets.old)) column (view_of_cell cell.entry))
         (map C.target targets.old) }
 {
+    let size = cell.text.len();
+    if size > SHORT && read_long_cell(targets, codes, column, row, cell.ahead, size, dialect) {
+        return None;
+    }
     read_cell(targets, column, row, cell, false, dialect, options)
 }
 
@@ -280,7 +295,7 @@ pub(crate) fn read_rest<'a, C: TableColumn>(
     dialect: &Dialect<'_>,
     options: &Options,
     targets: &mut [C],
-) -> Result<&'a [u8], TableError>
+) -> Result<Left<'a>, TableError>
     requires some { 0 < length text.now }
     requires passed { passed ≤ length (first_row dialect.now start text.now).text }
     requires usable { AreUsable (index + 1) (map C.target targets.old) }
@@ -291,14 +306,18 @@ pub(crate) fn read_rest<'a, C: TableColumn>(
         (cells_behind dialect.now (first_row dialect.now start text.now) first passed)
         → IsRowDone kinds dialect.now index (first_row dialect.now start text.now) old
         (map C.target targets.new) (wrong_in result) }
-    ensures behind { IfOk result (λ behind. behind.now
+    ensures behind { IfOk result (λ left. left.text.now
         ≡ behind_piece dialect.now.layout dialect.now.has_quotes text.now) }
-    ensures shorter { IfOk result (λ behind. length behind.now < length text.now) }
+    ensures shorter { IfOk result (λ left. length left.text.now < length text.now) }
+    ensures unmarked { IfOk result (λ left. left.marks ≡ 0) }
 {
     let (row, behind) = first_row(start, text, dialect);
     match read_cells(&row, text, passed, first, index, dialect, options, targets) {
         Some(error) => Err(error),
-        None => Ok(behind),
+        None => Ok(Left {
+            text: behind,
+            marks: 0,
+        }),
     }
 }
 

@@ -5,9 +5,9 @@
 //! [`WITH_ZERO_RULE`] where the format forbids zeros in front. The codes of types are as many, and in this order, as those from
 //! 0 to 7 to which they are equal in their three lowest bits.
 
-ghost use Rattle.std.specs.Prelude.{◌≡◌, ◌+◌, ◌<◌, ◌≤◌, Some, false, map};
+ghost use Rattle.std.specs.Prelude.{◌≡◌, ◌<◌, ◌≤◌, Some, is_some, map};
 ghost use Rattle.lexical_tables.specs.Cells.{ends_in_digit};
-ghost use Rattle.lexical_tables.specs.Codes.{AreCodes, IsCode, IsCodeIn, IsPutAs, without_zero_rule};
+ghost use Rattle.lexical_tables.specs.Codes.{AreCodes, IsCode, IsCodeIn, coded_type, has_coded_bits};
 ghost use Rattle.lexical_tables.specs.Targets.{TargetView};
 
 use crate::dialect::Dialect;
@@ -47,19 +47,19 @@ pub const I32: u8 = 14;
 pub const I64: u8 = 15;
 
 /// What is added to the code of a type where a number may be missing.
-pub const WITH_BITS: u8 = 8;
+pub const WITH_BITS: u8 = 16;
 
 /// What is added to the code of a type, with bits or without, where no zero may stand in front of another digit.
-pub const WITH_ZERO_RULE: u8 = 16;
+pub const WITH_ZERO_RULE: u8 = 32;
 
 /// The code of a column under a format, by what it is under the standard one, which has to be the code of a type.
 ///
 /// It is for a [`TableColumn`](crate::TableColumn) of one's own.
 pub fn under_format(code: u8, format: &NumberFormat) -> u8
     requires read { 8 ≤ code }
-    requires standard { code < 24 }
-    ensures { (target : TargetView) → target.format ≡ format.now → IsPutAs code (Some target)
-        → IsCode result (Some target) }
+    requires standard { code < 32 }
+    ensures { (target : TargetView) → target.format ≡ format.now → target.type ≡ coded_type code
+        → is_some target.present ≡ has_coded_bits code → IsCode result (Some target) }
 {
     if !is_separated(format, b' ') {
         return UNKNOWN;
@@ -70,16 +70,12 @@ pub fn under_format(code: u8, format: &NumberFormat) -> u8
     code
 }
 
-// A code without what it says of zeros.
+/// Whether a number may be missing in a column with a code of a type.
 #[inline(always)]
-pub(crate) fn without_zero_rule(code: u8) -> u8
-    ensures { result ≡ without_zero_rule code }
+pub fn has_bits(code: u8) -> bool
+    ensures { result ≡ has_coded_bits code }
 {
-    if code < U8 + WITH_ZERO_RULE {
-        code
-    } else {
-        code - WITH_ZERO_RULE
-    }
+    code % (2 * WITH_BITS) >= WITH_BITS
 }
 
 // How many columns of a table may have a code. Those behind them are asked at each cell.
@@ -110,7 +106,7 @@ fn code_in<C: TableColumn>(target: &C, dialect: &Dialect<'_>, is_mark_number: bo
         return UNKNOWN;
     }
     if is_mark_number {
-        if without_zero_rule(code) >= U8 + WITH_BITS {
+        if has_bits(code) {
             return UNKNOWN;
         }
     }

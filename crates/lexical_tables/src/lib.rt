@@ -14,6 +14,7 @@ mod at_once;
 mod by_column;
 mod cells;
 mod coded;
+mod coded_cells;
 pub mod codes;
 mod column_integer;
 mod content;

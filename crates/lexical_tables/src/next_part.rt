@@ -3,7 +3,7 @@
 ghost use Rattle.std.specs.Prelude.{◌≡◌, ◌≢◌, ◌==◌, ◌&&◌, ◌+◌, ◌-◌, ◌<◌, ◌≤◌, ℕ, [], ◌∷◌, false, if◌then◌else◌, length, slice_index, take, true};
 ghost use Rattle.lexical_tables.specs.Ends.{AreEnds};
 ghost use Rattle.lexical_tables.specs.RowSoFar.{IsMarked, IsOnRow, cells_behind};
-ghost use Rattle.lexical_tables.specs.Rows.{behind_piece, carriage_return, first_row};
+ghost use Rattle.lexical_tables.specs.Rows.{behind_piece, carriage_return, first_row, line_feed};
 
 use crate::dialect::Dialect;
 use crate::ends::{behind_end, first_end};
@@ -15,14 +15,12 @@ pub(crate) struct Left<'a> {
     pub marks: u64,
 }
 
-// A cell: how many bytes it has, what is left of the text behind what ends it, whether it is its row's last, and whether that
-// row lacks its return.
+// A cell: how many bytes it has, what is left of the text behind what ends it, and whether it is its row's last.
 #[derive(Copy, Clone)]
 pub(crate) struct Part<'a> {
     pub size: usize,
     pub behind: Left<'a>,
     pub is_last: bool,
-    pub lacks_return: bool,
 }
 
 // How many bytes a row's last cell has that ends at a place: the return in front of it is none of them, where it is asked for.
@@ -48,12 +46,13 @@ fn last_size(left: &[u8], end: usize, has_returns: bool) -> usize
     end - 1
 }
 
-// Whether a row whose last cell has so many bytes lacks its return.
+// Whether a row lacks its return, of which this is left, and so many bytes are its last cell: the line feed stands behind it.
 #[inline(always)]
-fn lacks_return(size: usize, end: usize, has_returns: bool) -> bool
-    ensures { result ≡ (has_returns && (size == end)) }
+pub(crate) fn lacks_return(left: &[u8], size: usize, has_returns: bool) -> bool
+    requires { size < length left.now }
+    ensures { result ≡ (has_returns && (slice_index left.now size == line_feed)) }
 {
-    has_returns && size == end
+    has_returns && left[size] == b'\n'
 }
 
 // The next cell of the first row of a text, of which this is left.
@@ -84,7 +83,7 @@ pub(crate) fn next_part<'a>(
     ensures row { result.is_last ≡ true → (start : ℕ) → record {
       start = start;
       text = take (length text.now - length left.now + result.size) text.now;
-      lacks_return = result.lacks_return;
+      lacks_return = dialect.now.has_returns && (slice_index left.now result.size == line_feed);
     } ≡ first_row dialect.now start text.now }
     ensures line { result.is_last ≡ true → result.behind.text.now
         ≡ behind_piece dialect.now.layout dialect.now.has_quotes text.now }
@@ -102,7 +101,6 @@ pub(crate) fn next_part<'a>(
             size: end,
             behind,
             is_last: false,
-            lacks_return: false,
         };
     }
     let size = last_size(left, end, dialect.has_returns);
@@ -110,6 +108,5 @@ pub(crate) fn next_part<'a>(
         size,
         behind,
         is_last: true,
-        lacks_return: lacks_return(size, end, dialect.has_returns),
     }
 }

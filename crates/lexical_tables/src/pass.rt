@@ -14,9 +14,9 @@ use crate::cells::column_count;
 use crate::codes::{CODED, UNKNOWN, put_codes};
 use crate::content::Cell;
 use crate::dialect::{Dialect, Layout};
-use crate::digit_cells::read_coded;
+use crate::coded_cells::read_coded_cell;
 use crate::ends::{LEAST_MARKED, next_ends};
-use crate::next_part::{Left, next_part};
+use crate::next_part::{Left, lacks_return, next_part};
 use crate::rows::{Row, without_empty_rows};
 use crate::targets::TableColumn;
 use lexical_parse_integer::Options;
@@ -35,37 +35,6 @@ fn marked_separator(dialect: &Dialect<'_>) -> Option<u8>
         return None;
     }
     Some(separator)
-}
-
-// Reads the cell of a column at once, the first bytes of a text, so many, by the column's code, and tells whether it did.
-#[inline(always)]
-fn read_coded_cell<C: TableColumn>(
-    targets: &mut [C],
-    codes: &[u8; CODED],
-    column: usize,
-    row: usize,
-    ahead: &[u8],
-    size: usize,
-    dialect: &Dialect<'_>,
-) -> bool
-    requires codes { AreCodes dialect.now codes.now (map C.target targets.old) }
-    requires usable { AreUsable (row + 1) (map C.target targets.old) }
-    requires room { size + 17 ≤ length ahead.now }
-    ensures fault { IsTrue result → (start : ℕ) → fault_in (answer_at dialect.now
-        (kinds_of (map C.target targets.old)) column
-        (record { start = start; text = take size ahead.now })) ≡ None }
-    ensures targets { IsTrue result → (start : ℕ) → map C.target targets.new ≡ put_read_at row
-        column (answer_at dialect.now (kinds_of (map C.target targets.old)) column
-        (record { start = start; text = take size ahead.now })) (map C.target targets.old) }
-    ensures kept { result ≡ false → map C.target targets.new ≡ map C.target targets.old }
-{
-    if column >= CODED {
-        return false;
-    }
-    if column >= targets.len() {
-        return false;
-    }
-    read_coded(&mut targets[column], codes[column], row, ahead, size, dialect)
 }
 
 // The numbers of the first row of a text go to its place in the targets, up to the row's fault, where one pass of marks finds
@@ -106,15 +75,9 @@ fn read_marked_row<'a, C: TableColumn>(
         let marks = next_ends(left.text, left.marks, separator, dialect.has_quotes);
         if marks == 0 {
             let passed = text.text.len() - left.text.len();
-            return match read_rest(
+            return read_rest(
                 start, text.text, passed, column, index, dialect, options, targets,
-            ) {
-                Ok(behind) => Ok(Left {
-                    text: behind,
-                    marks: 0,
-                }),
-                Err(error) => Err(error),
-            };
+            );
         }
         let part = next_part(text.text, left.text, marks, separator, dialect);
         if !read_coded_cell(targets, codes, column, index, left.text, part.size, dialect) {
@@ -123,7 +86,9 @@ fn read_marked_row<'a, C: TableColumn>(
                 text: &left.text[..part.size],
                 ahead: left.text,
             };
-            if let Some(fault) = read_by_column(targets, column, index, cell, dialect, options) {
+            if let Some(fault) =
+                read_by_column(targets, codes, column, index, cell, dialect, options)
+            {
                 return Err(TableError {
                     row: index,
                     column,
@@ -133,13 +98,14 @@ fn read_marked_row<'a, C: TableColumn>(
         }
         column += 1;
         if part.is_last {
-            if column == columns && !part.lacks_return {
+            let lacks_return = lacks_return(left.text, part.size, dialect.has_returns);
+            if column == columns && !lacks_return {
                 return Ok(part.behind);
             }
             let row = Row {
                 start,
                 text: &text.text[..text.text.len() - left.text.len() + part.size],
-                lacks_return: part.lacks_return,
+                lacks_return,
             };
             return Err(wrong_end(&row, index, columns, column));
         }
@@ -189,13 +155,7 @@ fn read_row<'a, C: TableColumn>(
             start, text, index, columns, separator, codes, dialect, options, targets,
         );
     }
-    match read_rest(start, text.text, 0, 0, index, dialect, options, targets) {
-        Ok(behind) => Ok(Left {
-            text: behind,
-            marks: 0,
-        }),
-        Err(error) => Err(error),
-    }
+    read_rest(start, text.text, 0, 0, index, dialect, options, targets)
 }
 
 // What is left of a text behind the empty rows in front of it, where these are skipped.

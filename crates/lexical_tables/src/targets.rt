@@ -7,7 +7,7 @@ ghost use Rattle.lexical_util.specs.Number.{IsNumber};
 ghost use Rattle.lexical_util.specs.Validity.{fault};
 ghost use Rattle.lexical_fields.specs.ReadFields.{field_answer};
 ghost use Rattle.lexical_tables.specs.ByColumn.{IsUsable};
-ghost use Rattle.lexical_tables.specs.Codes.{IsCode, IsPutAs};
+ghost use Rattle.lexical_tables.specs.Codes.{IsCode, IsReadAs};
 ghost use Rattle.lexical_tables.specs.Targets.{TargetView, error_in, has_bits, put_text, put_value, text_answer, text_fault, view_of_target, with_number, with_row_bit};
 
 use crate::at_once::put_at_once;
@@ -218,12 +218,12 @@ pub trait TableColumn {
     }
 
     /// Puts a number with its sign into a row's place, and sets the row's bit, where the column's type has it, and tells
-    /// whether it did. Else it puts nothing. The code has to be that of the column, and of a type, without a rule on zeros.
+    /// whether it did. Else it puts nothing. The code has to be that of the column, and of a type.
     ///
     /// A column that doesn't write it puts none.
     #[inline(always)]
     fn put_number(&mut self, code: u8, row: usize, is_negative: bool, number: u64) -> bool
-        requires code { IsPutAs code (target self.old) }
+        requires code { IsReadAs code (target self.old) }
         requires read { 8 ≤ code }
         requires usable { IsUsable (row + 1) (target self.old) }
         requires small { number < 2 ^ 63 }

@@ -8,20 +8,20 @@ use Rattle.lexical_fields.proofs.marked.number_from_13.Goals as goal
 pub overflow_mul-result : goal.overflow_mul-result
 overflow_mul-result c =
     let low = below_million (c.args.count - 12) c.args.digits.now c.in_ok-first.first (omega arith)
-    (omega (arith, c.requires.room (omega arith))) c.in_ok-first.ensures.writes in
+    (omega (arith, c.requires.room)) c.in_ok-first.ensures.writes in
     omega (arith, low)
 
 pub overflow_add-result : goal.overflow_add-result
 overflow_add-result c =
     let low = below_million (c.args.count - 12) c.args.digits.now c.in_ok-first.first (omega arith)
-    (omega (arith, c.requires.room (omega arith))) c.in_ok-first.ensures.writes in
+    (omega (arith, c.requires.room)) c.in_ok-first.ensures.writes in
     omega (arith, low, c.in_ok-last.ensures.small)
 
 pub returns-clause-writes : goal.returns-clause-writes
 returns-clause-writes c =
     let digits = c.args.digits.now in
     let k : ℕ = c.args.count - 12 in
-    let room = c.requires.room (omega arith) in
+    let room = c.requires.room in
     let left : length (drop k digits) ≡ length digits - k = length-drop k digits in
     let whole : take (length digits - k) (drop k digits) ≡ drop k digits =
     take_all (length digits - k) (drop k digits) (omega (arith, left)) in
@@ -33,5 +33,5 @@ returns-clause-writes c =
 pub returns-clause-small : goal.returns-clause-small
 returns-clause-small c =
     let low = below_million (c.args.count - 12) c.args.digits.now c.in_ok-first.first (omega arith)
-    (omega (arith, c.requires.room (omega arith))) c.in_ok-first.ensures.writes in
+    (omega (arith, c.requires.room)) c.in_ok-first.ensures.writes in
     omega (arith, low, c.in_ok-last.ensures.small)

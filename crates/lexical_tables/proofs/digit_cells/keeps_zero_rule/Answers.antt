@@ -4,8 +4,8 @@ use Rattle.std.proofs.lemmas.Bool.Decides.{nat_tests}
 use Rattle.lexical_tables.proofs.ZeroRule.{rule_kept, rule_unasked}
 use Rattle.lexical_tables.proofs.digit_cells.keeps_zero_rule.Goals as goal
 
-pub returns-then-code : goal.returns-then-code
-returns-then-code c = λ is format number decimal n.
+pub returns-then-code-lt-WITH_ZERO_RULE : goal.returns-then-code-lt-WITH_ZERO_RULE
+returns-then-code-lt-WITH_ZERO_RULE c = λ is format number decimal n.
     rule_unasked c.args.size 0 c.args.ahead.now (omega (arith, c.requires.room)) format c.args.is_negative number n
     (decimal.zeros ∙ (grind (arith, nat_tests)))
 

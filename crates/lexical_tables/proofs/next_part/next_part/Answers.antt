@@ -1,10 +1,10 @@
-use Rattle.std.proofs.Common.{◌∙◌, ◌+◌, ◌-◌, ◌∷◌, ◌≡◌, ◌≢◌, ap, arith, drop, get_or, length, refl, sym, take}
+use Rattle.std.proofs.Common.{◌∙◌, ◌+◌, ◌-◌, ◌∷◌, ◌≡◌, ◌≢◌, ap, arith, get_or, length, sym, take}
 use Rattle.std.proofs.lemmas.Bool.Decides.{nat_tests}
 use Rattle.std.proofs.lemmas.List.{take_rest}
 use Rattle.lexical_fields.specs.Fields.{FieldView}
 use Rattle.lexical_tables.specs.RowSoFar.{cells_behind}
 use Rattle.lexical_tables.specs.Rows.{first_row, line_feed}
-use Rattle.lexical_tables.proofs.PassSteps.{cells_end, cells_go, row_goes, row_is}
+use Rattle.lexical_tables.proofs.PassSteps.{cells_end, cells_go, no_return_at, row_is}
 use Rattle.lexical_tables.proofs.next_part.next_part.Goals as goal
 
 pub returns-then-left-end-ne10-clause-cells : goal.returns-then-left-end-ne10-clause-cells
@@ -43,6 +43,6 @@ returns-clause-row c = λ last start.
     let found = c.first_end-end.ensures in
     let sized = c.last_size-size.ensures in
     ap (λ t. record { start = start; text = take (length text - length left + c.last_size-size.result) text; lacks_return = t })
-    c.lacks_return.ensures
+    (no_return_at d left r c.last_size-size.result is sized.returned)
     ∙ row_is d c.args.separator c.requires.marked start text left c.requires.here r c.last_size-size.result found.room
     (found.line is) sized.within sized.cell sized.bare sized.returned

@@ -109,8 +109,8 @@ loop-column-preserved g c =
           now read.fine read.put,
     )
 
-pub returns-then-not-part-clause-fault : goal.returns-then-not-part-clause-fault
-returns-then-not-part-clause-fault g c =
+pub returns-then-not-lacks_return-clause-fault : goal.returns-then-not-lacks_return-clause-fault
+returns-then-not-lacks_return-clause-fault g c =
     let d = c.args.dialect.now in
     let text = c.args.text.text.now in
     let left = c.loop-column.left.text.now in
@@ -137,7 +137,8 @@ returns-then-not-part-clause-fault g c =
     now read.fine read.put in
     let done = row_ends kinds d c.args.index row old now (column + 1) [] put None (inl refl)
     (end_fine (count_in d) c.args.index (column + 1) row (grind (arith, nat_tests))
-    (sym (ap (λ r. r.lacks_return) (part.ensures.row c.if-part.true c.args.start)) ∙ (grind (arith, nat_tests)))) in
+    (sym (ap (λ r. r.lacks_return) (part.ensures.row c.if-part.true c.args.start)) ∙ sym c.lacks_return-lacks_return.ensures
+    ∙ (grind (arith, nat_tests)))) in
     done.fault_is
 
 pub returns-then-part-clause-fault : goal.returns-then-part-clause-fault
@@ -167,12 +168,15 @@ returns-then-part-clause-fault g c =
     let put = after_cell kinds d c.args.index row old before column _ c.loop-column.invariant.3 cell _ at (grind (arith, nat_tests))
     now read.fine read.put in
     let done = row_ends kinds d c.args.index row old now (column + 1) [] put (Some c.wrong_end.result) (inl refl)
-    (c.wrong_end.ensures ∙ ap (λ r. end_fault c.args.columns c.args.index r (column + 1) None) (part.ensures.row c.if-part.true c.args.start)
+    (c.wrong_end.ensures
+    ∙ ap (λ t. end_fault c.args.columns c.args.index (record { start = c.args.start; text = take (length text - length left
+    + part.result.size) text; lacks_return = t }) (column + 1) None) c.lacks_return-lacks_return.ensures
+    ∙ ap (λ r. end_fault c.args.columns c.args.index r (column + 1) None) (part.ensures.row c.if-part.true c.args.start)
     ∙ ap (λ n. end_fault n c.args.index row (column + 1) None) c.requires.columns) in
     done.fault_is
 
-pub returns-then-not-part-clause-targets : goal.returns-then-not-part-clause-targets
-returns-then-not-part-clause-targets g c =
+pub returns-then-not-lacks_return-clause-targets : goal.returns-then-not-lacks_return-clause-targets
+returns-then-not-lacks_return-clause-targets g c =
     let d = c.args.dialect.now in
     let text = c.args.text.text.now in
     let left = c.loop-column.left.text.now in
@@ -199,7 +203,8 @@ returns-then-not-part-clause-targets g c =
     now read.fine read.put in
     let done = row_ends kinds d c.args.index row old now (column + 1) [] put None (inl refl)
     (end_fine (count_in d) c.args.index (column + 1) row (grind (arith, nat_tests))
-    (sym (ap (λ r. r.lacks_return) (part.ensures.row c.if-part.true c.args.start)) ∙ (grind (arith, nat_tests)))) in
+    (sym (ap (λ r. r.lacks_return) (part.ensures.row c.if-part.true c.args.start)) ∙ sym c.lacks_return-lacks_return.ensures
+    ∙ (grind (arith, nat_tests)))) in
     done.targets_are
 
 pub returns-then-part-clause-targets : goal.returns-then-part-clause-targets
@@ -229,7 +234,10 @@ returns-then-part-clause-targets g c =
     let put = after_cell kinds d c.args.index row old before column _ c.loop-column.invariant.3 cell _ at (grind (arith, nat_tests))
     now read.fine read.put in
     let done = row_ends kinds d c.args.index row old now (column + 1) [] put (Some c.wrong_end.result) (inl refl)
-    (c.wrong_end.ensures ∙ ap (λ r. end_fault c.args.columns c.args.index r (column + 1) None) (part.ensures.row c.if-part.true c.args.start)
+    (c.wrong_end.ensures
+    ∙ ap (λ t. end_fault c.args.columns c.args.index (record { start = c.args.start; text = take (length text - length left
+    + part.result.size) text; lacks_return = t }) (column + 1) None) c.lacks_return-lacks_return.ensures
+    ∙ ap (λ r. end_fault c.args.columns c.args.index r (column + 1) None) (part.ensures.row c.if-part.true c.args.start)
     ∙ ap (λ n. end_fault n c.args.index row (column + 1) None) c.requires.columns) in
     done.targets_are
 

@@ -5,16 +5,9 @@ use Rattle.lexical_tables.proofs.CellsLeft.{cells_begin}
 use Rattle.lexical_tables.proofs.ColumnSteps.{row_starts}
 use Rattle.lexical_tables.proofs.pass.read_row.Goals as goal
 
-pub returns-in-Ok-clause-fault : goal.returns-in-Ok-clause-fault
-returns-in-Ok-clause-fault g c =
+pub returns-clause-fault : goal.returns-clause-fault
+returns-clause-fault g c =
     let row = first_row c.args.dialect.now c.args.start c.args.text.text.now in
     let old = map g.C.TableColumn.target c.args.targets.now in
-    (c.in-Ok.ensures.done (kinds_of old) old (row_starts (kinds_of old) c.args.dialect.now c.args.index row old _ refl
-    c.requires.usable (cells_begin c.args.dialect.now row))).fault_is
-
-pub returns-in-Err-clause-fault : goal.returns-in-Err-clause-fault
-returns-in-Err-clause-fault g c =
-    let row = first_row c.args.dialect.now c.args.start c.args.text.text.now in
-    let old = map g.C.TableColumn.target c.args.targets.now in
-    (c.in-Err.ensures.done (kinds_of old) old (row_starts (kinds_of old) c.args.dialect.now c.args.index row old _ refl
+    (c.read_rest.ensures.done (kinds_of old) old (row_starts (kinds_of old) c.args.dialect.now c.args.index row old _ refl
     c.requires.usable (cells_begin c.args.dialect.now row))).fault_is

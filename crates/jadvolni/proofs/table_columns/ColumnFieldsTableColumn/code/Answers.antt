@@ -6,6 +6,6 @@ use Rattle.jadvolni.proofs.table_columns.ColumnFieldsTableColumn.code.Goals as g
 
 pub returns : goal.returns
 returns c =
-    format_said c.args.self.now (number_type c.args.self.now) c.standard_code-code.result c.standard_code-code.ensures.column
-    (IsCode c.under_format.result)
-    (λ target same put. c.under_format.ensures target (same ∙ sym c.format.ensures) put)
+    format_said c.args.self.now (number_type c.args.self.now) c.standard_code-code.result c.standard_code-code.ensures.there
+    c.standard_code-code.ensures.column (IsCode c.under_format.result)
+    (λ target same type bits. c.under_format.ensures target (same ∙ sym c.format.ensures) type bits)

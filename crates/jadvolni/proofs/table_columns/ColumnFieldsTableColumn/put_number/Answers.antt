@@ -1,6 +1,5 @@
-use Rattle.std.proofs.Common.{◌≡◌, ◌∙◌, ◌+◌, true, false, refl, arith}
-use Rattle.std.proofs.lemmas.Bool.Decides.{nat_tests}
-use Rattle.std.specs.Prelude.{nat_le}
+use Rattle.std.proofs.Common.{◌≡◌, ◌∙◌, ◌+◌, true, false, refl, sym}
+use Rattle.lexical_tables.specs.Codes.{has_coded_bits}
 use Rattle.lexical_digits.specs.Value.{with_sign}
 use Rattle.jadvolni.specs.Tables.{target_of}
 use Rattle.jadvolni.proofs.ColumnCodes.{bits_said, bits_stay, put_alone, put_with_bit, stays_usable}
@@ -8,7 +7,7 @@ use Rattle.jadvolni.proofs.table_columns.ColumnFieldsTableColumn.put_number.Goal
 
 pub put_row_bit-requires-clause-bits : goal.put_row_bit-requires-clause-bits
 put_row_bit-requires-clause-bits c =
-    let many : nat_le 16 c.args.code ≡ true = grind (arith, nat_tests) in
+    let many : has_coded_bits c.args.code ≡ true = sym c.has_bits.ensures ∙ c.if-has_bits.true in
     bits_stay c.args.row (with_sign c.args.is_negative c.args.number) (target_of c.args.self.now)
     (target_of c.put_coded_number.new.self) (c.if-not-put_coded_number.ensures.target refl)
     ∙ bits_said c.args.code (target_of c.args.self.now) c.requires.code ∙ many
@@ -18,15 +17,15 @@ put_row_bit-requires-clause-usable c =
     stays_usable c.args.row (with_sign c.args.is_negative c.args.number) (c.args.row + 1) (target_of c.args.self.now)
     (target_of c.put_coded_number.new.self) c.requires.usable (c.if-not-put_coded_number.ensures.target refl)
 
-pub returns-then-code-clause-target : goal.returns-then-code-clause-target
-returns-then-code-clause-target c = λ put.
+pub returns-then-has_bits-clause-target : goal.returns-then-has_bits-clause-target
+returns-then-has_bits-clause-target c = λ put.
     put_with_bit c.args.row (with_sign c.args.is_negative c.args.number) (target_of c.args.self.now)
     (target_of c.put_coded_number.new.self) (target_of c.put_row_bit.new.self)
     (c.if-not-put_coded_number.ensures.target refl) c.put_row_bit.ensures
 
-pub returns-else-code-clause-target : goal.returns-else-code-clause-target
-returns-else-code-clause-target c = λ put.
-    let few : nat_le 16 c.args.code ≡ false = grind (arith, nat_tests) in
+pub returns-else-has_bits-clause-target : goal.returns-else-has_bits-clause-target
+returns-else-has_bits-clause-target c = λ put.
+    let few : has_coded_bits c.args.code ≡ false = sym c.has_bits.ensures ∙ c.if-has_bits.false in
     let number = with_sign c.args.is_negative c.args.number in
     let before = target_of c.args.self.now in
     let after = target_of c.put_coded_number.new.self in
