@@ -2,6 +2,7 @@
 pub mod ColumnArrays
 pub mod ColumnCodes
 pub mod ColumnRows
+pub mod RowPlaces
 pub mod SureAnswers
 pub mod TableBits
 pub mod TableColumns

@@ -4,4 +4,5 @@ pub mod Effect
 pub mod FormatFields
 pub mod Halves
 pub mod Literals
+pub mod Skipping
 pub mod Tables

@@ -1,6 +1,7 @@
 //! The parsers as C calls them: a static library, whose header is `include/jadvolni.h`.
 #![tactic(auto)]
 
+pub mod bad_rows;
 pub mod calls;
 mod coded_columns;
 pub mod columns;
@@ -10,6 +11,7 @@ pub mod halves;
 pub mod literals;
 pub mod outcome;
 pub mod signed;
+pub mod skipping;
 pub mod slot;
 pub mod table_columns;
 pub mod tables;

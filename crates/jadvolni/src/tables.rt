@@ -58,7 +58,7 @@ fn layout_of<'a>(table: &TableFields<'a>, columns: usize) -> Option<Layout<'a>>
 }
 
 // How a table of so many columns is written, if it can be read.
-fn dialect_of<'a>(table: &TableFields<'a>, columns: usize) -> Option<Dialect<'a>>
+pub(crate) fn dialect_of<'a>(table: &TableFields<'a>, columns: usize) -> Option<Dialect<'a>>
     ensures { result ≡ dialect_of table.now columns }
 {
     if !are_zeros(table.reserved) {
@@ -98,7 +98,7 @@ fn refused(status: u32, column: usize) -> TableOutcome
 }
 
 // The status and the place of a wrong cell.
-fn cell_outcome(fault: CellFault) -> (u32, usize)
+pub(crate) fn cell_outcome(fault: CellFault) -> (u32, usize)
     ensures status { result.0 ≡ cell_status fault }
     ensures place { result.1 ≡ cell_place fault }
 {
@@ -135,7 +135,7 @@ fn outcome_of(answer: Result<Table, TableError>) -> TableOutcome
 }
 
 // What is answered of the first column that can't be read, if so many rows are asked for.
-fn wrong_column(columns: &[ColumnFields<'_>], rows: usize) -> Option<TableOutcome>
+pub(crate) fn wrong_column(columns: &[ColumnFields<'_>], rows: usize) -> Option<TableOutcome>
     ensures { result ≡ wrong_column rows 0 columns.now }
 {
     let mut index = 0;

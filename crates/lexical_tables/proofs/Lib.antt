@@ -32,6 +32,7 @@ pub mod RecordSteps
 pub mod RowSteps
 pub mod RowsInParts
 pub mod SeenBytes
+pub mod skipped
 pub mod Unquoted
 pub mod WholeRows
 pub mod WidthRows

@@ -7,7 +7,9 @@ pub mod Header
 pub mod Looks
 pub mod OneColumn
 pub mod Parts
+pub mod Places
 pub mod Quotes
 pub mod RowSoFar
 pub mod Rows
+pub mod Skipping
 pub mod Targets

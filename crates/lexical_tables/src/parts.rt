@@ -34,7 +34,7 @@ fn whole_lines(text: &[u8], has_quotes: bool) -> usize
 }
 
 // How many bytes of a part are whole rows.
-fn whole_rows(text: &[u8], dialect: &Dialect<'_>) -> usize
+pub(crate) fn whole_rows(text: &[u8], dialect: &Dialect<'_>) -> usize
     ensures value { result ≡ whole_rows dialect.now text.now }
     ensures within { result ≤ length text.now }
 {

@@ -22,7 +22,7 @@ use crate::targets::TableColumn;
 use lexical_parse_integer::Options;
 
 // The byte between cells, if one pass of marks finds these and the rows.
-fn marked_separator(dialect: &Dialect<'_>) -> Option<u8>
+pub(crate) fn marked_separator(dialect: &Dialect<'_>) -> Option<u8>
     ensures { IfSome result (λ separator. IsMarked dialect.now separator) }
 {
     let Layout::Separated { separator, .. } = dialect.layout else {
@@ -121,7 +121,7 @@ fn read_marked_row<'a, C: TableColumn>(
 // The numbers of the first row of a text go to its place in the targets, up to the row's fault: what is left of the text
 // behind it.
 #[inline(always)]
-fn read_row<'a, C: TableColumn>(
+pub(crate) fn read_row<'a, C: TableColumn>(
     start: usize,
     text: Left<'a>,
     index: usize,
@@ -160,7 +160,11 @@ fn read_row<'a, C: TableColumn>(
 
 // What is left of a text behind the empty rows in front of it, where these are skipped.
 #[inline(always)]
-fn behind_empty_rows<'a>(left: Left<'a>, marked: Option<u8>, dialect: &Dialect<'_>) -> Left<'a>
+pub(crate) fn behind_empty_rows<'a>(
+    left: Left<'a>,
+    marked: Option<u8>,
+    dialect: &Dialect<'_>,
+) -> Left<'a>
     requires marks { AreEndsIf marked dialect.now.has_quotes left.text.now left.marks }
     ensures within { length result.text.now ≤ length left.entry.text.now }
     ensures tail { result.text.now
@@ -180,7 +184,7 @@ fn behind_empty_rows<'a>(left: Left<'a>, marked: Option<u8>, dialect: &Dialect<'
 
 // Asks the columns for their codes, where a text is long enough for marks: else no cell is read by them.
 #[inline(always)]
-fn ask_codes<C: TableColumn>(
+pub(crate) fn ask_codes<C: TableColumn>(
     text: &[u8],
     dialect: &Dialect<'_>,
     targets: &[C],

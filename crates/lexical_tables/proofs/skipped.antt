@@ -1,0 +1,6 @@
+-- Where rows are, and tables whose bad rows are skipped.
+pub mod Overwritten
+pub mod RightRows
+pub mod RowPlaces
+pub mod Skipping
+pub mod WorkedRows

@@ -1,0 +1,142 @@
+//! Tables whose bad rows are skipped.
+
+ghost use Rattle.std.specs.Prelude.{◌≡◌, ◌+◌, ◌<◌, ◌^◌, map};
+ghost use Rattle.lexical_tables.specs.ByColumn.{AreUsable, kinds_of};
+ghost use Rattle.lexical_tables.specs.Parts.{readable};
+ghost use Rattle.lexical_tables.specs.Skipping.{HoldRightRows, SkipsTo, put_in_front, skipped_rows, skipping_answer, skipping_put};
+
+use crate::answers::TableError;
+use crate::bad_rows::{BadRow, KeptRow, Skipped, put_bad_row};
+use crate::cells::column_count;
+use crate::codes::{CODED, UNKNOWN};
+use crate::dialect::Dialect;
+use crate::next_part::Left;
+use crate::parts::whole_rows;
+use crate::pass::{ask_codes, behind_empty_rows, marked_separator, read_row};
+use crate::places::{RowPlace, behind_row};
+use crate::targets::TableColumn;
+use lexical_parse_integer::Options;
+
+// What is known of a bad row behind so many others: its fault counts the right rows, and it stands from one place to another.
+#[inline(always)]
+fn bad_row(error: TableError, bad_count: usize, start: usize, stop: usize) -> BadRow
+    requires fits { error.row + bad_count < 2 ^ 64 }
+    ensures { result ≡ record {
+      error = record error { row = error.row + bad_count };
+      place = record { start = start; stop = stop };
+    } }
+{
+    BadRow {
+        error: TableError {
+            row: error.row + bad_count,
+            column: error.column,
+            fault: error.fault,
+        },
+        place: RowPlace { start, stop },
+    }
+}
+
+/// Reads a table's columns into slices of their own, as [`read_columns`](crate::read_columns) does, and skips the rows
+/// at fault.
+///
+/// The right rows are stored one behind another, all of them and no other, up to so many as are asked for. A row with
+/// too few or too many cells is at fault as any other. What is known of each bad row is kept in `bad`, in their order,
+/// up to its room; all else there is as it was, and `bad_rows` counts all of them.
+///
+/// The call stops behind the last right row that it is asked for, or else at the text's end: so no bad row that follows
+/// that right one is read. A call whose text begins at `stop` goes on with the next row, and counts rows and places
+/// from there.
+///
+/// A bad row is read up to its fault, into the place of the next right one. So in each slice the place behind the last
+/// right row, and its bit, may have changed, if fewer rows are there than were asked for. All else is as it was.
+///
+/// With commas, two columns of `u8` and room for three rows, `1,2\n3,x\n5,6\n` puts 1 and 5, and 2 and 6. The answer
+/// is two rows and one bad row, stopping at 12; `bad` has that of number 1, with the fault of its column 1 at 6, from 4
+/// to 8.
+#[inline(never)]
+pub fn read_columns_skipping<C: TableColumn, B: KeptRow>(
+    text: &[u8],
+    dialect: &Dialect<'_>,
+    options: &Options,
+    rows: usize,
+    targets: &mut [C],
+    bad: &mut [B],
+) -> Skipped
+    requires usable { AreUsable rows (map C.target targets.old) }
+    ensures answer { result ≡ skipping_answer (kinds_of (map C.target targets.old)) dialect.now
+        rows text.now }
+    ensures targets { map C.target targets.new ≡ skipping_put dialect.now rows text.now
+        (map C.target targets.old) }
+    ensures bad { bad.new ≡ put_in_front (map B.kept (skipped_rows
+        (kinds_of (map C.target targets.old)) dialect.now rows text.now)) bad.old }
+    ensures goes_on { SkipsTo dialect.now rows text.now result }
+    ensures right_rows { HoldRightRows dialect.now rows text.now (map C.target targets.old)
+        (map C.target targets.new) }
+{
+    let marked = marked_separator(dialect);
+    let columns = column_count(dialect);
+    let mut codes = [UNKNOWN; CODED];
+    ask_codes(text, dialect, targets, &mut codes);
+    let mut left = behind_empty_rows(Left { text, marks: 0 }, marked, dialect);
+    let mut count = 0;
+    let mut bad_count = 0;
+    while count < rows && !left.text.is_empty() {
+        let start = text.len() - left.text.len();
+        match read_row(
+            start, left, count, columns, marked, &codes, dialect, options, targets,
+        ) {
+            Ok(behind) => {
+                left = behind_empty_rows(behind, marked, dialect);
+                count += 1;
+            }
+            Err(error) => {
+                let behind = behind_row(left.text, dialect);
+                let row = bad_row(error, bad_count, start, text.len() - behind.len());
+                put_bad_row(bad, bad_count, row);
+                left = Left {
+                    text: behind,
+                    marks: 0,
+                };
+                bad_count += 1;
+            }
+        }
+    }
+    Skipped {
+        rows: count,
+        bad_rows: bad_count,
+        stop: text.len() - left.text.len(),
+    }
+}
+
+/// Reads the columns in the whole rows of a part of a text, and skips the rows at fault, as
+/// [`read_columns_skipping`] does in a whole text.
+///
+/// A row that a part ends in is left, unless the part is the last one, as in
+/// [`read_columns_part`](crate::read_columns_part): put the bytes from `stop` on in front of the next part.
+pub fn read_part_skipping<C: TableColumn, B: KeptRow>(
+    text: &[u8],
+    is_last: bool,
+    dialect: &Dialect<'_>,
+    options: &Options,
+    rows: usize,
+    targets: &mut [C],
+    bad: &mut [B],
+) -> Skipped
+    requires usable { AreUsable rows (map C.target targets.old) }
+    ensures answer { result ≡ skipping_answer (kinds_of (map C.target targets.old)) dialect.now
+        rows (readable is_last dialect.now text.now) }
+    ensures targets { map C.target targets.new ≡ skipping_put dialect.now rows
+        (readable is_last dialect.now text.now) (map C.target targets.old) }
+    ensures bad { bad.new ≡ put_in_front (map B.kept (skipped_rows
+        (kinds_of (map C.target targets.old)) dialect.now rows
+        (readable is_last dialect.now text.now))) bad.old }
+    ensures goes_on { SkipsTo dialect.now rows (readable is_last dialect.now text.now) result }
+    ensures right_rows { HoldRightRows dialect.now rows (readable is_last dialect.now text.now)
+        (map C.target targets.old) (map C.target targets.new) }
+{
+    if is_last {
+        return read_columns_skipping(text, dialect, options, rows, targets, bad);
+    }
+    let whole = &text[..whole_rows(text, dialect)];
+    read_columns_skipping(whole, dialect, options, rows, targets, bad)
+}
