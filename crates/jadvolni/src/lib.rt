@@ -4,9 +4,12 @@
 pub mod calls;
 mod coded_columns;
 pub mod columns;
+pub mod fixed;
+pub mod fixed_calls;
 pub mod format;
 pub mod fronts;
 pub mod halves;
+pub mod lines;
 pub mod literals;
 pub mod outcome;
 pub mod signed;
