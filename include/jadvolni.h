@@ -35,7 +35,11 @@
  *
  *     jadvolni_parse_u64_column(text, len, separator, &format, values, capacity, &count)
  *
- * And jadvolni_parse_literal reads a literal with its suffix, as "0xFFull" or "1_000i64".
+ * jadvolni_parse_literal reads a literal with its suffix, as "0xFFull" or "1_000i64". And amounts of
+ * money, as "-1.234,50", are read by two calls of each type:
+ *
+ *     jadvolni_parse_i64_fixed(text, len, &fixed, &value)
+ *     jadvolni_parse_i64_fixed_front(text, len, &fixed, &value)
  *
  * WHAT A CALL ANSWERS
  *
@@ -167,6 +171,19 @@ typedef enum jadvolni_status {
      * them, or one stands within a number. The place is that of the quote. */
     JADVOLNI_MISPLACED_QUOTE = 18,
 
+    /* The integer part of fixed-point numbers has a radix other than 10. For this and the next three the
+     * place is 0. */
+    JADVOLNI_INVALID_FIXED_RADIX = 32,
+
+    /* The integer part has a prefix, a suffix, literal prefixes or octal zeros. */
+    JADVOLNI_INVALID_FIXED_AFFIX = 33,
+
+    /* The point of fixed-point numbers is a digit, '+', '-', or the separator of the integer part. */
+    JADVOLNI_INVALID_POINT = 34,
+
+    /* Fixed-point numbers have more than 38 places. */
+    JADVOLNI_INVALID_PLACES = 35,
+
     /* A reserved byte or bit of the format isn't 0: it was written for a later version of the
      * library, or it was never set. It comes before the rules of formats. */
     JADVOLNI_UNKNOWN_FIELD = 64
@@ -230,7 +247,9 @@ typedef struct jadvolni_format {
     uint8_t mantissa_radix;
 
     /* A byte that counts for nothing among the digits: "_" in "1_000". Where it may be, the flags
-     * on separators say; with none of the first three it is no part of a number. */
+     * on separators say; with none of the first three it is no part of a number. IT IS NO DECIMAL
+     * POINT: with ',' between digits "12,5" is 125, and "12,505" is 12505, with JADVOLNI_OK. Amounts
+     * are read by jadvolni_parse_i64_fixed. */
     uint8_t digit_separator;
 
     /* A byte that may follow a 0 before the digits: with "x", "0x1F" is read as "1F" is. The radix
@@ -529,6 +548,100 @@ jadvolni_result jadvolni_parse_literal(const char *text, size_t len, const jadvo
                                        jadvolni_uint128 *value, size_t *suffix)
     JADVOLNI_CHECKED_(3, 4, 5) JADVOLNI_TEXT_ JADVOLNI_WRITES_(4) JADVOLNI_WRITES_(5);
 
+/* ---- fixed-point numbers ---- */
+
+/*
+ * How fixed-point numbers are written, as amounts of money: an integer part, and digits behind a point.
+ * Begin with {0}, and set what differs:
+ *
+ *     jadvolni_fixed cents = {.places = 2, .takes_fewer = 1};
+ *     jadvolni_fixed grouped = {.places = 2, .point = ','};
+ *     grouped.integer.digit_separator = '.';
+ *     grouped.integer.integer_internal_digit_separator = 1;
+ *
+ * The first reads "12.50", "12.5" and "12", and the second "-1.234,50". Each call refuses a description
+ * that breaks a rule, whatever the text is, and jadvolni_fixed_error tells beforehand.
+ */
+typedef struct jadvolni_fixed {
+    /* What the integer part looks like: its sign, its separators, its zeros. Where its radix is 0, the
+     * radix is 10, a digit is required, and the other fields are as they are set. It has radix 10, and
+     * neither prefix, suffix, literal prefixes nor octal zeros. */
+    jadvolni_format integer;
+
+    /* The byte before the fraction; 0 is '.'. It is no digit, no sign and not the separator. */
+    uint8_t point;
+
+    /* How many digits stand behind the point, at most 38. The number is told in units of the last one:
+     * with two places "12.50" is 1250. With none no point is read. */
+    uint8_t places;
+
+    /* Flag: fewer digits than `places` are taken, as if zeros stood for the others, and none without a
+     * point. A point without a digit behind it is a fault in a whole text, and isn't read in front of one. */
+    uint8_t takes_fewer;
+
+    /* 0, each of them: they are for fields of later versions. */
+    uint8_t reserved[13];
+} jadvolni_fixed;
+
+/* JADVOLNI_UNKNOWN_FIELD where a reserved byte or bit isn't 0; else JADVOLNI_OK where the description
+ * breaks no rule, and the status of the first that it breaks. */
+uint32_t jadvolni_fixed_error(const jadvolni_fixed *fixed) JADVOLNI_PURE_ JADVOLNI_CHECKED_(1);
+
+/*
+ * The fixed-point number that a whole text is, or that stands in front of it, in units of the last place.
+ * It is exact, or there is a fault, and nothing is rounded: "12.505" with two places is
+ * JADVOLNI_INVALID_DIGIT at 5, also in front of a text. "-0.05" is -5.
+ *
+ *     int64_t value;
+ *     jadvolni_result r = jadvolni_parse_i64_fixed("-0.05", 5, &cents, &value);
+ *
+ *     JADVOLNI_OVERFLOW, JADVOLNI_UNDERFLOW  at the digit with which the number leaves the type; at the
+ *                             place where reading stops where only zeros that aren't written take it out.
+ *     JADVOLNI_INVALID_DIGIT  at the first byte that can't stand: the digit behind the last place, the
+ *                             byte behind a point that has no digit, a point without places.
+ *     JADVOLNI_EMPTY          where a digit is missing: at the end of "12.", and where fewer digits than
+ *                             asked for stand.
+ *
+ * In front of "12. And" stands 12, and reading stops at 2, where fewer places are taken. All else is as
+ * the head of this file says.
+ */
+#define JADVOLNI_FIXED_(name, type)                                                            \
+    jadvolni_result jadvolni_parse_##name##_fixed(const char *text, size_t len,                \
+                                                  const jadvolni_fixed *fixed, type *value)    \
+        JADVOLNI_CHECKED_(3, 4) JADVOLNI_TEXT_ JADVOLNI_WRITES_(4);                            \
+    jadvolni_result jadvolni_parse_##name##_fixed_front(                                       \
+        const char *text, size_t len, const jadvolni_fixed *fixed, type *value)                \
+        JADVOLNI_CHECKED_(3, 4) JADVOLNI_TEXT_ JADVOLNI_WRITES_(4)
+
+JADVOLNI_FIXED_(u8, uint8_t);
+JADVOLNI_FIXED_(u16, uint16_t);
+JADVOLNI_FIXED_(u32, uint32_t);
+JADVOLNI_FIXED_(u64, uint64_t);
+JADVOLNI_FIXED_(u128, jadvolni_uint128);
+JADVOLNI_FIXED_(usize, size_t);
+JADVOLNI_FIXED_(i8, int8_t);
+JADVOLNI_FIXED_(i16, int16_t);
+JADVOLNI_FIXED_(i32, int32_t);
+JADVOLNI_FIXED_(i64, int64_t);
+JADVOLNI_FIXED_(i128, jadvolni_int128);
+JADVOLNI_FIXED_(isize, ptrdiff_t);
+
+#undef JADVOLNI_FIXED_
+
+/* ---- lines ---- */
+
+/* Line and column of a place, both counted from 0. */
+typedef struct jadvolni_position {
+    size_t line;
+    size_t column;
+} jadvolni_position;
+
+/* Where a place is in a text, as an editor counts but for the 1 that it begins with: how many line feeds
+ * stand before it, and how many bytes behind the last of them. A line feed belongs to the line that it
+ * ends. A place behind the text is taken for its end. */
+jadvolni_position jadvolni_line_column(const char *text, size_t len, size_t place)
+    JADVOLNI_PURE_ JADVOLNI_TEXT_;
+
 /* ---- columns ---- */
 
 /*
@@ -816,6 +929,10 @@ static inline const char *jadvolni_status_name(uint32_t status)
     case JADVOLNI_MISSING_RETURN: return "MissingReturn";
     case JADVOLNI_INVALID_TABLE: return "InvalidTable";
     case JADVOLNI_MISPLACED_QUOTE: return "MisplacedQuote";
+    case JADVOLNI_INVALID_FIXED_RADIX: return "InvalidFixedRadix";
+    case JADVOLNI_INVALID_FIXED_AFFIX: return "InvalidFixedAffix";
+    case JADVOLNI_INVALID_POINT: return "InvalidPoint";
+    case JADVOLNI_INVALID_PLACES: return "InvalidPlaces";
     case JADVOLNI_UNKNOWN_FIELD: return "UnknownField";
     default: return "Unknown";
     }
@@ -855,6 +972,13 @@ static inline const char *jadvolni_status_text(uint32_t status)
                "many as columns, records need widths, and the reserved bytes of a table have "
                "to be 0";
     case JADVOLNI_MISPLACED_QUOTE: return "misplaced quote";
+    case JADVOLNI_INVALID_FIXED_RADIX: return "fixed-point numbers have to have the radix 10";
+    case JADVOLNI_INVALID_FIXED_AFFIX:
+        return "fixed-point numbers have no prefix, no suffix, no literal prefixes and no octal "
+               "zeros";
+    case JADVOLNI_INVALID_POINT:
+        return "the point has to be no digit, no sign, and not the separator of the integer part";
+    case JADVOLNI_INVALID_PLACES: return "fixed-point numbers have to have at most 38 places";
     case JADVOLNI_UNKNOWN_FIELD:
         return "the reserved bytes and bits of the format have to be 0";
     default: return "a status that only a later library has";
@@ -903,6 +1027,9 @@ JADVOLNI_ASSERT_(format_has_32_bytes, sizeof(jadvolni_format) == 32);
 JADVOLNI_ASSERT_(mantissa_radix_is_at_0, offsetof(jadvolni_format, mantissa_radix) == 0);
 JADVOLNI_ASSERT_(base_suffix_is_at_3, offsetof(jadvolni_format, base_suffix) == 3);
 JADVOLNI_ASSERT_(literal_prefixes_is_at_16, offsetof(jadvolni_format, literal_prefixes) == 16);
+JADVOLNI_ASSERT_(fixed_has_48_bytes, sizeof(jadvolni_fixed) == 48);
+JADVOLNI_ASSERT_(point_is_at_32, offsetof(jadvolni_fixed, point) == 32);
+JADVOLNI_ASSERT_(position_has_16_bytes, sizeof(jadvolni_position) == 16);
 JADVOLNI_ASSERT_(table_has_48_bytes, sizeof(jadvolni_table) == 48);
 JADVOLNI_ASSERT_(table_column_has_176_bytes, sizeof(jadvolni_table_column) == 176);
 JADVOLNI_ASSERT_(missing_is_at_16, offsetof(jadvolni_table, missing) == 16);

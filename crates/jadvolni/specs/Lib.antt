@@ -1,6 +1,7 @@
 -- The definitions that contracts name, a file for each subject.
 pub mod Columns
 pub mod Effect
+pub mod Fixed
 pub mod FormatFields
 pub mod Halves
 pub mod Literals

@@ -8,6 +8,7 @@ pub mod FieldPieces
 pub mod FieldRows
 pub mod FieldSteps
 pub mod FieldsInParts
+pub mod LineRows
 pub mod MarkedFields
 pub mod Marks
 pub mod MovedFields

@@ -2,6 +2,7 @@
 pub mod Callers
 pub mod Columns
 pub mod Fields
+pub mod Lines
 pub mod Numerals
 pub mod Parts
 pub mod Places

@@ -12,6 +12,7 @@ mod any_format;
 mod columns;
 mod first;
 mod iterator;
+mod lines;
 mod marked;
 mod parts;
 mod places;
@@ -21,6 +22,7 @@ mod threes;
 
 pub use columns::{Column, ColumnError, read_column};
 pub use iterator::{Field, Fields};
+pub use lines::{LineColumn, line_column};
 pub use marked::{
     long_number_of_front, next_marks, number_of_front, split_marked, value_in_front,
     value_of_front,

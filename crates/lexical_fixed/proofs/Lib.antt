@@ -1,0 +1,7 @@
+-- The lemmas on fixed-point numbers.
+mod Digits
+mod FixedRows
+mod Fractions
+mod IntegerParts
+mod Units
+mod Valid

@@ -1,0 +1,6 @@
+-- The definitions that contracts name, a file for each subject.
+pub mod Computed
+pub mod Fixed
+pub mod Fraction
+pub mod Grammar
+pub mod Validity

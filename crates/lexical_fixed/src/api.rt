@@ -1,0 +1,93 @@
+//! The calls that users make: an integer type reads itself from a fixed-point number.
+ghost use Rattle.std.specs.Prelude.{◌≡◌, IsNone};
+ghost use Rattle.lexical_parse_integer.specs.Answer.{view_of, with_place};
+ghost use Rattle.lexical_fixed.specs.Grammar.{complete_fixed, complete_if_fixed, partial_fixed, partial_if_fixed};
+ghost use Rattle.lexical_fixed.specs.Validity.{fixed_fault};
+
+use crate::error::FixedError;
+use crate::format::FixedFormat;
+use crate::parse::{complete, partial};
+use lexical_util::num::Integer;
+use lexical_util::result::Result;
+
+/// An integer type that is read from fixed-point numbers under a valid description.
+///
+/// It is for callers that test the description once, by [`FixedFormat::is_valid`], and then read many texts.
+pub trait ParseFixed: Integer {
+    /// The number that the whole text stands for, in units of the last place, as `from_fixed` answers it.
+    #[inline]
+    fn parse_fixed(bytes: &[u8], format: &FixedFormat) -> Result<Self>
+        requires valid { IsNone (fixed_fault format.now) }
+        ensures { view_of Self.number result ≡ complete_fixed format.now Self.TYPE bytes.now }
+    {
+        complete::<Self>(bytes, format)
+    }
+
+    /// The number in front of the text, and the place at which reading stops, as `from_fixed_partial` answers them.
+    #[inline]
+    fn parse_fixed_partial(bytes: &[u8], format: &FixedFormat) -> Result<(Self, usize)>
+        requires valid { IsNone (fixed_fault format.now) }
+        ensures { view_of (with_place Self.number) result
+            ≡ partial_fixed format.now Self.TYPE bytes.now }
+    {
+        partial::<Self>(bytes, format)
+    }
+}
+
+impl<T: Integer> ParseFixed for T {}
+
+/// An integer type that is read from fixed-point numbers.
+pub trait FromFixed: ParseFixed {
+    /// The number that the whole text stands for, in units of the last place: with two places `12.50` is 1250.
+    ///
+    /// The value is exact, and nothing is rounded. A fault tells its place, which counts bytes from 0, and is the first
+    /// from left to right:
+    ///
+    /// - what the format of the integer part says of its sign, its zeros and its digits: `InvalidPositiveSign`,
+    ///   `MissingSign`, `InvalidLeadingZeros`;
+    /// - `Overflow` or `Underflow` at the digit with which the number of the digits so far leaves the type;
+    /// - `InvalidDigit` at the first byte that can't stand: the digit behind the last place in `12.505`, the byte behind
+    ///   a point without a digit in `12.x`, a point where there are no places;
+    /// - `Empty` at the text's end where a digit is missing: behind the point in `12.`, or where the description asks for
+    ///   more digits than there are;
+    /// - `Overflow` or `Underflow` at the text's end, where only the zeros that aren't written take the number out of
+    ///   the type: with two places `3` as a `u8` is 300.
+    ///
+    /// A description that is invalid is refused, whatever the text, by the fault of its first broken rule.
+    fn from_fixed(bytes: &[u8], format: &FixedFormat) -> std::result::Result<Self, FixedError>
+        ensures { view_of Self.number result ≡ complete_if_fixed format.now Self.TYPE bytes.now }
+    {
+        match format.error() {
+            Some(broken) => Err(FixedError::Format(broken)),
+            None => match complete::<Self>(bytes, format) {
+                Ok(value) => Ok(value),
+                Err(error) => Err(FixedError::Text(error)),
+            },
+        }
+    }
+
+    /// The number in front of the text, in units of the last place, and the place at which reading stops.
+    ///
+    /// Of `12.50 EUR` with two places the answer is 1250 and 5. A number isn't cut: in `12.505` the digit behind the last
+    /// place is `InvalidDigit(5)`, and without places the point of `12.5` is `InvalidDigit(2)`. Where fewer places are
+    /// taken, a point without a digit behind it isn't read: `12. And` is 1200 and 2. Where all are asked for, `Empty`
+    /// tells the place where a digit is missing. So it does in front of a text without digits, unless the format of the
+    /// integer part needs none.
+    fn from_fixed_partial(
+        bytes: &[u8],
+        format: &FixedFormat,
+    ) -> std::result::Result<(Self, usize), FixedError>
+        ensures { view_of (with_place Self.number) result
+            ≡ partial_if_fixed format.now Self.TYPE bytes.now }
+    {
+        match format.error() {
+            Some(broken) => Err(FixedError::Format(broken)),
+            None => match partial::<Self>(bytes, format) {
+                Ok(found) => Ok(found),
+                Err(error) => Err(FixedError::Text(error)),
+            },
+        }
+    }
+}
+
+impl<T: Integer> FromFixed for T {}

@@ -1,0 +1,14 @@
+//! Fixed-point numbers, as amounts of money are written: `12.50` with two places is 1250.
+#![tactic(auto)]
+
+mod api;
+pub mod error;
+pub mod format;
+mod fraction;
+mod parse;
+
+pub use api::{FromFixed, ParseFixed};
+pub use error::{FixedError, FixedFormatError};
+pub use format::FixedFormat;
+pub use lexical_util::error::Error;
+pub use lexical_util::format::{NumberFormat, NumberFormatBuilder};

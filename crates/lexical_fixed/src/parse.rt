@@ -1,0 +1,209 @@
+// The parsers of fixed-point numbers, for valid descriptions.
+ghost use Rattle.std.specs.Prelude.{◌≡◌, ◌≤◌, ◌+◌, Bool, IfOk, IsNone, length};
+ghost use Rattle.lexical_util.specs.Number.{HasSign};
+ghost use Rattle.lexical_util.specs.Validity.{fault};
+ghost use Rattle.lexical_parse_integer.specs.Answer.{view_of, with_place};
+ghost use Rattle.lexical_parse_integer.specs.Fronts.{number_in_front};
+ghost use Rattle.lexical_parse_integer.specs.Grammar.{digits_required};
+ghost use Rattle.lexical_fixed.specs.Fraction.{front_end, has_bare_point, is_cut, lacks_places, whole_end};
+ghost use Rattle.lexical_fixed.specs.Grammar.{complete_fixed, front_behind, integer_part, is_negative, partial_fixed, units_behind, whole_behind, whole_fault, zeros_left};
+ghost use Rattle.lexical_fixed.specs.Validity.{fixed_fault};
+
+use crate::format::FixedFormat;
+use crate::fraction::{digits_from, fraction, has_point_at, read_digits, read_zeros};
+use lexical_parse_integer::parse::ParseInteger;
+use lexical_parse_integer::{number_in_front, options};
+use lexical_util::error::Error;
+use lexical_util::format::NumberFormat;
+use lexical_util::num::Integer;
+use lexical_util::result::Result;
+
+// Whether the format asks for a digit.
+fn digits_required(format: &NumberFormat) -> bool
+    ensures { result ≡ digits_required format.now }
+{
+    format.required_integer_digits() || format.required_mantissa_digits()
+}
+
+// The number in front of a text, and the place behind it.
+fn number_with_digit<T: Integer>(text: &[u8], format: &NumberFormat) -> Result<(T, usize)>
+    requires valid { IsNone (fault format.now) }
+    ensures { view_of (with_place T.number) result ≡ number_in_front format.now T.TYPE text.now }
+{
+    number_in_front::<T>(text, format)
+}
+
+// The integer part in front of a text, and the place behind it.
+#[tactic(auto, unfolding(crate::specs::Grammar::integer_part))]
+fn integer_part<T: Integer>(text: &[u8], format: &NumberFormat) -> Result<(T, usize)>
+    requires valid { IsNone (fault format.now) }
+    ensures answer { view_of (with_place T.number) result ≡ integer_part format.now T.TYPE text.now }
+    ensures within { IfOk result (λ found. found.1 ≤ length text.now) }
+    ensures sign { IfOk result (λ found. HasSign (is_negative T.TYPE text.now) (T.number found.0)) }
+{
+    if digits_required(format) {
+        number_with_digit::<T>(text, format)
+    } else {
+        T::parse_partial(text, format, &options::STANDARD)
+    }
+}
+
+// Whether a text has a minus.
+#[tactic(auto, unfolding(crate::specs::Grammar::is_negative, lexical_parse_integer::specs::Runs::are_same))]
+fn is_negative<T: Integer>(text: &[u8]) -> bool
+    ensures { result ≡ is_negative T.TYPE text.now }
+{
+    T::IS_SIGNED && text.first() == Some(&b'-')
+}
+
+// A fault of the integer part, for a whole text of this size.
+fn whole_fault(size: usize, error: Error) -> Error
+    ensures { result ≡ whole_fault size error }
+{
+    match error {
+        Error::Empty(place) if place < size => Error::InvalidDigit(place),
+        other => other,
+    }
+}
+
+// Whether more digits stand behind the point than the description has places.
+#[tactic(auto, unfolding(crate::specs::Fraction::is_cut, lexical_parse_integer::specs::Runs::are_same))]
+fn is_cut(text: &[u8], format: &FixedFormat, place: usize) -> bool
+    ensures { result ≡ is_cut format.now text.now place }
+{
+    text.get(place) == Some(&format.point) && digits_from(text, place + 1) > format.place_count()
+}
+
+// The number in units behind an integer part that ends at a place. Reading stops at `stop`, where a byte can't stand or a
+// digit is missing.
+fn units_behind<T: Integer>(
+    text: &[u8],
+    format: &FixedFormat,
+    whole: T,
+    place: usize,
+    stop: usize,
+    cannot_stand: bool,
+    is_missing: bool,
+) -> Result<T>
+    requires within { place ≤ length text.now }
+    requires sign { HasSign (is_negative T.TYPE text.now) (T.number whole) }
+    ensures { view_of T.number result ≡ units_behind format.now T.TYPE text.now (T.number whole) place
+        stop cannot_stand is_missing }
+{
+    let is_negative = is_negative::<T>(text);
+    let digits = fraction(text, format, place);
+    let written = match read_digits::<T>(whole, digits, place + 1, is_negative) {
+        Ok(written) => written,
+        Err(error) => return Err(error),
+    };
+    if cannot_stand {
+        return Err(Error::InvalidDigit(stop));
+    }
+    if is_missing {
+        return Err(Error::Empty(stop));
+    }
+    let zeros = format.place_count() - digits.len();
+    read_zeros::<T>(written, zeros, stop, is_negative)
+}
+
+// Where a number ends that has to be the whole text.
+#[tactic(auto, unfolding(crate::specs::Fraction::whole_end))]
+fn whole_end(text: &[u8], format: &FixedFormat, place: usize) -> usize
+    requires { place ≤ length text.now }
+    ensures { result ≡ whole_end format.now text.now place }
+{
+    if has_point_at(text, format, place) {
+        place + 1 + fraction(text, format, place).len()
+    } else {
+        place
+    }
+}
+
+// Where a number in front ends.
+#[tactic(auto, unfolding(crate::specs::Fraction::front_end))]
+fn front_end(text: &[u8], format: &FixedFormat, place: usize) -> usize
+    requires { place ≤ length text.now }
+    ensures { result ≡ front_end format.now text.now place }
+{
+    if format.takes_fewer && fraction(text, format, place).is_empty() {
+        place
+    } else {
+        whole_end(text, format, place)
+    }
+}
+
+// Whether the fraction has fewer digits than asked for.
+#[tactic(auto, unfolding(crate::specs::Fraction::lacks_places))]
+fn lacks_places(text: &[u8], format: &FixedFormat, place: usize) -> bool
+    ensures { result ≡ lacks_places format.now text.now place }
+{
+    !format.takes_fewer && fraction(text, format, place).len() < format.place_count()
+}
+
+// Whether the point has no digit behind it.
+#[tactic(auto, unfolding(crate::specs::Fraction::has_bare_point))]
+fn has_bare_point(text: &[u8], format: &FixedFormat, place: usize) -> bool
+    ensures { result ≡ has_bare_point format.now text.now place }
+{
+    has_point_at(text, format, place) && fraction(text, format, place).is_empty()
+}
+
+// What the whole text stands for, behind its integer part.
+#[tactic(auto, unfolding(crate::specs::Grammar::whole_behind))]
+fn whole_behind<T: Integer>(text: &[u8], format: &FixedFormat, whole: T, place: usize) -> Result<T>
+    requires within { place ≤ length text.now }
+    requires sign { HasSign (is_negative T.TYPE text.now) (T.number whole) }
+    ensures { view_of T.number result ≡ whole_behind format.now T.TYPE text.now (T.number whole) place }
+{
+    let stop = whole_end(text, format, place);
+    let is_left = stop < text.len();
+    let is_bare = has_bare_point(text, format, place);
+    let is_missing = is_bare || lacks_places(text, format, place);
+    units_behind::<T>(text, format, whole, place, stop, is_left, is_missing)
+}
+
+// What the front of the text stands for, behind its integer part, and the place at which reading stops.
+#[tactic(auto, unfolding(crate::specs::Grammar::front_behind))]
+fn front_behind<T: Integer>(
+    text: &[u8],
+    format: &FixedFormat,
+    whole: T,
+    place: usize,
+) -> Result<(T, usize)>
+    requires within { place ≤ length text.now }
+    requires sign { HasSign (is_negative T.TYPE text.now) (T.number whole) }
+    ensures { view_of (with_place T.number) result
+        ≡ front_behind format.now T.TYPE text.now (T.number whole) place }
+{
+    let stop = front_end(text, format, place);
+    let is_cut = is_cut(text, format, place);
+    let is_missing = lacks_places(text, format, place);
+    match units_behind::<T>(text, format, whole, place, stop, is_cut, is_missing) {
+        Ok(value) => Ok((value, stop)),
+        Err(error) => Err(error),
+    }
+}
+
+// What the whole text stands for.
+#[tactic(auto, unfolding(crate::specs::Grammar::complete_fixed))]
+pub(crate) fn complete<T: Integer>(text: &[u8], format: &FixedFormat) -> Result<T>
+    requires valid { IsNone (fixed_fault format.now) }
+    ensures { view_of T.number result ≡ complete_fixed format.now T.TYPE text.now }
+{
+    match integer_part::<T>(text, &format.integer) {
+        Ok((whole, place)) => whole_behind::<T>(text, format, whole, place),
+        Err(error) => Err(whole_fault(text.len(), error)),
+    }
+}
+
+// What the front of the text stands for, and the place at which reading stops.
+#[tactic(auto, unfolding(crate::specs::Grammar::partial_fixed))]
+pub(crate) fn partial<T: Integer>(text: &[u8], format: &FixedFormat) -> Result<(T, usize)>
+    requires valid { IsNone (fixed_fault format.now) }
+    ensures { view_of (with_place T.number) result ≡ partial_fixed format.now T.TYPE text.now }
+{
+    match integer_part::<T>(text, &format.integer) {
+        Ok((whole, place)) => front_behind::<T>(text, format, whole, place),
+        Err(error) => Err(error),
+    }
+}
