@@ -121,10 +121,7 @@ static PyObject *parse_literal(PyObject *module, PyObject *const *args, Py_ssize
 
 size_t field_count(const char *text, size_t len, uint8_t separator)
 {
-    size_t separators = 0;
-    for (size_t k = 0; k < len; k++)
-        separators += (uint8_t)text[k] == separator;
-    return separators + (len > 0 && (uint8_t)text[len - 1] != separator);
+    return count_of(text, len, (char)separator) + (len > 0 && (uint8_t)text[len - 1] != separator);
 }
 
 /* Raises the fault of a column: of its format, or of the field with this index. The text stands behind
@@ -230,6 +227,17 @@ static PyObject *parse_part(PyObject *module, PyObject *const *args, Py_ssize_t 
     return column_behind(module, args, &first);
 }
 
+/* Gets memory and lets it go, so that the allocator keeps as much from then on. */
+static PyObject *keep_memory(PyObject *module, PyObject *size)
+{
+    (void)module;
+    size_t bytes = PyLong_AsSize_t(size);
+    if (PyErr_Occurred())
+        return NULL;
+    PyMem_Free(PyMem_Malloc(bytes));
+    Py_RETURN_NONE;
+}
+
 /* ---- formats ---- */
 
 static PyObject *check_format(PyObject *module, PyObject *fields)
@@ -281,7 +289,11 @@ static PyMethodDef METHODS[] = {
     {"_parse_part", (PyCFunction)(void (*)(void))parse_part, METH_FASTCALL,
      "A column whose fields count on from those of the parts before it."},
     {"_parse_table", (PyCFunction)(void (*)(void))parse_table, METH_FASTCALL,
-     "The rows of a part of a text, each column into a buffer."},
+     "The rows of a text from a place on, each column into a buffer."},
+    {"_keep_memory", keep_memory, METH_O, "Has the allocator keep so much."},
+    {"_text_size", text_size, METH_O, "How many bytes a text has."},
+    {"_move_bits", move_bits, METH_VARARGS, "Puts bits behind those before a place."},
+    {"_row_ends", row_ends, METH_VARARGS, "Where the first and the last row end in a text."},
     {"_row_count", row_count, METH_VARARGS, "How many rows a text has at most."},
     {"_row_stops", row_stops, METH_VARARGS, "Where about so many parts of a text stop, each with a row."},
     {"_array_code", array_code, METH_O, "The code of the arrays of a type."},

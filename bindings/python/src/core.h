@@ -2,8 +2,8 @@
  * core.h - what the parts of the extension `jadvolni._core` share.
  *
  * The library reads the texts. `types.c` has the types of numbers, `faults.c` the exceptions,
- * `arguments.c` what the calls are given, `tables.c` tables, and `_core.c` the other calls and the
- * module. `Format` is Python, and hands its bytes over as the attribute `_fields`.
+ * `arguments.c` what the calls are given, `tables.c` tables, `rows.c` where rows end, and `_core.c` the
+ * other calls and the module. `Format` is Python, and hands its bytes over as the attribute `_fields`.
  */
 #ifndef JADVOLNI_PYTHON_CORE_H
 #define JADVOLNI_PYTHON_CORE_H
@@ -108,19 +108,38 @@ void raise_table(const core_state *state, jadvolni_table_result answer, const ta
 
 /* ---- tables.c ---- */
 
-/* The rows of a part of a text: _parse_table(text, is_last, how, capacity, columns, row, start), where
- * `how` is separator, has_returns, has_quotes, allows_blanks, skips_empty_rows, missing, widths, which are
- * an array of size_t, and is_records. A column is None, or its numbers, bits or None, type and format. It
- * gives how many rows were read, and where reading stopped. */
+/* The rows of a text from a place on: _parse_table(text, from, is_last, how, columns, at, capacity, row,
+ * start), where `how` is separator, has_returns, has_quotes, allows_blanks, skips_empty_rows, missing,
+ * widths, which are an array of size_t, and is_records. A column is None, or its numbers, bits or None, type
+ * and format; rows go there from `at` on. It gives how many rows were read, and how many bytes they had.
+ * A fault counts on from `row` and `start`. */
 PyObject *parse_table(PyObject *module, PyObject *const *args, Py_ssize_t count);
+
+PyObject *array_code(PyObject *module, PyObject *given);
+
+/* ---- rows.c ---- */
+
+/* How often a byte stands in a text. */
+size_t count_of(const char *text, size_t len, char byte);
+
+/* Puts so many bits behind those that there are at a place. All others stay as they are. */
+void put_bits(uint8_t *to, size_t at, const uint8_t *from, size_t count);
+
+/* The same by _move_bits(to, at, from, count). */
+PyObject *move_bits(PyObject *module, PyObject *args);
+
+/* How many bytes a text has: _text_size(text). */
+PyObject *text_size(PyObject *module, PyObject *given);
 
 /* How many rows a text has at most: _row_count(text, record), where a record of 0 bytes stands for lines. */
 PyObject *row_count(PyObject *module, PyObject *args);
 
+/* Where the first and the last row end in a text, or 0 where none does, and whether the text ends within
+ * quotes: _row_ends(text, has_quotes, is_within), where the latter says that it begins there. */
+PyObject *row_ends(PyObject *module, PyObject *args);
+
 /* Where parts stop that threads may read: _row_stops(text, count, has_quotes, record). */
 PyObject *row_stops(PyObject *module, PyObject *args);
-
-PyObject *array_code(PyObject *module, PyObject *given);
 
 /* ---- _core.c ---- */
 
