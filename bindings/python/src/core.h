@@ -2,8 +2,8 @@
  * core.h - what the parts of the extension `jadvolni._core` share.
  *
  * The library reads the texts. `types.c` has the types of numbers, `faults.c` the exceptions,
- * `arguments.c` what the calls are given, `tables.c` tables, `rows.c` where rows end, and `_core.c` the
- * other calls and the module. `Format` is Python, and hands its bytes over as the attribute `_fields`.
+ * `arguments.c` what the calls are given, `tables.c` tables, `rows.c` where rows end, `arrow.c`
+ * tables for Arrow, and `_core.c` the other calls and the module. `Format` is Python, and hands its bytes over as the attribute `_fields`.
  */
 #ifndef JADVOLNI_PYTHON_CORE_H
 #define JADVOLNI_PYTHON_CORE_H
@@ -60,7 +60,7 @@ typedef struct number_type {
 enum { TYPES = 12 };
 extern const number_type types[TYPES];
 
-/* The type of a name or of a class with that name, and i64 for NULL. NULL with an exception for what
+/* The type of a name, of a class with that name or of a dtype of NumPy, and i64 for NULL. NULL with an exception for what
  * is none. */
 const number_type *type_of(PyObject *type);
 
@@ -140,6 +140,15 @@ PyObject *row_ends(PyObject *module, PyObject *args);
 
 /* Where parts stop that threads may read: _row_stops(text, count, has_quotes, record). */
 PyObject *row_stops(PyObject *module, PyObject *args);
+
+/* ---- arrow.c ---- */
+
+/* Capsules for Arrow, of a table or of its one column: _arrow_schema(columns, is_table),
+ * _arrow_array(columns, is_table, rows) and _arrow_stream(columns, rows). A column is its name, the code of
+ * its numbers, these, and their bits or None. */
+PyObject *arrow_schema_of(PyObject *module, PyObject *args);
+PyObject *arrow_array_of(PyObject *module, PyObject *args);
+PyObject *arrow_stream_of(PyObject *module, PyObject *args);
 
 /* ---- _core.c ---- */
 

@@ -1,16 +1,25 @@
 """The calls of the library, by `_core.c`."""
 
 from array import array
-from typing import Any, Optional, Union
+from typing import Any, Optional, Protocol, Union
 
 from _typeshed import ReadableBuffer
 
 from ._format import Format
 
 Text = Union[str, ReadableBuffer]
-# The name of a type, as "u8", or a class of that name, as numpy.uint8. Not Literal: mypy takes the
-# names in a dict of columns for any str.
-NumberType = Union[str, type]
+
+class DType(Protocol):
+    """What numpy.dtype has."""
+
+    @property
+    def name(self) -> str: ...
+    @property
+    def isnative(self) -> bool: ...
+
+# The name of a type, as "u8", a class of that name, as numpy.uint8, or a dtype. Not Literal: mypy
+# takes the names in a dict of columns for any str.
+NumberType = Union[str, type, DType]
 
 __version__: str
 
@@ -61,6 +70,9 @@ def _parse_table(
     start: int,
     /,
 ) -> tuple[int, int]: ...
+def _arrow_schema(columns: tuple[Any, ...], is_table: bool, /) -> object: ...
+def _arrow_array(columns: tuple[Any, ...], is_table: bool, rows: int, /) -> object: ...
+def _arrow_stream(columns: tuple[Any, ...], rows: int, /) -> object: ...
 def _keep_memory(size: int, /) -> None: ...
 def _text_size(text: Text, /) -> int: ...
 def _move_bits(to: Any, at: int, bits: Any, count: int, /) -> None: ...
