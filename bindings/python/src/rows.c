@@ -180,3 +180,14 @@ PyObject *row_stops(PyObject *module, PyObject *args)
     give_back(&text);
     return stops;
 }
+
+/* Gets memory and lets it go, so that the allocator keeps as much from then on. */
+PyObject *keep_memory(PyObject *module, PyObject *size)
+{
+    (void)module;
+    size_t bytes = PyLong_AsSize_t(size);
+    if (PyErr_Occurred())
+        return NULL;
+    PyMem_Free(PyMem_Malloc(bytes));
+    Py_RETURN_NONE;
+}

@@ -1,7 +1,7 @@
 """The calls of the library, by `_core.c`."""
 
 from array import array
-from typing import Any, Optional, Protocol, Union
+from typing import Any, Optional, Protocol, SupportsIndex, Union
 
 from _typeshed import ReadableBuffer
 
@@ -36,7 +36,14 @@ class FormatError(ValueError):
     kind: str
     place: None
 
-def parse(text: Text, type: NumberType = "i64", format: Optional[Format] = None) -> int: ...
+def parse(
+    text: Text,
+    type: NumberType = "i64",
+    format: Optional[Format] = None,
+    *,
+    min: Optional[SupportsIndex] = None,
+    max: Optional[SupportsIndex] = None,
+) -> int: ...
 def parse_front(
     text: Text, type: NumberType = "i64", format: Optional[Format] = None
 ) -> tuple[int, int]: ...

@@ -4,7 +4,7 @@ from __future__ import annotations
 
 from collections import deque
 from concurrent.futures import Future, ThreadPoolExecutor
-from contextlib import ExitStack
+from contextlib import ExitStack, suppress
 from itertools import accumulate
 from typing import TYPE_CHECKING, Any, Iterable, Iterator, NoReturn, Optional
 
@@ -21,6 +21,14 @@ if TYPE_CHECKING:
 def raise_changed() -> NoReturn:
     """A text is read twice where it is wrong, and answered another way."""
     raise RuntimeError("the text was changed while it was read")
+
+
+def _bytes_of(text: str) -> bytes:
+    """The bytes of a str, also of one that UTF-8 hasn't, as each call takes them."""
+    for errors in "strict", "surrogateescape":
+        with suppress(UnicodeEncodeError):
+            return text.encode("utf-8", errors)
+    return text.encode("utf-8", "surrogatepass")
 
 
 # ---- a text in memory, whose lines say how much room there has to be
@@ -54,7 +62,7 @@ def parse_in_threads(reader: Reader, text: Text, arrays: Table, threads: int) ->
     reader.parse(text, 0, arrays, 0, 0, Part())  # (so that wrong arguments are told as ever)
     # The pool comes last, so that its threads have ended when the memory that they use is let go.
     with ExitStack() as held, ThreadPoolExecutor(threads) as pool:
-        whole = held.enter_context(memoryview(text.encode() if isinstance(text, str) else text))
+        whole = held.enter_context(memoryview(_bytes_of(text) if isinstance(text, str) else text))
         parts = min(threads, len(whole))
         stops = _row_stops(whole, parts, reader.has_quotes, reader.record)
         starts = [0, *stops]
