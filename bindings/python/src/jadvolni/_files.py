@@ -28,9 +28,9 @@ class Texts(NamedTuple):
 class _Rest:
     """The row that the blocks so far end in: its bytes, and whether they end within quotes."""
 
-    def __init__(self, reader: Reader, size: int) -> None:
-        self.reader, self.size = reader, size
-        self.bytes, self.is_within, self.start = bytearray(), False, 0
+    def __init__(self, reader: Reader, size: int, start: int) -> None:
+        self.reader, self.size, self.start = reader, size, start
+        self.bytes, self.is_within = bytearray(), False
 
     def ends(self, block: bytes) -> tuple[int, int]:
         """Where the first and the last row end in a block, or 0 where none does."""
@@ -70,12 +70,15 @@ class _Rest:
         raise ValueError(told)
 
 
-def whole_rows(blocks: Iterable[bytes], reader: Reader, size: int) -> Iterator[Texts]:
+def whole_rows(
+    blocks: Iterable[bytes], reader: Reader, size: int, start: int
+) -> Iterator[Texts]:
     """The rows of a file's blocks, as they end there, and behind the last block what is left.
 
-    A row of more than `size` bytes is a ValueError, so that no more than two blocks are held.
+    The first one starts at a byte of the file, as behind a header. A row of more than `size` bytes
+    is a ValueError, so that no more than two blocks are held.
     """
-    rest = _Rest(reader, size)
+    rest = _Rest(reader, size, start)
     for block in blocks:
         if block:
             yield rest.add(block)

@@ -9,6 +9,7 @@ from typing import TYPE_CHECKING, Any, Iterable, Mapping, NamedTuple, Optional, 
 from ._arrays import new_array, numpy_or_none, zeros
 from ._core import _array_code, _parse_table
 from ._format import Format, _integer
+from ._header import ask_names
 from ._table import Sparse, Table
 
 if TYPE_CHECKING:
@@ -74,12 +75,15 @@ def pair_of(values: Any) -> tuple[Any, Any]:
 class Reader:
     """How a table is written, and what is read of it."""
 
-    def __init__(self, columns: Columns, how: How) -> None:
+    def __init__(self, columns: Columns, how: How, names: Optional[list[str]] = None) -> None:
         ask_type("columns", columns, Mapping, "a dict")
-        self.columns = {name: it if it is None or isinstance(it, Column) else Column(it)
-                        for name, it in columns.items()}
-        self.read = {name: it for name, it in self.columns.items() if it is not None}
-        sizes = array("Q") if how.widths is None else _sizes(how.widths, len(columns))
+        self.read = {name: it if isinstance(it, Column) else Column(it)
+                     for name, it in columns.items() if it is not None}
+        if names is not None:
+            ask_names(columns, names, how)
+        # The cells of a row, each with its name; a name that isn't read may come twice.
+        self.cells = list(columns if names is None else names)
+        sizes = array("Q") if how.widths is None else _sizes(how.widths, len(self.cells))
         if sizes and how.separator is not None:
             raise ValueError("separator has to be None where there are widths")
         if how.is_records and not sizes:
@@ -89,7 +93,7 @@ class Reader:
         self.has_quotes = bool(how.has_quotes)
         self.record = min(max(sum(sizes), 1), sys.maxsize) if how.is_records else 0
         # A row has so many bytes at least, unless it is the last one: a line feed and its cells.
-        self.least = self.record or (sum(sizes) + 1 if sizes else max(len(columns), 1))
+        self.least = self.record or (sum(sizes) + 1 if sizes else max(len(self.cells), 1))
         self.numpy = numpy_or_none()
         # How many rows a byte has, as seen last: it says how much room a text needs.
         self.rate = 0.0
@@ -114,7 +118,8 @@ class Reader:
 
         It answers how many there were, and how many bytes they had.
         """
-        columns = tuple(None if it is None else (*pair_of(arrays[name]), it.type, it.format)
-                        for name, it in self.columns.items())
+        read = {name: (*pair_of(arrays[name]), it.type, it.format)
+                for name, it in self.read.items()}
+        columns = tuple(map(read.get, self.cells))
         return _parse_table(text, place, part.is_last, self.how, columns, at, rows, part.row,
                             part.start)

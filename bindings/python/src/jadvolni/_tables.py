@@ -11,12 +11,13 @@ from typing import (TYPE_CHECKING, Any, BinaryIO, Callable, ContextManager, Iter
                     Mapping, Optional, Union)
 
 from ._blocks import File, _block, _blocks, _one_or_more
-from ._core import _row_count
-from ._files import read_texts, whole_rows
+from ._core import _row_count, _text_size
+from ._files import Texts, read_texts, whole_rows
+from ._header import ask_header, read_header
 from ._reader import How, Part, Reader, ask_type
 from ._rows import Rows
 from ._table import Table
-from ._threads import parse_in_threads, rows_in_threads
+from ._threads import bytes_of, parse_in_threads, rows_in_threads
 
 if TYPE_CHECKING:
     from ._core import Text
@@ -45,17 +46,21 @@ def _room_of(reader: Reader, out: Mapping[str, Any], rows: int) -> Table:
     return Table({name: out[name] for name in reader.read})
 
 
-def _parse_to(
-    reader: Reader, text: Text, out: Optional[Mapping[str, Any]], threads: int
+def _parse(
+    reader: Reader, text: Text, out: Optional[Mapping[str, Any]], threads: int, before: int
 ) -> Table:
-    """The rows of a text, as one call or threads read them into arrays for all its lines."""
+    """The rows of a text, which stands behind so many bytes."""
+    if threads == 1 and out is None:
+        found = Rows(reader)
+        found.read(text, Part(start=before))
+        return found.table()
     rows = _row_count(text, reader.record)
     arrays = reader.room(rows) if out is None else _room_of(reader, out, rows)
     found = Rows.of(reader, arrays, rows)
     if threads > 1:
-        found.count = parse_in_threads(reader, text, arrays, threads)
+        found.count = parse_in_threads(reader, text, arrays, threads, before)
     else:
-        found.read(text, Part())
+        found.read(text, Part(start=before))
     return found.table() if out is None else found.fronts()
 
 
@@ -72,6 +77,8 @@ def parse_table(
     is_records: bool = False,
     out: Optional[Mapping[str, Any]] = None,
     threads: int = 1,
+    *,
+    header: bool = False,
 ) -> Table:
     """The rows of a text, each column as an array.
 
@@ -80,6 +87,10 @@ def parse_table(
     NumPy's where it is installed, and else of the module array; or those of `out`, up to the last
     row.
 
+    header: the first line has the names of the columns. Those of `columns` choose among them, in
+    any order, and no other is read; ValueError tells of one that is missing or stands twice. A byte
+    order mark may stand before the header.
+
     has_returns: a return stands before each line feed. has_quotes: a cell may stand within '"'.
     allows_blanks: spaces and tabs may stand around a number or `missing`. skips_empty_rows: a row
     without a byte is none. missing: what stands for a missing number where a Column has may_miss,
@@ -87,15 +98,29 @@ def parse_table(
     have, in the place of separators. is_records: rows have as many bytes as the widths together,
     at least one, and no line feed behind them. threads: how many read the text, in parts.
 
-    ParseError has the first wrong cell in reading order, by `row`, `column` and `place`, from 0.
+    ParseError has the first wrong cell in reading order, by `row`, `column` and `place`, from 0: a
+    header is no row, and its bytes count.
     """
-    reader = Reader(columns, How(separator, has_returns, has_quotes, allows_blanks,
-                                 skips_empty_rows, missing, widths, is_records))
-    if _one_or_more("threads", threads) > 1 or out is not None:
-        return _parse_to(reader, text, out, threads)
-    rows = Rows(reader)
-    rows.read(text, Part())
-    return rows.table()
+    how = How(separator, has_returns, has_quotes, allows_blanks, skips_empty_rows, missing, widths,
+              is_records)
+    threads = _one_or_more("threads", threads)
+    ask_header(how, header)
+    if not header:
+        return _parse(Reader(columns, how), text, out, threads, 0)
+    _text_size(text)  # (so that what is no text is told as ever)
+    with memoryview(bytes_of(text) if isinstance(text, str) else text) as whole:
+        names, _, before = read_header(_parts(whole), how, sys.maxsize)
+        with whole[before:] as rest:
+            return _parse(Reader(columns, how, names), rest, out, threads, before)
+
+
+def _parts(text: memoryview) -> Iterator[bytes]:
+    """The first bytes of a text, always more of them, and behind all none."""
+    start, size = 0, 1 << 16
+    while start < len(text):
+        yield bytes(text[start:start + size])
+        start, size = start + size, 2 * size
+    yield b""
 
 
 def read_table(
@@ -115,11 +140,11 @@ def read_table(
     size: int = 1 << 19,
     progress: Optional[Callable[[int], object]] = None,
     mmap: bool = False,
+    header: bool = False,
 ) -> Table:
     """The rows of a file, by its path or opened by "rb", with the arguments of parse_table.
 
-    It is read by blocks of `size` bytes, and `progress` is called as by iter_table. A header is no
-    row: open such a file, and read its line before, by file.readline().
+    It is read by blocks of `size` bytes, and `progress` is called as by iter_table.
 
     mmap: a path is mapped to memory, which spares a copy of the file. Only take it where no other
     program may write to the file: one that is cut short meanwhile ends this process by a signal.
@@ -129,12 +154,12 @@ def read_table(
     if not isinstance(file, (str, os.PathLike)):
         if mmap:
             raise TypeError("file has to be a path where mmap is true")
-        return _read_opened(file, columns, how, out, threads, size, progress)
+        return _read_opened(file, columns, how, out, threads, size, progress, header)
     with open(file, "rb") as opened:
         if not mmap:
-            return _read_opened(opened, columns, how, out, threads, size, progress)
+            return _read_opened(opened, columns, how, out, threads, size, progress, header)
         with _mapped(opened) as text:
-            return parse_table(text, columns, *how, out=out, threads=threads)
+            return parse_table(text, columns, *how, out=out, threads=threads, header=header)
 
 
 def _mapped(file: BinaryIO) -> ContextManager[Any]:
@@ -153,6 +178,27 @@ def _size_left(file: Any) -> int:
     return 0
 
 
+def _opened(
+    file: File,
+    columns: Columns,
+    how: How,
+    size: int,
+    most: int,
+    progress: Optional[Callable[[int], object]],
+    header: bool,
+) -> tuple[Reader, Iterator[Texts], int]:
+    """A file as it is read: how, by blocks of a size with rows of so many bytes at most, and how
+    many bytes its header has."""
+    ask_header(how, header)
+    blocks = _blocks(file, size, progress)
+    if not header:
+        reader = Reader(columns, how)
+        return reader, whole_rows(blocks, reader, most, 0), 0
+    names, blocks, start = read_header(blocks, how, most)
+    reader = Reader(columns, how, names)
+    return reader, whole_rows(blocks, reader, most, start), start
+
+
 def _read_opened(
     file: File,
     columns: Columns,
@@ -161,16 +207,19 @@ def _read_opened(
     threads: int,
     size: int,
     progress: Optional[Callable[[int], object]],
+    header: bool,
 ) -> Table:
     """The rows of a file that is open."""
     size, threads = _one_or_more("size", size), _one_or_more("threads", threads)
     if out is not None:  # (all its rows are counted before one is written)
         return parse_table(b"".join(_blocks(file, size, progress)), columns, *how, out=out,
-                           threads=threads)
-    reader, left = Reader(columns, how), _size_left(file)
-    rows = Rows(reader)
+                           threads=threads, header=header)
+    left, told = _size_left(file), progress if threads == 1 else None
+    reader, blocks, start = _opened(file, columns, how, size, sys.maxsize, told, header)
+    rows, left = Rows(reader), left - start
     if threads > 1:
-        blocks = whole_rows(_blocks(file, size, None), reader, sys.maxsize)
+        if progress and start:
+            progress(start)
         for found, block in rows_in_threads(reader, blocks, sys.maxsize, threads):
             left -= block
             for more in found:
@@ -178,7 +227,7 @@ def _read_opened(
             if progress and block:
                 progress(block)
         return rows.table()
-    for texts in whole_rows(_blocks(file, size, progress), reader, sys.maxsize):
+    for texts in blocks:
         start, left = texts.start, left - texts.block
         for text in texts.texts:
             rows.read(text, Part(texts.block == 0, rows.count, start), behind=max(left, 0))
@@ -202,28 +251,31 @@ def iter_table(
     progress: Optional[Callable[[int], object]] = None,
     *,
     threads: int = 1,
+    header: bool = False,
 ) -> Iterator[Table]:
     """The rows of a file of any size, by tables of at most so many rows and about `size` bytes.
 
     A row that a block cuts is read with the next one. ParseError counts `row` and `place` from
-    where reading began, as behind a header; the rows before it come first. A row of more than
-    `size` bytes is a ValueError, so that no more than two blocks are held, or two for each of the
-    `threads`. `progress` is called as by iter_column.
+    where reading began, a `header` with its bytes; the rows before it come first. A row of more
+    than `size` bytes is a ValueError, so that no more than two blocks are held, or two for each of
+    the `threads`. `progress` is called as by iter_column.
     """
     rows, size = _one_or_more("rows", rows), _one_or_more("size", size)
-    threads = _one_or_more("threads", threads)
-    reader = Reader(columns, How(separator, has_returns, has_quotes, allows_blanks,
-                                 skips_empty_rows, missing, widths, is_records))
+    threads, row = _one_or_more("threads", threads), 0
+    how = How(separator, has_returns, has_quotes, allows_blanks, skips_empty_rows, missing, widths,
+              is_records)
+    told = progress if threads == 1 else None
+    reader, blocks, start = _opened(file, columns, how, size, size, told, header)
     if threads > 1:
-        blocks = whole_rows(_blocks(file, size, None), reader, size)
+        if progress and start:
+            progress(start)
         for all_found, block in rows_in_threads(reader, blocks, rows, threads):
             for found in all_found:
                 yield found.table()
             if progress and block:
                 progress(block)
         return
-    row = 0
-    for texts in whole_rows(_blocks(file, size, progress), reader, size):
+    for texts in blocks:
         for found in read_texts(reader, texts, rows, row):
             row += found.count
             yield found.table()

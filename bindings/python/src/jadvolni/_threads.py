@@ -23,7 +23,7 @@ def raise_changed() -> NoReturn:
     raise RuntimeError("the text was changed while it was read")
 
 
-def _bytes_of(text: str) -> bytes:
+def bytes_of(text: str) -> bytes:
     """The bytes of a str, also of one that UTF-8 hasn't, as each call takes them."""
     for errors in "strict", "surrogateescape":
         with suppress(UnicodeEncodeError):
@@ -57,12 +57,17 @@ def _join(values: Any, parts: list[Any], lines: list[int], counts: list[int]) ->
             line, row = line + room, row + count
 
 
-def parse_in_threads(reader: Reader, text: Text, arrays: Table, threads: int) -> int:
-    """Reads the rows of a text in parts, side by side, and answers how many there are."""
+def parse_in_threads(
+    reader: Reader, text: Text, arrays: Table, threads: int, before: int
+) -> int:
+    """Reads the rows of a text in parts, side by side, and answers how many there are.
+
+    So many bytes stand before the text.
+    """
     reader.parse(text, 0, arrays, 0, 0, Part())  # (so that wrong arguments are told as ever)
     # The pool comes last, so that its threads have ended when the memory that they use is let go.
     with ExitStack() as held, ThreadPoolExecutor(threads) as pool:
-        whole = held.enter_context(memoryview(_bytes_of(text) if isinstance(text, str) else text))
+        whole = held.enter_context(memoryview(bytes_of(text) if isinstance(text, str) else text))
         parts = min(threads, len(whole))
         stops = _row_stops(whole, parts, reader.has_quotes, reader.record)
         starts = [0, *stops]
@@ -81,7 +86,7 @@ def parse_in_threads(reader: Reader, text: Text, arrays: Table, threads: int) ->
         counts: list[Any] = list(pool.map(count_of, range(len(texts))))
         if None in counts:  # (it is read again: only now it is known how many rows stand before it)
             wrong = counts.index(None)
-            place = Part(row=sum(counts[:wrong]), start=starts[wrong])
+            place = Part(row=sum(counts[:wrong]), start=before + starts[wrong])
             reader.parse(texts[wrong], 0, reader.room(lines[wrong]), 0, lines[wrong], place)
             raise_changed()
     for name, values in arrays.items():
