@@ -7,18 +7,9 @@ CENTS may be empty, and is then missing: NA, and no 0. The first wrong cell is t
 
 import sys
 
-import pandas
-
 import jadvolni
 
 CELLS = {"day": "u16", "name": None, "cents": jadvolni.Column("i64", may_miss=True)}
-
-
-def frame_of(table):
-    """A DataFrame over the arrays of a table."""
-    series = {name: pandas.arrays.IntegerArray(values.numbers, ~values.present)
-              if isinstance(values, jadvolni.Sparse) else values for name, values in table.items()}
-    return pandas.DataFrame(series, copy=False)
 
 
 def main() -> None:
@@ -28,7 +19,7 @@ def main() -> None:
         sys.exit(2)
     path = sys.argv[1]
     try:
-        frame = frame_of(jadvolni.read_table(path, CELLS, ";"))
+        frame = jadvolni.read_table(path, CELLS, ";").to_pandas()
     except jadvolni.ParseError as error:
         cell = f"line {error.row + 1}, cell {error.column + 1}, byte {error.place}"
         sys.exit(f"{path}: {cell}: {error.kind}")

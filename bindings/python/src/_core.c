@@ -12,13 +12,13 @@ typedef struct question {
     borrowed_text text;
 } question;
 
-/* What a call was asked, by its arguments. The text has to be given back where it is 0. */
-static int question_of(PyObject *module, const char *call, PyObject *const *args,
-                       Py_ssize_t count, PyObject *keywords, question *asked)
+/* What a call was asked, by its arguments: their names, which are `most`, and what was found of them. The
+ * text has to be given back where it is 0. */
+static int question_of(PyObject *module, const char *call, PyObject *const *args, Py_ssize_t count,
+                       PyObject *keywords, Py_ssize_t most, PyObject **found, question *asked)
 {
-    static const char *const names[] = {"text", "type", "format"};
-    PyObject *found[3];
-    if (arguments(call, args, count, keywords, names, 3, found) < 0)
+    static const char *const names[] = {"text", "type", "format", "min", "max"};
+    if (arguments(call, args, count, keywords, names, 3, most, found) < 0)
         return -1;
     asked->type = type_of(found[1]);
     if (!asked->type || format_of(PyModule_GetState(module), found[2], &asked->format) < 0)
@@ -26,15 +26,39 @@ static int question_of(PyObject *module, const char *call, PyObject *const *args
     return borrow("text", found[0], &asked->text);
 }
 
+/* The number of a text within bounds. */
+static PyObject *bounded(const core_state *state, const question *asked, PyObject *const *given)
+{
+    number value;
+    bounds between;
+    PyObject *result = NULL;
+    if (bounds_of(given[0], given[1], &between) == 0) {
+        const borrowed_text *text = &asked->text;
+        jadvolni_result answer =
+            asked->type->whole(text->bytes, text->len, &asked->format, &value);
+        if (answer.status == JADVOLNI_OK)
+            result = within(state, asked->type->number(&value), &between);
+        else if (!raise_beyond(state, answer, text, &asked->format, &between))
+            raise_fault(state, answer, text->bytes, text->len, NULL);
+    }
+    let_go_bounds(&between);
+    return result;
+}
+
 static PyObject *parse(PyObject *module, PyObject *const *args, Py_ssize_t count,
                        PyObject *keywords)
 {
     question asked;
     number value;
-    PyObject *result = NULL;
-    if (question_of(module, "parse", args, count, keywords, &asked) < 0)
+    PyObject *found[5], *result = NULL;
+    if (question_of(module, "parse", args, count, keywords, 5, found, &asked) < 0)
         return NULL;
     const char *text = asked.text.bytes;
+    if (found[3] || found[4]) {
+        result = bounded(PyModule_GetState(module), &asked, found + 3);
+        give_back(&asked.text);
+        return result;
+    }
     jadvolni_result answer = asked.type->whole(text, asked.text.len, &asked.format, &value);
     if (answer.status == JADVOLNI_OK)
         result = asked.type->number(&value);
@@ -72,7 +96,8 @@ static PyObject *parse_front(PyObject *module, PyObject *const *args, Py_ssize_t
                              PyObject *keywords)
 {
     question asked;
-    if (question_of(module, "parse_front", args, count, keywords, &asked) < 0)
+    PyObject *found[3];
+    if (question_of(module, "parse_front", args, count, keywords, 3, found, &asked) < 0)
         return NULL;
     return answer_of(module, &asked, asked.type->front);
 }
@@ -81,7 +106,8 @@ static PyObject *parse_partial(PyObject *module, PyObject *const *args, Py_ssize
                                PyObject *keywords)
 {
     question asked;
-    if (question_of(module, "parse_partial", args, count, keywords, &asked) < 0)
+    PyObject *found[3];
+    if (question_of(module, "parse_partial", args, count, keywords, 3, found, &asked) < 0)
         return NULL;
     return answer_of(module, &asked, asked.type->partial);
 }
@@ -105,7 +131,7 @@ static PyObject *parse_literal(PyObject *module, PyObject *const *args, Py_ssize
     size_t suffix;
     borrowed_text text;
     PyObject *found[2], *result = NULL;
-    if (arguments("parse_literal", args, count, keywords, names, 2, found) < 0
+    if (arguments("parse_literal", args, count, keywords, names, 2, 2, found) < 0
         || format_of(state, found[1], &format) < 0 || borrow("text", found[0], &text) < 0)
         return NULL;
     jadvolni_result answer = jadvolni_parse_literal(text.bytes, text.len, &format, &value, &suffix);
@@ -115,119 +141,6 @@ static PyObject *parse_literal(PyObject *module, PyObject *const *args, Py_ssize
         raise_fault(state, answer, text.bytes, text.len, NULL);
     give_back(&text);
     return result;
-}
-
-/* ---- columns ---- */
-
-size_t field_count(const char *text, size_t len, uint8_t separator)
-{
-    size_t separators = 0;
-    for (size_t k = 0; k < len; k++)
-        separators += (uint8_t)text[k] == separator;
-    return separators + (len > 0 && (uint8_t)text[len - 1] != separator);
-}
-
-/* Raises the fault of a column: of its format, or of the field with this index. The text stands behind
- * fields that were read before: its first one has their count as index, and starts where they end. */
-static void raise_column(const core_state *state, jadvolni_result answer, size_t index,
-                         const borrowed_text *text, uint8_t separator, const field_place *first)
-{
-    if (is_of_format(answer.status)) {
-        raise_format(state, answer.status);
-        return;
-    }
-    size_t at = jadvolni_field_start(text->bytes, answer.place, separator);
-    const char *start = text->bytes + at;
-    const char *end = memchr(start, separator, text->len - at);
-    size_t len = end ? (size_t)(end - start) : text->len - at;
-    field_place field = {first->index + index, first->start + at};
-    answer.place += first->start;
-    raise_fault(state, answer, start, len, &field);
-}
-
-/* An array.array of a type, of so many zeros. */
-static PyObject *zeros(const core_state *state, const number_type *type, size_t count)
-{
-    if (count > PY_SSIZE_T_MAX / sizeof(uint64_t))
-        return PyErr_NoMemory();
-    return PySequence_Repeat(state->zeros[type - types], (Py_ssize_t)count);
-}
-
-/* Reads a text into a new array. */
-static PyObject *column_of(const core_state *state, const number_type *type,
-                           const borrowed_text *text, uint8_t separator,
-                           const jadvolni_format *format, const field_place *first)
-{
-    Py_buffer room;
-    size_t capacity, count;
-    jadvolni_result answer;
-    Py_BEGIN_ALLOW_THREADS
-    capacity = field_count(text->bytes, text->len, separator);
-    Py_END_ALLOW_THREADS
-    PyObject *values = zeros(state, type, capacity);
-    if (!values || PyObject_GetBuffer(values, &room, PyBUF_WRITABLE) < 0) {
-        Py_XDECREF(values);
-        return NULL;
-    }
-    Py_BEGIN_ALLOW_THREADS
-    answer = type->column(text->bytes, text->len, separator, format, room.buf, capacity, &count);
-    Py_END_ALLOW_THREADS
-    PyBuffer_Release(&room);
-    if (answer.status == JADVOLNI_OK && answer.place == text->len && count == capacity)
-        return values;
-    Py_DECREF(values);
-    if (answer.status == JADVOLNI_OK)
-        PyErr_SetString(PyExc_RuntimeError, "the text was changed while it was read");
-    else
-        raise_column(state, answer, count, text, separator, first);
-    return NULL;
-}
-
-/* The column of the first four arguments, whose fields count on from a first one. */
-static PyObject *column_behind(PyObject *module, PyObject *const *found, const field_place *first)
-{
-    jadvolni_format format;
-    borrowed_text text;
-    const number_type *type = type_of(found[1]);
-    if (!type)
-        return NULL;
-    if (!type->array_code) {
-        PyErr_Format(PyExc_ValueError, "type has to have 64 bits or fewer in a column, and not %s",
-                     type->name);
-        return NULL;
-    }
-    const core_state *state = PyModule_GetState(module);
-    int separator = separator_of(found[2]);
-    if (separator < 0 || format_of(state, found[3], &format) < 0
-        || borrow("text", found[0], &text) < 0)
-        return NULL;
-    PyObject *values = column_of(state, type, &text, (uint8_t)separator, &format, first);
-    give_back(&text);
-    return values;
-}
-
-static PyObject *parse_column(PyObject *module, PyObject *const *args, Py_ssize_t count,
-                              PyObject *keywords)
-{
-    static const char *const names[] = {"text", "type", "separator", "format"};
-    static const field_place first = {0, 0};
-    PyObject *found[4];
-    if (arguments("parse_column", args, count, keywords, names, 4, found) < 0)
-        return NULL;
-    return column_behind(module, found, &first);
-}
-
-/* The whole fields of a part of a text, for `iter_column`: `field` were read before, up to `start`. */
-static PyObject *parse_part(PyObject *module, PyObject *const *args, Py_ssize_t count)
-{
-    if (count != 6) {
-        PyErr_SetString(PyExc_TypeError, "_parse_part takes six arguments");
-        return NULL;
-    }
-    field_place first = {PyLong_AsSize_t(args[4]), PyLong_AsSize_t(args[5])};
-    if (PyErr_Occurred())
-        return NULL;
-    return column_behind(module, args, &first);
 }
 
 /* ---- formats ---- */
@@ -252,10 +165,11 @@ static PyObject *check_format(PyObject *module, PyObject *fields)
 
 static PyMethodDef METHODS[] = {
     CALL(parse,
-         "parse(text, type=\"i64\", format=None)\n--\n\n"
+         "parse(text, type=\"i64\", format=None, *, min=None, max=None)\n--\n\n"
          "The number that the whole text stands for.\n\n"
          "The text is a str, read as UTF-8, or an object of contiguous bytes. ParseError tells\n"
-         "why it is no number of the type, and FormatError why the format is none."),
+         "why it is no number of the type, or that it is less than `min` or more than `max`, and\n"
+         "FormatError why the format is none."),
     CALL(parse_front,
          "parse_front(text, type=\"i64\", format=None)\n--\n\n"
          "The number in front of the text, and how many bytes of the text it has.\n\n"
@@ -281,7 +195,14 @@ static PyMethodDef METHODS[] = {
     {"_parse_part", (PyCFunction)(void (*)(void))parse_part, METH_FASTCALL,
      "A column whose fields count on from those of the parts before it."},
     {"_parse_table", (PyCFunction)(void (*)(void))parse_table, METH_FASTCALL,
-     "The rows of a part of a text, each column into a buffer."},
+     "The rows of a text from a place on, each column into a buffer."},
+    {"_keep_memory", keep_memory, METH_O, "Has the allocator keep so much."},
+    {"_text_size", text_size, METH_O, "How many bytes a text has."},
+    {"_move_bits", move_bits, METH_VARARGS, "Puts bits behind those before a place."},
+    {"_row_ends", row_ends, METH_VARARGS, "Where the first and the last row end in a text."},
+    {"_arrow_schema", arrow_schema_of, METH_VARARGS, "What Arrow calls a table or a column."},
+    {"_arrow_array", arrow_array_of, METH_VARARGS, "A table or a column for Arrow."},
+    {"_arrow_stream", arrow_stream_of, METH_VARARGS, "A table for Arrow, as a stream of one."},
     {"_row_count", row_count, METH_VARARGS, "How many rows a text has at most."},
     {"_row_stops", row_stops, METH_VARARGS, "Where about so many parts of a text stop, each with a row."},
     {"_array_code", array_code, METH_O, "The code of the arrays of a type."},

@@ -36,11 +36,11 @@ static int named_arguments(const char *call, PyObject *const *args, PyObject *ke
 }
 
 int arguments(const char *call, PyObject *const *args, Py_ssize_t count, PyObject *keywords,
-              const char *const *names, Py_ssize_t most, PyObject **found)
+              const char *const *names, Py_ssize_t by_place, Py_ssize_t most, PyObject **found)
 {
-    if (count > most) {
-        PyErr_Format(PyExc_TypeError, "%s() takes at most %zd arguments, and was given %zd", call,
-                     most, count);
+    if (count > by_place) {
+        PyErr_Format(PyExc_TypeError, "%s() takes at most %zd arguments%s, and was given %zd", call,
+                     by_place, by_place < most ? " by place" : "", count);
         return -1;
     }
     for (Py_ssize_t k = 0; k < most; k++)
@@ -120,12 +120,30 @@ static int borrow_view(const char *name, PyObject *text, borrowed_text *borrowed
     return 0;
 }
 
+/* The bytes of a str that UTF-8 hasn't: those from which Python made it, as of an environment, or else
+ * what its code points are by the same rule. So its fault is one of a text. */
+static PyObject *encoded(PyObject *text)
+{
+    PyObject *bytes = PyUnicode_AsEncodedString(text, "utf-8", "surrogateescape");
+    if (bytes || !PyErr_ExceptionMatches(PyExc_UnicodeEncodeError))
+        return bytes;
+    PyErr_Clear();
+    return PyUnicode_AsEncodedString(text, "utf-8", "surrogatepass");
+}
+
 int borrow(const char *name, PyObject *text, borrowed_text *borrowed)
 {
     Py_ssize_t size = 0;
     borrowed->has_view = 0;
+    borrowed->encoded = NULL;
     if (PyUnicode_Check(text)) {
         borrowed->bytes = PyUnicode_AsUTF8AndSize(text, &size);
+        if (!borrowed->bytes && PyErr_ExceptionMatches(PyExc_UnicodeEncodeError)) {
+            PyErr_Clear();
+            borrowed->encoded = encoded(text);
+            borrowed->bytes = borrowed->encoded ? PyBytes_AsString(borrowed->encoded) : NULL;
+            size = borrowed->encoded ? PyBytes_Size(borrowed->encoded) : 0;
+        }
     } else if (PyBytes_Check(text)) {
         borrowed->bytes = PyBytes_AsString(text);
         size = PyBytes_Size(text);
@@ -140,6 +158,7 @@ void give_back(borrowed_text *borrowed)
 {
     if (borrowed->has_view)
         PyBuffer_Release(&borrowed->view);
+    Py_XDECREF(borrowed->encoded);
 }
 
 int separator_of(PyObject *separator)

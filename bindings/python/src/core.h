@@ -1,9 +1,10 @@
 /*
  * core.h - what the parts of the extension `jadvolni._core` share.
  *
- * The library reads the texts. `types.c` has the types of numbers, `faults.c` the exceptions,
- * `arguments.c` what the calls are given, `tables.c` tables, and `_core.c` the other calls and the
- * module. `Format` is Python, and hands its bytes over as the attribute `_fields`.
+ * The library reads the texts. `types.c` has the types of numbers, `faults.c` the exceptions, `bounds.c` the
+ * bounds of a number, `arguments.c` what the calls are given, `columns.c` columns, `tables.c` tables, `rows.c`
+ * where their rows end, `arrow.c` tables for Arrow, and `_core.c` the other calls and the module. `Format` is
+ * Python, and hands its bytes over as the attribute `_fields`.
  */
 #ifndef JADVOLNI_PYTHON_CORE_H
 #define JADVOLNI_PYTHON_CORE_H
@@ -60,7 +61,7 @@ typedef struct number_type {
 enum { TYPES = 12 };
 extern const number_type types[TYPES];
 
-/* The type of a name or of a class with that name, and i64 for NULL. NULL with an exception for what
+/* The type of a name, of a class with that name or of a dtype of NumPy, and i64 for NULL. NULL with an exception for what
  * is none. */
 const number_type *type_of(PyObject *type);
 
@@ -77,6 +78,15 @@ typedef struct core_state {
     PyObject *fields_name;  /* the name of the attribute of a Format that has its bytes */
     PyObject *zeros[TYPES]; /* for each type that columns have an array of one zero */
 } core_state;
+
+/* A text that was borrowed: a str, which is read as UTF-8, or an object of contiguous bytes. */
+typedef struct borrowed_text {
+    const char *bytes;
+    size_t len;
+    Py_buffer view;
+    int has_view;
+    PyObject *encoded; /* the bytes of a str that UTF-8 hasn't */
+} borrowed_text;
 
 /* A field of a column that has a fault: which one it is, and where it starts. */
 typedef struct field_place {
@@ -103,43 +113,99 @@ void raise_format(const core_state *state, uint32_t status);
 void raise_fault(const core_state *state, jadvolni_result answer, const char *text, size_t len,
                  const field_place *field);
 
+/* The first bytes of a text, as a message shows them. */
+PyObject *shown_bytes(const char *text, size_t len);
+
+/* Raises ParseError with a message, which it takes over. */
+void raise_message(const core_state *state, PyObject *message, jadvolni_result answer);
+
 /* Raises the fault of a table, in a part of a text. */
 void raise_table(const core_state *state, jadvolni_table_result answer, const table_place *first);
 
+/* ---- bounds.c ---- */
+
+/* The least and the greatest number that a caller wants, or None. */
+typedef struct bounds {
+    PyObject *least;
+    PyObject *most;
+} bounds;
+
+/* The bounds of two arguments, to be let go. -1 with an exception. */
+int bounds_of(PyObject *least, PyObject *most, bounds *asked);
+
+void let_go_bounds(bounds *asked);
+
+/* A number that is within bounds, which it takes over. NULL with ParseError. */
+PyObject *within(const core_state *state, PyObject *value, const bounds *asked);
+
+/* Raises ParseError where a text has no number of its type, but one that leaves bounds, and says if so. */
+int raise_beyond(const core_state *state, jadvolni_result answer, const borrowed_text *text,
+                 const jadvolni_format *format, const bounds *asked);
+
 /* ---- tables.c ---- */
 
-/* The rows of a part of a text: _parse_table(text, is_last, how, capacity, columns, row, start), where
- * `how` is separator, has_returns, has_quotes, allows_blanks, skips_empty_rows, missing, widths, which are
- * an array of size_t, and is_records. A column is None, or its numbers, bits or None, type and format. It
- * gives how many rows were read, and where reading stopped. */
+/* The rows of a text from a place on: _parse_table(text, from, is_last, how, columns, at, capacity, row,
+ * start), where `how` is separator, has_returns, has_quotes, allows_blanks, skips_empty_rows, missing,
+ * widths, which are an array of size_t, and is_records. A column is None, or its numbers, bits or None, type
+ * and format; rows go there from `at` on. It gives how many rows were read, and how many bytes they had.
+ * A fault counts on from `row` and `start`. */
 PyObject *parse_table(PyObject *module, PyObject *const *args, Py_ssize_t count);
+
+PyObject *array_code(PyObject *module, PyObject *given);
+
+/* ---- rows.c ---- */
+
+/* How often a byte stands in a text. */
+size_t count_of(const char *text, size_t len, char byte);
+
+/* Puts so many bits behind those that there are at a place. All others stay as they are. */
+void put_bits(uint8_t *to, size_t at, const uint8_t *from, size_t count);
+
+/* The same by _move_bits(to, at, from, count). */
+PyObject *move_bits(PyObject *module, PyObject *args);
+
+/* How many bytes a text has: _text_size(text). */
+PyObject *text_size(PyObject *module, PyObject *given);
 
 /* How many rows a text has at most: _row_count(text, record), where a record of 0 bytes stands for lines. */
 PyObject *row_count(PyObject *module, PyObject *args);
 
+/* Where the first and the last row end in a text, or 0 where none does, and whether the text ends within
+ * quotes: _row_ends(text, has_quotes, is_within), where the latter says that it begins there. */
+PyObject *row_ends(PyObject *module, PyObject *args);
+
+/* Gets so much memory and lets it go, so that the allocator keeps as much: _keep_memory(size). */
+PyObject *keep_memory(PyObject *module, PyObject *size);
+
 /* Where parts stop that threads may read: _row_stops(text, count, has_quotes, record). */
 PyObject *row_stops(PyObject *module, PyObject *args);
 
-PyObject *array_code(PyObject *module, PyObject *given);
+/* ---- arrow.c ---- */
 
-/* ---- _core.c ---- */
+/* Capsules for Arrow, of a table or of its one column: _arrow_schema(columns, is_table),
+ * _arrow_array(columns, is_table, rows) and _arrow_stream(columns, rows). A column is its name, the code of
+ * its numbers, these, and their bits or None. */
+PyObject *arrow_schema_of(PyObject *module, PyObject *args);
+PyObject *arrow_array_of(PyObject *module, PyObject *args);
+PyObject *arrow_stream_of(PyObject *module, PyObject *args);
+
+/* ---- columns.c ---- */
 
 /* How many fields a text has. */
 size_t field_count(const char *text, size_t len, uint8_t separator);
 
+PyObject *parse_column(PyObject *module, PyObject *const *args, Py_ssize_t count, PyObject *keywords);
+
+/* The whole fields of a part of a text: _parse_part(text, type, separator, format, field, start), where so
+ * many fields were read before, up to `start`. */
+PyObject *parse_part(PyObject *module, PyObject *const *args, Py_ssize_t count);
+
 /* ---- arguments.c ---- */
 
-/* A text that was borrowed: a str, which is read as UTF-8, or an object of contiguous bytes. */
-typedef struct borrowed_text {
-    const char *bytes;
-    size_t len;
-    Py_buffer view;
-    int has_view;
-} borrowed_text;
-
-/* Puts arguments, by place and by name, to the slots of their names. The first has to be there. */
+/* Puts arguments, the first few by place and all by name, to the slots of their names. The first has to be
+ * there. */
 int arguments(const char *call, PyObject *const *args, Py_ssize_t count, PyObject *keywords,
-              const char *const *names, Py_ssize_t most, PyObject **found);
+              const char *const *names, Py_ssize_t by_place, Py_ssize_t most, PyObject **found);
 
 /* Raises TypeError: the argument of a name has to be what is wanted, and was something else. */
 void raise_type(const char *name, const char *wanted, PyObject *given, const char *detail);

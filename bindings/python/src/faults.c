@@ -71,21 +71,35 @@ void raise_format(const core_state *state, uint32_t status)
     Py_XDECREF(error);
 }
 
+PyObject *shown_bytes(const char *text, size_t len)
+{
+    PyObject *bytes = PyBytes_FromStringAndSize(text, (Py_ssize_t)(len > SHOWN ? SHOWN : len));
+    PyObject *shown = bytes ? PyUnicode_FromFormat("%R%s", bytes, len > SHOWN ? ".." : "") : NULL;
+    Py_XDECREF(bytes);
+    return shown;
+}
+
 /* What is wrong, where, and in which bytes, of which the first are shown. */
 static PyObject *message_of(jadvolni_result answer, const char *text, size_t len,
                             const field_place *field)
 {
     const char *fault = jadvolni_status_text(answer.status);
-    const char *cut = len > SHOWN ? ".." : "";
-    PyObject *bytes = PyBytes_FromStringAndSize(text, (Py_ssize_t)(len > SHOWN ? SHOWN : len));
-    PyObject *message = NULL;
-    if (bytes && field)
-        message = PyUnicode_FromFormat("%s at byte %zu, in field %zu: %R%s", fault, answer.place,
-                                       field->index, bytes, cut);
-    else if (bytes)
-        message = PyUnicode_FromFormat("%s at byte %zu: %R%s", fault, answer.place, bytes, cut);
-    Py_XDECREF(bytes);
+    PyObject *shown = shown_bytes(text, len), *message = NULL;
+    if (shown && field)
+        message = PyUnicode_FromFormat("%s at byte %zu, in field %zu: %S", fault, answer.place,
+                                       field->index, shown);
+    else if (shown)
+        message = PyUnicode_FromFormat("%s at byte %zu: %S", fault, answer.place, shown);
+    Py_XDECREF(shown);
     return message;
+}
+
+void raise_message(const core_state *state, PyObject *message, jadvolni_result answer)
+{
+    PyObject *error = error_of(state->parse_error, message, answer.status);
+    if (error && set_attribute(error, "place", PyLong_FromSize_t(answer.place)) == 0)
+        PyErr_SetObject(state->parse_error, error);
+    Py_XDECREF(error);
 }
 
 void raise_fault(const core_state *state, jadvolni_result answer, const char *text, size_t len,

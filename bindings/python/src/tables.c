@@ -11,11 +11,15 @@ typedef struct array {
     size_t capacity;
 } array;
 
-/* The columns of a call, and the buffers that they borrow: for each its numbers and its bits. */
+/* The columns of a call, and the buffers that they borrow: for each its numbers and its bits. Rows go there
+ * from `at` on. Where that is within a byte of bits, the column has bits of its own in `apart`. */
 typedef struct columns {
     jadvolni_table_column *columns;
     Py_buffer *rooms;
+    uint8_t **apart;
     Py_ssize_t count;
+    size_t at;
+    size_t capacity;
 } columns;
 
 /* The type of the bytes that have a column's bits. */
@@ -26,8 +30,11 @@ static void let_go(columns *all)
 {
     for (Py_ssize_t k = 0; all->rooms && k < 2 * all->count; k++)
         PyBuffer_Release(&all->rooms[k]);
+    for (Py_ssize_t k = 0; all->apart && k < all->count; k++)
+        PyMem_Free(all->apart[k]);
     PyMem_Free(all->columns);
     PyMem_Free(all->rooms);
+    PyMem_Free(all->apart);
 }
 
 /* Whether a buffer is a row of numbers of a type, each at a place for it. */
@@ -53,22 +60,42 @@ static int lend(PyObject *values, const number_type *type, Py_buffer *room)
     return -1;
 }
 
-/* A column that is read: its numbers, its bits or None, its type and its format. */
-static int column_of(const core_state *state, PyObject *given, jadvolni_table_column *column,
-                     Py_buffer *rooms)
+/* The bits of a column: those of its array, or where rows go there within a byte some of its own. */
+static int bits_of(columns *all, Py_ssize_t index)
 {
+    jadvolni_table_column *column = &all->columns[index];
+    const Py_buffer *room = &all->rooms[2 * index + 1];
+    if ((size_t)room->len < (all->at + all->capacity + 7) / 8) {
+        PyErr_SetString(PyExc_ValueError, "out has to have room for the bits of all rows");
+        return -1;
+    }
+    column->present.bytes = (uint8_t *)room->buf + all->at / 8;
+    column->present.size = (size_t)room->len - all->at / 8;
+    if (all->at % 8 == 0)
+        return 0;
+    column->present.size = (all->capacity + 7) / 8;
+    column->present.bytes = all->apart[index] = PyMem_Calloc(column->present.size + 1, 1);
+    if (!column->present.bytes)
+        PyErr_NoMemory();
+    return column->present.bytes ? 0 : -1;
+}
+
+/* A column that is read: its numbers, its bits or None, its type and its format. */
+static int column_of(const core_state *state, PyObject *given, columns *all, Py_ssize_t index)
+{
+    jadvolni_table_column *column = &all->columns[index];
+    Py_buffer *rooms = &all->rooms[2 * index];
     PyObject *values, *bits, *kind, *format;
     if (!PyArg_ParseTuple(given, "OOOO", &values, &bits, &kind, &format))
         return -1;
     const number_type *type = type_of(kind);
     if (!type || format_of(state, format, &column->format) < 0
         || lend(values, type, &rooms[0]) < 0
-        || (bits != Py_None && lend(bits, &BITS, &rooms[1]) < 0))
+        || (bits != Py_None && (lend(bits, &BITS, &rooms[1]) < 0 || bits_of(all, index) < 0)))
         return -1;
-    array it = {rooms[0].buf, (size_t)rooms[0].len / type->size};
+    size_t count = (size_t)rooms[0].len / type->size, at = all->at < count ? all->at : count;
+    array it = {(char *)rooms[0].buf + at * type->size, count - at};
     memcpy((char *)column + type->array, &it, sizeof it);
-    column->present.bytes = rooms[1].buf;
-    column->present.size = (size_t)rooms[1].len;
     return 0;
 }
 
@@ -78,17 +105,27 @@ static int columns_of(const core_state *state, PyObject *given, columns *all)
     Py_ssize_t count = PyTuple_Size(given);
     if (count < 0)
         return -1;
-    *all = (columns){PyMem_Calloc((size_t)count + 1, sizeof *all->columns),
-                     PyMem_Calloc((size_t)count + 1, 2 * sizeof *all->rooms), count};
-    int made = all->columns && all->rooms ? 0 : -1;
+    all->columns = PyMem_Calloc((size_t)count + 1, sizeof *all->columns);
+    all->rooms = PyMem_Calloc((size_t)count + 1, 2 * sizeof *all->rooms);
+    all->apart = PyMem_Calloc((size_t)count + 1, sizeof *all->apart);
+    all->count = count;
+    int made = all->columns && all->rooms && all->apart ? 0 : -1;
     if (made < 0)
         PyErr_NoMemory();
     for (Py_ssize_t k = 0; made == 0 && k < count; k++) {
         PyObject *one = PyTuple_GetItem(given, k);
         if (one != Py_None)
-            made = column_of(state, one, &all->columns[k], &all->rooms[2 * k]);
+            made = column_of(state, one, all, k);
     }
     return made;
+}
+
+/* Puts the bits of so many rows to where they belong, if they were kept apart. */
+static void join_bits(const columns *all, size_t rows)
+{
+    for (Py_ssize_t k = 0; k < all->count; k++)
+        if (all->apart[k])
+            put_bits(all->rooms[2 * k + 1].buf, all->at, all->apart[k], rows);
 }
 
 /* Where the bytes of an array are. */
@@ -173,122 +210,55 @@ static int table_of(PyObject *given, jadvolni_table *table, borrowed_text *missi
 
 /* Reads rows: how many there were, and where reading stopped. */
 static PyObject *rows_of(const core_state *state, const borrowed_text *text, int is_last,
-                         const jadvolni_table *table, size_t capacity, columns *all,
-                         const table_place *first)
+                         const jadvolni_table *table, columns *all, const table_place *first)
 {
     jadvolni_table_result answer;
     Py_BEGIN_ALLOW_THREADS
-    answer = jadvolni_parse_table(text->bytes, text->len, is_last, table, capacity, all->columns,
-                                  (size_t)all->count);
+    answer = jadvolni_parse_table(text->bytes, text->len, is_last, table, all->capacity,
+                                  all->columns, (size_t)all->count);
     Py_END_ALLOW_THREADS
+    join_bits(all, answer.rows);
     if (answer.status == JADVOLNI_OK)
         return Py_BuildValue("(nn)", (Py_ssize_t)answer.rows, (Py_ssize_t)answer.place);
     raise_table(state, answer, first);
     return NULL;
 }
 
+/* Cuts off what a text has in front of a place. The rows of the rest are no more than its bytes. */
+static void go_on(borrowed_text *text, size_t place, columns *all)
+{
+    place = place < text->len ? place : text->len;
+    text->bytes += place;
+    text->len -= place;
+    all->capacity = all->capacity < text->len ? all->capacity : text->len;
+}
+
 PyObject *parse_table(PyObject *module, PyObject *const *args, Py_ssize_t count)
 {
-    if (count != 7) {
-        PyErr_SetString(PyExc_TypeError, "_parse_table takes seven arguments");
+    if (count != 9) {
+        PyErr_SetString(PyExc_TypeError, "_parse_table takes nine arguments");
         return NULL;
     }
     const core_state *state = PyModule_GetState(module);
-    int is_last = PyObject_IsTrue(args[1]);
-    size_t capacity = PyLong_AsSize_t(args[3]);
-    table_place first = {PyLong_AsSize_t(args[5]), PyLong_AsSize_t(args[6])};
+    size_t from = PyLong_AsSize_t(args[1]);
+    int is_last = PyObject_IsTrue(args[2]);
+    columns all = {.at = PyLong_AsSize_t(args[5]), .capacity = PyLong_AsSize_t(args[6])};
+    table_place first = {PyLong_AsSize_t(args[7]), PyLong_AsSize_t(args[8])};
     jadvolni_table table;
     borrowed_text text = {0}, missing = {0};
     Py_buffer widths = {0};
-    columns all = {0};
     PyObject *rows = NULL;
-    if (!PyErr_Occurred() && table_of(args[2], &table, &missing, &widths) == 0
-        && columns_of(state, args[4], &all) == 0 && borrow("text", args[0], &text) == 0
-        && ask_apart(&all, &text, &missing) == 0)
-        rows = rows_of(state, &text, is_last, &table, capacity, &all, &first);
+    if (!PyErr_Occurred() && table_of(args[3], &table, &missing, &widths) == 0
+        && borrow("text", args[0], &text) == 0) {
+        go_on(&text, from, &all);
+        if (columns_of(state, args[4], &all) == 0 && ask_apart(&all, &text, &missing) == 0)
+            rows = rows_of(state, &text, is_last, &table, &all, &first);
+    }
     give_back(&text);
     give_back(&missing);
     PyBuffer_Release(&widths);
     let_go(&all);
     return rows;
-}
-
-/* How many rows a text has: its lines, or its records of so many bytes. */
-static size_t rows_in(const borrowed_text *text, size_t record)
-{
-    return record ? text->len / record + (text->len % record > 0)
-                  : field_count(text->bytes, text->len, '\n');
-}
-
-PyObject *row_count(PyObject *module, PyObject *args)
-{
-    (void)module;
-    PyObject *given;
-    Py_ssize_t record;
-    borrowed_text text;
-    size_t rows;
-    if (!PyArg_ParseTuple(args, "On", &given, &record) || borrow("text", given, &text) < 0)
-        return NULL;
-    Py_BEGIN_ALLOW_THREADS
-    rows = rows_in(&text, (size_t)record);
-    Py_END_ALLOW_THREADS
-    give_back(&text);
-    return PyLong_FromSize_t(rows);
-}
-
-/* Where the line ends that a byte of a text stands in, which starts with a line. */
-static size_t line_end(const char *text, size_t len, size_t place, int has_quotes)
-{
-    size_t quotes = 0;
-    for (size_t k = 0; has_quotes && k < place; k++)
-        quotes += text[k] == '"';
-    for (size_t k = place; k < len; k++) {
-        quotes += has_quotes && text[k] == '"';
-        if (text[k] == '\n' && quotes % 2 == 0)
-            return k + 1;
-    }
-    return len;
-}
-
-/* Where the record ends that a byte of a text stands in, which starts with a record. */
-static size_t record_end(size_t len, size_t place, size_t record)
-{
-    size_t start = place / record * record;
-    return record < len - start ? start + record : len;
-}
-
-/* Where about so many parts of a text stop, which are of one size but that each ends with a row. */
-static PyObject *stops_of(const borrowed_text *text, size_t count, int has_quotes, size_t record)
-{
-    size_t stop = 0;
-    PyObject *stops = PyList_New(0);
-    for (size_t left = count; stops && stop < text->len; left--) {
-        const char *part = text->bytes + stop;
-        size_t len = text->len - stop, place = left > 1 ? (len - 1) / left : len - 1;
-        Py_BEGIN_ALLOW_THREADS
-        stop += record ? record_end(len, place, record) : line_end(part, len, place, has_quotes);
-        Py_END_ALLOW_THREADS
-        PyObject *one = PyLong_FromSize_t(stop);
-        if (!one || PyList_Append(stops, one) < 0)
-            Py_CLEAR(stops);
-        Py_XDECREF(one);
-    }
-    return stops;
-}
-
-PyObject *row_stops(PyObject *module, PyObject *args)
-{
-    (void)module;
-    PyObject *given;
-    Py_ssize_t count, record;
-    int has_quotes;
-    borrowed_text text;
-    if (!PyArg_ParseTuple(args, "Onpn", &given, &count, &has_quotes, &record)
-        || borrow("text", given, &text) < 0)
-        return NULL;
-    PyObject *stops = stops_of(&text, (size_t)count, has_quotes, (size_t)record);
-    give_back(&text);
-    return stops;
 }
 
 /* The code of the arrays of a type. */

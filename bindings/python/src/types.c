@@ -125,6 +125,21 @@ static const number_type *type_named(PyObject *name)
     return NULL;
 }
 
+/* The name of a dtype of NumPy. Of one with another order of bytes it is its str, which is no type's. */
+static PyObject *dtype_name(PyObject *type)
+{
+    PyObject *is_native = PyObject_GetAttrString(type, "isnative"), *name = NULL;
+    if (is_native)
+        name = is_native == Py_True ? PyObject_GetAttrString(type, "name") : PyObject_Str(type);
+    Py_XDECREF(is_native);
+    if (!name || !PyUnicode_Check(name)) {
+        Py_CLEAR(name);
+        PyErr_Clear();
+        raise_type("type", "a str such as 'u64'", type, "");
+    }
+    return name;
+}
+
 const number_type *type_of(PyObject *type)
 {
     if (!type)
@@ -135,7 +150,7 @@ const number_type *type_of(PyObject *type)
     else if (PyUnicode_Check(type))
         name = Py_NewRef(type);
     else
-        raise_type("type", "a str such as 'u64'", type, "");
+        name = dtype_name(type);
     const number_type *found = name ? type_named(name) : NULL;
     if (name && !found)
         PyErr_Format(PyExc_ValueError,

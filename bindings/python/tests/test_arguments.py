@@ -4,6 +4,8 @@ import array
 import ctypes
 import gc
 import mmap
+import os
+import subprocess
 import sys
 import tracemalloc
 import unittest
@@ -77,9 +79,27 @@ class Texts(unittest.TestCase):
         self.assertEqual(list(parse_column(array.array("B"))), [])
 
     def test_lone_surrogates(self):
-        for call in CALLS:
-            self.assertRaises(UnicodeEncodeError, call, "1\ud800", "u8")
-        self.assertRaises(UnicodeEncodeError, parse_column, "1", "u8", "\ud800")
+        """Their bytes are no digits: a fault of the text, as of any other byte."""
+        for text, place, shown in (("1\ud800", 1, b"1\xed\xa0\x80"), ("\udcff", 0, b"\xff"),
+                                   ("12\udcff\ud800", 2, b"12\xed\xb3\xbf\xed\xa0\x80"),
+                                   ("\udcc3\udca4", 0, "ä".encode())):
+            with self.assertRaises(ParseError) as told:
+                parse(text, "u8")
+            self.assertEqual((told.exception.kind, told.exception.place), ("InvalidDigit", place))
+            self.assertEqual(str(told.exception), f"invalid digit at byte {place}: {shown!r}")
+            for call in parse_column, parse_front:
+                if call is parse_column or place == 0:
+                    self.assertRaises(ParseError, call, text, "u8")
+        self.assertEqual(parse_front("12\udcff", "u8"), (12, 2))
+        with self.assertRaisesRegex(ValueError, "separator has to be one byte, and not 3"):
+            parse_column("1", "u8", "\ud800")
+
+    def test_a_variable_that_is_no_text(self):
+        code = "import jadvolni, os\ntry:\n    jadvolni.parse(os.environ['PORT'], 'u16')\n" \
+               "except jadvolni.ParseError as error:\n    print(error)"
+        run = subprocess.run([sys.executable, "-c", code], env={**os.environb, b"PORT": b"\xff80"},
+                             capture_output=True, text=True)
+        self.assertEqual((run.stdout, run.stderr), ("invalid digit at byte 0: b'\\xff80'\n", ""))
 
     def test_a_text_that_was_closed(self):
         view = memoryview(b"12")

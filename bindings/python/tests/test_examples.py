@@ -273,7 +273,7 @@ import sys
 sys.path.insert(0, sys.argv[1])
 import frame, jadvolni
 table = jadvolni.parse_table("1;;2\\n3;;\\n", frame.CELLS, ";")
-made = frame.frame_of(table)
+made = table.to_pandas()
 table["day"][0], table["cents"].numbers[0] = 5, 7
 print(made.to_csv(index=False), made.dtypes.tolist())
 """

@@ -25,14 +25,19 @@ WRONG = (b"1,a,2", b"1,a,2,3,", b"1,a,,70000", b"1,a,,-70000", b'1,a"b,2,3', b"1
 FLAGS = ("has_returns", "has_quotes", "allows_blanks", "skips_empty_rows")
 
 
+def lists(table):
+    """The columns of a table as lists: their numbers, and the bits that they have."""
+    return {name: [it.tolist() for it in values] if isinstance(values, Sparse) else values.tolist()
+            for name, values in table.items()}
+
+
 def told(text, columns, **given):
     """The columns of a text as lists with their bits, or its fault."""
     try:
         table = parse_table(text, columns, **given)
     except ParseError as error:
         return error.kind, error.row, error.column, error.place, str(error)
-    return {name: [it.tolist() for it in values] if isinstance(values, Sparse) else values.tolist()
-            for name, values in table.items()}
+    return lists(table)
 
 
 def random_row(chance, end):
@@ -193,19 +198,20 @@ class Threads(unittest.TestCase):
         """It isn't hidden by the memory that a thread still has when it comes."""
         first = threading.Lock()
 
-        def parse(text, is_last, how, rows, columns, *place):
+        def parse(*asked):
+            columns, rows = asked[4], asked[6]
             held = pickle.PickleBuffer(columns[0][0])
             if rows and first.acquire(blocking=False):
                 time.sleep(0.2)  # (until all threads have started)
                 os.kill(os.getpid(), signal.SIGINT)
                 time.sleep(0.2)
             held.release()
-            return jadvolni._core._parse_table(text, is_last, how, rows, columns, *place)
+            return jadvolni._core._parse_table(*asked)
 
         # (In a shell's background it is ignored.)
         before = signal.signal(signal.SIGINT, signal.default_int_handler)
         self.addCleanup(signal.signal, signal.SIGINT, before)
-        with mock.patch("jadvolni._tables._parse_table", parse):
+        with mock.patch("jadvolni._reader._parse_table", parse):
             with self.assertRaises(KeyboardInterrupt):
                 parse_table(b"1\n" * 20, {"a": "u8"}, threads=4)
 

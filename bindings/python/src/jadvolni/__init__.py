@@ -34,7 +34,9 @@ from . import formats
 from ._format import Format
 from ._blocks import iter_column
 from ._numpy import numpy_column
-from ._tables import Column, Sparse, iter_table, parse_table, read_table
+from ._reader import Column
+from ._table import Sparse, Table
+from ._tables import iter_table, parse_table, read_table
 
 __all__ = [
     "Column",
@@ -42,6 +44,7 @@ __all__ = [
     "FormatError",
     "ParseError",
     "Sparse",
+    "Table",
     "__version__",
     "formats",
     "iter_column",

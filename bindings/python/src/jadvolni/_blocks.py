@@ -4,13 +4,16 @@ from __future__ import annotations
 
 from typing import TYPE_CHECKING, Callable, Iterator, Optional, Protocol, Union
 
-from ._core import _parse_part
+from ._core import _keep_memory, _parse_part
 from ._format import Format, _integer
 
 if TYPE_CHECKING:
     from array import array
 
     from ._core import NumberType
+
+# So many bytes are the most that the allocator keeps, by half.
+_LARGE = 1 << 24
 
 
 class File(Protocol):
@@ -44,6 +47,9 @@ def _blocks(
     file: File, size: int, progress: Optional[Callable[[int], object]]
 ) -> Iterator[bytes]:
     """The blocks of a file, and behind them one without a byte."""
+    # The allocator gives memory back to the system with each block, and gets other for the next
+    # one, until something larger was freed: afterwards it keeps as much.
+    _keep_memory(min(16 * size, _LARGE))
     while block := _block(file, size):
         yield block
         if progress:

@@ -1,16 +1,25 @@
 """The calls of the library, by `_core.c`."""
 
 from array import array
-from typing import Any, Optional, Union
+from typing import Any, Optional, Protocol, SupportsIndex, Union
 
 from _typeshed import ReadableBuffer
 
 from ._format import Format
 
 Text = Union[str, ReadableBuffer]
-# The name of a type, as "u8", or a class of that name, as numpy.uint8. Not Literal: mypy takes the
-# names in a dict of columns for any str.
-NumberType = Union[str, type]
+
+class DType(Protocol):
+    """What numpy.dtype has."""
+
+    @property
+    def name(self) -> str: ...
+    @property
+    def isnative(self) -> bool: ...
+
+# The name of a type, as "u8", a class of that name, as numpy.uint8, or a dtype. Not Literal: mypy
+# takes the names in a dict of columns for any str.
+NumberType = Union[str, type, DType]
 
 __version__: str
 
@@ -27,7 +36,14 @@ class FormatError(ValueError):
     kind: str
     place: None
 
-def parse(text: Text, type: NumberType = "i64", format: Optional[Format] = None) -> int: ...
+def parse(
+    text: Text,
+    type: NumberType = "i64",
+    format: Optional[Format] = None,
+    *,
+    min: Optional[SupportsIndex] = None,
+    max: Optional[SupportsIndex] = None,
+) -> int: ...
 def parse_front(
     text: Text, type: NumberType = "i64", format: Optional[Format] = None
 ) -> tuple[int, int]: ...
@@ -51,13 +67,23 @@ def _parse_part(
 ) -> array[int]: ...
 def _parse_table(
     text: Text,
+    place: int,
     is_last: bool,
     how: tuple[Any, ...],
-    rows: int,
     columns: tuple[Optional[tuple[Any, Any, NumberType, Optional[Format]]], ...],
+    at: int,
+    rows: int,
     row: int,
     start: int,
+    /,
 ) -> tuple[int, int]: ...
+def _arrow_schema(columns: tuple[Any, ...], is_table: bool, /) -> object: ...
+def _arrow_array(columns: tuple[Any, ...], is_table: bool, rows: int, /) -> object: ...
+def _arrow_stream(columns: tuple[Any, ...], rows: int, /) -> object: ...
+def _keep_memory(size: int, /) -> None: ...
+def _text_size(text: Text, /) -> int: ...
+def _move_bits(to: Any, at: int, bits: Any, count: int, /) -> None: ...
+def _row_ends(text: Text, has_quotes: bool, is_within: bool, /) -> tuple[int, int, bool]: ...
 def _row_count(text: Text, record: int) -> int: ...
 def _row_stops(text: Text, count: int, has_quotes: bool, record: int) -> list[int]: ...
 def _array_code(type: NumberType) -> str: ...

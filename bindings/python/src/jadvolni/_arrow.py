@@ -1,0 +1,50 @@
+"""Columns and tables by Arrow's PyCapsule protocol, over their own memory."""
+
+from __future__ import annotations
+
+from typing import Any, Mapping, Optional
+
+from ._core import _arrow_array, _arrow_schema, _arrow_stream
+
+
+def _column(name: str, values: Any) -> tuple[str, str, Any, Any]:
+    """What the capsules are made of: a column's name, code, numbers, and bits or None."""
+    numbers, bits = values if isinstance(values, tuple) else (values, None)
+    try:
+        with memoryview(numbers) as view:
+            code = {"l": "q", "L": "Q"}.get(view.format, view.format)
+            if view.ndim == 1 and view.c_contiguous:
+                return name, code, numbers, bits
+    except TypeError:
+        pass
+    raise TypeError(f"the column {name!r} has to be an array, and not {type(numbers).__name__}")
+
+
+class Arrow:
+    """What takes Arrow's capsules takes this: pyarrow, polars, duckdb and others.
+
+    Its memory is that of the arrays, and stays as long as anyone has it. Who changes an array
+    changes what was handed out.
+    """
+
+    def __init__(self, columns: Mapping[str, Any], is_table: bool = True) -> None:
+        self._columns = tuple(_column(name, values) for name, values in columns.items())
+        self._is_table = is_table
+        sizes = {len(numbers) for _, _, numbers, _ in self._columns}
+        if len(sizes) > 1:
+            raise ValueError(f"the columns have to be of one length, and not of {sorted(sizes)}")
+        self._rows = sizes.pop() if sizes else 0
+
+    def __arrow_c_schema__(self) -> object:
+        return _arrow_schema(self._columns, self._is_table)
+
+    def __arrow_c_array__(self, requested_schema: Optional[object] = None) -> tuple[object, object]:
+        array = _arrow_array(self._columns, self._is_table, self._rows)
+        return self.__arrow_c_schema__(), array
+
+
+class ArrowTable(Arrow):
+    """The same of a table, which comes as a stream of one array too."""
+
+    def __arrow_c_stream__(self, requested_schema: Optional[object] = None) -> object:
+        return _arrow_stream(self._columns, self._rows)

@@ -1,0 +1,118 @@
+"""The header of a table: its first line, which names the columns."""
+
+from __future__ import annotations
+
+from itertools import chain
+from typing import TYPE_CHECKING, Iterator, Sequence
+
+from ._core import _row_ends
+
+if TYPE_CHECKING:
+    from ._core import Text
+    from ._reader import Columns, How
+
+_MARK = b"\xef\xbb\xbf"  # of the order of bytes, as some programs write it in front of UTF-8
+# A message lists so many names at most.
+_LISTED = 40
+# What other tables have between their cells.
+_SEPARATORS = b",;\t|"
+
+
+def byte_of(separator: Text) -> bytes:
+    """The byte of a separator."""
+    byte = separator.encode() if isinstance(separator, str) else bytes(memoryview(separator))
+    if len(byte) != 1:
+        raise ValueError(f"separator has to be one byte, and not {len(byte)}")
+    return byte
+
+
+def _cells(line: bytes, separator: bytes, has_quotes: bool) -> Iterator[bytes]:
+    """The cells of a line, between separators that stand outside quotes, if all quotes close."""
+    asks = has_quotes and separator != b'"' and line.count(b'"') % 2 == 0
+    parts: list[bytes] = []
+    quotes = 0
+    for part in line.split(separator):
+        parts.append(part)
+        quotes += part.count(b'"') if asks else 0
+        if quotes % 2 == 0:
+            yield separator.join(parts)
+            parts = []
+
+
+def _name(cell: bytes, how: How) -> str:
+    """The name that a cell has."""
+    if how.allows_blanks:
+        cell = cell.strip(b" \t")
+    if how.has_quotes and len(cell) > 1 and cell[:1] == cell[-1:] == b'"':
+        cell = cell[1:-1].replace(b'""', b'"')
+    return cell.decode("utf-8", "surrogateescape")
+
+
+def names_of(line: bytes, how: How) -> list[str]:
+    """The names of a header."""
+    line = line.removeprefix(_MARK).removesuffix(b"\n")
+    if how.has_returns:
+        line = line.removesuffix(b"\r")
+    separator = byte_of(b"," if how.separator is None else how.separator)
+    return [_name(cell, how) for cell in _cells(line, separator, bool(how.has_quotes))]
+
+
+def ask_header(how: How, header: bool) -> None:
+    """Asks that there may be a header."""
+    if not isinstance(header, bool):
+        raise TypeError(f"header has to be True or False, and not {type(header).__name__}")
+    if header and how.widths is not None:
+        raise ValueError("header has to be False where there are widths: they have no names")
+
+
+def read_header(
+    blocks: Iterator[bytes], how: How, size: int
+) -> tuple[list[str], Iterator[bytes], int]:
+    """The names of a header, the blocks behind it, and how many bytes it has.
+
+    A line feed within quotes doesn't end it, unless they never close.
+    """
+    line, is_within = bytearray(), False
+    for block in blocks:
+        end, _, is_within = _row_ends(block, how.has_quotes, is_within)
+        start = len(line)
+        line += block[:end] if end else block
+        if len(line) > size:
+            raise ValueError(f"the header has more than {size} bytes{_quote_in(line, is_within)}")
+        if end or not block:
+            break
+    if not line:
+        raise ValueError("there is no header: the text has no byte")
+    rest = memoryview(block)[len(line) - start:]
+    if not end and is_within and b"\n" in line:
+        end = line.index(b"\n") + 1
+        line, rest = line[:end], memoryview(line[end:])
+    return names_of(bytes(line), how), chain([bytes(rest)] if rest else [], blocks), len(line)
+
+
+def _quote_in(line: bytes, is_within: bool) -> str:
+    """What a message says of the quote that a header doesn't close."""
+    at = line.rfind(b'"', 0, (line + b"\n").index(b"\n"))
+    return f": the quote at byte {at} may lack the one that closes it" if is_within else ""
+
+
+def _listed(names: Sequence[str]) -> str:
+    """Names, as a message lists them."""
+    more = f" and {len(names) - _LISTED} more" if len(names) > _LISTED else ""
+    return ", ".join(map(repr, names[:_LISTED])) + more
+
+
+def ask_names(columns: Columns, names: list[str], how: How) -> None:
+    """Asks that a header has each column once."""
+    missing = [name for name in columns if name not in names]
+    if missing:
+        separator = byte_of(b"," if how.separator is None else how.separator)
+        others = [chr(it) for it in _SEPARATORS if chr(it) in names[0] and it != separator[0]]
+        hint = f"; separator may have to be {others[0]!r}" if others and len(names) == 1 else ""
+        raise ValueError(f"the header has no column {_listed(missing)}: it has {_listed(names)}"
+                         f"{hint}")
+    for name in columns:
+        if names.count(name) > 1:
+            places = " and ".join(str(k + 1) for k, it in enumerate(names) if it == name)
+            raise ValueError(f"the header has {name!r} as its columns {places}: no name chooses one"
+                             f" of {_listed(names)}")

@@ -1,0 +1,125 @@
+"""How a table is written, and what is read of it."""
+
+from __future__ import annotations
+
+import sys
+from array import array
+from typing import TYPE_CHECKING, Any, Iterable, Mapping, NamedTuple, Optional, Union
+
+from ._arrays import new_array, numpy_or_none, zeros
+from ._core import _array_code, _parse_table
+from ._format import Format, _integer
+from ._header import ask_names
+from ._table import Sparse, Table
+
+if TYPE_CHECKING:
+    from ._core import NumberType, Text
+
+    # What is read of a column: nothing, numbers of a type, or what a Column says.
+    Columns = Mapping[str, Optional[Union[NumberType, "Column"]]]
+
+
+class Column(NamedTuple):
+    """What is read of a column: numbers of a type, under a format, of which some may be missing."""
+
+    type: NumberType
+    format: Optional[Format] = None
+    may_miss: bool = False
+
+
+class How(NamedTuple):
+    """How a table is written, as parse_table describes it."""
+
+    separator: Optional[Text] = None
+    has_returns: bool = False
+    has_quotes: bool = False
+    allows_blanks: bool = False
+    skips_empty_rows: bool = False
+    missing: Text = b""
+    widths: Optional[Iterable[int]] = None
+    is_records: bool = False
+
+
+class Part(NamedTuple):
+    """A part of a text: whether it is the last one, and what stands before it."""
+
+    is_last: bool = True
+    row: int = 0
+    start: int = 0
+
+
+def ask_type(name: str, value: object, kind: Any, wanted: str) -> None:
+    """Asks that an argument is of a type."""
+    if not isinstance(value, kind):
+        raise TypeError(f"{name} has to be {wanted}, and not {type(value).__name__}")
+
+
+def _sizes(widths: Iterable[int], count: int) -> array[int]:
+    """The widths of so many columns."""
+    ask_type("widths", widths, Iterable, "a list or None")
+    sizes = [_integer("a width", it) for it in widths]
+    if len(sizes) != count or count == 0:
+        raise ValueError(f"widths have to be one for each of {count} columns, and not {len(sizes)}")
+    for size in sizes:
+        if not 0 <= size <= sys.maxsize:
+            raise ValueError(f"a width has to be from 0 to {sys.maxsize}, and not {size}")
+    return array("Q", sizes)
+
+
+def pair_of(values: Any) -> tuple[Any, Any]:
+    """The numbers of a column, and its bits or None."""
+    numbers, bits = values if isinstance(values, tuple) else (values, None)
+    return numbers, bits
+
+
+class Reader:
+    """How a table is written, and what is read of it."""
+
+    def __init__(self, columns: Columns, how: How, names: Optional[list[str]] = None) -> None:
+        ask_type("columns", columns, Mapping, "a dict")
+        self.read = {name: it if isinstance(it, Column) else Column(it)
+                     for name, it in columns.items() if it is not None}
+        if names is not None:
+            ask_names(columns, names, how)
+        # The cells of a row, each with its name; a name that isn't read may come twice.
+        self.cells = list(columns if names is None else names)
+        sizes = array("Q") if how.widths is None else _sizes(how.widths, len(self.cells))
+        if sizes and how.separator is not None:
+            raise ValueError("separator has to be None where there are widths")
+        if how.is_records and not sizes:
+            raise ValueError("widths have to be there where is_records is true")
+        separator = b"," if how.separator is None else how.separator
+        self.how = how._replace(separator=separator, widths=sizes)
+        self.has_quotes = bool(how.has_quotes)
+        self.record = min(max(sum(sizes), 1), sys.maxsize) if how.is_records else 0
+        # A row has so many bytes at least, unless it is the last one: a line feed and its cells.
+        self.least = self.record or (sum(sizes) + 1 if sizes else max(len(self.cells), 1))
+        self.numpy = numpy_or_none()
+        # How many rows a byte has, as seen last: it says how much room a text needs.
+        self.rate = 0.0
+
+    def room(self, rows: int) -> Table:
+        """Arrays for so many rows, whose numbers may be any."""
+        return Table({name: self._room(column, rows) for name, column in self.read.items()})
+
+    def _room(self, column: Column, rows: int) -> Any:
+        """What a column of so many rows is read into."""
+        numbers = new_array(self.numpy, _array_code(column.type), rows)
+        return Sparse(numbers, self.bits(rows)) if column.may_miss else numbers
+
+    def bits(self, rows: int) -> Any:
+        """The bits of so many rows, which are 0."""
+        return zeros(self.numpy, "B", (rows + 7) // 8)
+
+    def parse(
+        self, text: Text, place: int, arrays: dict[str, Any], at: int, rows: int, part: Part
+    ) -> tuple[int, int]:
+        """Reads so many rows at most of a text, from a place on, into arrays from a row on.
+
+        It answers how many there were, and how many bytes they had.
+        """
+        read = {name: (*pair_of(arrays[name]), it.type, it.format)
+                for name, it in self.read.items()}
+        columns = tuple(map(read.get, self.cells))
+        return _parse_table(text, place, part.is_last, self.how, columns, at, rows, part.row,
+                            part.start)

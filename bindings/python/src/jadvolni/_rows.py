@@ -1,0 +1,124 @@
+"""The rows of texts, put behind each other into arrays that grow with them."""
+
+from __future__ import annotations
+
+import sys
+from typing import TYPE_CHECKING, Any
+
+from ._arrays import cut, grown
+from ._core import ParseError, _move_bits, _text_size
+from ._reader import Part, Reader, pair_of
+from ._table import Sparse, Table
+
+if TYPE_CHECKING:
+    from ._core import Text
+
+# So many rows tell how much room a text needs, and so many more have room in any case.
+_FIRST = 1024
+_FEW = 64
+
+
+class Rows:
+    """Rows that were read, so many at most."""
+
+    def __init__(self, reader: Reader, most: int = sys.maxsize) -> None:
+        self.reader, self.most = reader, most
+        self.count = self.room = self.size = 0
+        self.arrays = reader.room(0)
+
+    @classmethod
+    def of(cls, reader: Reader, arrays: Table, most: int) -> Rows:
+        """No rows yet, with arrays that have room for so many."""
+        rows = cls(reader, most)
+        rows.arrays, rows.room = arrays, most
+        return rows
+
+    def is_full(self) -> bool:
+        """Whether no further row is read."""
+        return self.count == self.most
+
+    def read(self, text: Text, part: Part, place: int = 0, behind: int = 0) -> int:
+        """Reads a text from a place on, and answers where it stopped: at its end, or full.
+
+        Behind the text there are about so many bytes more.
+        """
+        size = _text_size(text)
+        while True:
+            self._make_room(size - place, behind)
+            asked = self.room - self.count
+            count, length = self._parse(text, place, asked, part)
+            place += length
+            part = part._replace(row=part.row + count, start=part.start + length)
+            if count < asked or self.is_full():
+                return place
+
+    def _parse(self, text: Text, place: int, rows: int, part: Part) -> tuple[int, int]:
+        """Reads so many rows at most."""
+        try:
+            count, length = self.reader.parse(text, place, self.arrays, self.count, rows, part)
+        except ParseError as error:
+            self.count += error.row - part.row
+            raise
+        self.count, self.size = self.count + count, self.size + length
+        if self.size:
+            self.reader.rate = self.count / self.size
+        return count, length
+
+    def _told(self, size: int) -> int:
+        """How many rows so many bytes have, as those before them tell, and some more."""
+        return min(int(size * self.reader.rate * 1.125), 32 * self.count) + _FEW
+
+    def _make_room(self, size: int, behind: int) -> None:
+        """Makes room for some rows of so many bytes, or for all, as those before them tell."""
+        most = min(size // self.reader.least + 1, self.most - self.count)
+        wanted = min(most, self._told(size) if self.reader.rate else _FIRST)
+        if wanted > self.room - self.count or self.room == self.count < self.most:
+            self.grow(max(wanted, self._told(size + behind) if behind else 0, self.count // 2))
+
+    def grow(self, rows: int) -> None:
+        """Makes room for so many rows more."""
+        self.room = min(self.count + rows + 7 & ~7, self.most)
+        self.arrays = Table({name: self._grown(values) for name, values in self.arrays.items()})
+
+    def _grown(self, values: Any) -> Any:
+        """What a column was read into, with the room that there is now."""
+        numbers, bits = pair_of(values)
+        more = grown(self.reader.numpy, numbers, self.room, self.count)
+        if bits is None:
+            return more
+        size, kept = (self.room + 7) // 8, (self.count + 7) // 8
+        return Sparse(more, grown(self.reader.numpy, bits, size, kept))
+
+    def append(self, other: Rows, behind: int) -> None:
+        """Puts the rows of another behind these. Behind them stand about so many bytes more."""
+        if self.room - self.count < other.count:
+            self.grow(max(other.count, self._told(behind), self.count // 2))
+        for name, values in other.arrays.items():
+            (numbers, bits), (to, to_bits) = pair_of(values), pair_of(self.arrays[name])
+            with memoryview(numbers) as rows, memoryview(to) as places:
+                places[self.count:self.count + other.count] = rows[:other.count]
+            if bits is not None:
+                _move_bits(to_bits, self.count, bits, other.count)
+        self.count += other.count
+
+    def table(self) -> Table:
+        """The rows as a table, which alone has them."""
+        return Table({name: _front(values, self.count) for name, values in self.arrays.items()})
+
+    def fronts(self) -> Table:
+        """The rows as a table over the arrays of a caller."""
+        return Table({name: _view(values, self.count) for name, values in self.arrays.items()})
+
+
+def _view(values: Any, count: int) -> Any:
+    """What a caller's column was read into, up to so many rows."""
+    if isinstance(values, tuple):
+        return Sparse(_view(values[0], count), _view(values[1], (count + 7) // 8))
+    return values if len(values) == count else values[:count]
+
+
+def _front(values: Any, count: int) -> Any:
+    """What a column was read into, cut behind so many rows."""
+    if isinstance(values, tuple):
+        return Sparse(cut(values[0], count), cut(values[1], (count + 7) // 8))
+    return cut(values, count)

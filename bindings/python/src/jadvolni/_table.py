@@ -1,0 +1,101 @@
+"""Tables that were read, and their columns."""
+
+from __future__ import annotations
+
+from typing import TYPE_CHECKING, Any, NamedTuple, Optional
+
+from ._arrow import Arrow, ArrowTable
+
+if TYPE_CHECKING:
+    import numpy
+    import pandas
+
+
+class Sparse(NamedTuple):
+    """The numbers of a column that may miss some, which are 0, and the bits that say where.
+
+    The bits are Arrow's: the bit k & 7 of byte k >> 3, where bit 0 is the lowest, is 1 if row k has
+    a number. Arrow's libraries take the column as it is, by `__arrow_c_array__`.
+    """
+
+    numbers: Any
+    bits: Any
+
+    @property
+    def present(self) -> Any:
+        """Whether each row has a number: an array of NumPy where it is installed, else a list."""
+        count = len(self.numbers)
+        try:
+            import numpy
+        except ImportError:
+            return [bool(self.bits[row >> 3] >> (row & 7) & 1) for row in range(count)]
+        bits = numpy.asarray(self.bits)
+        return numpy.unpackbits(bits, count=count, bitorder="little").view(bool)
+
+    def to_numpy(self) -> numpy.ma.MaskedArray[Any, Any]:
+        """The numbers as a masked array over the same memory, whose mask is where one is missing.
+
+        So the mean of 5 and a missing number is 5.
+        """
+        import numpy
+
+        masked: Any = numpy.ma.MaskedArray
+        found: numpy.ma.MaskedArray[Any, Any] = masked(self.numbers, ~self.present)
+        return found
+
+    def to_pandas(self) -> pandas.Series[Any]:
+        """The numbers as a Series of pandas over the same memory, as of Int64, with its mask."""
+        import pandas
+
+        return pandas.Series(_extension_array(self), copy=False)
+
+    def __arrow_c_schema__(self) -> object:
+        return Arrow({"": self}, False).__arrow_c_schema__()
+
+    def __arrow_c_array__(self, requested_schema: Optional[object] = None) -> tuple[object, object]:
+        return Arrow({"": self}, False).__arrow_c_array__()
+
+
+class Table(dict[str, Any]):
+    """The columns that were read, by their names: each an array, NumPy's where it is installed and
+    else of the module array; or a Sparse of them where numbers may be missing.
+
+    None of its calls copies a number.
+    """
+
+    def to_numpy(self) -> dict[str, Any]:
+        """Each column as an array of NumPy, and as a masked one where numbers may be missing."""
+        import numpy
+
+        return {name: values.to_numpy() if isinstance(values, Sparse) else numpy.asarray(values)
+                for name, values in self.items()}
+
+    def to_pandas(self) -> pandas.DataFrame:
+        """A DataFrame of pandas. Where numbers may be missing, a column is one of Int64 or so."""
+        import numpy
+        import pandas
+
+        columns = {name: _extension_array(values) if isinstance(values, Sparse)
+                   else numpy.asarray(values) for name, values in self.items()}
+        return pandas.DataFrame(columns, copy=False)
+
+    def arrow(self, name: Optional[str] = None) -> Arrow:
+        """The table, or its column of a name, for what takes Arrow's capsules and is no dict."""
+        return ArrowTable(self) if name is None else Arrow({name: self[name]}, False)
+
+    def __arrow_c_schema__(self) -> object:
+        return ArrowTable(self).__arrow_c_schema__()
+
+    def __arrow_c_array__(self, requested_schema: Optional[object] = None) -> tuple[object, object]:
+        return ArrowTable(self).__arrow_c_array__()
+
+    def __arrow_c_stream__(self, requested_schema: Optional[object] = None) -> object:
+        return ArrowTable(self).__arrow_c_stream__()
+
+
+def _extension_array(values: Sparse) -> Any:
+    """A column as pandas has numbers of which some are missing."""
+    import numpy
+    import pandas
+
+    return pandas.arrays.IntegerArray(numpy.asarray(values.numbers), ~values.present)

@@ -1,0 +1,185 @@
+"""Tests of files: by blocks, by few bytes a call, cut short, in threads, with little memory."""
+
+import io
+import os
+import pathlib
+import random
+import subprocess
+import sys
+import tempfile
+import time
+import unittest
+from unittest import mock
+
+import test_threads
+from jadvolni import Column, ParseError, iter_table, parse_table, read_table
+
+COLUMNS = {"a": Column("u16", may_miss=True), "b": None, "c": "i32"}
+QUOTED = {"has_quotes": True}
+# Reads a row with many line feeds within quotes, and says by how much the process grew.
+GROWTH = """
+import resource, sys
+if sys.argv[1] == "array":
+    sys.modules["numpy"] = None
+from jadvolni import parse_table, read_table
+path, columns = sys.argv[2], {"a": None, "b": "i64"}
+with open(path, "rb") as file:
+    text = file.read() if sys.argv[3] == "text" else b""
+def peak():
+    return resource.getrusage(resource.RUSAGE_SELF).ru_maxrss
+parse_table("1,2", columns)
+before = peak()
+if text:
+    rows = parse_table(text, columns, has_quotes=True)
+else:
+    rows = read_table(path, columns, has_quotes=True)
+assert rows["b"].tolist() == [7] * 3, rows
+print(peak() - before)
+"""
+
+
+class Dribbling(io.BytesIO):
+    """A file that gives one byte a call."""
+
+    def read(self, size=-1):
+        return super().read(1)
+
+
+def outcome(call):
+    """What a call gives as lists, or its fault."""
+    try:
+        return call()
+    except ParseError as error:
+        return error.kind, error.row, error.column, error.place, str(error)
+
+
+class Files(unittest.TestCase):
+    """Files of any kind have the rows and the fault of their text."""
+
+    def setUp(self):
+        folder = tempfile.TemporaryDirectory()
+        self.addCleanup(folder.cleanup)
+        self.path = pathlib.Path(folder.name, "table")
+
+    def test_random_files_beside_their_text(self):
+        chance = random.Random(2)
+        faults = 0
+        for turn in range(300):
+            given = {flag: chance.random() < 0.9 for flag in test_threads.FLAGS}
+            text = test_threads.random_text(chance, b"\r\n" if given["has_returns"] else b"\n")
+            with mock.patch.dict(sys.modules, {"numpy": None} if turn % 2 else {}):
+                wanted = test_threads.told(text, test_threads.COLUMNS, **given)
+                faults += isinstance(wanted, tuple)
+                for threads in 1, 3:
+                    size = chance.choice((1, 2, 7, 30, 1000))
+                    found = outcome(lambda: test_threads.lists(read_table(
+                        io.BytesIO(text), test_threads.COLUMNS, **given, size=size,
+                        threads=threads)))
+                    self.assertEqual(found, wanted, (text, given, threads, size))
+        self.assertGreater(faults, 50)
+
+    def test_rows_before_a_fault_come_first(self):
+        text = b"1,x,2\n,y,3\n7,z,8\n"
+        for threads, size, rows in (1, 99, 2), (1, 9, 9), (4, 99, 2), (3, 9, 1), (2, 99, 99):
+            for wrong, place in ((b"7,,x\n9,,9\n", 20), (b"70000,,1\n", 21)):
+                found = []
+                with self.assertRaises(ParseError) as told:
+                    for table in iter_table(io.BytesIO(text + wrong), COLUMNS, threads=threads,
+                                            size=size, rows=rows):
+                        found.append(table)
+                        self.assertLessEqual(len(table["c"]), rows)
+                self.assertEqual([it for table in found for it in table["c"].tolist()], [2, 3, 8])
+                self.assertEqual([it for table in found for it in table["a"].present],
+                                 [True, False, True])
+                self.assertEqual((told.exception.row, told.exception.place), (3, place))
+
+    def test_threads_in_blocks(self):
+        text = b"".join(b'%d,"a\n,""%d",%d\n' % (k, k, -k) for k in range(5000))
+        wanted = test_threads.lists(parse_table(text, COLUMNS, **QUOTED))
+        for threads in 1, 2, 5:
+            for size in 100, 5000, 1 << 20:
+                told = []
+                tables = list(iter_table(io.BytesIO(text), COLUMNS, **QUOTED, threads=threads,
+                                         size=size, rows=999, progress=told.append))
+                self.assertEqual([it for table in tables for it in table["c"].tolist()],
+                                 wanted["c"])
+                self.assertEqual(sum(told), len(text))
+                self.path.write_bytes(text)
+                told.clear()
+                found = read_table(self.path, COLUMNS, **QUOTED, threads=threads, size=size,
+                                   progress=told.append)
+                self.assertEqual(test_threads.lists(found), wanted)
+                self.assertEqual(sum(told), len(text))
+
+    def test_a_file_that_fails_in_threads(self):
+        found = []
+        file = mock.Mock(read=mock.Mock(side_effect=[b"1\n2", b"2\n", OSError("no disk")]))
+        with self.assertRaisesRegex(OSError, "no disk"):
+            for table in iter_table(file, {"a": "u8"}, threads=3):
+                found += table["a"].tolist()
+        self.assertEqual(found, [1, 22])
+
+    def test_one_byte_a_call_takes_linear_time(self):
+        def seconds(size):
+            text = b'1,"' + b"a\n" * (size // 2) + b'",2\n3,,4\n'
+            start = time.process_time()
+            for given in ({}, {"rows": 1}):
+                found = [it for table in iter_table(Dribbling(text), COLUMNS, **QUOTED, **given)
+                         for it in table["c"].tolist()]
+                self.assertEqual(found, [2, 4])
+            return time.process_time() - start
+
+        seconds(100)
+        self.assertLess(seconds(40_000), 40 * seconds(4_000) + 1)
+
+    def test_a_slow_pipe_gives_each_row_as_it_comes(self):
+        first, second = os.pipe()
+        with open(first, "rb", buffering=0) as file, open(second, "wb", buffering=0) as pipe:
+            tables = iter_table(file, COLUMNS, **QUOTED)
+            for number in range(3):
+                pipe.write(b'1,"a\n')
+                pipe.write(b'b",%d\n' % number)
+                self.assertEqual(next(tables)["c"].tolist(), [number])
+
+    def test_a_file_that_is_cut_short_meanwhile(self):
+        self.path.write_bytes(b"1\n" * 100_000)
+        for threads in 1, 2:
+            found = read_table(self.path, {"a": "u8"}, size=4096, threads=threads,
+                               progress=lambda count: os.truncate(self.path, 4096))
+            self.assertLessEqual(set(found["a"].tolist()), {1})
+            self.path.write_bytes(b"1\n" * 100_000)
+
+    def test_a_map_is_asked_for(self):
+        self.path.write_bytes(b"1,x,2\n")
+        wanted = test_threads.lists(read_table(self.path, COLUMNS))
+        with mock.patch("mmap.mmap", side_effect=AssertionError):
+            self.assertEqual(test_threads.lists(read_table(self.path, COLUMNS)), wanted)
+            self.assertRaises(AssertionError, read_table, self.path, COLUMNS, mmap=True)
+        self.assertEqual(test_threads.lists(read_table(self.path, COLUMNS, mmap=True)), wanted)
+        with self.assertRaisesRegex(TypeError, "file has to be a path where mmap is true"):
+            read_table(io.BytesIO(b""), COLUMNS, mmap=True)
+
+    def test_a_long_row_names_its_quote(self):
+        text = b'1,"a",2\n3,"b"",4\n' + b'5,"c",6\n' * 9
+        with self.assertRaises(ValueError) as told:
+            list(iter_table(io.BytesIO(text), COLUMNS, **QUOTED, size=20))
+        self.assertEqual(str(told.exception), "the row at byte 8 has more than 20 bytes: the quote"
+                         " at byte 13 may lack the one that closes it")
+        for given in {}, QUOTED:
+            with self.assertRaisesRegex(ValueError, "the row at byte 6 has more than 9 bytes$"):
+                list(iter_table(io.BytesIO(b"1,x,2\n" + b"1" * 20), COLUMNS, **given, size=9))
+        self.assertEqual(read_table(io.BytesIO(b"1,x,2\n" + b"0" * 20 + b",,7"), COLUMNS,
+                                    size=9)["c"].tolist(), [2, 7])
+
+    def test_memory_grows_with_rows(self):
+        self.path.write_bytes(b'"' + b"\n" * 20_000_000 + b'",7\n' + b"x,7\n" * 2)
+        for module in "numpy", "array":
+            for source, least in (("text", 8_000), ("file", 70_000)):
+                command = [sys.executable, "-c", GROWTH, module, str(self.path), source]
+                run = subprocess.run(command, capture_output=True, text=True, timeout=60)
+                self.assertEqual(run.stderr, "")
+                self.assertLess(int(run.stdout), least)
+
+
+if __name__ == "__main__":
+    unittest.main()

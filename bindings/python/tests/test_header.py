@@ -1,0 +1,185 @@
+"""Tests of headers: columns by their names, from texts and files."""
+
+import io
+import pathlib
+import random
+import tempfile
+import unittest
+from array import array
+
+import test_files
+import test_tables
+import test_threads
+from jadvolni import Column, ParseError, iter_table, parse_table, read_table
+
+TEXT = b"id,what,amount\n1,rent,-80000\n2,,7\n"
+WANTED = {"amount": [-80000, 7], "id": [1, 2]}
+COLUMNS = {"amount": "i64", "id": "u8"}
+
+
+class Names(unittest.TestCase):
+    """Columns by their names."""
+
+    def setUp(self):
+        folder = tempfile.TemporaryDirectory()
+        self.addCleanup(folder.cleanup)
+        self.path = pathlib.Path(folder.name, "table")
+
+    def found(self, text, columns, **given):
+        """The columns of a text, which every call gives alike."""
+        wanted = test_files.outcome(
+            lambda: test_tables.lists(parse_table(text, columns, header=True, **given)))
+        self.path.write_bytes(text)
+
+        def by_blocks(size, threads):
+            found = {}
+            for table in iter_table(io.BytesIO(text), columns, header=True, size=size,
+                                    threads=threads, **given):
+                for name, values in test_tables.lists(table).items():
+                    found[name] = found.get(name, []) + values
+            return found or {name: [] for name, it in columns.items() if it}
+
+        def by_file(file, **more):
+            return test_tables.lists(read_table(file, columns, header=True, **given, **more))
+
+        for call in (
+            lambda: test_tables.lists(parse_table(text, columns, header=True, threads=3, **given)),
+            lambda: by_file(self.path), lambda: by_file(self.path, mmap=True),
+            lambda: by_file(self.path, threads=2, size=7),
+            lambda: by_file(io.BytesIO(text), size=1),
+            lambda: by_blocks(60, 1), lambda: by_blocks(60, 3),
+        ):
+            self.assertEqual(test_files.outcome(call), wanted)
+        return wanted
+
+    def test_names_choose(self):
+        found = self.found(TEXT, COLUMNS)
+        self.assertEqual(found, WANTED)
+        self.assertEqual(list(found), ["amount", "id"])
+        self.assertEqual(self.found(TEXT, {"id": "u8", "what": None}), {"id": [1, 2]})
+        self.assertEqual(self.found(TEXT, {}), {})
+        self.assertEqual(self.found(b"id,what,amount", COLUMNS), {"amount": [], "id": []})
+        table = parse_table(TEXT.decode(), COLUMNS, header=True)
+        self.assertEqual(test_tables.lists(table), WANTED)
+
+    def test_it_is_read_by_the_rules_of_the_table(self):
+        for text, given in (
+            (b"\xef\xbb\xbfid;amount\r\n1;-80000\r\n2;7\r\n",
+             {"separator": ";", "has_returns": True}),
+            (b'"id","a\nb","amount"\n1,"x\n",-80000\n2,,7', {"has_quotes": True}),
+            (b' "id"\t, b ,\tamount \n1,,-80000\n2,,7',
+             {"has_quotes": True, "allows_blanks": True}),
+            (b'id,what "x",amount\n1,x,-80000\n2,y,7\n', {}),
+            (b'id,5" pipe,amount\n1,x,-80000\n2,y,7\n', {"has_quotes": True}),
+            (b'id"amount\n1"-80000\n2"7\n', {"separator": '"'}),
+            (b"id\tamount\n\n1\t-80000\n\n2\t7\n",
+             {"separator": "\t", "skips_empty_rows": True}),
+        ):
+            with self.subTest(text=text):
+                self.assertEqual(self.found(text, COLUMNS, **given), WANTED)
+        quoted = b'"a ""b"", c",x\n1,2\n'
+        self.assertEqual(self.found(quoted, {'a "b", c': "u8"}, has_quotes=True),
+                         {'a "b", c': [1]})
+        self.assertEqual(self.found("äöü,x\n1,2\n".encode(), {"äöü": "u8"}), {"äöü": [1]})
+        self.assertEqual(self.found(b"\xff,x\n1,2\n", {"\udcff": "u8"}), {"\udcff": [1]})
+        self.assertEqual(self.found(b",x\n1,2\n", {"": "u8"}), {"": [1]})
+
+    def test_names_that_are_missing_or_twice(self):
+        for text, columns, given, message in (
+            (TEXT, {"id": "u8", "betrag": "i64"}, {},
+             "the header has no column 'betrag': it has 'id', 'what', 'amount'"),
+            (TEXT, {"x": None, "y": "u8"}, {},
+             "the header has no column 'x', 'y': it has 'id', 'what', 'amount'"),
+            (b"id;amount\n1;2\n", COLUMNS, {}, "the header has no column 'amount', 'id': it has"
+             " 'id;amount'; separator may have to be ';'"),
+            (b"a,id,id,b,id\n", {"id": "u8"}, {}, "the header has 'id' as its columns 2 and 3 and"
+             " 5: no name chooses one of 'a', 'id', 'id', 'b', 'id'"),
+            (b"", COLUMNS, {}, "there is no header: the text has no byte"),
+            (b"id,amount\r\n", COLUMNS, {},
+             "the header has no column 'amount': it has 'id', 'amount\\r'"),
+            (b",".join(b"%d" % k for k in range(50)), {"x": "u8"}, {}, "the header has no column"
+             f" 'x': it has {', '.join(repr(str(k)) for k in range(40))} and 10 more"),
+        ):
+            with self.subTest(text=text):
+                with self.assertRaises(ValueError) as told:
+                    parse_table(text, columns, header=True, **given)
+                self.assertEqual(str(told.exception), message)
+                with self.assertRaises(ValueError) as told:
+                    next(iter_table(io.BytesIO(text), columns, header=True, **given))
+                self.assertEqual(str(told.exception), message)
+        self.assertEqual(self.found(b"id,x,x,amount\n1,a,b,-80000\n2,,,7\n", COLUMNS), WANTED)
+
+    def test_faults_count_from_the_texts_start(self):
+        self.assertEqual(self.found(TEXT + b"3,,8x\n", COLUMNS)[:4], ("InvalidDigit", 2, 2, 38))
+        self.assertEqual(self.found(TEXT + b"3,,8,9\n", COLUMNS)[:4], ("TooManyCells", 2, 3, 39))
+        self.assertEqual(self.found(b"\xef\xbb\xbfid\nx\n", {"id": "u8"})[:4],
+                         ("InvalidDigit", 0, 0, 6))
+
+    def test_random_texts_beside_those_behind_the_header(self):
+        chance = random.Random(3)
+        for _ in range(60):
+            given = {flag: chance.random() < 0.9 for flag in test_threads.FLAGS}
+            end = b"\r\n" if given["has_returns"] else b"\n"
+            text, head = test_threads.random_text(chance, end), b"a,b,c,d" + end
+            wanted = test_threads.told(text, test_threads.COLUMNS, **given)
+            found = self.found(head + text, test_threads.COLUMNS, **given)
+            if isinstance(wanted, tuple):
+                kind, row, column, place, _ = wanted
+                self.assertEqual(found[:4], (kind, row, column, place + len(head)))
+            elif len(wanted["d"]) and max(map(len, text.split(b"\n"))) < 50:
+                self.assertEqual(found["d"], wanted["d"])
+
+    def test_progress_and_out(self):
+        self.path.write_bytes(TEXT)
+        for threads in 1, 2:
+            for call in (lambda **it: read_table(self.path, COLUMNS, **it),
+                         lambda **it: list(iter_table(io.BytesIO(TEXT), COLUMNS, **it))):
+                told = []
+                call(header=True, threads=threads, size=20, progress=told.append)
+                self.assertEqual(sum(told), len(TEXT))
+        out = {"id": array("B", [9] * 3), "amount": array("q", [9] * 3)}
+        for call in (lambda **it: parse_table(TEXT, COLUMNS, **it),
+                     lambda **it: read_table(self.path, COLUMNS, **it)):
+            self.assertEqual(test_tables.lists(call(header=True, out=out)), WANTED)
+        out["id"] = array("B", [9])
+        with self.assertRaisesRegex(ValueError, "room for the 2 rows"):
+            parse_table(TEXT, COLUMNS, header=True, out=out)
+
+    def test_a_long_header(self):
+        names = [f"name {k}" for k in range(20_000)]
+        text = (",".join(names) + "\n" + ",".join(map(str, range(20_000)))).encode()
+        columns = {"name 19999": "u16", "name 7": Column("u16", may_miss=True)}
+        self.assertEqual(test_tables.lists(parse_table(text, columns, header=True)),
+                         {"name 19999": [19999], "name 7": [7]})
+        with self.assertRaisesRegex(ValueError, "^the header has more than 99 bytes$"):
+            next(iter_table(io.BytesIO(text), columns, header=True, size=99))
+        with self.assertRaisesRegex(ValueError, "more than 9 bytes: the quote at byte 2 may lack"):
+            next(iter_table(io.BytesIO(b'a,"b\n1,2\n3,4\n'), {"a": "u8"}, header=True, size=9,
+                            has_quotes=True))
+        wide = {"separator": "|", "header": True}
+        self.assertRaises(ParseError, parse_table, "a|b\n1|x\n", {"b": "u8"}, **wide)
+
+    def test_wrong_arguments(self):
+        for header in "yes", 1, None, ["a"]:
+            with self.assertRaisesRegex(TypeError, "header has to be True or False, and not"):
+                parse_table(TEXT, COLUMNS, header=header)
+        with self.assertRaisesRegex(ValueError, "header has to be False where there are widths"):
+            parse_table(TEXT, COLUMNS, header=True, widths=[1, 2])
+        for call in (lambda *it, **more: parse_table(TEXT, *it, **more),
+                     lambda *it, **more: next(iter_table(io.BytesIO(TEXT), *it, **more))):
+            with self.assertRaisesRegex(ValueError, "separator has to be one byte, and not 2"):
+                call(COLUMNS, "ab", header=True)
+            with self.assertRaisesRegex(TypeError, "columns has to be a dict, and not list"):
+                call(["id"], header=True)
+            with self.assertRaises(TypeError):
+                call(COLUMNS, 7, header=True)
+        for text in 7, None, array("H", [1]), memoryview(b"1234")[::2]:
+            with self.assertRaisesRegex(TypeError, "text has to be a str or contiguous bytes"):
+                parse_table(text, COLUMNS, header=True)
+        text = bytearray(TEXT + b"x")
+        self.assertRaises(ParseError, parse_table, text, COLUMNS, header=True)
+        text.append(7)  # (no buffer is kept)
+
+
+if __name__ == "__main__":
+    unittest.main()
