@@ -169,14 +169,15 @@ def messages(place: Place) -> str:
 
 def calls(place: Place) -> Iterator[Step]:
     """Each caller, by each of its compilers, with both libraries and under sanitizers."""
-    c_callers = ("calls.c", "columns.c", "random_columns.c", "tables.c")
+    c_callers = ("calls.c", "columns.c", "random_columns.c", "tables.c", "table_texts.c")
     for compiler, name in product(C_COMPILERS, c_callers):
         step, name = partial(call, place, f"tests/c/{name}", compiler), f"{name}, {compiler}"
         yield f"C99, {name}", partial(step, ["-std=c99", *OPTIMISED])
         yield f"C11 and the shared library, {name}", partial(step, ["-std=c11", *OPTIMISED], True)
         yield f"C99 under sanitizers, {name}", partial(step, ["-std=c99", *SANITIZED])
     bare, racing = ["-fno-exceptions", "-fno-rtti", *OPTIMISED], ["-fsanitize=thread", "-g", "-O1"]
-    for compiler, name in product(CXX_COMPILERS, ("wrapper.cpp", "tables.cpp", "threads.cpp")):
+    cxx_callers = ("wrapper.cpp", "tables.cpp", "blocks.cpp", "threads.cpp")
+    for compiler, name in product(CXX_COMPILERS, cxx_callers):
         step, name = partial(call, place, f"tests/c/{name}", compiler), f"{name}, {compiler}"
         yield f"C++17, {name}", partial(step, [CXX17, *OPTIMISED])
         yield f"C++17 and the shared library, {name}", partial(step, [CXX17, *OPTIMISED], True)

@@ -65,7 +65,7 @@ build/jadvolni.wasm: $(LIBRARY_SOURCES)
 # What isn't exported stands in the header alone.
 EXPORTS := $(shell cut -d ' ' -f 1 packaging/symbols.txt)
 CALLS := $(EXPORTS) $(addsuffix _part,$(filter %_column,$(EXPORTS))) \
-    $(addprefix jadvolni_,parse format_of_radix status_name status_text)
+    $(addprefix jadvolni_,parse format_of_radix status_name status_text table_text)
 PAGES = $(DESTDIR)$(MANDIR)/man3
 TO = $(DESTDIR)$(LIBDIR)
 
