@@ -11,6 +11,7 @@ folder is written.
 from __future__ import annotations
 
 import argparse
+import glob
 import os
 import re
 import shutil
@@ -307,6 +308,22 @@ def cargo(place: Place) -> str:
     return f"{sum(map(int, passed))} tests"
 
 
+def serde(place: Place) -> str:
+    """Fields that serde reads, where Debian's package of it is installed."""
+    needs("cargo", "cc")
+    registry = "/usr/share/cargo/registry"
+    if not all(glob.glob(f"{registry}/{name}-1.*") for name in ("serde", "serde_json")):
+        raise Skipped("there is no librust-serde-dev and librust-serde-json-dev")
+    crate = shutil.copytree(source("tests", "rust_serde"), place.path("rust_serde"))
+    os.symlink(source("bindings", "rust"), os.path.join(crate, "rust"))
+    sources = (f'source.debian.directory = "{registry}"', 'source.crates-io.replace-with = "debian"')
+    given = [word for each in sources for word in ("--config", each)]
+    where = {**os.environ, "JADVOLNI_LIB_DIR": place.libraries,
+             "CARGO_TARGET_DIR": place.path("target")}
+    said = run(["cargo", "test", "--offline", "--quiet", *given], where, crate)
+    return f"{sum(map(int, re.findall(r'ok. ([0-9]+) passed', said)))} tests"
+
+
 def environment_of_python(place: Place, packed: str) -> Dict[str, str]:
     """The environment in which Python builds the binding, and finds it where it is unpacked."""
     paths = [packed, *filter(None, [os.environ.get("PYTHONPATH")])]
@@ -363,6 +380,7 @@ def steps(place: Place) -> Iterator[Step]:
     yield "manual pages", man_pages
     yield "examples in documents", documents
     yield "Rust", partial(cargo, place)
+    yield "Rust and serde", partial(serde, place)
     yield "Python", partial(python, place)
 
 
