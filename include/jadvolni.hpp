@@ -7,6 +7,8 @@
 //
 //     auto literal = jadvolni::parse_literal("0xFFull;", jadvolni::formats::c); // 255 and "ull"
 //
+//     auto port = jadvolni::parse_within<std::uint16_t>(text, 1, 65535); // or what it isn't
+//
 //     auto [ptr, ec] = jadvolni::from_chars(first, last, value); // as std::from_chars
 //
 //     std::vector<int> values(1000);
@@ -15,6 +17,7 @@
 // T may be any integer type of C++ but bool and the types of wide characters, and, with gcc and
 // clang, a type of 128 bits. No call throws or allocates, and the header compiles without exceptions
 // too. What the calls of jadvolni.h answer is proved; what this header adds to them is tested.
+// jadvolni_columns.hpp finds the columns of a table by the names of its header.
 #pragma once
 
 #if __cplusplus < 201703L
@@ -449,6 +452,13 @@ public:
     // What is wrong. Where the table or a column is refused, it says what that has to be.
     const char *message() const noexcept { return message_ ? message_ : outcome::message(); }
 
+    // The same where the text stands so many bytes further on.
+    table_result moved(std::size_t bytes) const noexcept
+    {
+        auto place = is_of_format() ? this->place() : this->place() + bytes;
+        return table_result({static_cast<std::uint32_t>(status()), column_, rows_, place}, message_);
+    }
+
     // How many rows were read. At a fault of the text that is the number of its row, from 0.
     std::size_t rows() const noexcept { return rows_; }
 
@@ -456,6 +466,14 @@ public:
     std::size_t column() const noexcept { return column_; }
 
 private:
+    // Whether it is a fault that has no place.
+    bool is_of_format() const noexcept
+    {
+        auto code = static_cast<std::uint32_t>(status());
+        return (code >= JADVOLNI_INVALID_MANTISSA_RADIX && code <= JADVOLNI_INVALID_LITERAL_PREFIXES)
+            || code == JADVOLNI_INVALID_TABLE || code >= JADVOLNI_UNKNOWN_FIELD;
+    }
+
     std::size_t rows_, column_;
     const char *message_;
 };
@@ -715,16 +733,35 @@ private:
     bool next()
     {
         while (!is_over_) {
+            if (!may_have_row()) {
+                if (auto trouble = fill()) return hindered(trouble);
+                continue;
+            }
             std::string_view text(bytes_ + first_, stop_ - first_);
             auto read = detail::read_table(text, is_last_, how_, capacity_, columns_, column_count_);
             is_over_ = !read;
             if (is_over_ || read.rows()) return tell(read, nullptr, read.place());
             pass(read.place());
-            const char *trouble = is_last_ ? without_room(stop_ - first_) : fill_further();
-            is_over_ = trouble || (is_last_ && first_ == stop_);
-            if (trouble) return tell(table_result({}), trouble, trouble == failed() ? 0 : open_quote());
+            tried_ = stop_ - first_;
+            is_over_ = is_last_ && first_ == stop_;
+            if (is_over_) return false;
+            if (auto trouble = is_last_ ? without_room() : fill()) return hindered(trouble);
         }
         return false;
+    }
+
+    // Whether the bytes that are left may have a whole row: one ends there, or they are twice as many as had none.
+    bool may_have_row() noexcept
+    {
+        auto left = stop_ - first_;
+        return is_last_ || left / 2 >= tried_ || ends_.ends_in(bytes_ + first_, left);
+    }
+
+    // Tells what hinders a row.
+    bool hindered(const char *trouble) noexcept
+    {
+        is_over_ = true;
+        return tell(table_result({}), trouble, trouble == failed() ? 0 : ends_.open_quote().value_or(0));
     }
 
     // Tells what was read from the first byte on, with a place behind it, and goes behind its rows.
@@ -741,34 +778,17 @@ private:
     // Goes behind so many bytes, which are whole rows.
     void pass(std::size_t size) noexcept
     {
+        if (size == 0) return;
         first_ += size;
-        if (size) ends_.begin();
-    }
-
-    // Where the row's quote stands that isn't closed; 0 where each is.
-    std::size_t open_quote() noexcept
-    {
-        ends_.ends_in(bytes_ + first_, stop_ - first_);
-        return ends_.open_quote().value_or(0);
+        tried_ = 0;
+        ends_.begin();
     }
 
     static const char *failed() noexcept { return "reading has failed"; }
-    const char *without_room(bool needs) noexcept
+    const char *without_room() noexcept
     {
-        if (!needs) return nullptr;
-        open_quote();
+        ends_.ends_in(bytes_ + first_, stop_ - first_);
         return ends_.open_quote() ? "a row has no room: a quote isn't closed" : "a row has no room";
-    }
-
-    // Puts bytes behind those that are left, until a row ends there, or they are twice as many as could end none.
-    // Answers what hinders it.
-    const char *fill_further()
-    {
-        const auto left = stop_ - first_;
-        do {
-            if (auto trouble = fill()) return trouble;
-        } while (!is_last_ && stop_ / 2 < left && !ends_.ends_in(bytes_ + first_, stop_ - first_));
-        return nullptr;
     }
 
     // Puts bytes there until a row ends in them, and answers that one, or nothing.
@@ -794,7 +814,7 @@ private:
         before_ += first_;
         stop_ -= first_;
         first_ = 0;
-        if (stop_ == size_) return without_room(true);
+        if (stop_ == size_) return without_room();
         auto count = static_cast<std::ptrdiff_t>(read_(bytes_ + stop_, size_ - stop_));
         if (count < 0 || static_cast<std::size_t>(count) > size_ - stop_) return failed();
         is_last_ = count == 0;
@@ -810,8 +830,8 @@ private:
     table_column *columns_ = nullptr;
     std::size_t column_count_ = 0;
     detail::row_ends ends_;
-    // The bytes that are left, how many came before all of them, and how many rows.
-    std::size_t first_ = 0, stop_ = 0, before_ = 0, row_ = 0;
+    // The bytes that are left, how many of them had no whole row, how many came before all of them, and how many rows.
+    std::size_t first_ = 0, stop_ = 0, tried_ = 0, before_ = 0, row_ = 0;
     bool is_last_ = false, is_over_ = false;
     table_block block_{table_result({}), 0, 0, nullptr};
 };
@@ -869,3 +889,5 @@ std::from_chars_result from_chars(const char *first, const char *last, T &value,
 }
 
 } // namespace jadvolni
+
+#include "jadvolni_within.hpp"

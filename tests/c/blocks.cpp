@@ -9,13 +9,15 @@
 
 using jadvolni::status;
 
-// Hands out so many bytes at once, and counts its calls. A call behind the text's end answers 0.
+// Hands out so many bytes at once, and counts its calls. Behind the text's end it answers 0, and where it is asked
+// for, it fails in every second call.
 struct source {
     std::string_view text;
     std::size_t step, *calls;
+    bool fails = false;
     std::ptrdiff_t operator()(char *to, std::size_t room)
     {
-        ++*calls;
+        if (++*calls % 2 == 1 && fails) return -1;
         auto front = text.substr(0, std::min(step, room));
         text.remove_prefix(front.size());
         std::copy(front.begin(), front.end(), to);
@@ -38,7 +40,7 @@ static std::string read(std::string_view text, std::size_t step, std::size_t siz
     std::vector<char> bytes(size);
     int numbers[4] = {};
     jadvolni::table_column columns[] = {{}, jadvolni::column_into(numbers)};
-    jadvolni::table_blocks blocks(source{text, step, &calls}, bytes, how, 4, columns);
+    jadvolni::table_blocks blocks(source{text, step, &calls, false}, bytes, how, 4, columns);
     std::string told;
     for (const jadvolni::table_block &block : blocks) {
         for (std::size_t row = 0; row < block.rows(); ++row) told += std::to_string(numbers[row]) + ' ';
@@ -50,7 +52,7 @@ static std::string read(std::string_view text, std::size_t step, std::size_t siz
 // Rows of megabytes, byte by byte: what looked at a byte for each one that follows would need hours.
 static void byte_by_byte()
 {
-    const std::size_t length = 4 << 20;
+    const std::size_t length = 1 << 20;
     for (char fill : {'x', '\n', '"'}) {
         std::string text = '"' + std::string(length, fill) + "\",7\nx,8\n";
         CHECK(read(text, 1, length + 100, commas(true)) == "7 8 ");
@@ -64,6 +66,17 @@ static void byte_by_byte()
     auto records = commas(false);
     records.widths = widths, records.width_count = 2, records.is_records = 1;
     CHECK(read(std::string(length, '\n') + "12", 1, length + 2, records) == "12 ");
+    // The same from a source that fails between two bytes.
+    std::string text = '"' + std::string(length, '\n') + "\",7\nx,8\n", bytes(length + 100, ' ');
+    std::size_t calls = 0, rows = 0, failures = 0;
+    int numbers[4] = {};
+    jadvolni::table_column columns[] = {{}, jadvolni::column_into(numbers)};
+    jadvolni::table_blocks blocks(source{text, 1, &calls, true}, bytes, commas(true), 4, columns);
+    for (std::size_t before = calls + 1; before != calls;) {
+        before = calls;
+        for (const jadvolni::table_block &block : blocks) rows += block.rows(), failures += !block;
+    }
+    CHECK(rows == 2 && numbers[0] == 8 && failures == text.size() + 1);
 }
 
 // A row is handed over as soon as it ends: none waits for bytes that may be far away.
@@ -74,7 +87,7 @@ static void at_once()
     std::vector<char> bytes(100);
     int numbers[4] = {};
     jadvolni::table_column columns[] = {{}, jadvolni::column_into(numbers)};
-    jadvolni::table_blocks blocks(source{text, 1, &calls}, bytes, commas(true), 4, columns);
+    jadvolni::table_blocks blocks(source{text, 1, &calls, false}, bytes, commas(true), 4, columns);
     auto block = blocks.begin();
     for (std::size_t stop : {4u, 13u, 24u}) {
         CHECK(block->rows() == 1 && block->place() == stop && calls == stop && ends[stop - 1] == '\n');
@@ -112,7 +125,7 @@ static void refused_columns()
         CHECK(std::strstr(told.message(), wanted));
         std::size_t calls = 0;
         char bytes[9];
-        jadvolni::table_blocks blocks(source{"1,2\n", 9, &calls}, bytes, commas(false), rows, columns);
+        jadvolni::table_blocks blocks(source{"1,2\n", 9, &calls, false}, bytes, commas(false), rows, columns);
         CHECK(blocks.begin()->column() == column && std::strstr(blocks.begin()->message(), wanted));
     };
     int numbers[4], others[4];
@@ -148,7 +161,7 @@ static void headers()
         std::size_t calls = 0;
         std::vector<char> bytes(size);
         int numbers[4] = {};
-        jadvolni::table_blocks blocks(source{text, step, &calls}, bytes, how, 4);
+        jadvolni::table_blocks blocks(source{text, step, &calls, false}, bytes, how, 4);
         std::string told(blocks.header());
         jadvolni::table_column columns[] = {{}, jadvolni::column_into(numbers)};
         blocks.read_into(columns);
