@@ -164,7 +164,8 @@ typedef enum jadvolni_status {
 
     /* A reserved byte of the table isn't 0, it has widths, and not one for each column, or its rows are
      * records, and it has none; or the array or the bits of a column have less room than rows are
-     * asked for, or it has a format and no room, and then that column is told. The place is 0. */
+     * asked for, or it has a format and no room, and then that column is told. The place is 0.
+     * jadvolni_table_text says which it is. */
     JADVOLNI_INVALID_TABLE = 17,
 
     /* A quote in a cell is neither its first and last byte nor doubled, or there is an odd number of
@@ -505,8 +506,31 @@ JADVOLNI_CALLS_(isize, ptrdiff_t);
 #undef JADVOLNI_CALL_
 
 #if !defined __cplusplus && defined __STDC_VERSION__ && __STDC_VERSION__ >= 201112L
+/* What is called where `value` of jadvolni_parse points to no integer: gcc and clang say what it has to be. */
+#ifdef __has_attribute
+#if __has_attribute(error)
+__attribute__((error("jadvolni_parse: `value` has to point to an integer of 8, 16, 32, 64 or 128 bits, "
+                     "and to no char, bool or constant")))
+#endif
+#endif
+jadvolni_result jadvolni_parse_has_no_integer_to_write_to_(const char *text, size_t len, const void *value);
+
+/* A type that has the 64 bits of another, and isn't it, as `long long` where int64_t is `long`. */
+#define JADVOLNI_SAME_BITS_(name, type, kept, call)                                   \
+    static inline JADVOLNI_CHECKED_(3) jadvolni_result jadvolni_parse_##name##_(      \
+        const char *text, size_t len, type *value)                                    \
+    {                                                                                 \
+        kept number;                                                                  \
+        jadvolni_result answer = call(text, len, &number);                            \
+        if (answer.status == JADVOLNI_OK) *value = number;                            \
+        return answer;                                                                \
+    }
+JADVOLNI_SAME_BITS_(llong, long long, int64_t, jadvolni_parse_i64)
+JADVOLNI_SAME_BITS_(ullong, unsigned long long, uint64_t, jadvolni_parse_u64)
+#undef JADVOLNI_SAME_BITS_
+
 /* The whole text as a number of the type that `value` points to. A size_t and a ptrdiff_t are read as
- * the uint64_t and int64_t that they are; a long long is another type, and is none of these. */
+ * the uint64_t and int64_t that they are, and so are both kinds of `long long`. */
 #define jadvolni_parse(text, len, value)         \
     _Generic((value),                            \
         uint8_t *: jadvolni_parse_u8,            \
@@ -518,7 +542,13 @@ JADVOLNI_CALLS_(isize, ptrdiff_t);
         int16_t *: jadvolni_parse_i16,           \
         int32_t *: jadvolni_parse_i32,           \
         int64_t *: jadvolni_parse_i64,           \
-        jadvolni_int128 *: jadvolni_parse_i128)(text, len, value)
+        jadvolni_int128 *: jadvolni_parse_i128,  \
+        default: _Generic((value),               \
+            long long *: jadvolni_parse_llong_,  \
+            unsigned long long *:                \
+                jadvolni_parse_ullong_,          \
+            default:                             \
+                jadvolni_parse_has_no_integer_to_write_to_))(text, len, value)
 #endif
 
 /* ---- literals ---- */
@@ -821,7 +851,7 @@ typedef struct jadvolni_table_result {
  *     jadvolni_table_result r = jadvolni_parse_table(text, len, true, &ledger, 1000, columns, 3);
  *     if (r.status != JADVOLNI_OK)
  *         fprintf(stderr, "row %zu, column %zu, byte %zu: %s\n", r.rows + 1, r.column + 1, r.place,
- *                 jadvolni_status_text(r.status));
+ *                 jadvolni_table_text(r, &ledger, 1000, columns, 3));
  *
  *     r.status  JADVOLNI_OK, or what is wrong with the first wrong cell in reading order, row by row,
  *               and in a row cell by cell, then their number, then the return. What is wrong with the
@@ -983,6 +1013,44 @@ static inline const char *jadvolni_status_text(uint32_t status)
         return "the reserved bytes and bits of the format have to be 0";
     default: return "a status that only a later library has";
     }
+}
+
+/* What a column breaks that is refused with a status, where so many rows are asked for. */
+static inline const char *jadvolni_column_text_(uint32_t status, size_t rows,
+                                                const jadvolni_table_column *column)
+{
+    const size_t rooms[] = {column->i64.capacity, column->u64.capacity, column->i32.capacity,
+                            column->u32.capacity, column->i16.capacity, column->u16.capacity,
+                            column->i8.capacity, column->u8.capacity};
+    size_t first = 0;
+    while (first < 7 && rooms[first] == 0) first++; /* the first that has room is the column's */
+    if (status == JADVOLNI_INVALID_MANTISSA_RADIX && column->format.mantissa_radix == 0)
+        return "the column has an array and no format: set it, as to the standard format";
+    if (status != JADVOLNI_INVALID_TABLE) return jadvolni_status_text(status);
+    if (rooms[first] == 0)
+        return "the column has a format, and no array that has room: set an array and its capacity, or "
+               "leave out the format too, and the column isn't read";
+    if (rooms[first] < rows) return "the column's array has room for fewer rows than are asked for";
+    return "the column's bits have room for fewer rows than are asked for: a byte is for 8 rows";
+}
+
+/* What an answer of jadvolni_parse_table says, which was called with these arguments: the text of its
+ * status, and where the table or the column `answer.column` is refused, which condition it breaks. */
+static inline const char *jadvolni_table_text(jadvolni_table_result answer, const jadvolni_table *table,
+                                              size_t capacity, const jadvolni_table_column *columns,
+                                              size_t column_count)
+{
+    if (answer.status == JADVOLNI_INVALID_TABLE) {
+        size_t place;
+        for (place = 0; place < sizeof table->reserved; place++)
+            if (table->reserved[place] != 0) return "the reserved bytes of the table have to be 0";
+        if (table->width_count != 0 && table->width_count != column_count)
+            return "the table has widths, and not one for each column";
+        if (table->width_count == 0 && table->is_records != 0)
+            return "a table whose rows are records needs widths";
+    }
+    if (answer.column >= column_count) return jadvolni_status_text(answer.status);
+    return jadvolni_column_text_(answer.status, capacity, &columns[answer.column]);
 }
 
 #ifdef __SIZEOF_INT128__

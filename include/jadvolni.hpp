@@ -7,6 +7,8 @@
 //
 //     auto literal = jadvolni::parse_literal("0xFFull;", jadvolni::formats::c); // 255 and "ull"
 //
+//     auto port = jadvolni::parse_within<std::uint16_t>(text, 1, 65535); // or what it isn't
+//
 //     auto [ptr, ec] = jadvolni::from_chars(first, last, value); // as std::from_chars
 //
 //     std::vector<int> values(1000);
@@ -15,6 +17,7 @@
 // T may be any integer type of C++ but bool and the types of wide characters, and, with gcc and
 // clang, a type of 128 bits. No call throws or allocates, and the header compiles without exceptions
 // too. What the calls of jadvolni.h answer is proved; what this header adds to them is tested.
+// jadvolni_columns.hpp finds the columns of a table by the names of its header.
 #pragma once
 
 #if __cplusplus < 201703L
@@ -23,6 +26,7 @@
 
 #include "jadvolni.h"
 
+#include <algorithm>
 #include <cassert>
 #include <charconv>
 #include <cstddef>
@@ -222,6 +226,12 @@ JADVOLNI_COLUMN_OF_(std::int32_t, i32);
 JADVOLNI_COLUMN_OF_(std::int64_t, i64);
 #undef JADVOLNI_COLUMN_OF_
 
+// Whether a temporary one may be handed over, as a std::span: it owns no numbers, so that nothing ends with
+// it, and gives numbers that may be written where it is itself constant.
+template <class Values>
+inline constexpr bool is_view = std::is_trivially_destructible_v<Values>
+    && !std::is_const_v<std::remove_pointer_t<decltype(std::data(std::declval<const Values &>()))>>;
+
 template <class T, class... Others>
 inline constexpr bool is_one_of = (std::is_same_v<T, Others> || ...);
 
@@ -418,8 +428,7 @@ template <class Values>
 [[nodiscard]] auto column_into(Values &&values, const format &under = standard) noexcept
     -> decltype(column_into(std::data(values), std::size(values), under))
 {
-    // A span may be a temporary.
-    static_assert(std::is_lvalue_reference_v<Values> || std::is_trivially_destructible_v<Values>,
+    static_assert(std::is_lvalue_reference_v<Values> || detail::is_view<Values>,
                   "the numbers have to outlive the column");
     return column_into(std::data(values), std::size(values), under);
 }
@@ -435,9 +444,19 @@ template <class Bits>
 // What was read of a table: a count of rows, and where reading stopped or what is wrong there.
 class table_result : public outcome {
 public:
-    explicit table_result(jadvolni_table_result answer) noexcept
-        : outcome(answer.status, answer.place), rows_(answer.rows), column_(answer.column)
+    explicit table_result(jadvolni_table_result answer, const char *message = nullptr) noexcept
+        : outcome(answer.status, answer.place), rows_(answer.rows), column_(answer.column), message_(message)
     {
+    }
+
+    // What is wrong. Where the table or a column is refused, it says what that has to be.
+    const char *message() const noexcept { return message_ ? message_ : outcome::message(); }
+
+    // The same where the text stands so many bytes further on.
+    table_result moved(std::size_t bytes) const noexcept
+    {
+        auto place = is_of_format() ? this->place() : this->place() + bytes;
+        return table_result({static_cast<std::uint32_t>(status()), column_, rows_, place}, message_);
     }
 
     // How many rows were read. At a fault of the text that is the number of its row, from 0.
@@ -447,8 +466,132 @@ public:
     std::size_t column() const noexcept { return column_; }
 
 private:
+    // Whether it is a fault that has no place.
+    bool is_of_format() const noexcept
+    {
+        auto code = static_cast<std::uint32_t>(status());
+        return (code >= JADVOLNI_INVALID_MANTISSA_RADIX && code <= JADVOLNI_INVALID_LITERAL_PREFIXES)
+            || code == JADVOLNI_INVALID_TABLE || code >= JADVOLNI_UNKNOWN_FIELD;
+    }
+
     std::size_t rows_, column_;
+    const char *message_;
 };
+
+namespace detail {
+
+// The bytes that a column writes of so many rows: its numbers, and its bits.
+struct written {
+    std::uintptr_t numbers, numbers_stop, bits, bits_stop;
+
+    written(const table_column &column, std::size_t rows) noexcept
+        : numbers(0), numbers_stop(0), bits(reinterpret_cast<std::uintptr_t>(column.present.bytes)),
+          bits_stop(bits + std::min(column.present.size, rows / 8 + (rows % 8 != 0)))
+    {
+        auto take = [&](const auto &array) noexcept {
+            if (numbers_stop != 0 || array.capacity == 0) return;
+            numbers = reinterpret_cast<std::uintptr_t>(array.numbers);
+            numbers_stop = numbers + std::min(rows, array.capacity) * sizeof *array.numbers;
+        };
+        take(column.i64), take(column.u64), take(column.i32), take(column.u32);
+        take(column.i16), take(column.u16), take(column.i8), take(column.u8);
+    }
+
+    static bool meet(std::uintptr_t one, std::uintptr_t one_stop, std::uintptr_t other,
+                     std::uintptr_t other_stop) noexcept
+    {
+        return one < other_stop && other < one_stop;
+    }
+
+    // Whether a byte is written for two columns.
+    bool meets(const written &other) const noexcept
+    {
+        return meet(numbers, numbers_stop, other.numbers, other.numbers_stop)
+            || meet(numbers, numbers_stop, other.bits, other.bits_stop)
+            || meet(bits, bits_stop, other.numbers, other.numbers_stop)
+            || meet(bits, bits_stop, other.bits, other.bits_stop);
+    }
+    bool meets_itself() const noexcept { return meet(numbers, numbers_stop, bits, bits_stop); }
+};
+
+// The first column that writes where itself or one before it does, or how many there are.
+inline std::size_t overlapping(const table_column *columns, std::size_t count, std::size_t rows) noexcept
+{
+    for (std::size_t index = 0; index < count; ++index) {
+        written here(columns[index], rows);
+        if (here.meets_itself()) return index;
+        if (here.numbers_stop == 0) continue; // it isn't read
+        for (std::size_t before = 0; before < index; ++before)
+            if (here.meets(written(columns[before], rows))) return index;
+    }
+    return count;
+}
+
+// The rows of a part of a text. Columns that write to one place are refused, which the library can't see.
+inline table_result read_table(std::string_view text, bool is_last, const table &how, std::size_t capacity,
+                               table_column *columns, std::size_t count) noexcept
+{
+    auto wrong = overlapping(columns, count, capacity);
+    if (wrong != count)
+        return table_result({JADVOLNI_INVALID_TABLE, wrong, 0, 0},
+                            "the column's array overlaps with that of another column, or with bits");
+    auto answer = jadvolni_parse_table(text.data(), text.size(), is_last, &how, capacity, columns, count);
+    if (answer.status == JADVOLNI_OK) return table_result(answer);
+    return table_result(answer, jadvolni_table_text(answer, &how, capacity, columns, count));
+}
+
+// Whether a row ends in bytes that come little by little: each is looked at once.
+class row_ends {
+public:
+    explicit row_ends(const table &how) noexcept : has_quotes_(how.has_quotes != 0)
+    {
+        if (!how.is_records) return;
+        for (std::size_t column = 0; column < how.width_count; ++column) {
+            auto room = std::size_t(-1) - record_size_;
+            record_size_ += std::min(room, how.widths[column]);
+        }
+        record_size_ = std::max<std::size_t>(record_size_, 1);
+    }
+
+    // Another row begins.
+    void begin() noexcept { seen_ = quote_ = closed_ = 0, is_open_ = false; }
+
+    // Whether the row ends in its first bytes, of which those that it was asked before are the front.
+    bool ends_in(const char *row, std::size_t size) noexcept
+    {
+        if (record_size_) return size >= record_size_;
+        for (; seen_ < size; ++seen_) {
+            if (row[seen_] == '"' && has_quotes_) see_quote();
+            else if (row[seen_] == '\n' && !is_open_) return true;
+        }
+        return false;
+    }
+
+    // Where the row stops, that ends in what was seen.
+    std::size_t stop() const noexcept { return record_size_ ? record_size_ : seen_ + 1; }
+
+    // The place in the row of a quote that isn't closed in what was seen, if there is one.
+    std::optional<std::size_t> open_quote() const noexcept
+    {
+        return is_open_ ? std::optional<std::size_t>(quote_) : std::nullopt;
+    }
+
+private:
+    // A quote directly behind one that closes makes with it one that is doubled, and the cell goes on.
+    void see_quote() noexcept
+    {
+        if (is_open_) closed_ = seen_ + 1;
+        else if (closed_ != seen_ || seen_ == 0) quote_ = seen_;
+        is_open_ = !is_open_;
+    }
+
+    // The size of a record, or 0; how many bytes were seen, the last quote that opens, and the place behind the
+    // last one that closes.
+    std::size_t record_size_ = 0, seen_ = 0, quote_ = 0, closed_ = 0;
+    bool has_quotes_, is_open_ = false;
+};
+
+} // namespace detail
 
 // The rows of a part of a text, as a block of a file: its whole ones, and all where it is the last part;
 // each column into an array of its own. Put the bytes from place() on in front of the next part. Where
@@ -457,8 +600,7 @@ template <class Columns>
 [[nodiscard]] table_result parse_table_part(std::string_view text, bool is_last, const table &how,
                                             std::size_t capacity, Columns &&columns) noexcept
 {
-    return table_result(jadvolni_parse_table(text.data(), text.size(), is_last, &how, capacity,
-                                             std::data(columns), std::size(columns)));
+    return detail::read_table(text, is_last, how, capacity, std::data(columns), std::size(columns));
 }
 
 // The rows of a text, `capacity` at most. The numbers of all cells before a wrong one stand, and the
@@ -473,8 +615,8 @@ template <class Columns>
 // What was read of a block: rows, or what is wrong.
 class table_block : table_result {
 public:
-    table_block(jadvolni_table_result answer, std::size_t first_row, const char *trouble) noexcept
-        : table_result(answer), first_row_(first_row), trouble_(trouble)
+    table_block(const table_result &read, std::size_t first_row, std::size_t place, const char *trouble) noexcept
+        : table_result(read), first_row_(first_row), place_(place), trouble_(trouble)
     {
     }
 
@@ -491,11 +633,12 @@ public:
     using table_result::column, table_result::status, table_result::name;
     const char *message() const noexcept { return trouble_ ? trouble_ : table_result::message(); }
 
-    // Where reading stopped, or the place of the fault, in all that was read.
-    using table_result::place;
+    // Where reading stopped, or the place of the fault, in all that was read. Of a row without room it is
+    // that of its quote that isn't closed, or where it starts.
+    std::size_t place() const noexcept { return place_; }
 
 private:
-    std::size_t first_row_;
+    std::size_t first_row_, place_;
     const char *trouble_;
 };
 
@@ -509,7 +652,8 @@ private:
 //         else std::cerr << block.message() << " at byte " << block.place() << '\n';
 //
 // `read` puts bytes to where it is told, and answers how many: 0 at the end, a negative number where it
-// fails, also over std::fread or a std::istream, which say nothing else at a fault than at the end.
+// fails, also over std::fread or a std::istream, which say nothing else at a fault than at the end. It may
+// hand out one byte at a time: no byte is looked at more often for it.
 // Nothing follows a block that is wrong. Another loop goes on where the last one stopped, and reads
 // again where that failed.
 template <class Read>
@@ -541,9 +685,40 @@ public:
 
     template <class Bytes, class Columns>
     table_blocks(Read read, Bytes &bytes, const table &how, std::size_t capacity, Columns &columns)
-        : read_(std::move(read)), bytes_(std::data(bytes)), size_(std::size(bytes)), how_(how),
-          capacity_(capacity), columns_(std::data(columns)), column_count_(std::size(columns))
+        : table_blocks(std::move(read), bytes, how, capacity)
     {
+        read_into(columns);
+    }
+
+    // Without columns yet: read_into sets them, before the first block.
+    template <class Bytes>
+    table_blocks(Read read, Bytes &bytes, const table &how, std::size_t capacity)
+        : read_(std::move(read)), bytes_(std::data(bytes)), size_(std::size(bytes)), how_(how),
+          capacity_(capacity), ends_(how)
+    {
+    }
+
+    // The columns of the blocks from here on.
+    template <class Columns>
+    void read_into(Columns &columns) noexcept
+    {
+        columns_ = std::data(columns);
+        column_count_ = std::size(columns);
+    }
+
+    // The first row of all, which is a header and no row of the table, with what ends it: so jadvolni_columns.hpp
+    // finds columns by their names. Ask for it before the first block. It is among the bytes until that is read,
+    // and empty where there is no row, where it has no room, or where reading fails, which the first block tells.
+    std::string_view header()
+    {
+        pass_byte_order_mark();
+        std::string_view row;
+        do {
+            pass(row.size());
+            row = first_row();
+        } while (how_.skips_empty_rows && (row == "\n" || (row == "\r\n" && how_.has_returns)));
+        pass(row.size());
+        return row;
     }
 
     iterator begin()
@@ -558,43 +733,90 @@ private:
     bool next()
     {
         while (!is_over_) {
-            auto answer = jadvolni_parse_table(bytes_ + first_, stop_ - first_, is_last_, &how_, capacity_,
-                                               columns_, column_count_);
-            is_over_ = answer.status != JADVOLNI_OK;
-            if (is_over_ || answer.rows) return tell(answer, nullptr);
-            first_ += answer.place;
-            const char *trouble = is_last_ ? without_room(stop_ - first_) : fill();
-            is_over_ = trouble || (is_last_ && first_ == stop_);
-            if (trouble) return tell({}, trouble);
+            if (!may_have_row()) {
+                if (auto trouble = fill()) return hindered(trouble);
+                continue;
+            }
+            std::string_view text(bytes_ + first_, stop_ - first_);
+            auto read = detail::read_table(text, is_last_, how_, capacity_, columns_, column_count_);
+            is_over_ = !read;
+            if (is_over_ || read.rows()) return tell(read, nullptr, read.place());
+            pass(read.place());
+            tried_ = stop_ - first_;
+            is_over_ = is_last_ && first_ == stop_;
+            if (is_over_) return false;
+            if (auto trouble = is_last_ ? without_room() : fill()) return hindered(trouble);
         }
         return false;
     }
 
-    // Tells what was read from the first byte on, and goes behind its rows.
-    bool tell(jadvolni_table_result answer, const char *trouble) noexcept
+    // Whether the bytes that are left may have a whole row: one ends there, or they are twice as many as had none.
+    bool may_have_row() noexcept
     {
-        auto place = answer.place;
-        answer.place += before_ + first_;
-        block_ = table_block(answer, row_, trouble);
+        auto left = stop_ - first_;
+        return is_last_ || left / 2 >= tried_ || ends_.ends_in(bytes_ + first_, left);
+    }
+
+    // Tells what hinders a row.
+    bool hindered(const char *trouble) noexcept
+    {
+        is_over_ = true;
+        return tell(table_result({}), trouble, trouble == failed() ? 0 : ends_.open_quote().value_or(0));
+    }
+
+    // Tells what was read from the first byte on, with a place behind it, and goes behind its rows.
+    bool tell(const table_result &read, const char *trouble, std::size_t place) noexcept
+    {
+        block_ = table_block(read, row_, before_ + first_ + place, trouble);
         if (!is_over_) {
-            first_ += place;
-            row_ += answer.rows;
+            pass(read.place());
+            row_ += read.rows();
         }
         return true;
     }
 
-    static const char *without_room(bool needs) noexcept { return needs ? "a row has no room" : nullptr; }
+    // Goes behind so many bytes, which are whole rows.
+    void pass(std::size_t size) noexcept
+    {
+        if (size == 0) return;
+        first_ += size;
+        tried_ = 0;
+        ends_.begin();
+    }
 
-    // Puts more bytes behind those that are left. Answers what hinders it.
+    static const char *failed() noexcept { return "reading has failed"; }
+    const char *without_room() noexcept
+    {
+        ends_.ends_in(bytes_ + first_, stop_ - first_);
+        return ends_.open_quote() ? "a row has no room: a quote isn't closed" : "a row has no room";
+    }
+
+    // Puts bytes there until a row ends in them, and answers that one, or nothing.
+    std::string_view first_row()
+    {
+        while (!ends_.ends_in(bytes_ + first_, stop_ - first_))
+            if (is_last_ || fill()) return {bytes_ + first_, is_last_ ? stop_ - first_ : 0};
+        return {bytes_ + first_, ends_.stop()};
+    }
+
+    // Goes behind a byte order mark in front of all.
+    void pass_byte_order_mark()
+    {
+        while (stop_ < 3 && !is_last_ && !fill()) {}
+        std::string_view front(bytes_, stop_);
+        if (before_ + first_ == 0 && front.substr(0, 3) == "\xEF\xBB\xBF") pass(3);
+    }
+
+    // Puts bytes there once. Answers what hinders it.
     const char *fill()
     {
         if (first_) std::memmove(bytes_, bytes_ + first_, stop_ - first_);
         before_ += first_;
         stop_ -= first_;
         first_ = 0;
-        if (stop_ == size_) return without_room(true);
+        if (stop_ == size_) return without_room();
         auto count = static_cast<std::ptrdiff_t>(read_(bytes_ + stop_, size_ - stop_));
-        if (count < 0 || static_cast<std::size_t>(count) > size_ - stop_) return "reading has failed";
+        if (count < 0 || static_cast<std::size_t>(count) > size_ - stop_) return failed();
         is_last_ = count == 0;
         stop_ += static_cast<std::size_t>(count);
         return nullptr;
@@ -605,12 +827,13 @@ private:
     std::size_t size_;
     table how_;
     std::size_t capacity_;
-    table_column *columns_;
-    std::size_t column_count_;
-    // The bytes that are left, how many came before all of them, and how many rows.
-    std::size_t first_ = 0, stop_ = 0, before_ = 0, row_ = 0;
+    table_column *columns_ = nullptr;
+    std::size_t column_count_ = 0;
+    detail::row_ends ends_;
+    // The bytes that are left, how many of them had no whole row, how many came before all of them, and how many rows.
+    std::size_t first_ = 0, stop_ = 0, tried_ = 0, before_ = 0, row_ = 0;
     bool is_last_ = false, is_over_ = false;
-    table_block block_{{}, 0, nullptr};
+    table_block block_{table_result({}), 0, 0, nullptr};
 };
 
 namespace detail {
@@ -666,3 +889,5 @@ std::from_chars_result from_chars(const char *first, const char *last, T &value,
 }
 
 } // namespace jadvolni
+
+#include "jadvolni_within.hpp"

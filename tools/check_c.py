@@ -11,6 +11,7 @@ folder is written.
 from __future__ import annotations
 
 import argparse
+import glob
 import os
 import re
 import shutil
@@ -169,14 +170,15 @@ def messages(place: Place) -> str:
 
 def calls(place: Place) -> Iterator[Step]:
     """Each caller, by each of its compilers, with both libraries and under sanitizers."""
-    c_callers = ("calls.c", "columns.c", "random_columns.c", "tables.c")
+    c_callers = ("calls.c", "columns.c", "random_columns.c", "tables.c", "table_texts.c")
     for compiler, name in product(C_COMPILERS, c_callers):
         step, name = partial(call, place, f"tests/c/{name}", compiler), f"{name}, {compiler}"
         yield f"C99, {name}", partial(step, ["-std=c99", *OPTIMISED])
         yield f"C11 and the shared library, {name}", partial(step, ["-std=c11", *OPTIMISED], True)
         yield f"C99 under sanitizers, {name}", partial(step, ["-std=c99", *SANITIZED])
     bare, racing = ["-fno-exceptions", "-fno-rtti", *OPTIMISED], ["-fsanitize=thread", "-g", "-O1"]
-    for compiler, name in product(CXX_COMPILERS, ("wrapper.cpp", "tables.cpp", "threads.cpp")):
+    cxx_callers = ("wrapper.cpp", "tables.cpp", "blocks.cpp", "by_header.cpp", "threads.cpp")
+    for compiler, name in product(CXX_COMPILERS, cxx_callers):
         step, name = partial(call, place, f"tests/c/{name}", compiler), f"{name}, {compiler}"
         yield f"C++17, {name}", partial(step, [CXX17, *OPTIMISED])
         yield f"C++17 and the shared library, {name}", partial(step, [CXX17, *OPTIMISED], True)
@@ -306,6 +308,22 @@ def cargo(place: Place) -> str:
     return f"{sum(map(int, passed))} tests"
 
 
+def serde(place: Place) -> str:
+    """Fields that serde reads, where Debian's package of it is installed."""
+    needs("cargo", "cc")
+    registry = "/usr/share/cargo/registry"
+    if not all(glob.glob(f"{registry}/{name}-1.*") for name in ("serde", "serde_json")):
+        raise Skipped("there is no librust-serde-dev and librust-serde-json-dev")
+    crate = shutil.copytree(source("tests", "rust_serde"), place.path("rust_serde"))
+    os.symlink(source("bindings", "rust"), os.path.join(crate, "rust"))
+    sources = (f'source.debian.directory = "{registry}"', 'source.crates-io.replace-with = "debian"')
+    given = [word for each in sources for word in ("--config", each)]
+    where = {**os.environ, "JADVOLNI_LIB_DIR": place.libraries,
+             "CARGO_TARGET_DIR": place.path("target")}
+    said = run(["cargo", "test", "--offline", "--quiet", *given], where, crate)
+    return f"{sum(map(int, re.findall(r'ok. ([0-9]+) passed', said)))} tests"
+
+
 def environment_of_python(place: Place, packed: str) -> Dict[str, str]:
     """The environment in which Python builds the binding, and finds it where it is unpacked."""
     paths = [packed, *filter(None, [os.environ.get("PYTHONPATH")])]
@@ -362,6 +380,7 @@ def steps(place: Place) -> Iterator[Step]:
     yield "manual pages", man_pages
     yield "examples in documents", documents
     yield "Rust", partial(cargo, place)
+    yield "Rust and serde", partial(serde, place)
     yield "Python", partial(python, place)
 
 

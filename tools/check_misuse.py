@@ -1,6 +1,6 @@
 """What compilers say of calls that break the headers' conditions: a part of make test-c.
 
-tests/c/misuse.c and misuse.cpp have such calls by number, and what each compiler has to say of it.
+The files of FILES, in tests/c, have such calls by number, and what each compiler has to say of it.
 Number 0 breaks none, and is compiled without a word; but a standard that is too old is told.
 """
 from __future__ import annotations
@@ -12,7 +12,8 @@ from typing import Iterator
 
 from callers import C_COMPILERS, CXX17, OPTIMISED, Failed, Place, Step, needs, source, text_of
 
-FILES = {"misuse.c": ["-std=c99"], "misuse.cpp": [CXX17, "-Wold-style-cast"]}
+FILES = {"misuse.c": ["-std=c99"], "any_integer.c": ["-std=c11"],
+         "misuse.cpp": [CXX17, "-Wold-style-cast"]}
 OLD = [("misuse.c", ["-std=c89"], "needs C99"), ("misuse.cpp", ["-std=c++14"], r"needs C\+\+17"),
        ("misuse.c", ["-xc++", "-std=c++98"], r"needs C\+\+11")]
 

@@ -332,8 +332,8 @@ OF_STATUSES = [
            lambda them: in_cases(them, lambda it: f'"{it.name}"')),
     Region(HEADER, f"jadvolni_status_text{SWITCH}", "    default: return \"a status",
            lambda them: in_cases(them, lambda it: quoted(it.about, 76, '"\n' + " " * 15 + '"'))),
-    Region("bindings/rust/jadvolni/src/error.rs", "        f.write_str(match self {\n",
-           "        })?;\n", in_display),
+    Region("bindings/rust/jadvolni/src/error.rs", "&'static str {\n        match self {\n",
+           "        }\n", in_display),
 ]
 
 

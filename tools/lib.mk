@@ -9,6 +9,7 @@ LICENCES := $(wildcard LICENSE-APACHE LICENSE-MIT NOTICE)
 # The version stands in the header alone. A program runs with every later library of its major version.
 VERSION := $(shell sed -n 's/.*JADVOLNI_VERSION_STRING "\(.*\)"/\1/p' include/jadvolni.h)
 SOVERSION := $(firstword $(subst ., ,$(VERSION)))
+HEADERS := jadvolni.h jadvolni.hpp jadvolni_within.hpp jadvolni_columns.hpp
 LIBRARIES := build/libjadvolni.a build/libjadvolni.so
 # The shared library, where there is a compiler that links it.
 SHARED := $(if $(shell command -v $(CC) 2>/dev/null),build/libjadvolni.so)
@@ -65,7 +66,7 @@ build/jadvolni.wasm: $(LIBRARY_SOURCES)
 # What isn't exported stands in the header alone.
 EXPORTS := $(shell cut -d ' ' -f 1 packaging/symbols.txt)
 CALLS := $(EXPORTS) $(addsuffix _part,$(filter %_column,$(EXPORTS))) \
-    $(addprefix jadvolni_,parse format_of_radix status_name status_text)
+    $(addprefix jadvolni_,parse format_of_radix status_name status_text table_text)
 PAGES = $(DESTDIR)$(MANDIR)/man3
 TO = $(DESTDIR)$(LIBDIR)
 
@@ -83,7 +84,7 @@ FILL = umask 022; sed -e 's|@PREFIX@|$(PREFIX)|; s|@LIBDIR@|$(LIBDIR)|; s|@INCLU
 
 install-lib: paths $(LIBRARIES) ## puts the library where compilers look: PREFIX, LIBDIR, DESTDIR
 	install -d "$(DESTDIR)$(INCLUDEDIR)" "$(TO)/pkgconfig" "$(TO)/cmake/jadvolni" "$(PAGES)" "$(DESTDIR)$(DOCDIR)"
-	install -m 644 include/jadvolni.h include/jadvolni.hpp "$(DESTDIR)$(INCLUDEDIR)"
+	install -m 644 $(HEADERS:%=include/%) "$(DESTDIR)$(INCLUDEDIR)"
 	install -m 644 build/libjadvolni.a "$(TO)"
 	install -m 755 build/libjadvolni.so "$(TO)/libjadvolni.so.$(VERSION)"
 	ln -sf libjadvolni.so.$(VERSION) "$(TO)/libjadvolni.so.$(SOVERSION)"
@@ -96,7 +97,7 @@ install-lib: paths $(LIBRARIES) ## puts the library where compilers look: PREFIX
 	install -m 644 $(LICENCES) "$(DESTDIR)$(DOCDIR)"
 
 uninstall-lib: paths ## takes the library away
-	rm -f "$(DESTDIR)$(INCLUDEDIR)/jadvolni.h" "$(DESTDIR)$(INCLUDEDIR)/jadvolni.hpp"
+	for header in $(HEADERS); do rm -f "$(DESTDIR)$(INCLUDEDIR)/$$header" || exit 1; done
 	rm -f "$(TO)/libjadvolni.a" "$(TO)/libjadvolni.so" "$(TO)/libjadvolni.so.$(SOVERSION)" "$(TO)/libjadvolni.so.$(VERSION)"
 	rm -f "$(TO)/pkgconfig/jadvolni.pc"
 	for page in jadvolni $(CALLS); do rm -f "$(PAGES)/$$page.3" || exit 1; done

@@ -38,14 +38,14 @@ export function ofTable(table, name, value) {
   return found;
 }
 
-/** The own fields that were given for a format, a table or a column, each read once. Others than there
- * are it refuses, and none is taken from a prototype. */
-export function ownFields(whose, given, names) {
+/** The own fields that were given for a format, a table, a column or a call, each read once. Others than
+ * there are it refuses, and none is taken from a prototype. */
+export function ownFields(whose, given, names, field = "field") {
   if (Object.prototype.toString.call(given) !== "[object Object]") {
-    throw new TypeError(`the fields of ${whose} have to be an object, and not ${told(given)}`);
+    throw new TypeError(`the ${field}s of ${whose} have to be an object, and not ${told(given)}`);
   }
   for (const name of Object.keys(given)) {
-    if (!names.includes(name)) throw new TypeError(`${whose} has no field ${told(name)}`);
+    if (!names.includes(name)) throw new TypeError(`${whose} has no ${field} ${told(name)}`);
   }
   return { __proto__: null, ...given };
 }

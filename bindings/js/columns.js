@@ -4,6 +4,7 @@ import { byteOf, ofTable } from "./arguments.js";
 import { ParseError } from "./errors.js";
 import { STANDARD, useFormat } from "./format.js";
 import * as memory from "./memory.js";
+import { areNamed, namedOptions } from "./options.js";
 
 const { ANSWER, COUNT, FORMAT, TEXT } = memory;
 const fieldStart = memory.named("jadvolni_field_start");
@@ -57,8 +58,16 @@ export function joined(parts, NumberArray) {
   return all;
 }
 
-export function parseColumn(text, type, separator = "\n", format = STANDARD) {
+/** The separator and the format of a column, which were given in turn or by their names. */
+function optionsOf(separator, format) {
+  if (!areNamed(separator)) return { separator, format };
+  if (format === undefined) return namedOptions("parseColumn", separator, ["separator", "format"]);
+  throw new TypeError("parseColumn has one format: it is one of the options, or stands behind a separator");
+}
+
+export function parseColumn(text, type, ...options) {
   const { call, numbers } = ofTable(TYPES, "type", type);
+  const { separator = "\n", format = STANDARD } = optionsOf(...options);
   const separatorByte = byteOf("separator", separator);
   const bytes = memory.bytesOf(text);
   useFormat(format);

@@ -9,16 +9,15 @@ export class JadvolniError extends Error {
 export class ParseError extends JadvolniError {
   name = "ParseError";
 
-  constructor(status, place, { field, row, column } = {}) {
-    const [kind, text] = STATUSES[status];
+  /** A fault by its status, at a place; or by its kind and what it says, where that has no place. */
+  constructor(fault, place, { field, row, column, columnName, min, max } = {}) {
+    const [kind, text] = typeof fault === "number" ? STATUSES[fault] : fault;
+    const atPlace = typeof fault === "number" ? ` at byte ${place}` : "";
     const inField = field === undefined ? "" : `, in field ${field}`;
     const inRow = row === undefined ? "" : `, in row ${row}, column ${column}`;
-    super(`${text} at byte ${place}${inField}${inRow}`);
-    this.kind = kind;
-    this.place = place;
-    this.field = field;
-    this.row = row;
-    this.column = column;
+    const ofName = columnName === undefined ? "" : `, ${JSON.stringify(columnName)}`;
+    super(`${text}${atPlace}${inField}${inRow}${ofName}`);
+    Object.assign(this, { kind, place, field, row, column, columnName, min, max });
   }
 }
 
@@ -29,5 +28,15 @@ export class FormatError extends JadvolniError {
     const [kind, text] = STATUSES[status];
     super(text);
     this.kind = kind;
+  }
+}
+
+export class HeaderError extends JadvolniError {
+  name = "HeaderError";
+
+  constructor(kind, text, names) {
+    super(text);
+    this.kind = kind;
+    this.names = names;
   }
 }

@@ -44,15 +44,37 @@ export interface Literal {
   stop: number;
 }
 
+/** What a call is told by its name. A format may also be given alone. */
+export interface FormatOption {
+  /** What the text may look like. */
+  format?: Format;
+}
+
+/** The least and the greatest number that is taken: by default those of the type. */
+export interface Bounds {
+  min?: number | bigint;
+  max?: number | bigint;
+}
+
+/** What a column is told by its name. */
+export interface ColumnOptions extends FormatOption {
+  /** The byte between two fields: by default a line feed. */
+  separator?: Byte;
+}
+
 /**
  * The number that the whole text stands for. Without a format that is decimal digits, after "+" or
- * nothing, or after "-" where the type is signed.
+ * nothing, or after "-" where the type is signed: `parse("8080", "u16", { min: 1, format: formats.JSON })`.
  *
- * Throws `ParseError` where the text is no number of the type under the format, `TypeError` where
- * an argument is none of what it may be, and `RangeError` where the text has more than `LONGEST`
- * bytes. So do the calls below.
+ * Throws `ParseError` where the text is no number of the type under the format or within bounds,
+ * `TypeError` where an argument is none of what it may be, and `RangeError` where the text has more than
+ * `LONGEST` bytes. So do the calls below.
  */
-export function parse<T extends NumberType>(text: Text, type: T, format?: Format): NumberOf<T>;
+export function parse<T extends NumberType>(
+  text: Text,
+  type: T,
+  options?: Format | (FormatOption & Bounds),
+): NumberOf<T>;
 
 /**
  * The number in front of a text: "12px" gives 12, and stops at 2. Where no digit was read, it throws
@@ -62,7 +84,7 @@ export function parse<T extends NumberType>(text: Text, type: T, format?: Format
 export function parseFront<T extends NumberType>(
   text: Text,
   type: T,
-  format?: Format,
+  options?: Format | FormatOption,
 ): Front<NumberOf<T>>;
 
 /**
@@ -74,7 +96,7 @@ export function parseFront<T extends NumberType>(
 export function parsePartial<T extends NumberType>(
   text: Text,
   type: T,
-  format?: Format,
+  options?: Format | FormatOption,
 ): Front<NumberOf<T>>;
 
 /**
@@ -82,7 +104,7 @@ export function parsePartial<T extends NumberType>(
  * behind its number, which is read as `parseFront` reads a u128. Which suffixes a language has is
  * for the caller to ask.
  */
-export function parseLiteral(text: Text, format?: Format): Literal;
+export function parseLiteral(text: Text, options?: Format | FormatOption): Literal;
 
 /**
  * The numbers of a text's fields. A field is the bytes up to the separator, by default a line feed;
@@ -98,6 +120,11 @@ export function parseColumn<T extends keyof Columns>(
   type: T,
   separator?: Byte,
   format?: Format,
+): Columns[T];
+export function parseColumn<T extends keyof Columns>(
+  text: Text,
+  type: T,
+  options: ColumnOptions,
 ): Columns[T];
 
 /** What is read of a column of a table: where it may miss numbers, those are told. */
@@ -147,21 +174,37 @@ export interface Table {
   /** A row is a record, of as many bytes as the widths say together, and nothing stands between two
    * rows. Else it is a line. */
   is_records?: boolean;
+  /** The first row is a header, and no row of the table. It is read by the table's own rules: a name may
+   * stand within quotes, with separators, line feeds and doubled quotes in it. A byte order mark in front
+   * of it is skipped. */
+  header?: boolean;
 }
 
 /**
  * The rows of a text, each column as an array: null for one that isn't read, whose cells may hold any
  * bytes but the separator and a line feed, or these too within quotes. A row is a line, and has one
  * cell more than separators, as many as there are columns, unless the table has widths. The text may
- * be of any length; a row of more than `LONGEST_ROW` bytes is a `RangeError`. A header is no row: hand
- * over what follows it. Careful: the end of a text ends its last row. So cut a file only behind rows.
+ * be of any length; a row of more than `LONGEST_ROW` bytes is a `RangeError`. Careful: the end of a text
+ * ends its last row. So cut a file only behind rows.
  *
- * Throws `ParseError` for the first wrong cell in reading order, with its row and column.
+ * Throws `ParseError` for the first wrong cell in reading order, with its row and column, and with `header`
+ * the column's name. Rows are counted from 0 behind the header, bytes from the text's start.
  */
 export function parseTable<C extends readonly TableColumn[] | []>(
   text: Text,
   columns: C,
   table?: Table,
+): { -readonly [K in keyof C]: TableArray<C[K]> };
+
+/**
+ * The columns of a table that have these names in its header; the others aren't read.
+ *
+ * Throws besides `HeaderError` where a name is missing or stands twice: it says which there are.
+ */
+export function parseTable<C extends { readonly [name: string]: TableColumn }>(
+  text: Text,
+  columns: C,
+  table: Table & { header: true },
 ): { -readonly [K in keyof C]: TableArray<C[K]> };
 
 /** How many bytes a text of one number may have. */
@@ -333,7 +376,7 @@ export class JadvolniError extends Error {}
 /** A text is no number of its type, or none under its format. */
 export class ParseError extends JadvolniError {
   /** What is wrong. */
-  readonly kind: TextFault | TableFault;
+  readonly kind: TextFault | TableFault | "OutOfBounds";
   /**
    * At which byte, from 0; the text's length where something is missing at its end. It is also the
    * index into a string that has ASCII alone before it.
@@ -344,6 +387,19 @@ export class ParseError extends JadvolniError {
   /** In a table the wrong cell's row and column, both from 0; else undefined. */
   readonly row: number | undefined;
   readonly column: number | undefined;
+  /** The name of that column, where the table has a header; else undefined. */
+  readonly columnName: string | undefined;
+  /** Of a number that is out of bounds these; the place is 0. Else undefined. */
+  readonly min: number | bigint | undefined;
+  readonly max: number | bigint | undefined;
+}
+
+/** Columns aren't found by their names. */
+export class HeaderError extends JadvolniError {
+  /** What is wrong: the table has no row, no column has a name, or more than one has. */
+  readonly kind: "NoHeader" | "Missing" | "Doubled";
+  /** The names that there are. */
+  readonly names: string[];
 }
 
 /** A format is invalid. */

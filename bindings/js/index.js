@@ -2,7 +2,7 @@
 // each call answers.
 
 export { LONGEST_FIELD, parseColumn } from "./columns.js";
-export { FormatError, JadvolniError, ParseError } from "./errors.js";
+export { FormatError, HeaderError, JadvolniError, ParseError } from "./errors.js";
 export { FIELDS, Format, formats } from "./format.js";
 export { LONGEST } from "./memory.js";
 export { parse, parseFront, parseLiteral, parsePartial } from "./numbers.js";

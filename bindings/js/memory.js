@@ -9,6 +9,12 @@ const MODULE_OF_64_BITS = Uint8Array.of(0, 0x61, 0x73, 0x6d, 1, 0, 0, 0, 5, 3, 1
 
 const MODULE = new URL("./jadvolni.wasm", import.meta.url);
 
+const MISSING = "there is none. A package of a release has it beside index.js; in the repository `make wasm` puts it there";
+const NOT_FOUND = "the server answers 404";
+
+/** Whether a module wasn't found. */
+const isMissing = ({ code, message }) => code === "ENOENT" || message === NOT_FOUND;
+
 async function moduleBytes() {
   if (MODULE.protocol === "file:") {
     const { readFile } = await import("node:fs/promises").catch(() => {
@@ -35,7 +41,8 @@ async function load() {
     const { instance } = await WebAssembly.instantiate(await moduleBytes(), {});
     return instance.exports;
   } catch (cause) {
-    throw new JadvolniError(`${MODULE} can't be loaded: ${cause.message}`, { cause });
+    const detail = isMissing(cause) ? MISSING : cause.message;
+    throw new JadvolniError(`${MODULE} can't be loaded: ${detail}`, { cause });
   }
 }
 

@@ -4,6 +4,7 @@ import { ofTable } from "./arguments.js";
 import { ParseError } from "./errors.js";
 import { STANDARD, useFormat } from "./format.js";
 import * as memory from "./memory.js";
+import { areNamed, boundsOf, faultBesideBounds, formatOf, namedOptions, outOfBounds } from "./options.js";
 
 const { ANSWER, COUNT, FORMAT, NUMBER, TEXT } = memory;
 const literalCall = memory.named("jadvolni_parse_literal");
@@ -71,27 +72,51 @@ const TYPES = new Map(
   ]),
 );
 
-export function parse(text, type, format) {
+/** The number of a whole text. */
+function numberOfWhole(text, type, format) {
   const calls = ofTable(TYPES, "type", type);
   calls.parse(text, format);
   return calls.number();
 }
 
-export function parseFront(text, type, format) {
+/** The number of a whole text within bounds. */
+function numberWithin(text, type, format, bounds) {
+  let number;
+  try {
+    number = numberOfWhole(text, type, format);
+  } catch (fault) {
+    if (!(fault instanceof ParseError)) throw fault;
+    throw faultBesideBounds(fault, text, bounds, () => numberOfWhole(text, "i128", format));
+  }
+  if (number < bounds.min || number > bounds.max) throw outOfBounds(text, bounds);
+  return number;
+}
+
+export function parse(text, type, options) {
+  if (options === undefined || !areNamed(options)) return numberOfWhole(text, type, options);
+  const named = namedOptions("parse", options, ["format", "min", "max"]);
+  const bounds = boundsOf(type, named);
+  return bounds === undefined
+    ? numberOfWhole(text, type, named.format)
+    : numberWithin(text, type, named.format, bounds);
+}
+
+export function parseFront(text, type, options) {
   const calls = ofTable(TYPES, "type", type);
-  const stop = calls.parseFront(text, format);
+  const stop = calls.parseFront(text, formatOf("parseFront", options));
   return { value: calls.number(), stop };
 }
 
-export function parsePartial(text, type, format) {
+export function parsePartial(text, type, options) {
   const calls = ofTable(TYPES, "type", type);
-  const stop = calls.parsePartial(text, format);
+  const stop = calls.parsePartial(text, formatOf("parsePartial", options));
   return { value: calls.number(), stop };
 }
 
-export function parseLiteral(text, format = STANDARD) {
+export function parseLiteral(text, options) {
+  const format = formatOf("parseLiteral", options);
   const length = BigInt(memory.putText(text));
-  useFormat(format);
+  useFormat(format === undefined ? STANDARD : format);
   literalCall(ANSWER, TEXT, length, FORMAT, NUMBER, COUNT);
   const stop = stopOfCall();
   return { value: NUMBERS.u128(), suffix: memory.textBetween(memory.count(), stop), stop };

@@ -5,7 +5,9 @@ import { byteOf, ofTable, ownFields, told } from "./arguments.js";
 import { ARRAYS, joined, numbersPlace, PIECE } from "./columns.js";
 import { ParseError } from "./errors.js";
 import { bytesOfFormat, STANDARD } from "./format.js";
+import { columnOf, endOfRow, headerOf } from "./header.js";
 import * as memory from "./memory.js";
+import { areNamed } from "./options.js";
 
 export const LONGEST_ROW = PIECE - 1; // and behind it the line feed
 
@@ -23,7 +25,7 @@ const FIRST_ARRAY = 4;
 const BITS = 20;
 const TYPES = ["i64", "u64", "i32", "u32", "i16", "u16", "i8", "u8"];
 const FLAGS = ["has_returns", "has_quotes", "allows_blanks", "skips_empty_rows", "is_records"];
-const FIELDS = ["separator", ...FLAGS, "missing", "widths"];
+const FIELDS = ["separator", ...FLAGS, "missing", "widths", "header"];
 const FIELDS_OF_COLUMN = ["type", "format", "may_miss"];
 
 const ANSWER = BigInt(numbersPlace);
@@ -60,7 +62,8 @@ function widthOf(width) {
   throw new TypeError(`a width has to be a safe integer of 0 or more, and not ${told(width)}`);
 }
 
-/** The width of each column's cells; none where these stand between separators. */
+/** The width of each column's cells; none where these stand between separators. Where a header says how many columns
+ * there are, so many widths do. */
 function widthsOf({ separator, is_records, widths }, count) {
   if (widths === undefined) {
     if (is_records) throw new TypeError("a table that is_records has to have widths");
@@ -71,7 +74,8 @@ function widthsOf({ separator, is_records, widths }, count) {
     throw new TypeError(`widths have to be an array, and not ${told(widths)}`);
   }
   const sizes = Array.from(widths, widthOf);
-  if (sizes.length !== count || count === 0) {
+  if (sizes.length !== (count ?? sizes.length) || sizes.length === 0) {
+    if (count === undefined) throw new TypeError("widths have to be one for each column, and not 0");
     throw new TypeError(`widths have to be one for each of ${count} columns, and not ${sizes.length}`);
   }
   return sizes;
@@ -80,10 +84,18 @@ function widthsOf({ separator, is_records, widths }, count) {
 /** How a table of so many columns is written, and the bytes that stand for a missing number. */
 function tableOf(given, count) {
   const fields = ownFields("a table", given, FIELDS);
-  const flags = FLAGS.map((name) => Number(flagOf(name, fields[name])));
-  const { separator = ",", missing = "" } = fields;
-  const bytes = [byteOf("separator", separator), ...flags];
-  return { bytes, widths: widthsOf(fields, count), missing: memory.bytesOf(missing, "missing") };
+  const flags = FLAGS.map((name) => [name, flagOf(name, fields[name])]);
+  const separator = byteOf("separator", fields.separator === undefined ? "," : fields.separator);
+  const widths = widthsOf(fields, count);
+  return {
+    ...Object.fromEntries(flags),
+    bytes: [separator, ...flags.map(([, flag]) => Number(flag))],
+    header: flagOf("header", fields.header),
+    missing: memory.bytesOf(fields.missing === undefined ? "" : fields.missing, "missing"),
+    recordSize: fields.is_records ? Math.max(1, Number(widths.reduce((sum, it) => sum + it, 0n))) : undefined,
+    separator,
+    widths,
+  };
 }
 
 /** How many rows there is memory for. An array may begin some bytes behind the end of another. */
@@ -143,31 +155,29 @@ function presentOf(bits, count) {
 }
 
 /** The parts of a column as one. */
-function columnOf(parts, column) {
+function columnOfParts(parts, column) {
   if (column === null) return null;
   const numbers = joined(parts.map((part) => part.numbers), column.numbers.constructor);
   if (!column.bits) return numbers;
   return { numbers, present: joined(parts.map((part) => part.present), Uint8Array) };
 }
 
-export function parseTable(text, columns, table = {}) {
-  if (!Array.isArray(columns)) {
-    throw new TypeError(`columns have to be an array, and not ${told(columns)}`);
-  }
-  const reads = Array.from(columns, readOf);
-  const how = tableOf(table, reads.length);
-  const bytes = memory.bytesOf(text); // (last, since what comes before may run code that takes them away)
+/** The rows of a text from a place on, and the columns' names, if these are known. */
+function readRows(bytes, first, reads, how, names = []) {
   const { arrays, rows } = putTable(how, reads);
   const parts = arrays.map(() => []);
-  let start = 0;
+  let start = first;
   let row = 0;
   while (start < bytes.length) {
     const size = memory.putBytes(bytes.subarray(start, start + PIECE));
     const isLast = Number(start + size === bytes.length);
     call(ANSWER, TEXT, BigInt(size), isLast, TABLE, BigInt(rows), COLUMNS, BigInt(reads.length));
     const [status, , column, , count, , place] = answer;
-    if (status !== 0) throw new ParseError(status, start + place, { row: row + count, column });
-    if (place === 0) throw new RangeError(`row ${row} has more than ${LONGEST_ROW} bytes`);
+    if (status !== 0) {
+      const where = { row: row + count, column, columnName: names[column] };
+      throw new ParseError(status, start + place, where);
+    }
+    if (place === 0) throw longRow(bytes, start, how, `row ${row}`);
     arrays.forEach((array, index) => {
       if (array === null) return;
       const { numbers, bits } = array;
@@ -177,7 +187,49 @@ export function parseTable(text, columns, table = {}) {
     start += place;
     row += count;
   }
-  return arrays.map((column, index) => columnOf(parts[index], column));
+  return arrays.map((column, index) => columnOfParts(parts[index], column));
+}
+
+/** The fault of a row that the memory has no room for. A quote may be why. */
+function longRow(bytes, start, how, which) {
+  const { open } = endOfRow(bytes.subarray(0, start + PIECE), start, how);
+  const quote = open === undefined ? "" : `, and its quote at byte ${open} isn't closed in them`;
+  return new RangeError(`${which} has more than ${LONGEST_ROW} bytes${quote}`);
+}
+
+/** The header of a text, which the library judges as a row of which no cell is read. */
+function judgedHeader(bytes, how) {
+  return headerOf(bytes, how, (start, stop, count) => {
+    if (stop - start > PIECE) throw longRow(bytes, start, how, "the header");
+    readRows(bytes.subarray(0, stop), start, Array(count).fill(null), how);
+  });
+}
+
+/** The columns of a table that have names in its header. */
+function parseByHeader(text, columns, table) {
+  const wanted = Object.entries(columns).map(([name, column]) => [name, readOf(column)]);
+  const how = tableOf(table);
+  if (!how.header) throw new TypeError("columns by their names need a table with header: true");
+  const bytes = memory.bytesOf(text); // (last, as below)
+  const { names, stop } = judgedHeader(bytes, how);
+  const places = wanted.map(([name]) => columnOf(names, name));
+  const reads = Array(names.length).fill(null);
+  places.forEach((place, index) => (reads[place] = wanted[index][1]));
+  const arrays = readRows(bytes, stop, reads, how, names);
+  return Object.fromEntries(wanted.map(([name], index) => [name, arrays[places[index]]]));
+}
+
+export function parseTable(text, columns, table = {}) {
+  if (areNamed(columns)) return parseByHeader(text, columns, table);
+  if (!Array.isArray(columns)) {
+    throw new TypeError(`columns have to be an array, or an object by names, and not ${told(columns)}`);
+  }
+  const reads = Array.from(columns, readOf);
+  const how = tableOf(table, reads.length);
+  const bytes = memory.bytesOf(text); // (last, since what comes before may run code that takes them away)
+  if (!how.header) return readRows(bytes, 0, reads, how);
+  const { names, stop } = judgedHeader(bytes, how);
+  return readRows(bytes, stop, reads, how, names);
 }
 
 /** Whether the module finds a table, its columns of each type and their bits where they are put. */

@@ -303,6 +303,9 @@ static void by_type(void)
     EXPECT_GENERIC(int32_t, "-32769", JADVOLNI_OK, 6, -32769);
     EXPECT_GENERIC(int64_t, "-2147483649", JADVOLNI_OK, 11, -2147483649);
     EXPECT_GENERIC(ptrdiff_t, "-2147483649", JADVOLNI_OK, 11, -2147483649);
+    EXPECT_GENERIC(long long, "-9223372036854775808", JADVOLNI_OK, 20, INT64_MIN);
+    EXPECT_GENERIC(unsigned long long, "18446744073709551615", JADVOLNI_OK, 20, UINT64_MAX);
+    EXPECT_GENERIC(unsigned long long, "18446744073709551616", JADVOLNI_OVERFLOW, 19, 77);
     CHECK(jadvolni_parse("18446744073709551616", 20, &u).status == JADVOLNI_OK && u.high == 1);
     CHECK(jadvolni_parse("-1", 2, &i).status == JADVOLNI_OK && i.high == -1);
     CHECK(jadvolni_parse("7x", 2, &u).status == JADVOLNI_INVALID_DIGIT);

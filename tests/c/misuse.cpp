@@ -13,15 +13,23 @@ struct view {
     std::size_t size() const { return count; }
 };
 
+// What looks as a view, and owns what it gives.
+struct owner {
+    std::vector<int> numbers;
+    int *data() const { return nullptr; }
+    std::size_t size() const { return 0; }
+};
+
 void misuse();
 void misuse()
 {
     std::vector<int> values(2);
+    int kept[2] = {0, 0};
     const std::vector<int> constant(2);
-    (void)values, (void)constant;
+    (void)values, (void)constant, (void)kept;
 #if MISUSE == 0
-    std::array<long long, 2> kept{};
-    (void)jadvolni::column_into(values), (void)jadvolni::column_into(kept);
+    std::array<long long, 2> many{};
+    (void)jadvolni::column_into(values), (void)jadvolni::column_into(many), (void)jadvolni::column_into(kept);
     (void)jadvolni::column_into(view{values.data(), values.size()});
     (void)jadvolni::parse_column("1,2", ',', values), (void)jadvolni::parse<char>("1");
 #elif MISUSE == 1 /* both: have to outlive the column */
@@ -36,5 +44,11 @@ void misuse()
     (void)jadvolni::column_into(static_cast<jadvolni_native_int128 *>(nullptr), 0);
 #elif MISUSE == 6 /* both: unused-result */
     jadvolni::parse<int>("1");
+#elif MISUSE == 7 /* both: have to outlive the column */
+    (void)jadvolni::column_into(std::array<std::int64_t, 4>{});
+#elif MISUSE == 8 /* both: have to outlive the column */
+    (void)jadvolni::column_into(std::move(kept));
+#elif MISUSE == 9 /* both: have to outlive the column */
+    (void)jadvolni::column_into(owner());
 #endif
 }

@@ -1,5 +1,6 @@
 // The package as it is loaded: without its module, with a wrong one, twice, and in workers.
 import assert from "node:assert/strict";
+import { spawnSync } from "node:child_process";
 import { once } from "node:events";
 import { cpSync, mkdtempSync, readFileSync, rmSync, writeFileSync } from "node:fs";
 import { tmpdir } from "node:os";
@@ -30,7 +31,7 @@ test("a module that is missing, damaged or another is told", async () => {
   const renamed = Buffer.from(MODULE);
   renamed.write("jadvolni_parse_none", renamed.indexOf("jadvolni_parse_u128_front"));
   const wrong = {
-    missing: [undefined, /jadvolni\.wasm can't be loaded: ENOENT/],
+    missing: [undefined, /jadvolni\.wasm can't be loaded: there is none\. .*`make wasm` puts it there$/],
     empty: [Buffer.alloc(0), /jadvolni\.wasm can't be loaded: .+/],
     cut: [MODULE.subarray(0, -100), /jadvolni\.wasm can't be loaded: .+/],
     text: [Buffer.from("<!doctype html>"), /jadvolni\.wasm can't be loaded: .+/],
@@ -40,6 +41,14 @@ test("a module that is missing, damaged or another is told", async () => {
   for (const [name, [bytes, message]] of Object.entries(wrong)) {
     await assert.rejects(loadWith(name, bytes), { name: "JadvolniError", message }, name);
   }
+});
+
+test("an engine without 64-bit memories is told what it lacks", () => {
+  const code = `WebAssembly.validate = () => false;
+    await import(${JSON.stringify(new URL("../../bindings/js/index.js", import.meta.url).href)});`;
+  const { status, stderr } = spawnSync(process.execPath, ["--input-type=module", "-e", code], { encoding: "utf8" });
+  assert.notEqual(status, 0);
+  assert.match(stderr, /this engine has no 64-bit WebAssembly memory: .*Node from 20 with --experimental-wasm-memory64/);
 });
 
 test("a module whose tables have another layout is told", async () => {

@@ -253,8 +253,10 @@ test("the longest row is read, and a longer one refused", () => {
 
 test("wrong arguments", () => {
   const refuses = (call, message) => assert.throws(call, { name: "TypeError", message });
-  refuses(() => parseTable("1", "u8"), 'columns have to be an array, and not "u8"');
-  refuses(() => parseTable("1", { a: "u8" }), "columns have to be an array, and not Object");
+  refuses(() => parseTable("1", "u8"), 'columns have to be an array, or an object by names, and not "u8"');
+  refuses(() => parseTable("1", new Map()), "columns have to be an array, or an object by names, and not Map");
+  refuses(() => parseTable("1", { a: "u8" }), "columns by their names need a table with header: true");
+  refuses(() => parseTable("1", ["u8"], { header: 1 }), /^header has to be true or false/);
   refuses(() => parseTable("1", ["u128"]), /^type has to be one of u8, .*, i64, and not "u128"$/);
   for (const column of [undefined, 8, {}]) refuses(() => parseTable("1", [column]), /^type has to be/);
   refuses(() => parseTable("1", [{ type: "u8", format: {} }]), /^format has to be a Format/);

@@ -85,37 +85,15 @@ impl Error {
         same.place_mut().copied()
     }
 
-    fn place_mut(&mut self) -> Option<&mut usize> {
-        match self {
-            Error::Overflow(place)
-            | Error::Underflow(place)
-            | Error::InvalidDigit(place)
-            | Error::Empty(place)
-            | Error::MissingSign(place)
-            | Error::InvalidPositiveSign(place)
-            | Error::InvalidLeadingZeros(place)
-            | Error::TooFewCells(place)
-            | Error::TooManyCells(place)
-            | Error::MissingReturn(place)
-            | Error::MisplacedQuote(place) => Some(place),
-            _ => None,
-        }
-    }
-
-    /// This fault of a text, where the text stands so many bytes further on.
-    pub(crate) fn moved(mut self, by: usize) -> Error {
-        if let Some(place) = self.place_mut() {
-            *place = place.saturating_add(by);
-        }
-        self
-    }
-}
-
-impl fmt::Display for Error {
-    /// A text of `bindings/errors.txt`, and the place of a fault of the text: `overflow at byte 19`.
+    /// What is wrong, without its place: `overflow`. A fault of a format says what the field has to be.
+    ///
+    /// ```
+    /// let error = jadvolni::parse::<u8>("256").unwrap_err();
+    /// assert_eq!((error.message(), error.to_string()), ("overflow", "overflow at byte 2".into()));
+    /// ```
     #[rustfmt::skip]
-    fn fmt(&self, f: &mut fmt::Formatter<'_>) -> fmt::Result {
-        f.write_str(match self {
+    pub fn message(&self) -> &'static str {
+        match self {
             Error::Overflow(_) => "overflow",
             Error::Underflow(_) => "underflow",
             Error::InvalidDigit(_) => "invalid digit",
@@ -146,7 +124,54 @@ impl fmt::Display for Error {
                 table have to be 0",
             Error::MisplacedQuote(_) => "misplaced quote",
             Error::Unknown(_) => "a status that only a later library has",
-        })?;
+        }
+    }
+
+    /// The line and the column of a fault of a text, as an editor counts them, and `None` for one of the format or of
+    /// the table. The text is that in which the place counts.
+    ///
+    /// ```
+    /// use jadvolni::{parse_column, ColumnError, Position};
+    /// let (text, mut values) = ("12\n7x\n", [0u8; 4]);
+    /// let Err(ColumnError::InvalidField { error, .. }) = parse_column(text, b'\n', &mut values) else { panic!() };
+    /// let position = error.position(text).unwrap();
+    /// assert_eq!(position, Position { line: 2, column: 2 });
+    /// assert_eq!(format!("{position}: {}", error.message()), "line 2, column 2: invalid digit");
+    /// ```
+    pub fn position(&self, text: impl AsRef<[u8]>) -> Option<Position> {
+        self.place().map(|place| Position::of(text, place))
+    }
+
+    fn place_mut(&mut self) -> Option<&mut usize> {
+        match self {
+            Error::Overflow(place)
+            | Error::Underflow(place)
+            | Error::InvalidDigit(place)
+            | Error::Empty(place)
+            | Error::MissingSign(place)
+            | Error::InvalidPositiveSign(place)
+            | Error::InvalidLeadingZeros(place)
+            | Error::TooFewCells(place)
+            | Error::TooManyCells(place)
+            | Error::MissingReturn(place)
+            | Error::MisplacedQuote(place) => Some(place),
+            _ => None,
+        }
+    }
+
+    /// This fault of a text, where the text stands so many bytes further on.
+    pub(crate) fn moved(mut self, by: usize) -> Error {
+        if let Some(place) = self.place_mut() {
+            *place = place.saturating_add(by);
+        }
+        self
+    }
+}
+
+impl fmt::Display for Error {
+    /// What is wrong, and the place of a fault of the text: `overflow at byte 19`.
+    fn fmt(&self, f: &mut fmt::Formatter<'_>) -> fmt::Result {
+        f.write_str(self.message())?;
         match self.place() {
             Some(place) => write!(f, " at byte {place}"),
             None => Ok(()),
@@ -155,3 +180,35 @@ impl fmt::Display for Error {
 }
 
 impl core::error::Error for Error {}
+
+/// Where a byte of a text stands, as an editor counts: from 1. A column is a byte, as compilers count.
+#[derive(Debug, Copy, Clone, PartialEq, Eq, Hash)]
+pub struct Position {
+    /// The line: one more than there are line feeds before the byte.
+    pub line: usize,
+    /// The column: one more than there are bytes behind the last of these.
+    pub column: usize,
+}
+
+impl Position {
+    /// That of the byte at a place, which counts from 0; of a place behind the text's end that of the end.
+    ///
+    /// ```
+    /// use jadvolni::Position;
+    /// assert_eq!(Position::of("a,b\nc", 4), Position { line: 2, column: 1 });
+    /// ```
+    pub fn of(text: impl AsRef<[u8]>, place: usize) -> Position {
+        let text = text.as_ref();
+        let before = &text[..place.min(text.len())];
+        let start = crate::field_start(before, b'\n');
+        let line = 1 + before.iter().filter(|byte| **byte == b'\n').count();
+        Position { line, column: 1 + before.len() - start }
+    }
+}
+
+impl fmt::Display for Position {
+    /// As `line 2, column 1`.
+    fn fmt(&self, f: &mut fmt::Formatter<'_>) -> fmt::Result {
+        write!(f, "line {}, column {}", self.line, self.column)
+    }
+}

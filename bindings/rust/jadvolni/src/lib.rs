@@ -9,9 +9,9 @@
 //! assert_eq!(parse_with_format::<u8>("0x1F", &hexadecimal), Ok(31));
 //! ```
 //!
-//! No call panics, and none allocates: `ColumnReader` and `TableReader` alone, of the feature `std`, hold a block. The
-//! proofs are of the library below these calls: that this crate hands its texts over and its answers
-//! back is tested.
+//! No call panics, and none allocates, but what the feature `std` has: `ColumnReader` and `TableReader` hold a block, and
+//! `Header` and `Columns` names. The proofs are of the library below these calls: that this crate hands its texts over and
+//! its answers back is tested.
 #![no_std]
 
 // The example of the README is a test too.
@@ -19,24 +19,35 @@
 #[doc = include_str!("../../README.md")]
 struct Readme;
 
+#[cfg(feature = "std")]
+mod block;
 mod column;
 mod error;
 mod format;
+#[cfg(feature = "std")]
+mod header;
 mod integer;
 mod languages;
 mod literal;
 #[cfg(feature = "std")]
 mod reader;
+#[cfg(feature = "std")]
+mod row_ends;
+#[cfg(feature = "serde")]
+mod serde_integer;
 mod table;
 #[cfg(feature = "std")]
 mod table_reader;
+mod within;
 
 pub use column::{
     field_start, parse_column, parse_column_part, parse_column_part_with_format,
     parse_column_with_format, Column, ColumnError, ColumnInteger,
 };
-pub use error::Error;
+pub use error::{Error, Position};
 pub use format::Format;
+#[cfg(feature = "std")]
+pub use header::{Columns, Header, HeaderError};
 pub use integer::Integer;
 pub use literal::{parse_literal, Literal};
 #[cfg(feature = "std")]
@@ -47,6 +58,7 @@ pub use table::{
 };
 #[cfg(feature = "std")]
 pub use table_reader::{TableReadError, TableReader};
+pub use within::{parse_within, parse_within_with_format, Excerpt, WithinError};
 
 use jadvolni_sys as sys;
 

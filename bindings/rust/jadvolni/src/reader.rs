@@ -2,10 +2,10 @@
 
 extern crate std;
 
+use crate::block::{grow, read_once, Block};
 use crate::{field_start, parse_column_with_format, ColumnError, ColumnInteger, Format};
 use core::fmt;
 use std::io::{self, Read};
-use std::vec;
 use std::vec::Vec;
 
 /// Why a reader gives no further number. Fields and places count from where reading began.
@@ -42,23 +42,11 @@ impl core::error::Error for ReadError {
     }
 }
 
-/// Reads once, and again where that was interrupted.
-pub(crate) fn read_once(reader: &mut impl Read, room: &mut [u8]) -> io::Result<usize> {
-    loop {
-        match reader.read(room) {
-            Err(error) if error.kind() == io::ErrorKind::Interrupted => {}
-            Ok(count) if count > room.len() => {
-                return Err(io::Error::other("the reader tells more bytes than it was asked for"));
-            }
-            answer => return answer,
-        }
-    }
-}
-
 /// The numbers of a reader's fields between a separator, in turn. It holds one block of the text and
 /// the numbers of that, however long the text is. A last separator ends no further field.
 ///
-/// An interrupted read is tried again. Behind a fault of a field there is no number more.
+/// An interrupted read is tried again. Behind a fault of a field there is no number more. A reader that gives single
+/// bytes costs no more than one that gives blocks, but for its calls.
 ///
 /// ```
 /// use jadvolni::{ColumnError, ColumnReader, Error, Format, ReadError};
@@ -74,7 +62,7 @@ pub struct ColumnReader<R, T> {
     separator: u8,
     format: Format,
     /// Bytes that were read, of which the first `filled` aren't parsed.
-    block: Vec<u8>,
+    block: Block,
     filled: usize,
     /// The place of the block's first byte, and how many fields stand before it.
     start: usize,
@@ -94,20 +82,20 @@ impl<R: Read, T: ColumnInteger> ColumnReader<R, T> {
         Self::with_capacity(1 << 16, reader, separator, format)
     }
 
-    /// A reader of fields, by blocks of so many bytes, and of one at least.
+    /// A reader of fields of so many bytes at most, and of one at least, by blocks of as many.
+    ///
+    /// A block of more than 1 MiB is taken where a field needs it. Where there is no memory for it, that is
+    /// [`ReadError::Io`].
     pub fn with_capacity(size: usize, reader: R, separator: u8, format: Format) -> Self {
-        let size = size.max(1);
         ColumnReader {
             reader,
             separator,
             format,
-            // A field of `size` bytes has room, and the byte behind it tells whether it is longer.
-            block: vec![0; size.saturating_add(1)],
+            block: Block::of(size),
             filled: 0,
             start: 0,
             field: 0,
-            // Where the format requires no digit, a separator alone is a number.
-            numbers: vec![T::number(T::Kept::default()); size.saturating_add(1)],
+            numbers: Vec::new(),
             given: 0,
             count: 0,
             fault: None,
@@ -115,19 +103,27 @@ impl<R: Read, T: ColumnInteger> ColumnReader<R, T> {
         }
     }
 
-    /// Reads once, and parses the fields that are whole then.
+    /// Reads once, and parses the fields that are whole then. None is where no separator came, since those that are
+    /// left have none.
     fn fill(&mut self) -> Result<(), ReadError> {
-        if self.filled == self.block.len() {
+        if self.block.is_full(self.filled) {
             self.has_ended = true;
             return Err(ReadError::LongField(self.start));
         }
-        let room = &mut self.block[self.filled..];
+        let room = self.block.room(self.filled).map_err(ReadError::Io)?;
+        // Where the format requires no digit, a separator alone is a number.
+        let most = self.filled + room.len();
+        grow(&mut self.numbers, most, T::number(T::Kept::default())).map_err(ReadError::Io)?;
         let count = read_once(&mut self.reader, room).map_err(ReadError::Io)?;
         self.has_ended = count == 0;
+        let read = field_start(&room[..count], self.separator);
+        let before = self.filled;
         self.filled += count;
-        let text = &self.block[..self.filled];
-        let whole = if count == 0 { text.len() } else { field_start(text, self.separator) };
-        self.parse(whole)
+        match (count, read) {
+            (0, _) => self.parse(self.filled),
+            (_, 0) => Ok(()),
+            _ => self.parse(before + read),
+        }
     }
 
     /// Parses so many bytes, which are whole fields, and keeps the others.

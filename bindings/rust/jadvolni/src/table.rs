@@ -8,7 +8,7 @@ use jadvolni_sys as sys;
 
 /// How a table is written: what parts two cells, and what else isn't as in plain lines.
 #[derive(Debug, Copy, Clone)]
-pub struct Dialect<'a>(sys::jadvolni_table, PhantomData<&'a [u8]>);
+pub struct Dialect<'a>(pub(crate) sys::jadvolni_table, PhantomData<&'a [u8]>);
 
 // SAFETY: its pointers are those of slices that it has borrowed, and are read alone.
 unsafe impl Send for Dialect<'_> {}
@@ -88,6 +88,18 @@ impl<'a> Dialect<'a> {
         self.0.missing = mark.as_ptr().cast();
         self.0.missing_len = mark.len();
         self
+    }
+}
+
+#[cfg(feature = "std")]
+impl<'a> Dialect<'a> {
+    /// The widths of cells; none where these stand between separators.
+    pub(crate) fn widths(&self) -> &'a [usize] {
+        if self.0.width_count == 0 {
+            return &[];
+        }
+        // SAFETY: they are those of the slice that was borrowed, which isn't empty.
+        unsafe { core::slice::from_raw_parts(self.0.widths, self.0.width_count) }
     }
 }
 

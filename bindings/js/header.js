@@ -1,0 +1,102 @@
+// The header of a table: its first row, which is read by the table's own rules.
+
+import { told } from "./arguments.js";
+import { HeaderError } from "./errors.js";
+
+const [QUOTE, LINE_FEED, RETURN] = [...'"\n\r'].map((it) => it.charCodeAt(0));
+const BYTE_ORDER_MARK = [0xef, 0xbb, 0xbf];
+const decoder = new TextDecoder("utf-8", { ignoreBOM: true });
+
+// So many names are listed in a message.
+const LISTED = 40;
+
+/**
+ * Where the row stops that begins at a place, what ends it counted, and the place of a quote that is open there. A line
+ * feed ends a row where an even number of quotes stands before it, whether these are in place or not.
+ */
+export function endOfRow(bytes, start, { has_quotes, recordSize }) {
+  if (recordSize !== undefined) return { stop: Math.min(bytes.length, start + recordSize) };
+  let open;
+  let last = {};
+  for (let place = start; place < bytes.length; place++) {
+    if (has_quotes && bytes[place] === QUOTE) {
+      if (open !== undefined) {
+        last = { open, stop: place + 1 };
+        open = undefined;
+      } else {
+        open = last.stop === place ? last.open : place; // one that doubles the one in front of it opens nothing
+      }
+    } else if (bytes[place] === LINE_FEED && open === undefined) {
+      return { stop: place + 1 };
+    }
+  }
+  return { stop: bytes.length, open };
+}
+
+/** A row without what ends it. */
+function contentOf(row, { has_returns, recordSize }) {
+  if (recordSize !== undefined || row.at(-1) !== LINE_FEED) return row;
+  const line = row.subarray(0, -1);
+  return has_returns && line.at(-1) === RETURN ? line.subarray(0, -1) : line;
+}
+
+/** The cells of a row: those of the table's widths, or those between separators outside quotes. */
+function cellsOf(row, { separator, has_quotes, widths }) {
+  let start = 0;
+  if (widths.length > 0) {
+    return widths.map((width) => row.subarray(start, (start += Number(width))));
+  }
+  const cells = [];
+  let isWithin = false;
+  for (let place = 0; place < row.length; place++) {
+    if (has_quotes && separator !== QUOTE && row[place] === QUOTE) isWithin = !isWithin;
+    if (row[place] !== separator || isWithin) continue;
+    cells.push(row.subarray(start, place));
+    start = place + 1;
+  }
+  return [...cells, row.subarray(start)];
+}
+
+/** What a cell holds, without its quotes and blanks. */
+function nameOf(cell, { has_quotes, allows_blanks }) {
+  const text = decoder.decode(cell);
+  const held = has_quotes && text.startsWith('"') ? text.slice(1, -1).replaceAll('""', '"') : text;
+  return allows_blanks ? held.replace(/^[ \t]+|[ \t]+$/g, "") : held;
+}
+
+/** The first row that the table doesn't skip, behind a byte order mark: where it starts and stops. */
+function firstRow(bytes, how) {
+  let start = BYTE_ORDER_MARK.every((byte, place) => bytes[place] === byte) ? 3 : 0;
+  for (;;) {
+    const { stop } = endOfRow(bytes, start, how);
+    const content = contentOf(bytes.subarray(start, stop), how);
+    if (start === stop || !how.skips_empty_rows || content.length > 0) return { start, stop, content };
+    start = stop;
+  }
+}
+
+/**
+ * The names of a text's columns, and the place behind them. `judge` throws where the row from a place to another isn't
+ * one of so many columns: the library has the rules.
+ */
+export function headerOf(bytes, how, judge) {
+  const { start, stop, content } = firstRow(bytes, how);
+  if (start === stop) throw new HeaderError("NoHeader", "the table has no header", []);
+  const cells = cellsOf(content, how);
+  judge(start, stop, cells.length);
+  return { names: cells.map((cell) => nameOf(cell, how)), stop };
+}
+
+/** Names as a message lists them. */
+function listed(names) {
+  const rest = names.length > LISTED ? ` and ${names.length - LISTED} more` : "";
+  return names.slice(0, LISTED).map(told).join(", ") + rest;
+}
+
+/** The column that alone has a name. */
+export function columnOf(names, name) {
+  const column = names.indexOf(name);
+  if (column !== -1 && names.indexOf(name, column + 1) === -1) return column;
+  const [kind, count] = column === -1 ? ["Missing", "no"] : ["Doubled", "more than one"];
+  throw new HeaderError(kind, `${count} column ${told(name)}: the header has ${listed(names)}`, names);
+}

@@ -1,0 +1,343 @@
+//! The columns of a table by their names, with the feature `std`.
+
+extern crate std;
+
+use crate::row_ends::RowEnds;
+use crate::{parse_table, Dialect, Table, TableColumn, TableError};
+use core::fmt;
+use core::ops::{Deref, DerefMut};
+use std::borrow::{Cow, ToOwned};
+use std::string::String;
+use std::vec;
+use std::vec::Vec;
+
+/// What may stand in front of a text of UTF-8, and is no part of it.
+pub(crate) const BYTE_ORDER_MARK: &[u8] = b"\xEF\xBB\xBF";
+
+/// So many names of a header are told, and of each so many characters.
+const NAMES_TOLD: usize = 40;
+const NAME_TOLD: usize = 40;
+
+/// Why columns aren't found by their names.
+#[derive(Debug, Clone, PartialEq, Eq)]
+#[non_exhaustive]
+pub enum HeaderError {
+    /// The text has no row.
+    NoHeader,
+    /// The first row is none of the table, as where a quote is out of place.
+    Invalid(TableError),
+    /// No column has the name.
+    Missing {
+        /// The name that was asked for.
+        name: String,
+        /// The names that there are.
+        header: Vec<String>,
+    },
+    /// More than one column has the name.
+    Doubled {
+        /// The name that was asked for.
+        name: String,
+        /// The names that there are.
+        header: Vec<String>,
+    },
+    /// The name was asked for twice.
+    AskedTwice(String),
+}
+
+impl HeaderError {
+    /// This fault of a part of a text as one of the text, in which so many bytes stand before the part.
+    pub(crate) fn behind(self, bytes: usize) -> Self {
+        match self {
+            HeaderError::Invalid(error) => HeaderError::Invalid(error.behind(0, bytes)),
+            other => other,
+        }
+    }
+}
+
+/// Names as a message lists them: each in quotes, and long ones or too many cut.
+fn listed(f: &mut fmt::Formatter<'_>, names: &[String]) -> fmt::Result {
+    for (index, name) in names.iter().take(NAMES_TOLD).enumerate() {
+        f.write_str(if index > 0 { ", " } else { "" })?;
+        told(f, name)?;
+    }
+    match names.len().saturating_sub(NAMES_TOLD) {
+        0 => Ok(()),
+        more => write!(f, " and {more} more"),
+    }
+}
+
+/// A name in quotes, cut where it is long.
+fn told(f: &mut fmt::Formatter<'_>, name: &str) -> fmt::Result {
+    match name.char_indices().nth(NAME_TOLD) {
+        Some((end, _)) => write!(f, "{:?} ..", &name[..end]),
+        None => write!(f, "{name:?}"),
+    }
+}
+
+impl fmt::Display for HeaderError {
+    /// What is wrong, and where a name is, which names there are: `no column "cent": the header has "id", "cents"`.
+    fn fmt(&self, f: &mut fmt::Formatter<'_>) -> fmt::Result {
+        match self {
+            HeaderError::NoHeader => f.write_str("the table has no header"),
+            HeaderError::Invalid(error) => write!(f, "the header is no row: {error}"),
+            HeaderError::Missing { name, header } => {
+                f.write_str("no column ")?;
+                told(f, name)?;
+                f.write_str(": the header has ")?;
+                listed(f, header)
+            }
+            HeaderError::Doubled { name, header } => {
+                f.write_str("more than one column ")?;
+                told(f, name)?;
+                f.write_str(": the header has ")?;
+                listed(f, header)
+            }
+            HeaderError::AskedTwice(name) => {
+                f.write_str("the column ")?;
+                told(f, name)?;
+                f.write_str(" is asked for twice")
+            }
+        }
+    }
+}
+
+impl core::error::Error for HeaderError {}
+
+/// The names of a table's columns, as its first row has them.
+///
+/// That row is read by the table's own rules: a name may stand within quotes, with separators, line feeds and doubled
+/// quotes in it, and blanks around it are none of it where the table allows them.
+#[derive(Debug, Clone, PartialEq, Eq)]
+pub struct Header {
+    names: Vec<Vec<u8>>,
+    stop: usize,
+}
+
+impl Header {
+    /// The header that a text begins with. A byte order mark in front of it is skipped, and so are empty rows where
+    /// the table skips them.
+    ///
+    /// ```
+    /// use jadvolni::{Dialect, Header};
+    /// let header = Header::of("id;\"what;for\";cents\r\n1;rent;-80000\r\n",
+    ///     &Dialect::separated_by(b';').has_quotes(true).has_returns(true))?;
+    /// assert_eq!(header.names().collect::<Vec<_>>(), ["id", "what;for", "cents"]);
+    /// assert_eq!(header.stop(), 21);
+    /// # Ok::<(), jadvolni::HeaderError>(())
+    /// ```
+    pub fn of(text: impl AsRef<[u8]>, dialect: &Dialect<'_>) -> Result<Header, HeaderError> {
+        let text = text.as_ref();
+        let mut start = if text.starts_with(BYTE_ORDER_MARK) { BYTE_ORDER_MARK.len() } else { 0 };
+        let mut ends = RowEnds::new(dialect);
+        loop {
+            let rest = &text[start..];
+            let stop = ends.stop_in(rest).unwrap_or(rest.len());
+            if stop == 0 || !is_skipped(&rest[..stop], dialect) {
+                let header = Header::of_row(&rest[..stop], dialect);
+                let header = header.map_err(|error| error.behind(start))?;
+                return Ok(Header { stop: start + stop, ..header });
+            }
+            start += stop;
+            ends.begin();
+        }
+    }
+
+    /// The header that a row is, with what ends it.
+    pub(crate) fn of_row(row: &[u8], dialect: &Dialect<'_>) -> Result<Header, HeaderError> {
+        if row.is_empty() {
+            return Err(HeaderError::NoHeader);
+        }
+        let cells = cells_of(content_of_row(row, dialect), dialect);
+        let mut unread: Vec<_> = cells.iter().map(|_| TableColumn::UNREAD).collect();
+        // The library judges the row by its own rules.
+        parse_table(row, dialect, &mut unread).map_err(HeaderError::Invalid)?;
+        let names = cells.iter().map(|cell| name_of(cell, dialect)).collect();
+        Ok(Header { names, stop: row.len() })
+    }
+
+    /// The place of the first byte behind the header, at which the first row begins.
+    pub fn stop(&self) -> usize {
+        self.stop
+    }
+
+    /// The names, column by column. What isn't UTF-8 is replaced.
+    pub fn names(&self) -> impl ExactSizeIterator<Item = Cow<'_, str>> {
+        self.names.iter().map(|name| String::from_utf8_lossy(name))
+    }
+
+    /// The name of a column, counted from 0, as of [`TableError::column`].
+    pub fn name(&self, column: usize) -> Option<Cow<'_, str>> {
+        self.names.get(column).map(|name| String::from_utf8_lossy(name))
+    }
+
+    /// The column that alone has a name, counted from 0.
+    pub fn column(&self, name: &str) -> Result<usize, HeaderError> {
+        let mut found = self.names.iter().enumerate().filter(|(_, it)| it[..] == *name.as_bytes());
+        let header = || self.names().map(Cow::into_owned).collect();
+        match (found.next(), found.next()) {
+            (Some((column, _)), None) => Ok(column),
+            (None, _) => Err(HeaderError::Missing { name: name.to_owned(), header: header() }),
+            _ => Err(HeaderError::Doubled { name: name.to_owned(), header: header() }),
+        }
+    }
+
+    /// The columns of the table, of which those are read that have the names.
+    ///
+    /// ```
+    /// use jadvolni::{parse_table, Dialect, Header, TableColumn};
+    /// let (text, comma) = ("day,what,cents\n1,rent,-80000\n", Dialect::separated_by(b','));
+    /// let header = Header::of(text, &comma)?;
+    /// let mut cents = [0i64; 9];
+    /// let mut columns = header.columns([("cents", TableColumn::of(&mut cents))])?;
+    /// assert_eq!(parse_table(&text[header.stop()..], &comma, &mut columns)?.rows, 1);
+    /// assert_eq!(cents[0], -80000);
+    /// let told = header.columns([("cent", TableColumn::UNREAD)]).unwrap_err();
+    /// assert_eq!(told.to_string(), r#"no column "cent": the header has "day", "what", "cents""#);
+    /// # Ok::<(), Box<dyn std::error::Error>>(())
+    /// ```
+    pub fn columns<'a, N: AsRef<str>>(
+        &self,
+        wanted: impl IntoIterator<Item = (N, TableColumn<'a>)>,
+    ) -> Result<Vec<TableColumn<'a>>, HeaderError> {
+        let mut columns: Vec<_> = self.names.iter().map(|_| TableColumn::UNREAD).collect();
+        let mut is_taken = vec![false; columns.len()];
+        for (name, column) in wanted {
+            let index = self.column(name.as_ref())?;
+            if core::mem::replace(&mut is_taken[index], true) {
+                return Err(HeaderError::AskedTwice(name.as_ref().to_owned()));
+            }
+            columns[index] = column;
+        }
+        Ok(columns)
+    }
+}
+
+/// The columns of a table, of which those are read that have names which were asked for. It is a slice of them all.
+#[derive(Debug)]
+pub struct Columns<'a> {
+    header: Header,
+    columns: Vec<TableColumn<'a>>,
+}
+
+impl<'a> Columns<'a> {
+    /// The columns of a text that begins with a header, as of [`Header::of`] and [`Header::columns`].
+    ///
+    /// ```
+    /// use jadvolni::{Columns, Dialect, Error, Table, TableColumn, TableError};
+    /// let (text, comma) = ("day,what,cents\n1,rent,-80000\n2,food,7x\n", Dialect::separated_by(b','));
+    /// let (mut days, mut cents) = ([0u16; 9], [0i64; 9]);
+    /// let wanted = [("cents", TableColumn::of(&mut cents)), ("day", TableColumn::of(&mut days))];
+    /// let mut columns = Columns::by_header(text, &comma, wanted)?;
+    /// let error = columns.read(text, &comma).unwrap_err();
+    /// assert_eq!(error, TableError { row: 1, column: 2, error: Error::InvalidDigit(37) });
+    /// let (line, name) = (error.error.position(text).unwrap().line, columns.header().name(error.column));
+    /// assert_eq!((line, name.as_deref(), error.error.message()), (3, Some("cents"), "invalid digit"));
+    /// assert_eq!((days[0], cents[0]), (1, -80000));
+    /// # Ok::<(), jadvolni::HeaderError>(())
+    /// ```
+    pub fn by_header<N: AsRef<str>>(
+        text: impl AsRef<[u8]>,
+        dialect: &Dialect<'_>,
+        wanted: impl IntoIterator<Item = (N, TableColumn<'a>)>,
+    ) -> Result<Columns<'a>, HeaderError> {
+        let header = Header::of(text, dialect)?;
+        let columns = header.columns(wanted)?;
+        Ok(Columns { header, columns })
+    }
+
+    /// The header.
+    pub fn header(&self) -> &Header {
+        &self.header
+    }
+
+    /// Reads the rows behind the header of a text, as [`parse_table`] does. Places count from the text's start.
+    pub fn read(
+        &mut self,
+        text: impl AsRef<[u8]>,
+        dialect: &Dialect<'_>,
+    ) -> Result<Table, TableError> {
+        let (text, start) = (text.as_ref(), self.header.stop);
+        match parse_table(text.get(start..).unwrap_or(&[]), dialect, &mut self.columns) {
+            Ok(table) => Ok(Table { stop: start + table.stop, ..table }),
+            Err(error) => Err(error.behind(0, start)),
+        }
+    }
+}
+
+impl<'a> Deref for Columns<'a> {
+    type Target = [TableColumn<'a>];
+
+    fn deref(&self) -> &[TableColumn<'a>] {
+        &self.columns
+    }
+}
+
+impl<'a> DerefMut for Columns<'a> {
+    fn deref_mut(&mut self) -> &mut [TableColumn<'a>] {
+        &mut self.columns
+    }
+}
+
+// ---- a row's cells
+
+/// Whether a row, with what ends it, is an empty one that the table skips.
+pub(crate) fn is_skipped(row: &[u8], dialect: &Dialect<'_>) -> bool {
+    dialect.0.skips_empty_rows != 0 && content_of_row(row, dialect).is_empty()
+}
+
+/// A row without what ends it.
+fn content_of_row<'t>(row: &'t [u8], dialect: &Dialect<'_>) -> &'t [u8] {
+    if dialect.0.is_records != 0 {
+        return row;
+    }
+    let Some(line) = row.strip_suffix(b"\n") else { return row };
+    line.strip_suffix(b"\r").filter(|_| dialect.0.has_returns != 0).unwrap_or(line)
+}
+
+/// The cells of a row: those of the table's widths, or those between separators outside quotes.
+fn cells_of<'t>(row: &'t [u8], dialect: &Dialect<'_>) -> Vec<&'t [u8]> {
+    let widths = dialect.widths();
+    if !widths.is_empty() {
+        let mut rest = row;
+        let by_width = |width: &usize| {
+            let (cell, more) = rest.split_at(rest.len().min(*width));
+            rest = more;
+            cell
+        };
+        return widths.iter().map(by_width).collect();
+    }
+    let separator = dialect.0.separator;
+    let has_quotes = dialect.0.has_quotes != 0 && separator != b'"';
+    let mut is_within = false;
+    let parts = |byte: &u8| {
+        is_within ^= has_quotes && *byte == b'"';
+        *byte == separator && !is_within
+    };
+    row.split(parts).collect()
+}
+
+/// What a cell holds, without its quotes and blanks.
+fn name_of(cell: &[u8], dialect: &Dialect<'_>) -> Vec<u8> {
+    let quoted = cell.strip_prefix(b"\"").and_then(|rest| rest.strip_suffix(b"\""));
+    let mut name = match quoted.filter(|_| dialect.0.has_quotes != 0) {
+        Some(held) => folded(held),
+        None => cell.to_vec(),
+    };
+    if dialect.0.allows_blanks != 0 {
+        let is_no_blank = |byte: &u8| !matches!(byte, b' ' | b'\t');
+        let stop = name.iter().rposition(is_no_blank).map_or(0, |last| last + 1);
+        name.truncate(stop);
+        name.drain(..name.iter().position(is_no_blank).unwrap_or(0));
+    }
+    name
+}
+
+/// A text with one quote for two.
+fn folded(held: &[u8]) -> Vec<u8> {
+    let mut is_second = false;
+    let keep = |byte: &&u8| {
+        is_second = **byte == b'"' && !is_second;
+        **byte != b'"' || is_second
+    };
+    held.iter().filter(keep).copied().collect()
+}

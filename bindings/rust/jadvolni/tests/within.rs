@@ -1,0 +1,92 @@
+//! Numbers within bounds, beside the same parse without.
+
+use jadvolni::{parse, parse_within, parse_within_with_format, Error, Format, WithinError};
+
+const TEXTS: [&str; 24] = [
+    "0",
+    "1",
+    "-1",
+    "+1",
+    "-0",
+    "007",
+    "127",
+    "128",
+    "-128",
+    "-129",
+    "255",
+    "256",
+    "70000",
+    "-70000",
+    "99999x",
+    "-x",
+    "",
+    "-",
+    "+",
+    "x",
+    "9223372036854775808",
+    "-9223372036854775809",
+    "340282366920938463463374607431768211456",
+    "-170141183460469231731687303715884105729",
+];
+
+/// What is said of a text beside its number, if it has one that no type of 128 bits need have.
+fn judge(text: &str) -> Option<bool> {
+    let digits = text.strip_prefix(['-', '+']).unwrap_or(text);
+    let is_number = !digits.is_empty() && digits.bytes().all(|byte| byte.is_ascii_digit());
+    is_number.then(|| text.starts_with('-') && digits.bytes().any(|byte| byte != b'0'))
+}
+
+#[test]
+fn what_is_taken_and_what_is_said() {
+    macro_rules! each {
+        ($($type:ident)*) => {$(
+            for text in TEXTS {
+                for (min, max) in [($type::MIN, $type::MAX), (1, 100), (100, 1), (0, 0)] {
+                    let (read, whole) = (parse_within(text, min..=max), parse::<$type>(text));
+                    match (read, whole, judge(text)) {
+                        (Ok(number), whole, _) => {
+                            assert!(whole == Ok(number) && min <= number && number <= max, "{text}");
+                        }
+                        (Err(WithinError::Invalid(error)), Err(_), None) => {
+                            assert!(!matches!(error, Error::Overflow(_) | Error::Underflow(_)));
+                        }
+                        // A minus in front of nothing but zeros, where the type has no sign.
+                        (Err(WithinError::Invalid(error)), Err(own), Some(false)) => assert_eq!((error, text), (own, "-0")),
+                        (Err(WithinError::OutOfBounds { given, .. }), whole, Some(is_negative)) => {
+                            assert_eq!(given.as_bytes(), &text.as_bytes()[..text.len().min(40)]);
+                            assert!(whole.is_err() || !(min..=max).contains(&whole.unwrap()), "{text}");
+                            assert!(!is_negative || min > 0 || $type::MIN == 0 || whole.is_err() || whole.unwrap() < min);
+                        }
+                        other => panic!("{text} from {min} to {max}: {other:?}"),
+                    }
+                }
+            }
+        )*};
+    }
+    each! { u8 u16 u32 u64 u128 usize i8 i16 i32 i64 i128 isize }
+}
+
+#[test]
+fn messages() {
+    let told = |text: &[u8]| parse_within(text, -5..=5i8).unwrap_err().to_string();
+    assert_eq!(told(b"6"), "6 is not from -5 to 5");
+    assert_eq!(told(b"-129"), "-129 is not from -5 to 5");
+    assert_eq!(
+        told("9".repeat(99).as_bytes()),
+        format!("{}.. is not from -5 to 5", "9".repeat(40))
+    );
+    assert_eq!(told(b"1\n"), "invalid digit at byte 1");
+    assert_eq!(told(b""), "missing digit at byte 0");
+    let separated =
+        Format::STANDARD.digit_separator(Some(0)).integer_internal_digit_separator(true);
+    let told = |text, format| parse_within_with_format(text, 1..=5u8, format).unwrap_err();
+    assert_eq!(told("6\x000", &separated).to_string(), r"6\x000 is not from 1 to 5");
+    assert_eq!(
+        format!("{:?}", told("6\x000", &separated)),
+        r#"OutOfBounds { given: "6\x000", min: 1, max: 5 }"#
+    );
+    let invalid = Format::STANDARD.mantissa_radix(1);
+    assert_eq!(told("6", &invalid), WithinError::Invalid(Error::InvalidMantissaRadix));
+    let error: Box<dyn std::error::Error + Send + Sync> = told("6", &separated).into();
+    assert_eq!(error.to_string(), "6 is not from 1 to 5");
+}

@@ -1,0 +1,211 @@
+// jadvolni_columns.hpp - the columns of a table by the names of its header, for C++17.
+//
+//     std::vector<std::uint32_t> ids(1000);
+//     std::vector<std::int64_t> cents(1000);
+//     jadvolni::columns_by_header columns(
+//         text, ledger, {{"id", jadvolni::column_into(ids)}, {"cents", jadvolni::column_into(cents)}});
+//     if (!columns) return fail(columns.message()); // no column "cents": the header has "id", "cent"
+//     auto read = columns.read(text, 1000);
+//     if (!read) std::cerr << columns.name(read.column()) << ": " << read.message() << '\n';
+//
+// Unlike jadvolni.hpp it allocates memory for names, and throws where there is none.
+#pragma once
+
+#include "jadvolni.hpp"
+
+#include <initializer_list>
+#include <string>
+#include <vector>
+
+namespace jadvolni {
+
+// A column that is read, and the name that the header has for it.
+struct named_column {
+    std::string_view name;
+    table_column column;
+};
+
+// The columns of a table, of which those are read that have names which were asked for. It is handed to parse_table or
+// to table_blocks as an array of them.
+class columns_by_header {
+public:
+    // The columns of a text that begins with a header, which is its first row, read by the table's own rules: a name may
+    // stand within quotes, with separators, line feeds and doubled quotes in it, and blanks around it are none of it where
+    // the table allows them. A byte order mark in front of it is skipped, and so are empty rows where the table skips them.
+    columns_by_header(std::string_view text, const table &how, std::initializer_list<named_column> wanted)
+        : columns_by_header(text, how, wanted.begin(), wanted.size())
+    {
+    }
+    template <class Wanted>
+    columns_by_header(std::string_view text, const table &how, const Wanted &wanted)
+        : columns_by_header(text, how, std::data(wanted), std::size(wanted))
+    {
+    }
+
+    // Whether there is a header, in which each name stands once.
+    explicit operator bool() const noexcept { return message_.empty(); }
+
+    // What is wrong. Of a name that is missing or stands twice it says which there are.
+    const std::string &message() const noexcept { return message_; }
+
+    // The place behind the header, at which the first row begins; or that of the header's fault.
+    std::size_t place() const noexcept { return place_; }
+
+    // The names, column by column, and that of one, counted from 0, which is empty behind the last.
+    const std::vector<std::string> &names() const noexcept { return names_; }
+    std::string_view name(std::size_t column) const noexcept
+    {
+        return column < names_.size() ? std::string_view(names_[column]) : std::string_view();
+    }
+
+    // The columns.
+    table_column *data() noexcept { return columns_.data(); }
+    std::size_t size() const noexcept { return columns_.size(); }
+
+    // The rows behind the header of a text, `capacity` at most, as of parse_table. Places count from the text's start.
+    [[nodiscard]] table_result read(std::string_view text, std::size_t capacity) noexcept
+    {
+        auto behind = text.substr(std::min(place_, text.size()));
+        auto rows = detail::read_table(behind, true, how_, capacity, data(), size());
+        return rows.moved(place_);
+    }
+
+private:
+    columns_by_header(std::string_view text, const table &how, const named_column *wanted, std::size_t count)
+        : how_(how)
+    {
+        choose(text, wanted, count);
+    }
+
+    // Finds the columns that are wanted.
+    void choose(std::string_view text, const named_column *wanted, std::size_t count)
+    {
+        auto row = first_row(text);
+        if (row.empty()) return fail("the table has no header");
+        if (!read_names(row)) return;
+        columns_.resize(names_.size());
+        std::vector<bool> is_taken(names_.size());
+        for (std::size_t index = 0; index < count; ++index) {
+            auto column = find(wanted[index].name);
+            if (column == names_.size()) return;
+            if (is_taken[column]) return fail("the column " + told(wanted[index].name) + " is asked for twice");
+            is_taken[column] = true;
+            columns_[column] = wanted[index].column;
+        }
+    }
+
+    void fail(std::string message)
+    {
+        message_ = std::move(message);
+        columns_.clear();
+    }
+
+    // The first row of a text, with what ends it; no row that the table skips. Its place is kept.
+    std::string_view first_row(std::string_view text)
+    {
+        if (text.substr(0, 3) == "\xEF\xBB\xBF") place_ = 3;
+        detail::row_ends ends(how_);
+        for (;;) {
+            auto rest = text.substr(place_);
+            auto row = ends.ends_in(rest.data(), rest.size()) ? rest.substr(0, ends.stop()) : rest;
+            if (row.empty() || !how_.skips_empty_rows || !content(row).empty()) return row;
+            place_ += row.size();
+            ends.begin();
+        }
+    }
+
+    // A row without what ends it.
+    std::string_view content(std::string_view row) const noexcept
+    {
+        if (how_.is_records || row.empty() || row.back() != '\n') return row;
+        row.remove_suffix(1);
+        if (how_.has_returns && !row.empty() && row.back() == '\r') row.remove_suffix(1);
+        return row;
+    }
+
+    // The names of a row, if it is one of the table, which the library judges by its own rules.
+    bool read_names(std::string_view row)
+    {
+        auto cells = cells_of(content(row));
+        std::vector<table_column> unread(cells.size());
+        auto judged = detail::read_table(row, true, how_, 1, unread.data(), unread.size());
+        place_ += judged.place();
+        if (!judged) return fail(std::string("the header is no row: ") + judged.message()), false;
+        for (auto cell : cells) names_.push_back(name_of(cell));
+        return true;
+    }
+
+    // The cells of a row: those of the table's widths, or those between separators outside quotes.
+    std::vector<std::string_view> cells_of(std::string_view row) const
+    {
+        std::vector<std::string_view> cells;
+        for (std::size_t column = 0; column < how_.width_count; ++column) {
+            cells.push_back(row.substr(0, how_.widths[column]));
+            row.remove_prefix(cells.back().size());
+        }
+        if (how_.width_count) return cells;
+        const auto separator = static_cast<char>(how_.separator);
+        const bool has_quotes = how_.has_quotes && separator != '"';
+        std::size_t start = 0;
+        bool is_within = false;
+        for (std::size_t place = 0; place < row.size(); ++place) {
+            is_within ^= has_quotes && row[place] == '"';
+            if (row[place] != separator || is_within) continue;
+            cells.push_back(row.substr(start, place - start));
+            start = place + 1;
+        }
+        cells.push_back(row.substr(start));
+        return cells;
+    }
+
+    // What a cell holds, without its quotes and blanks.
+    std::string name_of(std::string_view cell) const
+    {
+        std::string name(cell);
+        if (how_.has_quotes && cell.size() >= 2 && cell.front() == '"') {
+            name.clear();
+            for (std::size_t place = 1; place + 1 < cell.size(); ++place) {
+                name += cell[place];
+                place += cell[place] == '"'; // the one that doubles it
+            }
+        }
+        if (!how_.allows_blanks) return name;
+        auto start = name.find_first_not_of(" \t");
+        return start == name.npos ? std::string() : name.substr(start, name.find_last_not_of(" \t") + 1 - start);
+    }
+
+    // The column that alone has a name; how many there are where none has it, or more than one.
+    std::size_t find(std::string_view name)
+    {
+        auto first = std::find(names_.begin(), names_.end(), name);
+        const char *fault = "no column ";
+        if (first != names_.end()) {
+            if (std::find(first + 1, names_.end(), name) == names_.end())
+                return static_cast<std::size_t>(first - names_.begin());
+            fault = "more than one column ";
+        }
+        std::string message = fault + told(name) + ": the header has ";
+        constexpr std::size_t most = 40;
+        for (std::size_t index = 0; index < std::min(most, names_.size()); ++index)
+            message += (index ? ", " : "") + told(names_[index]);
+        if (names_.size() > most) message += " and " + std::to_string(names_.size() - most) + " more";
+        return fail(message), names_.size();
+    }
+
+    // A name in quotes, cut behind 40 bytes, but within no character of UTF-8.
+    static std::string told(std::string_view name)
+    {
+        std::size_t size = 40;
+        while (size < name.size() && (static_cast<unsigned char>(name[size]) & 0xC0) == 0x80) ++size;
+        auto front = '"' + std::string(name.substr(0, size)) + '"';
+        return size < name.size() ? front + " .." : front;
+    }
+
+    table how_;
+    std::vector<std::string> names_;
+    std::vector<table_column> columns_;
+    std::string message_;
+    std::size_t place_ = 0;
+};
+
+} // namespace jadvolni
