@@ -898,6 +898,104 @@ jadvolni_table_result jadvolni_parse_table(const char *text, size_t len, bool is
                                            jadvolni_table_column *columns, size_t column_count)
     JADVOLNI_CHECKED_(4) JADVOLNI_TEXT_ JADVOLNI_READS_(6, 7);
 
+/* ---- bad rows ---- */
+
+/* Where a row of a table is. */
+typedef struct jadvolni_row_result {
+    uint32_t status; /* a jadvolni_status */
+    size_t start;
+    size_t stop;
+} jadvolni_row_result;
+
+/*
+ * Where the row of a number is, counted from 0: where it starts, and where the next one does, or the end
+ * of the text. It is for a row at fault, whose number jadvolni_parse_table tells in `r.rows`: the text
+ * from `stop` on has the rows behind it.
+ *
+ *     jadvolni_row_result bad = jadvolni_row_place(text, len, &ledger, r.rows);
+ *     fprintf(stderr, "%.*s", (int)(bad.stop - bad.start), text + bad.start);
+ *
+ *     status    JADVOLNI_OK, or JADVOLNI_INVALID_TABLE, and then the places are 0.
+ *     start     The place of the row's first byte, or `len` where the text has no row of that number.
+ *     stop      The place behind the row, what ends it, and the empty rows behind it that are skipped.
+ *
+ * A quote that nothing closes ends at the end of the text, and so does its row; in a part of a text the
+ * row that it ends in stops with the part. In "1;;2\r\nx;;3\r\n" the row 1 is from 6 to 12.
+ *
+ * What is asked of the text and of the table is as of jadvolni_parse_table. Widths may be of any number.
+ * The time is that of a walk over the text up to the row.
+ */
+jadvolni_row_result jadvolni_row_place(const char *text, size_t len, const jadvolni_table *table,
+                                       size_t row) JADVOLNI_CHECKED_(3) JADVOLNI_TEXT_;
+
+/* A row at fault. */
+typedef struct jadvolni_bad_row {
+    uint32_t status; /* a jadvolni_status: what is wrong with its first wrong cell */
+
+    /* 0, each of them: they are for what later versions tell. */
+    uint8_t reserved[20];
+
+    /* Its number among all rows of the text, right and bad, counted from 0. */
+    size_t row;
+
+    /* The column of the fault, and its place in the text, as jadvolni_parse_table tells them. */
+    size_t column;
+    size_t place;
+
+    /* Where the row starts, and where the next one does, as jadvolni_row_place tells them. */
+    size_t start;
+    size_t stop;
+} jadvolni_bad_row;
+
+/* What is answered of a table whose bad rows are skipped. */
+typedef struct jadvolni_skipping_result {
+    uint32_t status; /* a jadvolni_status */
+    size_t column;
+    size_t rows;
+    size_t bad_rows;
+    size_t place;
+} jadvolni_skipping_result;
+
+/*
+ * The rows of a text, as jadvolni_parse_table reads them, but those at fault are skipped and counted.
+ *
+ *     jadvolni_bad_row bad[10];
+ *     jadvolni_skipping_result r = jadvolni_parse_table_skipping(text, len, true, &ledger, 1000,
+ *                                                                columns, 3, bad, 10);
+ *     for (size_t k = 0; k < r.bad_rows && k < 10; k++)
+ *         fprintf(stderr, "row %zu, column %zu, byte %zu: %s\n", bad[k].row + 1, bad[k].column + 1,
+ *                 bad[k].place, jadvolni_status_text(bad[k].status));
+ *
+ *     r.status    JADVOLNI_OK, whatever the text is, or what is wrong with the table or with a column.
+ *     r.column    The column that is wrong, counted from 0; else 0.
+ *     r.rows      How many right rows were read: `capacity` at most.
+ *     r.bad_rows  How many bad rows were skipped, also those that `bad` has no room for.
+ *     r.place     Where reading stopped: where the row behind the last of `capacity` right ones starts,
+ *                 or the end of the text. A call on the text from there on goes on exactly there, and
+ *                 counts its rows and places from there.
+ *     bad         What is known of the bad rows, in order, as far as there is room. What lies behind
+ *                 that is as it was.
+ *
+ * The right rows are stored one behind another, all of them and no other. A row with too few or too
+ * many cells is at fault as any other. A bad row is read up to its fault, into the place of the next
+ * right one: so where fewer rows come than `capacity`, the place behind the last one, and its bit, may
+ * have changed in each array. All else there is as it was.
+ *
+ * So "365;rent;-80000\r\n366;x\r\n367;;7\r\n" in the ledger gives two rows, 365 and 367, and one bad row:
+ * number 1, JADVOLNI_TOO_FEW_CELLS in column 2 at 22, from 17 to 24. The place is 32.
+ *
+ * A FILE IN BLOCKS is read as by jadvolni_parse_table: where `is_last` is false, the row that the text
+ * ends in is left, and where `capacity` rows came, call again with what is left before the next part.
+ * A bad row behind the last of `capacity` right ones isn't read: the next call skips it.
+ *
+ * Beside what is asked of jadvolni_parse_table, `bad` points to `bad_capacity` structs that may be written,
+ * and may be NULL where that is 0. They lie in no other.
+ */
+jadvolni_skipping_result jadvolni_parse_table_skipping(
+    const char *text, size_t len, bool is_last, const jadvolni_table *table, size_t capacity,
+    jadvolni_table_column *columns, size_t column_count, jadvolni_bad_row *bad, size_t bad_capacity)
+    JADVOLNI_CHECKED_(4) JADVOLNI_TEXT_ JADVOLNI_READS_(6, 7) JADVOLNI_WRITES_(8, 9);
+
 #ifdef __clang__
 #pragma clang diagnostic pop
 #endif
@@ -1106,6 +1204,12 @@ JADVOLNI_ASSERT_(first_array_is_at_32, offsetof(jadvolni_table_column, i64) == 3
 JADVOLNI_ASSERT_(last_array_is_at_144, offsetof(jadvolni_table_column, u8) == 144);
 JADVOLNI_ASSERT_(table_result_has_32_bytes, sizeof(jadvolni_table_result) == 32);
 JADVOLNI_ASSERT_(column_is_at_8, offsetof(jadvolni_table_result, column) == 8);
+JADVOLNI_ASSERT_(row_result_has_24_bytes, sizeof(jadvolni_row_result) == 24);
+JADVOLNI_ASSERT_(bad_row_has_64_bytes, sizeof(jadvolni_bad_row) == 64);
+JADVOLNI_ASSERT_(bad_row_number_is_at_24, offsetof(jadvolni_bad_row, row) == 24);
+JADVOLNI_ASSERT_(bad_row_stop_is_at_56, offsetof(jadvolni_bad_row, stop) == 56);
+JADVOLNI_ASSERT_(skipping_result_has_40_bytes, sizeof(jadvolni_skipping_result) == 40);
+JADVOLNI_ASSERT_(bad_rows_are_at_24, offsetof(jadvolni_skipping_result, bad_rows) == 24);
 JADVOLNI_ASSERT_(uint128_has_16_bytes, sizeof(jadvolni_uint128) == 16);
 JADVOLNI_ASSERT_(uint128_high_is_at_8, offsetof(jadvolni_uint128, high) == 8);
 JADVOLNI_ASSERT_(int128_has_16_bytes, sizeof(jadvolni_int128) == 16);

@@ -612,6 +612,62 @@ template <class Columns>
     return parse_table_part(text, true, how, capacity, columns);
 }
 
+// A row at fault: its number, where its fault is and what, and where the row starts and stops.
+using bad_row = jadvolni_bad_row;
+
+// What was read of a table whose bad rows were skipped: how many rows are right and how many bad, and where
+// reading stopped; or what is wrong with the table or a column.
+class skipping_result : public outcome {
+public:
+    explicit skipping_result(jadvolni_skipping_result answer) noexcept
+        : outcome(answer.status, answer.place), rows_(answer.rows), bad_rows_(answer.bad_rows),
+          column_(answer.column)
+    {
+    }
+
+    // How many right rows were read.
+    std::size_t rows() const noexcept { return rows_; }
+
+    // How many bad rows were skipped, also those that had no room.
+    std::size_t bad_rows() const noexcept { return bad_rows_; }
+
+    // The column that is wrong, from 0.
+    std::size_t column() const noexcept { return column_; }
+
+private:
+    std::size_t rows_, bad_rows_, column_;
+};
+
+// As parse_table_part, but rows at fault are skipped: what is known of each goes to `bad`, as far as there is
+// room, and the right ones are stored one behind another.
+template <class Columns, class Bad>
+[[nodiscard]] skipping_result parse_table_part_skipping(std::string_view text, bool is_last,
+                                                        const table &how, std::size_t capacity,
+                                                        Columns &&columns, Bad &&bad) noexcept
+{
+    return skipping_result(jadvolni_parse_table_skipping(
+        text.data(), text.size(), is_last, &how, capacity, std::data(columns), std::size(columns),
+        std::data(bad), std::size(bad)));
+}
+
+// The right rows of a text, `capacity` at most.
+template <class Columns, class Bad>
+[[nodiscard]] skipping_result parse_table_skipping(std::string_view text, const table &how,
+                                                   std::size_t capacity, Columns &&columns,
+                                                   Bad &&bad) noexcept
+{
+    return parse_table_part_skipping(text, true, how, capacity, columns, bad);
+}
+
+// The bytes of the row of a number, from 0, with what ends it and the empty rows behind it that are skipped: none
+// where the text has no such row, or the table can't be read.
+[[nodiscard]] inline std::string_view row_of(std::string_view text, const table &how,
+                                             std::size_t row) noexcept
+{
+    auto place = jadvolni_row_place(text.data(), text.size(), &how, row);
+    return text.substr(place.start, place.stop - place.start);
+}
+
 // What was read of a block: rows, or what is wrong.
 class table_block : table_result {
 public:

@@ -39,12 +39,14 @@ BUILT = ["-o", "build/libjadvolni.a", "-o", "build/symbols.map", "-o", "build/li
 FORMS = [what + under for what in ("", "_front", "_partial") for under in ("", "_with_format")]
 # The structs of the header, by their names in the crate. jadvolni-sys has the header's names.
 STRUCTS = {"result": "Outcome", "format": "FormatFields", "uint128": "Unsigned128",
-           "int128": "Signed128", "table_result": "TableOutcome"}
+           "int128": "Signed128", "table_result": "TableOutcome", "row_result": "RowOutcome",
+           "bad_row": "BadRowFields", "skipping_result": "SkippingOutcome"}
 OF_RUST = {"uint8_t": "u8", "uint32_t": "u32", "uint64_t": "u64", "int64_t": "i64",
            "size_t": "usize"}
 COLUMN_TYPES = [f"{sign}{size}" for sign in "ui" for size in (8, 16, 32, 64)]
 CALLS = sorted(["jadvolni_version", "jadvolni_format_error", "jadvolni_field_start",
-                "jadvolni_parse_literal", "jadvolni_parse_table"]
+                "jadvolni_parse_literal", "jadvolni_parse_table",
+                "jadvolni_parse_table_skipping", "jadvolni_row_place"]
                + [f"jadvolni_parse_{name}{form}" for name, form in product(TYPES, FORMS)]
                + [f"jadvolni_parse_{name}_column" for name in COLUMN_TYPES])
 
@@ -133,7 +135,8 @@ def fields_of_rust(text: str, name: str) -> List[str]:
 def layout() -> str:
     """The header, the crate and jadvolni-sys have the same fields in the same order, and calls."""
     crate = "".join(text_of("crates", "jadvolni", "src", f"{name}.rt")
-                    for name in ("outcome", "format", "halves", "tables"))
+                    for name in ("outcome", "format", "halves", "tables", "bad_rows",
+                                 "skipping"))
     bound = text_of("bindings", "rust", "jadvolni-sys", "src", "lib.rs")
     for name, of_crate in STRUCTS.items():
         wanted = fields_of_c(name)
@@ -170,14 +173,16 @@ def messages(place: Place) -> str:
 
 def calls(place: Place) -> Iterator[Step]:
     """Each caller, by each of its compilers, with both libraries and under sanitizers."""
-    c_callers = ("calls.c", "columns.c", "random_columns.c", "tables.c", "table_texts.c")
+    c_callers = ("calls.c", "columns.c", "random_columns.c", "skipping.c", "tables.c",
+                 "table_texts.c")
     for compiler, name in product(C_COMPILERS, c_callers):
         step, name = partial(call, place, f"tests/c/{name}", compiler), f"{name}, {compiler}"
         yield f"C99, {name}", partial(step, ["-std=c99", *OPTIMISED])
         yield f"C11 and the shared library, {name}", partial(step, ["-std=c11", *OPTIMISED], True)
         yield f"C99 under sanitizers, {name}", partial(step, ["-std=c99", *SANITIZED])
     bare, racing = ["-fno-exceptions", "-fno-rtti", *OPTIMISED], ["-fsanitize=thread", "-g", "-O1"]
-    cxx_callers = ("wrapper.cpp", "tables.cpp", "blocks.cpp", "by_header.cpp", "threads.cpp")
+    cxx_callers = ("wrapper.cpp", "skipping.cpp", "tables.cpp", "blocks.cpp", "by_header.cpp",
+                   "threads.cpp")
     for compiler, name in product(CXX_COMPILERS, cxx_callers):
         step, name = partial(call, place, f"tests/c/{name}", compiler), f"{name}, {compiler}"
         yield f"C++17, {name}", partial(step, [CXX17, *OPTIMISED])

@@ -17,6 +17,16 @@ static uint64_t used_table(jadvolni_table_result r)
     return r.status + r.column + r.rows + r.place;
 }
 
+static uint64_t used_row(jadvolni_row_result r)
+{
+    return r.status + r.start + r.stop;
+}
+
+static uint64_t used_skipping(jadvolni_skipping_result r)
+{
+    return r.status + r.column + r.rows + r.bad_rows + r.place;
+}
+
 uint64_t misuse(void);
 uint64_t misuse(void)
 {
@@ -27,7 +37,8 @@ uint64_t misuse(void)
     jadvolni_uint128 wide = {0, 0};
     jadvolni_table table = {.separator = ','};
     jadvolni_table_column column = {.format = JADVOLNI_FORMAT_STANDARD, .u64 = {values, 2}};
-    (void)narrow, (void)count, (void)values, (void)text, (void)wide, (void)table, (void)column;
+    jadvolni_bad_row bad[2] = {{0}, {0}};
+    (void)bad, (void)narrow, (void)count, (void)values, (void)text, (void)wide, (void)table, (void)column;
 #if MISUSE == 0
     return used(jadvolni_parse_u64(text, 4, &value), value)
         + used(jadvolni_parse_u64_front_with_format(NULL, 0, FORMAT, &value), value)
@@ -37,7 +48,10 @@ uint64_t misuse(void)
         + used(jadvolni_parse_literal(text, 4, FORMAT, &wide, &count), wide.low)
         + jadvolni_field_start(text, 4, ',') + jadvolni_field_start(NULL, 0, ',')
         + used_table(jadvolni_parse_table(text, 4, true, &table, 2, &column, 1))
-        + used_table(jadvolni_parse_table(NULL, 0, true, &table, 2, NULL, 0)) + values[1];
+        + used_table(jadvolni_parse_table(NULL, 0, true, &table, 2, NULL, 0))
+        + used_row(jadvolni_row_place(text, 4, &table, 1)) + used_row(jadvolni_row_place(NULL, 0, &table, 1))
+        + used_skipping(jadvolni_parse_table_skipping(text, 4, true, &table, 2, &column, 1, bad, 2))
+        + used_skipping(jadvolni_parse_table_skipping(NULL, 0, true, &table, 2, NULL, 0, NULL, 0)) + values[1];
 #elif MISUSE == 1 /* gcc: stringop-overread, clang: user-defined-warnings */
     return used(jadvolni_parse_u64(text, 40, &value), value);
 #elif MISUSE == 2 /* gcc: stringop-overread, clang: user-defined-warnings */
@@ -91,5 +105,23 @@ uint64_t misuse(void)
     return values[0];
 #elif MISUSE == 23 /* both: nonnull */
     return used(jadvolni_parse_u64_column_part(text, 4, true, ',', NULL, values, 2, &count), values[0]);
+#elif MISUSE == 24 /* both: unused-result */
+    jadvolni_row_place(text, 4, &table, 1);
+    return value;
+#elif MISUSE == 25 /* both: nonnull */
+    return used_row(jadvolni_row_place(text, 4, NULL, 1));
+#elif MISUSE == 26 /* gcc: stringop-overread, clang: user-defined-warnings */
+    return used_row(jadvolni_row_place(text, 40, &table, 1));
+#elif MISUSE == 27 /* both: unused-result */
+    jadvolni_parse_table_skipping(text, 4, true, &table, 2, &column, 1, bad, 2);
+    return values[0];
+#elif MISUSE == 28 /* both: nonnull */
+    return used_skipping(jadvolni_parse_table_skipping(text, 4, true, NULL, 2, &column, 1, bad, 2));
+#elif MISUSE == 29 /* gcc: stringop-overflow */
+    return used_skipping(jadvolni_parse_table_skipping(text, 4, true, &table, 2, &column, 1, bad, 3));
+#elif MISUSE == 30 /* gcc: nonnull */
+    return used_skipping(jadvolni_parse_table_skipping(text, 4, true, &table, 2, &column, 1, NULL, 2));
+#elif MISUSE == 31 /* gcc: stringop-overread, clang: user-defined-warnings */
+    return used_skipping(jadvolni_parse_table_skipping(text, 40, true, &table, 2, &column, 1, bad, 2));
 #endif
 }

@@ -1,10 +1,11 @@
-/* Answers questions about tables by jadvolni_parse_table, for tests/tables/compare.py.
+/* Answers questions about tables by jadvolni_parse_table, or by the call that skips bad rows, for tests/tables/compare.py.
  *
  * Standard input has questions: a struct question, a struct target and a width for each column, the mark and the text.
  * Each is asked with all that the call is handed right in front of a page that can't be touched, and with all right behind one; of the
  * whole text, and of its two parts for each cut. All ways have to get one answer. Standard output has 0 or the number of
  * the first that got another one, which then follows, as uint64_t; so status, column, rows and place; and, for each
- * column that is read, its numbers and its bits. */
+ * column that is read, its numbers and its bits. Where bad rows are skipped, their number follows, what is known of them, and
+ * where some rows are. */
 #define _DEFAULT_SOURCE
 #include "jadvolni.h"
 
@@ -14,13 +15,20 @@
 #include <sys/mman.h>
 
 enum { GUARD = 1 << 14, REGION = 1 << 16, MOST_COLUMNS = 8, MOST_ROWS = 255, NUMBERS_BEFORE = 119, BITS_BEFORE = 90 };
-enum { RETURNS = 1, QUOTES = 2, BLANKS = 4, SKIPS = 8, IS_LAST = 16, BY_WIDTHS = 32, RECORDS = 64, STRUCTS_CHANGED = 1000 };
+enum { RETURNS = 1, QUOTES = 2, BLANKS = 4, SKIPS = 8, IS_LAST = 16, BY_WIDTHS = 32, RECORDS = 64, SKIPS_BAD = 128 };
+enum { STRUCTS_CHANGED = 1000, PLACES_ASKED = 5, KNOWN_BEFORE = 51 };
 
 typedef struct question {
     uint16_t len, first_cut, cuts;
     uint8_t separator, flags, missing_len, columns;
     uint8_t rows, room; /* that are asked for; that each array has */
+    uint8_t bad_room, unused;
 } question;
+
+/* What a call answered. */
+typedef struct answer {
+    uint64_t status, column, rows, bad_rows, place;
+} answer;
 
 typedef struct target {
     uint8_t type, may_miss; /* 0, or from 1 on: u8, u16, u32, u64, i8, i16, i32, i64 */
@@ -33,9 +41,11 @@ static size_t widths[MOST_COLUMNS];
 static char missing[UINT8_MAX], text[UINT16_MAX];
 /* The bits of all rows: a part gets a copy of its own, since its first row has bit 0. */
 static uint8_t bits[MOST_COLUMNS][(MOST_ROWS + 7) / 8];
+/* What is known of bad rows. A part gets what is left of the array. */
+static jadvolni_bad_row bad[UINT8_MAX];
 
 /* Where lies what the call is handed: each in a region of its own, at one of its ends. */
-enum { TEXT, MISSING, TABLE, WIDTHS, COLUMNS, NUMBERS, BITS = NUMBERS + MOST_COLUMNS, REGIONS = BITS + MOST_COLUMNS };
+enum { TEXT, MISSING, TABLE, WIDTHS, COLUMNS, BAD, NUMBERS, BITS = NUMBERS + MOST_COLUMNS, REGIONS = BITS + MOST_COLUMNS };
 static char *regions[REGIONS];
 static bool at_end;
 
@@ -113,13 +123,10 @@ static void set_column(jadvolni_table_column *column, int k, size_t row)
     copy_bits(column->present.bytes, 0, bits[k], row, bits_from(row));
 }
 
-/* Reads a stretch of the text, whose first row is that one. */
-static jadvolni_table_result read_rows(size_t start, size_t stop, bool is_last, size_t row)
+static jadvolni_table *set_table(void)
 {
-    static jadvolni_table_column before[MOST_COLUMNS];
-    size_t count = asked.columns, size = count * sizeof *before;
-    jadvolni_table *table = within(TABLE, sizeof *table), same;
-    jadvolni_table_column *columns = memset(within(COLUMNS, size), 0, size);
+    size_t size = asked.columns * sizeof *widths;
+    jadvolni_table *table = within(TABLE, sizeof *table);
     *table = (jadvolni_table){.separator = asked.separator,
                               .has_returns = asked.flags & RETURNS,
                               .has_quotes = asked.flags & QUOTES,
@@ -129,28 +136,80 @@ static jadvolni_table_result read_rows(size_t start, size_t stop, bool is_last, 
                               .missing = memcpy(within(MISSING, asked.missing_len), missing, asked.missing_len),
                               .missing_len = asked.missing_len};
     if (asked.flags & BY_WIDTHS) {
-        table->widths = memcpy(within(WIDTHS, count * sizeof *widths), widths, count * sizeof *widths);
-        table->width_count = count;
+        table->widths = memcpy(within(WIDTHS, size), widths, size);
+        table->width_count = asked.columns;
     }
+    return table;
+}
+
+/* How many of so many bad rows the array has. */
+static size_t kept_of(uint64_t known)
+{
+    return known < asked.bad_room ? known : asked.bad_room;
+}
+
+/* Calls the library, behind so many bad rows. */
+static answer call(const char *bytes, size_t len, bool is_last, const jadvolni_table *table, size_t capacity,
+                   jadvolni_table_column *columns, uint64_t known)
+{
+    if (!(asked.flags & SKIPS_BAD)) {
+        jadvolni_table_result r = jadvolni_parse_table(bytes, len, is_last, table, capacity, columns, asked.columns);
+        return (answer){r.status, r.column, r.rows, 0, r.place};
+    }
+    size_t kept = kept_of(known), room = asked.bad_room - kept, size = room * sizeof *bad;
+    jadvolni_bad_row *more = memcpy(within(BAD, size), bad + kept, size);
+    jadvolni_skipping_result r =
+        jadvolni_parse_table_skipping(bytes, len, is_last, table, capacity, columns, asked.columns, more, room);
+    memcpy(bad + kept, more, size);
+    return (answer){r.status, r.column, r.rows, r.bad_rows, r.place};
+}
+
+/* Reads a stretch of the text, whose first row is that one, behind so many bad rows. */
+static answer read_rows(size_t start, size_t stop, bool is_last, size_t row, uint64_t known)
+{
+    static jadvolni_table_column before[MOST_COLUMNS];
+    size_t count = asked.columns, size = count * sizeof *before;
+    jadvolni_table *table = set_table(), same;
+    jadvolni_table_column *columns = memset(within(COLUMNS, size), 0, size);
     for (int k = 0; k < asked.columns; k++) set_column(&columns[k], k, row);
     memcpy(&same, table, sizeof same);
     memcpy(before, columns, size);
-    jadvolni_table_result r =
-        jadvolni_parse_table(memcpy(within(TEXT, stop - start), text + start, stop - start), stop - start, is_last,
-                             table, asked.rows - row, columns, count);
+    answer r = call(memcpy(within(TEXT, stop - start), text + start, stop - start), stop - start, is_last, table,
+                    asked.rows - row, columns, known);
     if (memcmp(&same, table, sizeof same) != 0 || memcmp(before, columns, size) != 0) r.status = STRUCTS_CHANGED;
     for (int k = 0; k < asked.columns; k++)
         if (before[k].present.size > 0) copy_bits(bits[k], row, before[k].present.bytes, 0, bits_from(row));
     return r;
 }
 
-/* Reads a part of the text that isn't the last, and then what it left with the bytes that follow. */
-static jadvolni_table_result read_in_parts(size_t cut, bool is_last)
+static jadvolni_row_result row_place(size_t row)
 {
-    jadvolni_table_result first = read_rows(0, cut, false, 0), rest;
+    return jadvolni_row_place(memcpy(within(TEXT, asked.len), text, asked.len), asked.len, set_table(), row);
+}
+
+/* The bad rows of the second part, counted in the text. The last one of the first part stopped where that did. */
+static void move_bad_rows(answer first, answer rest)
+{
+    size_t kept = kept_of(first.bad_rows), all = kept_of(first.bad_rows + rest.bad_rows);
+    if (kept > 0 && kept == first.bad_rows && bad[kept - 1].stop == first.place)
+        bad[kept - 1].stop = row_place(bad[kept - 1].row).stop;
+    for (size_t k = kept; k < all; k++) {
+        bad[k].row += first.rows + first.bad_rows;
+        bad[k].place += first.place;
+        bad[k].start += first.place;
+        bad[k].stop += first.place;
+    }
+}
+
+/* Reads a part of the text that isn't the last, and then what it left with the bytes that follow. */
+static answer read_in_parts(size_t cut, bool is_last)
+{
+    answer first = read_rows(0, cut, false, 0, 0), rest;
     if (first.status != JADVOLNI_OK || first.rows > asked.rows || first.place > cut) return first;
-    rest = read_rows(first.place, asked.len, is_last, first.rows);
+    rest = read_rows(first.place, asked.len, is_last, first.rows, first.bad_rows);
+    move_bad_rows(first, rest);
     rest.rows += first.rows;
+    rest.bad_rows += first.bad_rows;
     rest.place += first.place;
     return rest;
 }
@@ -160,14 +219,29 @@ static jadvolni_table_result read_in_parts(size_t cut, bool is_last)
 static void fill_arrays(void)
 {
     memset(bits, BITS_BEFORE, sizeof bits);
+    memset(bad, KNOWN_BEFORE, sizeof bad);
     for (int k = 0; k < asked.columns; k++) {
         size_t size = size_of_number(k) * asked.room;
         memset(within(NUMBERS + k, size), NUMBERS_BEFORE, size);
     }
 }
 
+/* Writes what is known of bad rows, and where the first rows are: behind it. */
+static char *write_bad_rows(char *to, answer r)
+{
+    size_t size = asked.bad_room * sizeof *bad;
+    memcpy(to, &r.bad_rows, sizeof r.bad_rows);
+    char *end = (char *)memcpy(to + sizeof r.bad_rows, bad, size) + size;
+    for (size_t row = 0; row < PLACES_ASKED; row++) {
+        jadvolni_row_result place = row_place(row);
+        uint64_t said[] = {place.status, place.start, place.stop};
+        end = (char *)memcpy(end, said, sizeof said) + sizeof said;
+    }
+    return end;
+}
+
 /* Writes what was answered: how many bytes that is. */
-static size_t write_answer(char *to, jadvolni_table_result r)
+static size_t write_answer(char *to, answer r)
 {
     uint64_t said[] = {0, r.status, r.column, r.rows, r.place};
     char *end = (char *)memcpy(to, said, sizeof said) + sizeof said;
@@ -176,6 +250,7 @@ static size_t write_answer(char *to, jadvolni_table_result r)
         end = (char *)memcpy(end, within(NUMBERS + k, size), size) + size;
         end = (char *)memcpy(end, bits[k], more) + more;
     }
+    if (asked.flags & SKIPS_BAD) end = write_bad_rows(end, r);
     return (size_t)(end - to);
 }
 
@@ -187,8 +262,8 @@ static void answer_question(void)
     for (uint64_t way = 0; way < 2 * (1 + (uint64_t)asked.cuts); way++) {
         at_end = way % 2 == 0;
         fill_arrays();
-        jadvolni_table_result r =
-            way < 2 ? read_rows(0, asked.len, is_last, 0) : read_in_parts(asked.first_cut + (way - 2) / 2, is_last);
+        answer r = way < 2 ? read_rows(0, asked.len, is_last, 0, 0)
+                           : read_in_parts(asked.first_cut + (way - 2) / 2, is_last);
         size = write_answer(way == 0 ? first : other, r);
         if (way > 0 && memcmp(first, other, size) != 0) {
             memcpy(first, other, size);

@@ -5,7 +5,8 @@
     tests/tables/compare.py --all [--longest N]        all short texts, under each setting
 
 Answers, arrays and bits have to be those of reading.py, and the arrays and bits as before where
-nothing was put. answers.c asks the library, build/libjadvolni.a, in several ways, and all of them
+nothing was put. Each table is asked for twice: up to its first fault, and with bad rows skipped, and
+then also where its rows are. answers.c asks the library, build/libjadvolni.a, in several ways, and all of them
 have to get one answer. It prints what differs, and ends with status 1 then.
 """
 from __future__ import annotations
@@ -24,7 +25,7 @@ from typing import List, Optional, Sequence, Tuple
 
 import reading
 from questions import KINDS, Question, random_questions, short_questions
-from reading import TOP, Read, Target
+from reading import TOP, Bad, Read, Target
 
 sys.path.insert(0, os.path.join(TOP, "tools"))
 
@@ -35,8 +36,11 @@ MOST_TOLD = 5
 # How many questions one run of the program answers.
 BATCH = 20000
 # What arrays and bits have before.
-NUMBERS_BEFORE, BITS_BEFORE = b"\x77", b"\x5a"
-QUESTION, ANSWER = struct.Struct("=HHHBBBBBB"), struct.Struct("=5Q")
+NUMBERS_BEFORE, BITS_BEFORE, KNOWN_BEFORE = b"\x77", b"\x5a", b"\x33"
+QUESTION, ANSWER = struct.Struct("=HHHBBBBBBBx"), struct.Struct("=5Q")
+BAD_ROW, ROW_PLACE = struct.Struct("=I20x5Q"), struct.Struct("=3Q")
+# Of how many rows it is asked where they are.
+PLACES_ASKED = 5
 CODES = dict(zip(KINDS, "BHIQbhiq"))
 # A row and a column.
 Place = Tuple[int, int]
@@ -63,12 +67,12 @@ def target_written(target: Optional[Target]) -> bytes:
 
 def written(question: Question) -> bytes:
     """A question, as the program reads it."""
-    text, is_last, dialect, targets, rows, room, cuts = question
+    text, is_last, dialect, targets, rows, room, cuts, bad_room = question
     flags = (dialect.has_returns | dialect.has_quotes << 1 | dialect.allows_blanks << 2
              | dialect.skips_empty_rows << 3 | is_last << 4 | (dialect.widths is not None) << 5
-             | dialect.is_records << 6)
+             | dialect.is_records << 6 | (bad_room is not None) << 7)
     asked = QUESTION.pack(len(text), cuts.start, len(cuts), dialect.separator, flags,
-                          len(dialect.missing), dialect.columns, rows, room)
+                          len(dialect.missing), dialect.columns, rows, room, bad_room or 0)
     widths = struct.pack(f"={dialect.columns}Q", *(dialect.widths or dialect.columns * [0]))
     return asked + b"".join(map(target_written, targets)) + widths + dialect.missing + text
 
@@ -95,24 +99,46 @@ def put(said: bytearray, start: int, question: Question, place: Place,
         said[byte] = said[byte] & ~mask | (0 if number is None else mask)
 
 
+def with_numbers(said: bytearray, question: Question, numbers: reading.Numbers) -> bytearray:
+    """The same, and behind it the arrays and bits."""
+    starts = []
+    for target in question.targets:
+        starts.append(len(said))
+        if target is not None:
+            said += NUMBERS_BEFORE * (question.room * struct.calcsize("=" + CODES[target.type]))
+            said += BITS_BEFORE * ((question.room + 7) // 8 if target.may_miss else 0)
+    for place, number in numbers.items():
+        put(said, starts[place[1]], question, place, number)
+    return said
+
+
+def bad_rows(question: Question, bad: Sequence[Bad]) -> bytes:
+    """What is told of bad rows, and where the first rows are."""
+    room = question.bad_room or 0
+    said = struct.pack("=Q", len(bad))
+    for row in bad[:room]:
+        said += BAD_ROW.pack(NUMBERS[row.wrong.fault], row.wrong.row, row.wrong.column,
+                             row.wrong.place, row.start, row.stop)
+    said += KNOWN_BEFORE * (BAD_ROW.size * (room - len(bad[:room])))
+    places = reading.row_places(question.text, question.dialect)[:PLACES_ASKED]
+    places += (PLACES_ASKED - len(places)) * [(len(question.text),) * 2]
+    return said + b"".join(ROW_PLACE.pack(NUMBERS["Ok"], *place) for place in places)
+
+
 def expected(question: Question) -> bytes:
     """What the program has to answer."""
-    text, is_last, dialect, targets, rows, room, _ = question
+    text, is_last, dialect, targets, rows, *_ = question
+    if question.bad_room is not None:
+        read, numbers = reading.read_skipping(text, is_last, dialect, targets, rows)
+        said = bytearray(ANSWER.pack(0, NUMBERS["Ok"], 0, read.rows, read.stop))
+        return bytes(with_numbers(said, question, numbers)) + bad_rows(question, read.bad)
     answer, numbers = reading.read_part(text, is_last, dialect, targets, rows)
     if isinstance(answer, Read):
         said = bytearray(ANSWER.pack(0, NUMBERS["Ok"], 0, answer.rows, answer.stop))
     else:
         said = bytearray(ANSWER.pack(0, NUMBERS[answer.fault], answer.column, answer.row,
                                      answer.place))
-    starts = []
-    for target in targets:
-        starts.append(len(said))
-        if target is not None:
-            said += NUMBERS_BEFORE * (room * struct.calcsize("=" + CODES[target.type]))
-            said += BITS_BEFORE * ((room + 7) // 8 if target.may_miss else 0)
-    for place, number in numbers.items():
-        put(said, starts[place[1]], question, place, number)
-    return bytes(said)
+    return bytes(with_numbers(said, question, numbers))
 
 
 def difference(program: str, question: Question) -> str:
@@ -158,7 +184,7 @@ def main() -> int:
             count += len(questions)
             well += sum(ANSWER.unpack_from(one)[1] == NUMBERS["Ok"] for one in wanted)
     print("".join(f"compare: {line}\n" for line in told), end="")
-    print(f"compare: {count} tables, of which {well} have no fault: {len(told)} differ")
+    print(f"compare: {count} tables, of which {well} are read without a fault: {len(told)} differ")
     return 1 if told else 0
 
 

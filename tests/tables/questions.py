@@ -32,6 +32,8 @@ class Question(NamedTuple):
     room: int
     # Where the text is cut, to read it in two parts.
     cuts: range
+    # For how many bad rows there is room, if these are skipped.
+    bad_room: Optional[int] = None
 
 
 # ---- random tables
@@ -148,7 +150,9 @@ def random_questions(chance: random.Random) -> Iterator[Question]:
         rows = chance.choice((0, 1, 2, 3, 4, 9, 12, 50))
         cut = chance.randint(0, len(text))
         room = rows + chance.choice((0, 1, 9))
-        yield Question(text, is_last, dialect, targets, rows, room, range(cut, cut + 1))
+        asked = Question(text, is_last, dialect, targets, rows, room, range(cut, cut + 1))
+        yield asked
+        yield asked._replace(bad_room=chance.choice((0, 1, 2, 9)))
 
 
 # ---- short texts
@@ -204,4 +208,6 @@ def short_questions(longest: int) -> Iterator[Question]:
              for text in itertools.product(SHORT_ALPHABET, repeat=length)]
     for asked in itertools.chain(settings_by_separators(), settings_by_widths()):
         for text in texts:
-            yield asked._replace(text=text, cuts=range(len(text) + 1))
+            cuts = range(len(text) + 1)
+            yield asked._replace(text=text, cuts=cuts)
+            yield asked._replace(text=text, cuts=cuts, bad_room=2)

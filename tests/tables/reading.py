@@ -67,6 +67,24 @@ class Wrong(NamedTuple):
 
 # The number at each row and column that was read; None where one misses.
 Numbers = Dict[Tuple[int, int], Optional[int]]
+
+
+class Bad(NamedTuple):
+    """A row at fault: its first wrong cell, and where the row is."""
+
+    wrong: Wrong
+    start: int
+    stop: int
+
+
+class Skipped(NamedTuple):
+    """How far a table was read whose bad rows were skipped, and these."""
+
+    rows: int
+    bad: List[Bad]
+    stop: int
+
+
 Answer = Tuple[Union[Read, Wrong], Numbers]
 
 
@@ -262,3 +280,37 @@ def read_part(text: bytes, is_last: bool, dialect: Dialect, targets: Sequence[Op
               room: int) -> Answer:
     """The same of a part of a text, whose cut row is left."""
     return read(text if is_last else text[:whole_rows(text, dialect)], dialect, targets, room)
+
+
+# ---- bad rows
+
+def row_places(text: bytes, dialect: Dialect) -> List[Tuple[int, int]]:
+    """Where each row starts, and where the next one does."""
+    starts = [row.start for row in counted_rows(text, dialect)] + [len(text)]
+    return list(zip(starts, starts[1:]))
+
+
+def read_skipping(text: bytes, is_last: bool, dialect: Dialect,
+                  targets: Sequence[Optional[Target]], room: int) -> Tuple[Skipped, Numbers]:
+    """So many right rows at most, and the bad ones before the last of them.
+
+    Numbers are told by their places in the arrays. Those of a bad row stand where the next one is put.
+    """
+    text = text if is_last else text[:whole_rows(text, dialect)]
+    numbers: Numbers = {}
+    bad: List[Bad] = []
+    count = 0
+    stop = len(text)
+    places = row_places(text, dialect)
+    for number, row in enumerate(counted_rows(text, dialect)):
+        if count == room:
+            stop = row.start
+            break
+        put: Dict[int, Optional[int]] = {}
+        fault = read_row(text, row, dialect, targets, put)
+        numbers.update({(count, column): value for column, value in put.items()})
+        if fault is None:
+            count += 1
+        else:
+            bad.append(Bad(Wrong(number, *fault), *places[number]))
+    return Skipped(count, bad, stop), numbers

@@ -9,7 +9,7 @@ use crate::tables::{TableFields, dialect_of, wrong_column};
 use lexical_parse_integer::options;
 use lexical_tables::{Skipped, read_part_skipping, row_place};
 
-/// Where a row is: `jadvolni_row_place_result` in C.
+/// Where a row is: `jadvolni_row_result` in C.
 #[repr(C)]
 #[derive(Copy, Clone)]
 pub struct RowOutcome {

@@ -1,5 +1,6 @@
 // A module for each library that is called.
 
+mod bad_rows;
 mod fields;
 mod lines;
 mod literals;

@@ -108,6 +108,39 @@ pub struct jadvolni_table_result {
     pub place: usize,
 }
 
+/// Where a row of a table is.
+#[repr(C)]
+#[derive(Debug, Copy, Clone, PartialEq, Eq)]
+pub struct jadvolni_row_result {
+    pub status: u32,
+    pub start: usize,
+    pub stop: usize,
+}
+
+/// A row at fault.
+#[repr(C)]
+#[derive(Debug, Copy, Clone, PartialEq, Eq)]
+pub struct jadvolni_bad_row {
+    pub status: u32,
+    pub reserved: [u8; 20],
+    pub row: usize,
+    pub column: usize,
+    pub place: usize,
+    pub start: usize,
+    pub stop: usize,
+}
+
+/// What is answered of a table whose bad rows are skipped.
+#[repr(C)]
+#[derive(Debug, Copy, Clone, PartialEq, Eq)]
+pub struct jadvolni_skipping_result {
+    pub status: u32,
+    pub column: usize,
+    pub rows: usize,
+    pub bad_rows: usize,
+    pub place: usize,
+}
+
 /// The bits of `nul_is_punctuation`.
 pub const JADVOLNI_NUL_IS_SEPARATOR: u8 = 1;
 pub const JADVOLNI_NUL_IS_PREFIX: u8 = 2;
@@ -126,6 +159,12 @@ const _: () = {
     );
     assert!(
         size_of::<jadvolni_table_result>() == 32 && offset_of!(jadvolni_table_result, column) == 8
+    );
+    assert!(size_of::<jadvolni_row_result>() == 24);
+    assert!(size_of::<jadvolni_bad_row>() == 64 && offset_of!(jadvolni_bad_row, row) == 24);
+    assert!(
+        size_of::<jadvolni_skipping_result>() == 40
+            && offset_of!(jadvolni_skipping_result, bad_rows) == 24
     );
     assert!(size_of::<jadvolni_uint128>() == 16 && offset_of!(jadvolni_uint128, high) == 8);
     assert!(size_of::<jadvolni_int128>() == 16 && offset_of!(jadvolni_int128, high) == 8);
@@ -230,5 +269,7 @@ extern "C" {
     pub fn jadvolni_parse_i64_column(text: *const c_char, len: usize, separator: u8, format: *const jadvolni_format, values: *mut i64, capacity: usize, count: *mut usize) -> jadvolni_result;
     pub fn jadvolni_parse_literal(text: *const c_char, len: usize, format: *const jadvolni_format, value: *mut jadvolni_uint128, suffix: *mut usize) -> jadvolni_result;
     pub fn jadvolni_parse_table(text: *const c_char, len: usize, is_last: bool, table: *const jadvolni_table, capacity: usize, columns: *mut jadvolni_table_column, column_count: usize) -> jadvolni_table_result;
+    pub fn jadvolni_parse_table_skipping(text: *const c_char, len: usize, is_last: bool, table: *const jadvolni_table, capacity: usize, columns: *mut jadvolni_table_column, column_count: usize, bad: *mut jadvolni_bad_row, bad_capacity: usize) -> jadvolni_skipping_result;
+    pub fn jadvolni_row_place(text: *const c_char, len: usize, table: *const jadvolni_table, row: usize) -> jadvolni_row_result;
     pub fn jadvolni_field_start(text: *const c_char, len: usize, separator: u8) -> usize;
 }
