@@ -75,13 +75,16 @@ def iter_column(
     size = _one_or_more("size", size)
     parted = separator.encode() if isinstance(separator, str) else separator
     _parse_part(b"", type, parted, format, 0, 0)  # (so that wrong arguments are told as ever)
-    left, field, start = b"", 0, 0
+    left, field, start = bytearray(), 0, 0
     for block in _blocks(file, size, progress):
-        text = left + block
-        whole = text.rfind(parted) + 1 if block else len(text)
-        if block and not whole and len(text) > size:
-            raise ValueError(f"the field at byte {start} has more than {size} bytes")
-        numbers = _parse_part(text[:whole], type, parted, format, field, start)
+        stop = block.rfind(parted) + 1
+        if block and not stop:
+            left += block
+            if len(left) > size:
+                raise ValueError(f"the field at byte {start} has more than {size} bytes")
+            continue
+        text = bytes(left) + block[:stop] if left else memoryview(block)[:stop]
+        numbers = _parse_part(text, type, parted, format, field, start)
         if numbers:
             yield numbers
-        left, field, start = text[whole:], field + len(numbers), start + whole
+        left, field, start = bytearray(block[stop:]), field + len(numbers), start + len(text)

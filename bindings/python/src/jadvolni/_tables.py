@@ -17,7 +17,7 @@ from ._header import ask_header, read_header
 from ._reader import How, Part, Reader, ask_type
 from ._rows import Rows
 from ._table import Table
-from ._threads import bytes_of, parse_in_threads, rows_in_threads
+from ._threads import bytes_of, parse_in_threads, raise_changed, rows_in_threads
 
 if TYPE_CHECKING:
     from ._core import Text
@@ -59,8 +59,8 @@ def _parse(
     found = Rows.of(reader, arrays, rows)
     if threads > 1:
         found.count = parse_in_threads(reader, text, arrays, threads, before)
-    else:
-        found.read(text, Part(start=before))
+    elif found.read(text, Part(start=before)) != _text_size(text):
+        raise_changed()
     return found.table() if out is None else found.fronts()
 
 
