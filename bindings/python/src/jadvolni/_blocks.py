@@ -12,8 +12,8 @@ if TYPE_CHECKING:
 
     from ._core import NumberType
 
-# So many bytes are the most that the allocator keeps, by half.
-_LARGE = 1 << 24
+# The largest memory that the allocator learns from.
+_LARGE = 31 << 20
 
 
 class File(Protocol):
@@ -43,13 +43,20 @@ def _block(file: File, size: int) -> bytes:
     raise TypeError(f"file has to give bytes, and not {type(block).__name__}: open it with \"rb\"")
 
 
+def keep_memory(size: int) -> None:
+    """Has the allocator keep about so much of what is let go, for the next arrays and blocks.
+
+    Else it gives all to the system, which clears it anew each time. It keeps what was once let go
+    at a time, up to a bound.
+    """
+    _keep_memory(min(size, _LARGE))
+
+
 def _blocks(
     file: File, size: int, progress: Optional[Callable[[int], object]]
 ) -> Iterator[bytes]:
     """The blocks of a file, and behind them one without a byte."""
-    # The allocator gives memory back to the system with each block, and gets other for the next
-    # one, until something larger was freed: afterwards it keeps as much.
-    _keep_memory(min(16 * size, _LARGE))
+    keep_memory(16 * size)
     while block := _block(file, size):
         yield block
         if progress:

@@ -10,7 +10,7 @@ from contextlib import nullcontext, suppress
 from typing import (TYPE_CHECKING, Any, BinaryIO, Callable, ContextManager, Iterable, Iterator,
                     Mapping, Optional, Union)
 
-from ._blocks import File, _block, _blocks, _one_or_more
+from ._blocks import File, _block, _blocks, _one_or_more, keep_memory
 from ._core import _row_count, _text_size
 from ._files import Texts, read_texts, whole_rows
 from ._header import ask_header, read_header
@@ -50,6 +50,7 @@ def _parse(
     reader: Reader, text: Text, out: Optional[Mapping[str, Any]], threads: int, before: int
 ) -> Table:
     """The rows of a text, which stands behind so many bytes."""
+    keep_memory(2 * _text_size(text))
     if threads == 1 and out is None:
         found = Rows(reader)
         found.read(text, Part(start=before))
