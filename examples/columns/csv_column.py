@@ -11,6 +11,12 @@ import sys
 import jadvolni
 
 
+def other_separator(names: bytes) -> str:
+    """What a message says of names between which stands no comma."""
+    others = [it for it in ";\t|" if it.encode() in names]
+    return f": there is {others[0]!r} in it" if others and b"," not in names else ""
+
+
 def numbers_of(file, column: int):
     """The numbers of a column, by blocks. ValueError has the place of the first fault."""
     names = file.readline(2**20 + 1)
@@ -20,7 +26,8 @@ def numbers_of(file, column: int):
     if b'"' in names:
         raise ValueError("line 1 has a quote")
     if column > count:
-        raise ValueError(f"line 1 has {count} names, and no column {column}")
+        raise ValueError(f"line 1 has {count} cells between commas, and no column {column}"
+                         + other_separator(names))
     cells = {cell: "i64" if cell == column else None for cell in range(1, count + 1)}
     has_returns = names.endswith(b"\r\n")
     try:

@@ -1,6 +1,7 @@
 """Tests of columns that are read in blocks."""
 
 import io
+import time
 import unittest
 
 from jadvolni import Format, FormatError, ParseError, iter_column, parse_column
@@ -56,6 +57,20 @@ class Blocks(unittest.TestCase):
         self.assertEqual(self.numbers(b"0000\n1", size=4), [0, 1])
         with self.assertRaisesRegex(ValueError, "^the field at byte 2 has more than 4 bytes$"):
             self.numbers(b"1\n" + b"0" * 20, size=4)
+
+    def test_one_byte_a_call_takes_linear_time(self):
+        class Dribbling(io.BytesIO):
+            def read(self, size=-1):
+                return super().read(1)
+
+        def seconds(size):
+            start = time.process_time()
+            found = list(iter_column(Dribbling(b"7\n" + b"0" * size + b"8\n9")))
+            self.assertEqual([list(it) for it in found], [[7], [8], [9]])
+            return time.process_time() - start
+
+        seconds(100)
+        self.assertLess(seconds(200_000), 40 * seconds(20_000) + 1)
 
     def test_a_file_that_fails(self):
         file = Failing(b"1\n22\n333\n")

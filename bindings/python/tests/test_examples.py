@@ -167,8 +167,10 @@ class CsvColumn(Case):
             (b"n,c\r\na,12\n", "row 2, cell 3, byte 9: MissingReturn"),
             (b"n,c\na,12\r\n", "row 2, cell 2, byte 8: InvalidDigit"),
             (b"n,c\na,1\0\n", "row 2, cell 2, byte 7: InvalidDigit"),
-            (b"name\n", "line 1 has 1 names, and no column 2"),
-            (b"", "line 1 has 1 names, and no column 2"),
+            (b"name\n", "line 1 has 1 cells between commas, and no column 2"),
+            (b"", "line 1 has 1 cells between commas, and no column 2"),
+            (b"a;b\n1;2\n",
+             "line 1 has 1 cells between commas, and no column 2: there is ';' in it"),
             (b'"n",c\n', "line 1 has a quote"),
             (b"n," + b"c" * 3_000_000, "line 1 has more than 1048576 bytes"),
         ):

@@ -149,6 +149,9 @@ class Names(unittest.TestCase):
         names = [f"name {k}" for k in range(20_000)]
         text = (",".join(names) + "\n" + ",".join(map(str, range(20_000)))).encode()
         columns = {"name 19999": "u16", "name 7": Column("u16", may_miss=True)}
+        every = dict.fromkeys(names, "u16")
+        self.assertEqual(sum(len(it) for it in parse_table(text, every, header=True).values()),
+                         20_000)
         self.assertEqual(test_tables.lists(parse_table(text, columns, header=True)),
                          {"name 19999": [19999], "name 7": [7]})
         with self.assertRaisesRegex(ValueError, "^the header has more than 99 bytes$"):

@@ -215,6 +215,36 @@ class Threads(unittest.TestCase):
             with self.assertRaises(KeyboardInterrupt):
                 parse_table(b"1\n" * 20, {"a": "u8"}, threads=4)
 
+    def test_a_text_that_changes_meanwhile(self):
+        """A text that was wrong in a thread is read again, and is right by then."""
+        text = bytearray(b"1\n" * 9 + b"x\n" + b"1\n" * 9)
+        parse = jadvolni._core._parse_table
+
+        def heal(*asked):
+            try:
+                return parse(*asked)
+            except ParseError:
+                text[18:19] = b"2"
+                raise
+
+        with mock.patch("jadvolni._reader._parse_table", heal):
+            with self.assertRaisesRegex(RuntimeError, "the text was changed while it was read"):
+                parse_table(text, {"a": "u8"}, threads=3)
+        self.assertEqual(sum(parse_table(text, {"a": "u8"}, threads=3)["a"]), 20)
+
+    def test_a_text_that_gets_more_rows_meanwhile(self):
+        count = jadvolni._core._row_count
+
+        def fewer(*asked):
+            return count(*asked) - 1
+
+        for threads in 1, 3:
+            with mock.patch("jadvolni._tables._row_count", fewer), \
+                    mock.patch("jadvolni._threads._row_count", fewer):
+                with self.assertRaisesRegex(RuntimeError, "the text was changed while it was read"):
+                    parse_table(b"1\n" * 20, {"a": "u8"}, threads=threads,
+                                out={"a": array("B", [0] * 20)})
+
     def test_memory_is_given_back(self):
         text = b"1\n" * 20
         out, form = array("B", [9] * 20), Format(mantissa_radix=16)

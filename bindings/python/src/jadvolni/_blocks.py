@@ -12,8 +12,8 @@ if TYPE_CHECKING:
 
     from ._core import NumberType
 
-# So many bytes are the most that the allocator keeps, by half.
-_LARGE = 1 << 24
+# The largest memory that the allocator learns from.
+_LARGE = 31 << 20
 
 
 class File(Protocol):
@@ -43,13 +43,20 @@ def _block(file: File, size: int) -> bytes:
     raise TypeError(f"file has to give bytes, and not {type(block).__name__}: open it with \"rb\"")
 
 
+def keep_memory(size: int) -> None:
+    """Has the allocator keep about so much of what is let go, for the next arrays and blocks.
+
+    Else it gives all to the system, which clears it anew each time. It keeps what was once let go
+    at a time, up to a bound.
+    """
+    _keep_memory(min(size, _LARGE))
+
+
 def _blocks(
     file: File, size: int, progress: Optional[Callable[[int], object]]
 ) -> Iterator[bytes]:
     """The blocks of a file, and behind them one without a byte."""
-    # The allocator gives memory back to the system with each block, and gets other for the next
-    # one, until something larger was freed: afterwards it keeps as much.
-    _keep_memory(min(16 * size, _LARGE))
+    keep_memory(16 * size)
     while block := _block(file, size):
         yield block
         if progress:
@@ -75,13 +82,16 @@ def iter_column(
     size = _one_or_more("size", size)
     parted = separator.encode() if isinstance(separator, str) else separator
     _parse_part(b"", type, parted, format, 0, 0)  # (so that wrong arguments are told as ever)
-    left, field, start = b"", 0, 0
+    left, field, start = bytearray(), 0, 0
     for block in _blocks(file, size, progress):
-        text = left + block
-        whole = text.rfind(parted) + 1 if block else len(text)
-        if block and not whole and len(text) > size:
-            raise ValueError(f"the field at byte {start} has more than {size} bytes")
-        numbers = _parse_part(text[:whole], type, parted, format, field, start)
+        stop = block.rfind(parted) + 1
+        if block and not stop:
+            left += block
+            if len(left) > size:
+                raise ValueError(f"the field at byte {start} has more than {size} bytes")
+            continue
+        text = bytes(left) + block[:stop] if left else memoryview(block)[:stop]
+        numbers = _parse_part(text, type, parted, format, field, start)
         if numbers:
             yield numbers
-        left, field, start = text[whole:], field + len(numbers), start + whole
+        left, field, start = bytearray(block[stop:]), field + len(numbers), start + len(text)

@@ -58,9 +58,9 @@ def parse_column(
     format: Optional[Format] = None,
 ) -> array[int]: ...
 def _parse_part(
-    text: bytes,
+    text: Text,
     type: NumberType,
-    separator: bytes,
+    separator: Text,
     format: Optional[Format],
     field: int,
     start: int,

@@ -2,6 +2,7 @@
 
 from __future__ import annotations
 
+from collections import Counter
 from itertools import chain
 from typing import TYPE_CHECKING, Iterator, Sequence
 
@@ -104,7 +105,8 @@ def _listed(names: Sequence[str]) -> str:
 
 def ask_names(columns: Columns, names: list[str], how: How) -> None:
     """Asks that a header has each column once."""
-    missing = [name for name in columns if name not in names]
+    counts = Counter(names)
+    missing = [name for name in columns if name not in counts]
     if missing:
         separator = byte_of(b"," if how.separator is None else how.separator)
         others = [chr(it) for it in _SEPARATORS if chr(it) in names[0] and it != separator[0]]
@@ -112,7 +114,7 @@ def ask_names(columns: Columns, names: list[str], how: How) -> None:
         raise ValueError(f"the header has no column {_listed(missing)}: it has {_listed(names)}"
                          f"{hint}")
     for name in columns:
-        if names.count(name) > 1:
+        if counts[name] > 1:
             places = " and ".join(str(k + 1) for k, it in enumerate(names) if it == name)
             raise ValueError(f"the header has {name!r} as its columns {places}: no name chooses one"
                              f" of {_listed(names)}")

@@ -10,14 +10,14 @@ from contextlib import nullcontext, suppress
 from typing import (TYPE_CHECKING, Any, BinaryIO, Callable, ContextManager, Iterable, Iterator,
                     Mapping, Optional, Union)
 
-from ._blocks import File, _block, _blocks, _one_or_more
+from ._blocks import File, _block, _blocks, _one_or_more, keep_memory
 from ._core import _row_count, _text_size
 from ._files import Texts, read_texts, whole_rows
 from ._header import ask_header, read_header
 from ._reader import How, Part, Reader, ask_type
 from ._rows import Rows
 from ._table import Table
-from ._threads import bytes_of, parse_in_threads, rows_in_threads
+from ._threads import bytes_of, parse_in_threads, raise_changed, rows_in_threads
 
 if TYPE_CHECKING:
     from ._core import Text
@@ -50,6 +50,7 @@ def _parse(
     reader: Reader, text: Text, out: Optional[Mapping[str, Any]], threads: int, before: int
 ) -> Table:
     """The rows of a text, which stands behind so many bytes."""
+    keep_memory(2 * _text_size(text))
     if threads == 1 and out is None:
         found = Rows(reader)
         found.read(text, Part(start=before))
@@ -59,8 +60,8 @@ def _parse(
     found = Rows.of(reader, arrays, rows)
     if threads > 1:
         found.count = parse_in_threads(reader, text, arrays, threads, before)
-    else:
-        found.read(text, Part(start=before))
+    elif found.read(text, Part(start=before)) != _text_size(text):
+        raise_changed()
     return found.table() if out is None else found.fronts()
 
 

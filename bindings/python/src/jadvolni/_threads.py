@@ -79,9 +79,10 @@ def parse_in_threads(
         def count_of(part: int) -> Optional[int]:
             """How many rows a part has, or None where a cell is wrong."""
             try:
-                return reader.parse(texts[part], 0, rooms[part], 0, lines[part], Part())[0]
+                rows, stop = reader.parse(texts[part], 0, rooms[part], 0, lines[part], Part())
             except ParseError:
                 return None
+            return rows if stop == len(texts[part]) else raise_changed()
 
         counts: list[Any] = list(pool.map(count_of, range(len(texts))))
         if None in counts:  # (it is read again: only now it is known how many rows stand before it)
