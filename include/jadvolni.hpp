@@ -698,6 +698,30 @@ private:
     const char *trouble_;
 };
 
+// The first row of a file, which is a header, with what ends it; or what hinders it.
+class header_row {
+public:
+    header_row(std::string_view row, std::size_t place, const char *trouble) noexcept
+        : row_(row), place_(place), trouble_(trouble)
+    {
+    }
+
+    // Whether nothing hinders it. Where the file has no row, it is empty.
+    explicit operator bool() const noexcept { return !trouble_; }
+
+    // Its bytes, as long as these are there.
+    std::string_view operator*() const noexcept { return row_; }
+
+    // What hinders it, as of a block, and where.
+    const char *message() const noexcept { return trouble_ ? trouble_ : jadvolni::message(status::ok); }
+    std::size_t place() const noexcept { return place_; }
+
+private:
+    std::string_view row_;
+    std::size_t place_;
+    const char *trouble_;
+};
+
 // The rows of a file of any size, as a range of blocks of `capacity` rows at most:
 //
 //     std::vector<char> bytes(1 << 20); // a row has to fit, with its line feed
@@ -762,19 +786,20 @@ public:
         column_count_ = std::size(columns);
     }
 
-    // The first row of all, which is a header and no row of the table, with what ends it: so jadvolni_columns.hpp
-    // finds columns by their names. Ask for it before the first block. It is among the bytes until that is read,
-    // and empty where there is no row, where it has no room, or where reading fails, which the first block tells.
-    std::string_view header()
+    // The first row of all, which is no row of the table: so jadvolni_columns.hpp finds columns by their names. Ask
+    // for it before the first block, until which it is among the bytes; again where reading has failed.
+    header_row header()
     {
-        pass_byte_order_mark();
+        const char *trouble = pass_byte_order_mark();
         std::string_view row;
         do {
             pass(row.size());
-            row = first_row();
+            if (trouble || (trouble = fill_row())) return {{}, place_of(trouble), trouble};
+            row = {bytes_ + first_, is_last_ && !ends() ? stop_ - first_ : ends_.stop()};
         } while (how_.skips_empty_rows && (row == "\n" || (row == "\r\n" && how_.has_returns)));
+        header_row header(row, before_ + first_, nullptr);
         pass(row.size());
-        return row;
+        return header;
     }
 
     iterator begin()
@@ -796,7 +821,7 @@ private:
             std::string_view text(bytes_ + first_, stop_ - first_);
             auto read = detail::read_table(text, is_last_, how_, capacity_, columns_, column_count_);
             is_over_ = !read;
-            if (is_over_ || read.rows()) return tell(read, nullptr, read.place());
+            if (is_over_ || read.rows()) return tell(read);
             pass(read.place());
             tried_ = stop_ - first_;
             is_over_ = is_last_ && first_ == stop_;
@@ -809,21 +834,30 @@ private:
     // Whether the bytes that are left may have a whole row: one ends there, or they are twice as many as had none.
     bool may_have_row() noexcept
     {
-        auto left = stop_ - first_;
-        return is_last_ || left / 2 >= tried_ || ends_.ends_in(bytes_ + first_, left);
+        return is_last_ || (stop_ - first_) / 2 >= tried_ || ends();
     }
 
     // Tells what hinders a row.
     bool hindered(const char *trouble) noexcept
     {
         is_over_ = true;
-        return tell(table_result({}), trouble, trouble == failed() ? 0 : ends_.open_quote().value_or(0));
+        block_ = table_block(table_result({}), row_, place_of(trouble), trouble);
+        return true;
     }
 
-    // Tells what was read from the first byte on, with a place behind it, and goes behind its rows.
-    bool tell(const table_result &read, const char *trouble, std::size_t place) noexcept
+    // Where that is: at a quote that isn't closed, or where the row starts.
+    std::size_t place_of(const char *trouble) const noexcept
     {
-        block_ = table_block(read, row_, before_ + first_ + place, trouble);
+        return before_ + first_ + (trouble == failed() ? 0 : ends_.open_quote().value_or(0));
+    }
+
+    // Whether a row ends in the bytes that are left.
+    bool ends() noexcept { return ends_.ends_in(bytes_ + first_, stop_ - first_); }
+
+    // Tells what was read from the first byte on, and goes behind its rows.
+    bool tell(const table_result &read) noexcept
+    {
+        block_ = table_block(read, row_, before_ + first_ + read.place(), nullptr);
         if (!is_over_) {
             pass(read.place());
             row_ += read.rows();
@@ -843,24 +877,26 @@ private:
     static const char *failed() noexcept { return "reading has failed"; }
     const char *without_room() noexcept
     {
-        ends_.ends_in(bytes_ + first_, stop_ - first_);
+        ends();
         return ends_.open_quote() ? "a row has no room: a quote isn't closed" : "a row has no room";
     }
 
-    // Puts bytes there until a row ends in them, and answers that one, or nothing.
-    std::string_view first_row()
+    // Puts bytes there until a row ends in them. Answers what hinders it.
+    const char *fill_row()
     {
-        while (!ends_.ends_in(bytes_ + first_, stop_ - first_))
-            if (is_last_ || fill()) return {bytes_ + first_, is_last_ ? stop_ - first_ : 0};
-        return {bytes_ + first_, ends_.stop()};
+        while (!ends() && !is_last_)
+            if (auto trouble = fill()) return trouble;
+        return nullptr;
     }
 
-    // Goes behind a byte order mark in front of all.
-    void pass_byte_order_mark()
+    // Goes behind a byte order mark in front of all. Answers what hinders it.
+    const char *pass_byte_order_mark()
     {
-        while (stop_ < 3 && !is_last_ && !fill()) {}
+        while (stop_ < std::min<std::size_t>(size_, 3) && !is_last_)
+            if (auto trouble = fill()) return trouble;
         std::string_view front(bytes_, stop_);
         if (before_ + first_ == 0 && front.substr(0, 3) == "\xEF\xBB\xBF") pass(3);
+        return nullptr;
     }
 
     // Puts bytes there once. Answers what hinders it.

@@ -114,6 +114,33 @@ def of_columns() -> Iterator[Case]:
         yield Case("csv_column", b"1\n", "", 2, "usage: csv_column COLUMN < FILE", words)
 
 
+def by_name() -> Iterator[Case]:
+    """The program that adds up a column by its name."""
+    program, words = "named_column", ("cents",)
+    export = b"\xef\xbb\xbfday,\"what\nfor\",\"cents\"\n"
+    yield Case(program, export + b"1,\"a\n\"\"b\",-80000\n2,,\"7\"\n3,c,1", "-79992\n", words=words)
+    yield Case(program, b"cents\n" + b"7\n" * 1500000, "10500000\n", words=words)
+    yield Case(program, b"cents\n" + b"0" * 70000 + b"7\n", "7\n", words=words)
+    yield Case(program, export, "0\n", words=words)
+    no_room = "a row has no room: a quote isn't closed"
+    for given, told in {
+        b"": "the table has no header",
+        b"day,cent\n": 'no column "cents": the header has "day", "cent"',
+        b"cents,cents\n": 'more than one column "cents": the header has "cents", "cents"',
+        b'cents,"a"b\n': "the header is no row: misplaced quote",
+        export + b"1,a,12x\n": 'row 1, column "cents", byte 32: invalid digit',
+        export + b"1,a\n": 'row 1, column "cents", byte 29: too few cells',
+        b"cents\n1\n2\0\n": 'row 2, column "cents", byte 9: invalid digit',
+        b"cents\n1\n\"" + b"2\n" * 1000000: f'row 2, column "cents", byte 8: {no_room}',
+        b"\"" + b"2\n" * 1000000: f"byte 0: {no_room}",
+        b"cents\n" + GREATEST + b"\n1\n": f"row 2: {SUM_LEAVES}",
+    }.items():
+        yield from faults(program, {given: told}, words)
+    yield Case(program, b"", "", 2, f"{program}: {IS_FOLDER}", words, FOLDER)
+    yield Case(program, b"cents\n1\n", "", 2, f"{program}: {IS_FULL}", words, FULL)
+    yield Case(program, b"", "", 2, "usage: named_column NAME < FILE")
+
+
 def of_words() -> Iterator[Case]:
     """The programs that read no input."""
     yield Case("ten_lines", said="err Overflow 19\n")
@@ -126,7 +153,7 @@ def of_words() -> Iterator[Case]:
         yield Case("colour", b"", "30 144 255\n", 1, told, ("1e90FF", word))
 
 
-CASES = [*of_columns(), *of_words()]
+CASES = [*of_columns(), *by_name(), *of_words()]
 
 
 def check(place: Place, case: Case, program: str) -> None:

@@ -59,7 +59,7 @@ function cellsOf(row, { separator, has_quotes, widths }) {
 
 /** What a cell holds, without its quotes and blanks. */
 function nameOf(cell, { has_quotes, allows_blanks }) {
-  const text = decoder.decode(cell);
+  const text = decoder.decode(cell.slice()); // (a copy: what is shared between threads isn't decoded)
   const held = has_quotes && text.startsWith('"') ? text.slice(1, -1).replaceAll('""', '"') : text;
   return allows_blanks ? held.replace(/^[ \t]+|[ \t]+$/g, "") : held;
 }

@@ -3,10 +3,11 @@
 import { ofTable, ownFields, told } from "./arguments.js";
 import { ParseError } from "./errors.js";
 import { Format } from "./format.js";
+import { bytesOf } from "./memory.js";
 
 /** Whether options were given by their names, and no format alone. */
 export function areNamed(given) {
-  return Object.prototype.toString.call(given) === "[object Object]" && !(given instanceof Format);
+  return !(given instanceof Format) && Object.prototype.toString.call(given) === "[object Object]";
 }
 
 /** The options of a call, each read once. */
@@ -42,11 +43,12 @@ export function boundsOf(type, { min, max }) {
 
 // So many characters of a text are told.
 const TOLD = 40;
+const decoder = new TextDecoder("utf-8", { ignoreBOM: true });
 
 /** The fault of a text whose number isn't within bounds. */
 export function outOfBounds(text, { min, max }) {
-  const whole = typeof text === "string" ? text : new TextDecoder().decode(text.subarray(0, TOLD + 1));
-  const front = JSON.stringify(whole.slice(0, TOLD)).slice(1, -1);
+  const whole = typeof text === "string" ? text : decoder.decode(bytesOf(text).slice(0, TOLD + 1));
+  const front = JSON.stringify(whole.slice(0, TOLD).replace(/[\ud800-\udbff]$/, "")).slice(1, -1);
   const given = whole.length > TOLD ? `${front}..` : front;
   return new ParseError(["OutOfBounds", `${given} is not from ${min} to ${max}`], 0, { min, max });
 }

@@ -162,7 +162,9 @@ static void headers()
         std::vector<char> bytes(size);
         int numbers[4] = {};
         jadvolni::table_blocks blocks(source{text, step, &calls, false}, bytes, how, 4);
-        std::string told(blocks.header());
+        auto first = blocks.header();
+        if (!first) return first.message() + (' ' + std::to_string(first.place()));
+        std::string told(*first);
         jadvolni::table_column columns[] = {{}, jadvolni::column_into(numbers)};
         blocks.read_into(columns);
         for (const jadvolni::table_block &block : blocks)
@@ -180,7 +182,18 @@ static void headers()
             CHECK(header("a,b", step, size, commas(false)) == "a,b");
             CHECK(header("", step, size, commas(false)).empty() && header("\xEF\xBB\xBF", step, size, skips).empty());
         }
-    CHECK(header("aaaaaaaaaaaaaaaaaaaa,b\nx,7\n", 1, 9, commas(false)) == "|a row has no room 0 0 0");
+    CHECK(header("aaaaaaaaaaaaaaaaaaaa,b\nx,7\n", 1, 9, commas(false)) == "a row has no room 0");
+    CHECK(header("\n\na,\"aaaaaaaaaaaaaaaaaa,b\nx,7\n", 1, 9, skips) == "a row has no room: a quote isn't closed 4");
+    // Where reading fails, the header is asked for again.
+    std::size_t calls = 0, failures = 0;
+    char bytes[9];
+    jadvolni::table_blocks failing(source{"\xEF\xBB\xBF" "a,b\nx,7\n", 1, &calls, true}, bytes, commas(false), 4);
+    auto first = failing.header();
+    for (; !first; ++failures) {
+        CHECK(std::strcmp(first.message(), "reading has failed") == 0);
+        first = failing.header();
+    }
+    CHECK(*first == "a,b\n" && first.place() == 3 && failures == 7 && std::strcmp(first.message(), "no fault") == 0);
 }
 
 int main()

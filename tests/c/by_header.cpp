@@ -134,8 +134,9 @@ static void rows_in_blocks()
         char bytes[20];
         int cents[2], sum = 0;
         jadvolni::table_blocks blocks(source, bytes, commas(true), 2);
-        columns_by_header columns(blocks.header(), commas(true), {{"cents", jadvolni::column_into(cents)}});
-        CHECK(columns);
+        auto header = blocks.header();
+        columns_by_header columns(*header, commas(true), {{"cents", jadvolni::column_into(cents)}});
+        CHECK(header && header.place() == 3 && columns);
         blocks.read_into(columns);
         for (const jadvolni::table_block &block : blocks) {
             CHECK(block);
