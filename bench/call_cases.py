@@ -20,6 +20,8 @@ CASES = os.path.join(HERE, "calls.txt")
 # numbers.
 HOW = ("separator", "rows", "columns", "returns", "quotes", "blanks", "skips", "width", "records",
        "lacks", "part", "cell")
+# Those of a fixed-point number, which C's calls alone are asked for.
+FIXED = ("point", "places", "fewer")
 # The words that stand for one of these and its number.
 WORDS = {"missing": "lacks=1", "unread": "lacks=2", "ignored": "lacks=3", "lines": "separator=10",
          "commas": "separator=44"}
@@ -57,10 +59,10 @@ def format_bytes(word: str, named: dict[str, dict[str, int]]) -> str:
 
 def read_how(words: str) -> dict[str, int]:
     """How a text is read, by the words that say so."""
-    found = dict.fromkeys(HOW, 0)
+    found = dict.fromkeys(HOW + FIXED, 0)
     for word in words.split():
         key, _, value = WORDS.get(word, word).partition("=")
-        if key not in HOW:
+        if key not in found:
             raise Bad(f"no such word: {word}")
         found[key] = int(value or 1)
     return found
@@ -115,9 +117,10 @@ def case_of(line: str, section: str, named: dict[str, dict[str, int]]) -> Case:
     how = read_how(" ".join(more[:-1]))
     text = read_text(more[-1]) if more[-1].startswith('"') else made_text(more[-1].split(), how)
     how["separator"], how["rows"] = separator(how), row_count(how, text)
+    is_c = call.startswith(OF_C)
     told = [call, kind, format_bytes("standard" if form == "-" else form, named),
-            ",".join(str(how[key]) for key in HOW), str(len(text))]
-    return Case(line, section, call.startswith(OF_C), " ".join(told).encode() + b" " + text + b"\n")
+            ",".join(str(how[key]) for key in HOW + (FIXED if is_c else ())), str(len(text))]
+    return Case(line, section, is_c, " ".join(told).encode() + b" " + text + b"\n")
 
 
 def read_cases(path: str = CASES) -> list[Case]:

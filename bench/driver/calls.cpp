@@ -27,10 +27,10 @@ struct Seen {
     Seen times(std::uint64_t count) const { return {numbers * count, places * count, faults * count}; }
 };
 
-// How a text is read that has many numbers, in the order in which a case says it.
+// How a text is read that has many numbers, in the order in which a case says it, and how a fixed-point number is.
 struct How {
     std::size_t separator, rows, columns, has_returns, has_quotes, allows_blanks, skips_empty_rows, width, is_records,
-        lacks, is_part, cell;
+        lacks, is_part, cell, point, places, fewer;
 };
 
 struct Case {
@@ -215,10 +215,8 @@ private:
     std::vector<jadvolni_table_column> columns_;
 };
 
-bool answer_table(const Case &asked) {
-    const How &how = asked.how;
-    Columns columns(asked);
-    std::vector<std::size_t> widths(how.width > 0 ? how.columns : 0, how.width);
+// How a table is written whose cells have these widths, if they have some.
+jadvolni_table table_of(const How &how, const std::vector<std::size_t> &widths) {
     jadvolni_table table{};
     table.separator = static_cast<std::uint8_t>(how.separator);
     table.has_returns = how.has_returns;
@@ -228,6 +226,18 @@ bool answer_table(const Case &asked) {
     table.is_records = how.is_records;
     table.widths = widths.data();
     table.width_count = widths.size();
+    return table;
+}
+
+std::vector<std::size_t> widths_of(const How &how) {
+    return std::vector<std::size_t>(how.width > 0 ? how.columns : 0, how.width);
+}
+
+bool answer_table(const Case &asked) {
+    const How &how = asked.how;
+    Columns columns(asked);
+    std::vector<std::size_t> widths = widths_of(how);
+    jadvolni_table table = table_of(how, widths);
     auto &all = columns.all();
     count(asked, [&](const char *text, std::size_t size, Seen &seen) {
         jadvolni_table_result found =
@@ -237,6 +247,87 @@ bool answer_table(const Case &asked) {
     });
     return true;
 }
+
+// Calls that the library of the start lacks: bench/calls says whether this one has them.
+#ifdef HAS_FIXED
+
+template <class Number>
+using ParseFixed = jadvolni_result (*)(const char *, std::size_t, const jadvolni_fixed *, Number *);
+
+template <class Number>
+bool count_fixed(const Case &asked, ParseFixed<Number> whole, ParseFixed<Number> front) {
+    jadvolni_fixed fixed{};
+    fixed.integer = asked.format;
+    fixed.point = static_cast<std::uint8_t>(asked.how.point);
+    fixed.places = static_cast<std::uint8_t>(asked.how.places);
+    fixed.takes_fewer = asked.how.fewer != 0;
+    ParseFixed<Number> parse = asked.call == "jadvolni_parse_fixed" ? whole : front;
+    count(asked, [parse, &fixed](const char *text, std::size_t size, Seen &seen) {
+        Number number{};
+        jadvolni_result found = parse(text, size, &fixed, &number);
+        seen.numbers += low(number);
+        seen.places += found.place;
+        seen.faults += found.status;
+    });
+    return true;
+}
+
+bool answer_fixed(const Case &asked) {
+    if (asked.type == "i64")
+        return count_fixed<std::int64_t>(asked, jadvolni_parse_i64_fixed, jadvolni_parse_i64_fixed_front);
+    if (asked.type == "u32")
+        return count_fixed<std::uint32_t>(asked, jadvolni_parse_u32_fixed, jadvolni_parse_u32_fixed_front);
+    if (asked.type == "i128")
+        return count_fixed<jadvolni_int128>(asked, jadvolni_parse_i128_fixed, jadvolni_parse_i128_fixed_front);
+    return false;
+}
+
+bool answer_skipping(const Case &asked) {
+    const How &how = asked.how;
+    Columns columns(asked);
+    std::vector<std::size_t> widths = widths_of(how);
+    jadvolni_table table = table_of(how, widths);
+    std::array<jadvolni_bad_row, 4> bad{};
+    auto &all = columns.all();
+    count(asked, [&](const char *text, std::size_t size, Seen &seen) {
+        jadvolni_skipping_result found = jadvolni_parse_table_skipping(
+            text, size, !how.is_part, &table, how.rows, all.data(), all.size(), bad.data(), bad.size());
+        seen.places += found.rows + found.column + found.place + found.bad_rows;
+        seen.faults += found.status;
+    });
+    return true;
+}
+
+bool answer_row_place(const Case &asked) {
+    jadvolni_table table = table_of(asked.how, {});
+    count(asked, [&](const char *text, std::size_t size, Seen &seen) {
+        jadvolni_row_result found = jadvolni_row_place(text, size, &table, asked.how.cell);
+        seen.places += found.start + found.stop;
+        seen.faults += found.status;
+    });
+    return true;
+}
+
+bool answer_line_column(const Case &asked) {
+    count(asked, [&](const char *text, std::size_t size, Seen &seen) {
+        jadvolni_position found = jadvolni_line_column(text, size, size);
+        seen.places += found.line + found.column;
+    });
+    return true;
+}
+
+bool answer_new(const Case &asked) {
+    if (asked.call == "jadvolni_parse_table_skipping") return answer_skipping(asked);
+    if (asked.call == "jadvolni_row_place") return answer_row_place(asked);
+    if (asked.call == "jadvolni_line_column") return answer_line_column(asked);
+    return answer_fixed(asked);
+}
+
+#else
+
+bool answer_new(const Case &) { return false; }
+
+#endif
 
 bool answer_nothing(const Case &asked) {
     count(asked, [](const char *, std::size_t size, Seen &seen) { seen.places += size; });
@@ -248,7 +339,7 @@ bool answer(const Case &asked) {
     if (asked.call == "jadvolni_parse_table") return answer_table(asked);
     if (asked.call == "jadvolni_parse_literal") return answer_literal(asked);
     if (asked.call == "nothing") return answer_nothing(asked);
-    return answer_single(asked);
+    return answer_single(asked) || answer_new(asked);
 }
 
 // The numbers of a word, with commas between them.
@@ -270,8 +361,9 @@ jadvolni_format format_in(const std::string &word) {
 }
 
 How how_in(const std::string &word) {
-    auto it = numbers_in<12>(word);
-    return {it[0], it[1], it[2], it[3], it[4], it[5], it[6], it[7], it[8], it[9], it[10], it[11]};
+    auto it = numbers_in<15>(word);
+    return {it[0], it[1], it[2],  it[3],  it[4],  it[5],  it[6], it[7],
+            it[8], it[9], it[10], it[11], it[12], it[13], it[14]};
 }
 
 // The next case: `CALL TYPE FORMAT HOW SIZE TEXT`, where the text has so many bytes, and a line feed follows.
