@@ -321,7 +321,8 @@ def serde(place: Place) -> str:
         raise Skipped("there is no librust-serde-dev and librust-serde-json-dev")
     crate = shutil.copytree(source("tests", "rust_serde"), place.path("rust_serde"))
     os.symlink(source("bindings", "rust"), os.path.join(crate, "rust"))
-    sources = (f'source.debian.directory = "{registry}"', 'source.crates-io.replace-with = "debian"')
+    sources = (f'source.debian.directory = "{registry}"',
+               'source.crates-io.replace-with = "debian"')
     given = [word for each in sources for word in ("--config", each)]
     where = {**os.environ, "JADVOLNI_LIB_DIR": place.libraries,
              "CARGO_TARGET_DIR": place.path("target")}
