@@ -25,7 +25,7 @@ use crate::algorithm::front::partial_from_front;
 use crate::algorithm::head::{is_prefix_alone, read_head};
 use crate::algorithm::numeral::read_numeral;
 use crate::algorithm::plain::{front_if_plain, value_if_short};
-use crate::algorithm::whole::complete_valid_if_not_short;
+use crate::algorithm::whole::complete_by_kind;
 use crate::cursor::Cursor;
 use crate::options::Options;
 pub use head::parse_sign;
@@ -159,7 +159,7 @@ pub fn algorithm_complete<T: Integer>(
 {
     match value_if_short::<T>(bytes, format) {
         Some(value) => Ok(value),
-        None => complete_valid_if_not_short::<T>(bytes, format),
+        None => complete_by_kind::<T>(bytes, format),
     }
 }
 
@@ -196,10 +196,19 @@ fn partial_out_of_line<T: Integer>(bytes: &[u8], format: &NumberFormat) -> Resul
 
 // ---- under the standard format
 
-// The partial answer under the standard format for such a text. Why by another call: docs/DECISIONS.md, code.
+// The partial answer under the standard format for such a text: the compiler knows the format in it. Why out of line:
+// docs/DECISIONS.md, code.
+#[inline(never)]
+fn standard_front<T: Integer>(bytes: &[u8]) -> Result<(T, usize)>
+    ensures { view_of (with_place T.number) result ≡ partial standard T.TYPE bytes.now }
+{
+    partial_from_front::<T>(bytes, &format::STANDARD)
+}
+
+// The same, by a function that clears the room for its `Result` itself: a number in front then pays for none.
 #[inline(always)]
 pub(crate) fn standard_partial<T: Integer>(bytes: &[u8]) -> Result<(T, usize)>
     ensures { view_of (with_place T.number) result ≡ partial standard T.TYPE bytes.now }
 {
-    partial_out_of_line::<T>(bytes, &format::STANDARD)
+    standard_front::<T>(bytes)
 }

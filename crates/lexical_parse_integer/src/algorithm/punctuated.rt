@@ -219,6 +219,25 @@ pub(super) fn value_of_row<T: Integer>(bytes: &[u8], format: &NumberFormat) -> O
     value_behind::<T>(bytes, format, head)
 }
 
+// Whether a separator surely stands elsewhere than before each three digits: among the last three bytes, or before the last
+// four. One before the last three is looked for first.
+#[inline(always)]
+pub(super) fn is_parted_otherwise(bytes: &[u8], separator: u8) -> bool {
+    let n = bytes.len();
+    if n > 4 {
+        if bytes[n - 4] == separator {
+            return false;
+        }
+        if bytes[n - 5] == separator || bytes[n - 3] == separator {
+            return true;
+        }
+    }
+    if n < 2 {
+        return n == 1 && bytes[0] == separator;
+    }
+    bytes[n - 1] == separator || bytes[n - 2] == separator
+}
+
 // The value of the whole text under a format with a separator that may be invalid, where digits alone stand behind its
 // sign, and no prefix but `0x`, or, without a prefix, decimal digits with a separator before each three.
 #[inline(never)]

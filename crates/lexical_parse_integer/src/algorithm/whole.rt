@@ -1,6 +1,6 @@
 // What the whole text stands for: its value by the reader for the format's kind, where `None` says nothing, and the answer
 // for what these readers leave.
-ghost use Rattle.std.specs.Prelude.{◌≡◌, ◌<◌, IfSome, IsNone, Ok, length};
+ghost use Rattle.std.specs.Prelude.{◌≡◌, ◌<◌, IfSome, IsNone, IsTrue, Ok, Some, length};
 ghost use Rattle.lexical_util.specs.Format.{standard};
 ghost use Rattle.lexical_util.specs.Validity.{fault};
 ghost use Rattle.lexical_parse_integer.specs.Answer.{view_of};
@@ -15,7 +15,9 @@ use crate::algorithm::plain::faults::{
 use crate::algorithm::plain::{
     has_forbidden_zero, is_plain, value_behind_plus, value_of_decimal, value_of_plain,
 };
-use crate::algorithm::punctuated::{value_behind_head, value_of_groups, value_of_row};
+use crate::algorithm::punctuated::{
+    is_parted_otherwise, value_behind_head, value_of_groups, value_of_row,
+};
 use lexical_util::error::Error;
 use lexical_util::format::{self, NumberFormat};
 use lexical_util::num::Integer;
@@ -120,7 +122,7 @@ fn decimal_if_left<T: Integer>(bytes: &[u8], format: &NumberFormat) -> Result<T>
 
 // The same in one call. Why out of line: docs/DECISIONS.md, code.
 #[inline(never)]
-pub(crate) fn complete_if_decimal<T: Integer>(bytes: &[u8], format: &NumberFormat) -> Result<T>
+pub(crate) fn complete_decimal<T: Integer>(bytes: &[u8], format: &NumberFormat) -> Result<T>
     requires plain { IsPlain format.now }
     requires decimal { format.now.mantissa_radix ≡ 10 }
     ensures { view_of T.number result ≡ complete format.now T.TYPE bytes.now }
@@ -149,6 +151,36 @@ pub fn standard_if_left<T: Integer>(bytes: &[u8]) -> Result<T>
     }
 }
 
+// The complete answer under a format that may be invalid, for a text that these readers leave.
+#[inline(always)]
+fn complete_unread<T: Integer>(bytes: &[u8], format: &NumberFormat) -> Result<T>
+    ensures { view_of T.number result ≡ complete_if_valid format.now T.TYPE bytes.now }
+{
+    if is_plain(format) && format.mantissa_radix() == 10 {
+        return complete_decimal::<T>(bytes, format);
+    }
+    complete_from_front::<T>(bytes, format)
+}
+
+// The complete answer under a format without punctuation that may be invalid.
+#[inline(always)]
+fn plain_answer<T: Integer>(bytes: &[u8], format: &NumberFormat) -> Result<T>
+    requires { IsPlain format.now }
+    ensures { view_of T.number result ≡ complete_if_valid format.now T.TYPE bytes.now }
+{
+    let is_decimal = format.mantissa_radix() == 10;
+    if is_decimal && bytes.len() <= 16 {
+        return complete_decimal::<T>(bytes, format);
+    }
+    if let Some(value) = value_of_plain::<T>(bytes, format) {
+        return Ok(value);
+    }
+    if is_decimal {
+        return complete_decimal::<T>(bytes, format);
+    }
+    complete_from_front::<T>(bytes, format)
+}
+
 // A short decimal text is mostly at fault then, and others are read by the reader for the format's kind.
 /// The integer that the whole text stands for under a format that may be invalid, for a text that `value_if_short` has
 /// left: it isn't read as short decimal digits again.
@@ -156,36 +188,21 @@ pub fn standard_if_left<T: Integer>(bytes: &[u8]) -> Result<T>
 pub fn complete_under_if_not_short<T: Integer>(bytes: &[u8], format: &NumberFormat) -> Result<T>
     ensures { view_of T.number result ≡ complete_if_valid format.now T.TYPE bytes.now }
 {
-    if !is_plain(format) {
-        return match value_if_punctuated::<T>(bytes, format) {
-            Some(value) => Ok(value),
-            None => complete_from_front::<T>(bytes, format),
-        };
+    if is_plain(format) {
+        return plain_answer::<T>(bytes, format);
     }
-    if format.mantissa_radix() == 10 && bytes.len() <= 16 {
-        return complete_if_decimal::<T>(bytes, format);
-    }
-    match value_of_plain::<T>(bytes, format) {
+    match value_if_punctuated::<T>(bytes, format) {
         Some(value) => Ok(value),
-        None => complete_if_left::<T>(bytes, format),
+        None => complete_from_front::<T>(bytes, format),
     }
 }
 
-// The complete answer for a text that these readers leave.
-#[inline(always)]
-pub(crate) fn complete_if_left<T: Integer>(bytes: &[u8], format: &NumberFormat) -> Result<T>
-    ensures { view_of T.number result ≡ complete_if_valid format.now T.TYPE bytes.now }
-{
-    if is_plain(format) && format.mantissa_radix() == 10 {
-        return complete_if_decimal::<T>(bytes, format);
-    }
-    complete_from_front::<T>(bytes, format)
-}
+// ---- under a valid format
 
 // The complete answer under a valid format with punctuation, as one with a suffix, or with no separator: the text's head is
 // found once, and what isn't digits alone behind it is read from there. Why out of line: docs/DECISIONS.md, code.
 #[inline(never)]
-fn complete_if_punctuated<T: Integer>(bytes: &[u8], format: &NumberFormat) -> Result<T>
+fn complete_punctuated<T: Integer>(bytes: &[u8], format: &NumberFormat) -> Result<T>
     requires valid { IsNone (fault format.now) }
     ensures { view_of T.number result ≡ complete format.now T.TYPE bytes.now }
 {
@@ -196,15 +213,134 @@ fn complete_if_punctuated<T: Integer>(bytes: &[u8], format: &NumberFormat) -> Re
     completion::<T>(bytes, front_behind::<T>(bytes, format, head))
 }
 
-/// The integer that the whole text stands for under a valid format, for a text that `value_if_short` has left: it isn't read
-/// as short decimal digits again.
+// Whether a text would be a short decimal one, if all of it were digits.
 #[inline(always)]
+fn is_short_decimal(bytes: &[u8], format: &NumberFormat) -> bool
+    ensures plain { IsTrue result → IsPlain format.now }
+    ensures decimal { IsTrue result → format.now.mantissa_radix ≡ 10 }
+{
+    is_plain(format) && format.mantissa_radix() == 10 && bytes.len() <= 16
+}
+
+// A function that makes a call for a `Result` clears room for it where it begins. So a value is had first, in registers, and
+// each such call on the way to one stands in a function of its own.
+#[inline(always)]
+fn decimal_answer<T: Integer>(bytes: &[u8], format: &NumberFormat) -> Result<T>
+    requires plain { IsPlain format.now }
+    requires decimal { format.now.mantissa_radix ≡ 10 }
+    ensures { view_of T.number result ≡ complete format.now T.TYPE bytes.now }
+{
+    complete_decimal::<T>(bytes, format)
+}
+
+#[inline(always)]
+fn front_answer<T: Integer>(bytes: &[u8], format: &NumberFormat) -> Result<T>
+    ensures { view_of T.number result ≡ complete_if_valid format.now T.TYPE bytes.now }
+{
+    complete_from_front::<T>(bytes, format)
+}
+
+#[inline(always)]
+fn punctuated_answer<T: Integer>(bytes: &[u8], format: &NumberFormat) -> Result<T>
+    requires valid { IsNone (fault format.now) }
+    ensures { view_of T.number result ≡ complete format.now T.TYPE bytes.now }
+{
+    complete_punctuated::<T>(bytes, format)
+}
+
+// The value of a text that isn't a short decimal one: by the reader for the format's kind.
+#[inline(always)]
+fn value_by_kind<T: Integer>(bytes: &[u8], format: &NumberFormat) -> Option<T>
+    ensures valid { IfSome result (λ value. IsNone (fault format.now)) }
+    ensures answer { IfSome result
+        (λ value. complete format.now T.TYPE bytes.now ≡ Ok (T.number value)) }
+{
+    if is_plain(format) {
+        value_of_plain::<T>(bytes, format)
+    } else {
+        value_if_punctuated::<T>(bytes, format)
+    }
+}
+
+// Whether a separator stands in a text so that it is read from its front at once.
+#[inline(always)]
+fn is_left_to_front(bytes: &[u8], format: &NumberFormat) -> bool {
+    match format.digit_separator() {
+        Some(separator) => is_parted_otherwise(bytes, separator),
+        None => false,
+    }
+}
+
+/// The integer that the whole text stands for under a valid format, for a text that `value_if_short` has left: it isn't read
+/// as short decimal digits again. The readers of values stand in the caller's place, as a loop over texts wants.
+#[inline(always)]
+#[tactic(auto, using(crate::proofs::plain::DigitsAlone::valid_answer))]
 pub fn complete_valid_if_not_short<T: Integer>(bytes: &[u8], format: &NumberFormat) -> Result<T>
     requires valid { IsNone (fault format.now) }
     ensures { view_of T.number result ≡ complete format.now T.TYPE bytes.now }
 {
     if format.base_suffix().is_some() || (!is_plain(format) && format.digit_separator().is_none()) {
-        return complete_if_punctuated::<T>(bytes, format);
+        return punctuated_answer::<T>(bytes, format);
     }
-    complete_under_if_not_short::<T>(bytes, format)
+    if is_left_to_front(bytes, format) {
+        return front_answer::<T>(bytes, format);
+    }
+    if is_short_decimal(bytes, format) {
+        return decimal_answer::<T>(bytes, format);
+    }
+    match value_by_kind::<T>(bytes, format) {
+        Some(value) => Ok(value),
+        None => complete_unread::<T>(bytes, format),
+    }
+}
+
+// The complete answer under a format without punctuation, for a text that isn't short decimal digits. Why out of line:
+// docs/DECISIONS.md, code.
+#[inline(never)]
+fn complete_plain<T: Integer>(bytes: &[u8], format: &NumberFormat) -> Result<T>
+    requires { IsPlain format.now }
+    ensures { view_of T.number result ≡ complete_if_valid format.now T.TYPE bytes.now }
+{
+    match value_of_plain::<T>(bytes, format) {
+        Some(value) => Ok(value),
+        None => complete_unread::<T>(bytes, format),
+    }
+}
+
+// The same under a format with a separator.
+#[inline(never)]
+fn complete_separated<T: Integer>(bytes: &[u8], format: &NumberFormat, separator: u8) -> Result<T>
+    requires { format.now.digit_separator ≡ Some separator }
+    ensures { view_of T.number result ≡ complete_if_valid format.now T.TYPE bytes.now }
+{
+    match value_of_groups::<T>(bytes, format, separator) {
+        Some(value) => Ok(value),
+        None => complete_from_front::<T>(bytes, format),
+    }
+}
+
+/// The integer that the whole text stands for under a valid format, for a text that `value_if_short` has left: by one call
+/// for each kind of format, so that a number which `value_if_short` reads pays for none.
+#[inline(always)]
+#[tactic(auto, using(crate::proofs::plain::DigitsAlone::valid_answer))]
+pub(super) fn complete_by_kind<T: Integer>(bytes: &[u8], format: &NumberFormat) -> Result<T>
+    requires valid { IsNone (fault format.now) }
+    ensures { view_of T.number result ≡ complete format.now T.TYPE bytes.now }
+{
+    if is_short_decimal(bytes, format) {
+        return complete_decimal::<T>(bytes, format);
+    }
+    if is_plain(format) {
+        return complete_plain::<T>(bytes, format);
+    }
+    if format.base_suffix().is_some() {
+        return complete_punctuated::<T>(bytes, format);
+    }
+    match format.digit_separator() {
+        Some(separator) if is_parted_otherwise(bytes, separator) => {
+            complete_from_front::<T>(bytes, format)
+        }
+        Some(separator) => complete_separated::<T>(bytes, format, separator),
+        None => complete_punctuated::<T>(bytes, format),
+    }
 }

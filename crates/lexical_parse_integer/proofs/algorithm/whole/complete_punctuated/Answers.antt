@@ -3,7 +3,7 @@ use Rattle.std.proofs.lemmas.Result.{err_from_is_err_and}
 use Rattle.lexical_parse_integer.specs.Laws.{completion_of}
 use Rattle.lexical_parse_integer.proofs.reading.ParserAnswers.{sign_completes}
 use Rattle.lexical_parse_integer.proofs.theorems.CompleteByPartial.{complete_is_completion}
-use Rattle.lexical_parse_integer.proofs.algorithm.whole.complete_if_punctuated.Goals as goal
+use Rattle.lexical_parse_integer.proofs.algorithm.whole.complete_punctuated.Goals as goal
 
 pub returns-in_err-head : goal.returns-in_err-head
 returns-in_err-head g c =
