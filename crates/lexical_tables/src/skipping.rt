@@ -1,8 +1,9 @@
 //! Tables whose bad rows are skipped.
 
-ghost use Rattle.std.specs.Prelude.{◌≡◌, ◌+◌, ◌<◌, ◌^◌, map};
+ghost use Rattle.std.specs.Prelude.{◌≡◌, ◌∷◌, ◌+◌, ◌-◌, ◌<◌, ◌^◌, ℕ, drop, length, map, set};
 ghost use Rattle.lexical_tables.specs.ByColumn.{AreUsable, kinds_of};
 ghost use Rattle.lexical_tables.specs.Parts.{readable};
+ghost use Rattle.lexical_tables.specs.Rows.{FirstCounts, first_row, rows_from};
 ghost use Rattle.lexical_tables.specs.Skipping.{HoldRightRows, SkipsTo, put_in_front, skipped_rows, skipping_answer, skipping_put};
 
 use crate::answers::TableError;
@@ -34,6 +35,38 @@ fn bad_row(error: TableError, bad_count: usize, start: usize, stop: usize) -> Ba
         },
         place: RowPlace { start, stop },
     }
+}
+
+// Keeps what is known of a bad row that starts at a place, behind so many others, if there is room: what the text has behind
+// it. Why out of line: docs/DECISIONS.md, code.
+#[inline(never)]
+fn pass_bad_row<'a, B: KeptRow>(
+    text: &'a [u8],
+    start: usize,
+    error: TableError,
+    bad_count: usize,
+    dialect: &Dialect<'_>,
+    bad: &mut [B],
+) -> &'a [u8]
+    requires some { start < length text.now }
+    requires first { FirstCounts dialect.now (drop start text.now) }
+    requires fits { error.row + bad_count < 2 ^ 64 }
+    ensures shorter { length result.now < length (drop start text.now) }
+    ensures tail { result.now
+        ≡ drop (length (drop start text.now) - length result.now) (drop start text.now) }
+    ensures rows { (place : ℕ) → rows_from dialect.now place (drop start text.now)
+        ≡ first_row dialect.now place (drop start text.now) ∷ rows_from dialect.now
+        (place + (length (drop start text.now) - length result.now)) result.now }
+    ensures first { FirstCounts dialect.now result.now }
+    ensures bad { bad.new ≡ set bad.old bad_count (B.kept (record {
+      error = record error { row = error.row + bad_count };
+      place = record { start = start; stop = length text.now - length result.now };
+    })) }
+{
+    let behind = behind_row(&text[start..], dialect);
+    let row = bad_row(error, bad_count, start, text.len() - behind.len());
+    put_bad_row(bad, bad_count, row);
+    behind
 }
 
 /// Reads a table's columns into slices of their own, as [`read_columns`](crate::read_columns) does, and skips the rows
@@ -90,11 +123,8 @@ pub fn read_columns_skipping<C: TableColumn, B: KeptRow>(
                 count += 1;
             }
             Err(error) => {
-                let behind = behind_row(left.text, dialect);
-                let row = bad_row(error, bad_count, start, text.len() - behind.len());
-                put_bad_row(bad, bad_count, row);
                 left = Left {
-                    text: behind,
+                    text: pass_bad_row(text, start, error, bad_count, dialect, bad),
                     marks: 0,
                 };
                 bad_count += 1;

@@ -283,15 +283,18 @@ module _ {B : Type 0} (kept : BadRow → B) (d : Dialect) (room : ℕ) (text : L
               here_is = reading.here_is;
             }
 
+        -- what is known of a bad one
+        abbrev known_of : TableError → BadRow
+        known_of error = record {
+          error = record error { row = error.row + bad };
+          place = record { start = length text - length rest; stop = length text - length behind };
+        }
+
         -- a bad one
-        pub bad_goes : (error : TableError) → row_fault (kinds_of now) d count row ≡ Some error → (bad_one : BadRow)
-            → bad_one ≡ record {
-              error = record error { row = error.row + bad };
-              place = record { start = length text - length rest; stop = length text - length behind };
-            }
-            → (then : List B) → then ≡ set here bad (kept bad_one)
-            → IsSkipping new then count (bad + 1) behind
-        bad_goes error is bad_one bad_is then then_is =
+        pub bad_goes : (error : TableError) → row_fault (kinds_of now) d count row ≡ Some error → (then : List B)
+            → then ≡ set here bad (kept (known_of error)) → IsSkipping new then count (bad + 1) behind
+        bad_goes error is then then_is =
+            let bad_one = known_of error in
             let row_is = row_of_fault (kinds_of now) d count row error is in
             let wrong = fault_at (Some error) is in
             let told = numbered (count + bad) error in
@@ -303,8 +306,7 @@ module _ {B : Type 0} (kept : BadRow → B) (d : Dialect) (room : ℕ) (text : L
             ∙ bad_rows_for kinds d row rows_behind (count + bad) told wrong (room - (count + 1))
             ∙ ap₂ (λ n m. row ∷ rows_for kinds d n (drop m (rows d text))) (sym one) at in
             let known_one : bad_one ≡ bad_row d text told =
-            bad_is
-            ∙ ap₂ (λ n p. record { error = record error { row = n }; place = p }) (omega (arith, row_is))
+            ap₂ (λ n p. record { error = record error { row = n }; place = p }) (omega (arith, row_is))
             (sym (place_found d text (count + bad) rest reading.passed behind step)) in
             record {
               passed = subst (λ n. IsPassedTo d text n behind) at (passed_goes d text (count + bad) rest reading.passed behind step);

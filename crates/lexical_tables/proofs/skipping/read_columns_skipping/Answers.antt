@@ -5,7 +5,7 @@ use Rattle.lexical_tables.specs.Codes.{AreCodes}
 use Rattle.lexical_tables.specs.Rows.{first_row}
 use Rattle.lexical_tables.proofs.CodeSteps.{codes_put_row}
 use Rattle.lexical_tables.proofs.PassSteps.{no_ends_if}
-use Rattle.lexical_tables.proofs.skipped.RowPlaces.{row_behind, rows_start}
+use Rattle.lexical_tables.proofs.skipped.RowPlaces.{IsBehindRow, row_behind, rows_start}
 use Rattle.lexical_tables.proofs.skipped.Skipping.{bad_goes, right_goes, skipping_ends, skipping_fits, skipping_starts, skipping_usable}
 use Rattle.lexical_tables.proofs.skipping.read_columns_skipping.Goals.{then-loop-count-test+else-not-is_empty, else-loop-count-test}
 use Rattle.lexical_tables.proofs.skipping.read_columns_skipping.Goals as goal
@@ -53,30 +53,31 @@ loop-count-preserved-in-Ok g c =
           c.loop-count.invariant.2),
     )
 
-pub bad_row-row-requires : goal.bad_row-row-requires
-bad_row-row-requires g c =
+pub pass_bad_row-requires-clause-fits : goal.pass_bad_row-requires-clause-fits
+pass_bad_row-requires-clause-fits g c =
     let d = c.args.dialect.now in
     let text = c.args.text.now in
     let left = c.loop-count.left.text.now in
     let low = skipping_fits g.B.KeptRow.kept d c.args.rows text (map g.C.TableColumn.target c.args.targets.now) c.args.bad.now
     (map g.C.TableColumn.target c.loop-count.targets) c.loop-count.bad c.loop-count.count c.loop-count.bad_count left
     c.loop-count.invariant.0 (first_row d (length text - length left) left) c.in-Err.error (sym c.in-Err.ensures.fault) in
-    record { fits = grind (arith, low) }
+    grind (arith, low)
 
 pub loop-count-preserved : goal.loop-count-preserved
 loop-count-preserved g c =
     let d = c.args.dialect.now in
     let text = c.args.text.now in
     let left = c.loop-count.left.text.now in
-    let behind = c.behind_row-behind.ensures in (
+    let reading = c.loop-count.invariant.0 in
+    let behind = c.pass_bad_row.ensures in
+    let step = subst (λ l. IsBehindRow d l c.pass_bad_row.result.now) (sym reading.passed.tail)
+    (record { shorter = behind.shorter; tail = behind.tail; rows_are = behind.rows; first_counts = behind.first }) in (
       bad_goes g.B.KeptRow.kept d c.args.rows text (map g.C.TableColumn.target c.args.targets.now) c.args.bad.now
           (map g.C.TableColumn.target c.loop-count.targets) c.loop-count.bad c.loop-count.count c.loop-count.bad_count left
-          c.loop-count.invariant.0 c.behind_row-behind.result.now
-          (record { shorter = behind.shorter; tail = behind.tail; rows_are = behind.rows; first_counts = behind.first })
+          reading c.pass_bad_row.result.now step
           c.loop-count-test.true (map g.C.TableColumn.target c.read_row.new.targets) c.in-Err.ensures.targets
-          c.in-Err.error (sym c.in-Err.ensures.fault) c.bad_row-row.result c.bad_row-row.ensures c.put_bad_row.new.bad
-          c.put_bad_row.ensures,
-      no_ends_if c.marked_separator-marked.result d.has_quotes c.behind_row-behind.result.now,
+          c.in-Err.error (sym c.in-Err.ensures.fault) c.pass_bad_row.new.bad behind.bad,
+      no_ends_if c.marked_separator-marked.result d.has_quotes c.pass_bad_row.result.now,
       subst (AreCodes d c.ask_codes.new.codes) (sym c.in-Err.ensures.targets)
           (codes_put_row d c.ask_codes.new.codes c.loop-count.count _ (map g.C.TableColumn.target c.loop-count.targets)
           c.loop-count.invariant.2),
