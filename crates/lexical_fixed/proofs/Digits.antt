@@ -1,10 +1,10 @@
 -- Digits behind a number, one at a time, and the first that takes it out of its type: for loops over digits.
-use Rattle.std.proofs.Common.{◌≡◌, ℕ, zero, suc, ◌+◌, ◌-◌, ◌*◌, ◌^◌, ◌≤◌, ◌<◌, Bool, true, false, cond, not, ◌&&◌, List, [], ◌∷◌, ◌++◌, length, get_or, take, map, Option, Some, None, is_some, refl, sym, ap, subst, ◌∙◌, arith, below_more}
-use Rattle.std.proofs.Math.IntN.{ℤ, pos, negsuc, neg_ℤ, ◌*ℤ◌}
+use Rattle.std.proofs.Common.{◌≡◌, ℕ, zero, suc, ◌+◌, ◌-◌, ◌*◌, ◌^◌, ◌≤◌, ◌<◌, Bool, true, false, cond, not, ◌&&◌, List, [], ◌∷◌, ◌++◌, length, get_or, take, Option, Some, None, refl, sym, ap, subst, ◌∙◌, arith, below_more}
+use Rattle.std.proofs.Math.IntN.{ℤ, pos, negsuc, ◌*ℤ◌}
 use Rattle.std.proofs.Math.Seq.{take-length}
 use Rattle.std.proofs.Math.Nat.{pow-zero, pow-suc, pow-le-pow_right, mul-le-mul_left}
 use Rattle.std.proofs.lemmas.Bool.{and_parts, false≢true, lt-ltb, ltb-true}
-use Rattle.std.specs.Prelude.{if◌then◌else◌, nat_lt, Result, Ok, Err}
+use Rattle.std.specs.Prelude.{nat_lt, Ok, Err}
 use Rattle.std.proofs.lemmas.Int.{ints}
 use Rattle.std.proofs.lemmas.List.{take_more, length_push}
 use Rattle.lexical_util.specs.Number.{HasSign, IntegerType, is_number, mul_add, number_if_fits, number_limit}
@@ -137,7 +137,7 @@ digits_all t b v ds k place now r e =
 
 -- ---- zeros
 
-times_is : (b : Bool) (n r : ℕ) → with_sign b n *ℤ pos r ≡ with_sign b (n * r)
+pub times_is : (b : Bool) (n r : ℕ) → with_sign b n *ℤ pos r ≡ with_sign b (n * r)
 times_is false n r = refl
 times_is true zero r = let e : 0 * r ≡ 0 = omega arith in rw e refl
 times_is true (suc n) r = refl
@@ -146,7 +146,7 @@ and_made : (a b : Bool) → a ≡ true → b ≡ true → (a && b) ≡ true
 and_made a b e h = rw (e, h) refl
 
 -- a number of the type stays one when it comes nearer to 0
-is_number-below : (t : IntegerType) (b : Bool) (m n : ℕ) → m ≤ n → is_number t (with_sign b n) ≡ true → is_number t (with_sign b m) ≡ true
+pub is_number-below : (t : IntegerType) (b : Bool) (m n : ℕ) → m ≤ n → is_number t (with_sign b n) ≡ true → is_number t (with_sign b m) ≡ true
 is_number-below t false m n low fits = lt-ltb m (number_limit t) (let h = ltb-true n (number_limit t) fits in omega arith)
 is_number-below t true zero n low fits = zero_is_number t true
 is_number-below t true (suc m) zero low fits = absurd (omega arith)

@@ -1,20 +1,19 @@
 -- The integer part of a text ends within it, and has the text's sign.
-use Rattle.std.proofs.Common.{◌≡◌, ℕ, ◌≤◌, Bool, true, false, cond, ◌&&◌, List, [], ◌∷◌, ◌++◌, length, Option, Some, None, Result, Ok, Err, refl, sym, ap, ◌∙◌, arith, inl, inr}
+use Rattle.std.proofs.Common.{◌≡◌, ℕ, Bool, true, false, cond, ◌&&◌, List, [], ◌∷◌, ◌++◌, Option, Some, None, Result, Ok, Err, refl, sym, ap, ◌∙◌, arith}
 use Rattle.std.proofs.Math.IntN.{ℤ}
 use Rattle.std.proofs.lemmas.Bool.{eqb-true, false≢true}
 use Rattle.std.specs.Prelude.{◌==◌, IfOk}
 use Rattle.lexical_util.specs.declared.error.Error.{Error}
-use Rattle.lexical_util.specs.declared.error.Error.TheVariants.{Empty, InvalidPositiveSign, MissingSign}
+use Rattle.lexical_util.specs.declared.error.Error.TheVariants.{InvalidPositiveSign, MissingSign}
 use Rattle.lexical_util.specs.Format.{Format}
 use Rattle.lexical_util.specs.Number.{HasSign, IntegerType}
 use Rattle.lexical_digits.proofs.LongNumbers.{sign_held}
-use Rattle.lexical_digits.specs.Value.{positional_value}
 use Rattle.lexical_parse_integer.specs.Answer.{view_of, with_place}
 use Rattle.lexical_parse_integer.specs.Affixes.{prefix_radix}
 use Rattle.lexical_parse_integer.specs.Fronts.{if_digit}
 use Rattle.lexical_parse_integer.specs.Grammar.{after_head, common_faults, first_fault_or, partial, partial_faults}
 use Rattle.lexical_parse_integer.specs.Head.{Head, head_after, head_behind, head_of, no_sign, sign}
-use Rattle.lexical_parse_integer.specs.Numeral.{Numeral, digit_count, numeral_behind, numeral_value}
+use Rattle.lexical_parse_integer.specs.Numeral.{Numeral, numeral_behind, numeral_value}
 use Rattle.lexical_parse_integer.specs.Runs.{are_same}
 use Rattle.lexical_parse_integer.proofs.theorems.CompleteByPartial.{ok_told}
 use Rattle.lexical_fixed.specs.Grammar.{is_negative}

@@ -3,5 +3,9 @@ mod Digits
 mod FixedRows
 mod Fractions
 mod IntegerParts
+mod QuickDigits
+mod QuickFronts
+mod QuickParts
 mod Units
 mod Valid
+mod WholeByFront
