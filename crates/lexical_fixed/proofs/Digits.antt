@@ -16,7 +16,7 @@ use Rattle.lexical_digits.proofs.LongNumbers.{sign_held}
 use Rattle.lexical_digits.proofs.WordsOfDigits.{value_joined}
 use Rattle.lexical_parse_integer.specs.Grammar.{range_error}
 use Rattle.lexical_parse_integer.proofs.ForCallers.{zero_is_number}
-use Rattle.lexical_parse_integer.proofs.grammar.PlaceSearch.{find_no_place, find_place}
+use Rattle.lexical_fixed.proofs.Places.{find_no_place, find_place}
 use Rattle.lexical_fixed.specs.Fraction.{digit_outside, digits_fault, read_digits, read_zeros, with_digits, with_zeros, zeros_fault}
 
 -- what no number is answered for is none of the type
@@ -125,7 +125,8 @@ pub digits_leave : (t : IntegerType) (b : Bool) (v : ℤ) (ds : List ℕ) (k pla
 unfolding digits_fault digit_outside
 digits_leave t b v ds k place now r l e =
     let out : is_number t (with_digits b v (take (k + 1) ds)) ≡ false = ap (is_number t) (sym (next_is t b v ds k now r l)) ∙ none_told t _ e in
-    let first : digit_outside t b v ds ≡ Some k = find_place _ 0 (length ds) k k (omega arith) l (λ j low high. ap not (r.fit j high)) (ap not out) in
+    let same : 0 + k ≡ k = omega arith in
+    let first : digit_outside t b v ds ≡ Some k = rw same at (find_place (λ index. not (is_number t (with_digits b v (take (index + 1) ds)))) 0 (length ds) k l (λ j high low. ap not (r.fit j (omega arith))) (rw same (ap not out))) in
     rw first refl
 
 pub digits_all : (t : IntegerType) (b : Bool) (v : ℤ) (ds : List ℕ) (k place : ℕ) (now : ℤ) → DigitsRead t b v ds k now → k ≡ length ds → Ok now ≡ read_digits t b v ds place

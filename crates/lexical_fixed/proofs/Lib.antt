@@ -3,6 +3,7 @@ mod Digits
 mod FixedRows
 mod Fractions
 mod IntegerParts
+mod Places
 mod QuickDigits
 mod QuickFronts
 mod QuickParts

@@ -13,7 +13,7 @@ use Rattle.lexical_digits.specs.Value.{with_sign}
 use Rattle.lexical_digits.specs.Words.{AreDigits, word_value}
 use Rattle.lexical_digits.proofs.DigitValues.{with_sign-step}
 use Rattle.lexical_digits.proofs.WordsOfDigits.{value_joined}
-use Rattle.lexical_parse_integer.proofs.grammar.PlaceSearch.{find_no_place}
+use Rattle.lexical_fixed.proofs.Places.{find_no_place}
 use Rattle.lexical_fixed.specs.Fraction.{digit_outside, digits_fault, with_digits, with_zeros, zeros_fault}
 use Rattle.lexical_fixed.proofs.Digits.{is_number-below, size_of, times_is, with_digits_is}
 

@@ -14,7 +14,8 @@ use Rattle.lexical_parse_integer.specs.Grammar.{digits_required, partial}
 use Rattle.lexical_parse_integer.specs.Head.{Head, chooses_radix, head_after, head_behind, head_of, sign}
 use Rattle.lexical_parse_integer.specs.Runs.{are_same}
 use Rattle.lexical_parse_integer.specs.Stops.{stops_after_digit}
-use Rattle.lexical_parse_integer.proofs.theorems.FrontDigits.{tells_digits}
+use Rattle.lexical_parse_integer.specs.Laws.{TellsDigits}
+use Rattle.lexical_fixed.proofs.Valid.{is_none}
 use Rattle.lexical_fixed.specs.Fixed.{Fixed}
 use Rattle.lexical_fixed.specs.Grammar.{integer_part}
 use Rattle.lexical_fixed.specs.Validity.{fixed_fault, fixed_fault_by, has_affix}
@@ -88,23 +89,24 @@ chosen_none f t text h d = behind (sign f t text)
     behind (Err error) is = cc
 
 -- a front that ends with a digit has one
-digit_there : (f : Format) (t : IntegerType) (text : List ℕ) (v : ℤ) (k : ℕ) → IsDecimal f → f.digit_separator ≡ None
+digit_there : (f : Format) (t : IntegerType) (text : List ℕ) (v : ℤ) (k : ℕ) → IsDecimal f → TellsDigits f t text
     → partial f t text ≡ Ok (v, k) → stops_after_digit 10 text k ≡ true → has_digit f t text ≡ true
 unfolding partial
-digit_there f t text v k d none told stops = by_head (head_of f t text) refl
+digit_there f t text v k d law told stops = by_head (head_of f t text) refl
   where
     by_head : (r : Result Head Error) → head_of f t text ≡ r → has_digit_behind f text r ≡ true
     by_head (Ok h) is =
-        sym (tells_digits f t text h v k none d.no_suffix is (chosen_none f t text h d is) told)
+        sym (law h v k is (chosen_none f t text h d is) told)
         ∙ ap (λ radix. stops_after_digit radix text k) d.radix ∙ stops
     by_head (Err error) is = absurd (let no = rw is at told in cc)
 
 -- so it is the integer part, whether the format asks for a digit or not
-pub part_by_front : (f : Fixed) (t : IntegerType) (text : List ℕ) (v : ℤ) (k : ℕ) → IsNone (fixed_fault f) → f.integer.digit_separator ≡ None
+pub part_by_front : (f : Fixed) (t : IntegerType) (text : List ℕ) (v : ℤ) (k : ℕ) → IsNone (fixed_fault f) → (IsNone f.integer.base_suffix → TellsDigits f.integer t text)
     → partial f.integer t text ≡ Ok (v, k) → stops_after_digit 10 text k ≡ true → integer_part f.integer t text ≡ Ok (v, k)
 unfolding integer_part
-part_by_front f t text v k valid none told stops =
-    let has : has_digit f.integer t text ≡ true = digit_there f.integer t text v k (decimal_of f valid) none told stops in
+part_by_front f t text v k valid law told stops =
+    let decimal = decimal_of f valid in
+    let has : has_digit f.integer t text ≡ true = digit_there f.integer t text v k decimal (law (is_none f.integer.base_suffix decimal.no_suffix)) told stops in
     by_test (digits_required f.integer) (rw has told)
   where
     by_test : (b : Bool) → number_in_front f.integer t text ≡ Ok (v, k) → cond b (number_in_front f.integer t text) (partial f.integer t text) ≡ Ok (v, k)

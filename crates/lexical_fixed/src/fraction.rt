@@ -93,7 +93,8 @@ fn append_digit<T: Integer>(number: T, digit: u8, is_negative: bool) -> Option<T
     requires greatest { digit < 58 }
     requires sign { HasSign is_negative (T.number number) }
     ensures { option_map T.number result
-        ≡ number_if_fits T.TYPE (mul_add is_negative (T.number number) (pos 10) (pos (digit - 48))) }
+        ≡ number_if_fits T.TYPE
+        (mul_add is_negative (T.number number) (pos 10) (pos (digit - 48))) }
 {
     let ten = T::from_u32(10);
     let add = T::from_u32(u32::from(digit - b'0'));

@@ -38,7 +38,8 @@ fn number_with_digit<T: Integer>(text: &[u8], format: &NumberFormat) -> Result<(
 #[tactic(auto, unfolding(crate::specs::Grammar::integer_part))]
 fn integer_part<T: Integer>(text: &[u8], format: &NumberFormat) -> Result<(T, usize)>
     requires valid { IsNone (fault format.now) }
-    ensures answer { view_of (with_place T.number) result ≡ integer_part format.now T.TYPE text.now }
+    ensures answer { view_of (with_place T.number) result
+        ≡ integer_part format.now T.TYPE text.now }
     ensures within { IfOk result (λ found. found.1 ≤ length text.now) }
     ensures sign { IfOk result (λ found. HasSign (is_negative T.TYPE text.now) (T.number found.0)) }
 {
@@ -89,7 +90,8 @@ fn units_behind<T: Integer>(
 ) -> Result<T>
     requires within { place ≤ length text.now }
     requires sign { HasSign (is_negative T.TYPE text.now) (T.number whole) }
-    ensures { view_of T.number result ≡ units_behind format.now T.TYPE text.now (T.number whole) place
+    ensures { view_of T.number result
+        ≡ units_behind format.now T.TYPE text.now (T.number whole) place
         stop cannot_stand is_missing }
 {
     let is_negative = is_negative::<T>(text);
@@ -155,7 +157,8 @@ fn has_bare_point(text: &[u8], format: &FixedFormat, place: usize) -> bool
 fn whole_behind<T: Integer>(text: &[u8], format: &FixedFormat, whole: T, place: usize) -> Result<T>
     requires within { place ≤ length text.now }
     requires sign { HasSign (is_negative T.TYPE text.now) (T.number whole) }
-    ensures { view_of T.number result ≡ whole_behind format.now T.TYPE text.now (T.number whole) place }
+    ensures { view_of T.number result
+        ≡ whole_behind format.now T.TYPE text.now (T.number whole) place }
 {
     let stop = whole_end(text, format, place);
     let is_left = stop < text.len();

@@ -11,6 +11,7 @@ use crate::format::FixedFormat;
 use crate::fraction::stands_at;
 use crate::parse::is_negative;
 use lexical_digits::fronts::number_in_front;
+use lexical_parse_integer::laws::grammar::front_digits;
 use lexical_parse_integer::quick::front_if_plain;
 use lexical_parse_integer::stops_after_digit;
 use lexical_util::num::Integer;
@@ -125,8 +126,11 @@ fn plain_part<T: Integer>(text: &[u8], format: &FixedFormat) -> Option<(T, usize
     ensures sign { IfSome result
         (λ found. HasSign (is_negative T.TYPE text.now) (T.number found.0)) }
     ensures answer { IfSome result
-        (λ found. integer_part format.now.integer T.TYPE text.now ≡ Ok (with_place T.number found)) }
+        (λ found. integer_part format.now.integer T.TYPE text.now
+        ≡ Ok (with_place T.number found)) }
 {
+    // The law by which the front has a digit.
+    front_digits();
     if format.integer().digit_separator().is_some() {
         return None;
     }

@@ -1,6 +1,6 @@
 """Fixed-point numbers, read by the library for C and by a slow reader that uses Python's decimal.
 
-    python3 tools/fuzz_fixed.py LIBRARY [COUNT [SEED]]
+    python3 tests/fixed/fuzz.py LIBRARY [COUNT [SEED]]
 
 compares all short texts over a few bytes, and then COUNT random ones, and ends with how many differ. The
 slow reader is written from the words of docs/GRAMMAR.md and of crates/lexical_fixed/README.md: it finds the
@@ -10,12 +10,17 @@ from __future__ import annotations
 
 import ctypes
 import itertools
+import os
 import random
 import sys
 from dataclasses import dataclass, field, replace
 from decimal import Context, Decimal
 from typing import Iterator, NamedTuple
 
+TOP = os.path.dirname(os.path.dirname(os.path.dirname(os.path.abspath(__file__))))
+sys.path.insert(0, os.path.join(TOP, "tools"))
+
+# pylint: disable=wrong-import-position
 from c_calls import BEFORE, CFormat, CResult, NUMBERS, STATUSES, c_format
 from reference import (STANDARD, TYPES, Fault, Format, IntegerType, Value, lacks_digit, range_fault,
                        reading_of, sign_of, zero_fault)
