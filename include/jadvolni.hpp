@@ -62,6 +62,10 @@ enum class status : std::uint32_t {
     missing_return = JADVOLNI_MISSING_RETURN,
     invalid_table = JADVOLNI_INVALID_TABLE,
     misplaced_quote = JADVOLNI_MISPLACED_QUOTE,
+    invalid_fixed_radix = JADVOLNI_INVALID_FIXED_RADIX,
+    invalid_fixed_affix = JADVOLNI_INVALID_FIXED_AFFIX,
+    invalid_point = JADVOLNI_INVALID_POINT,
+    invalid_places = JADVOLNI_INVALID_PLACES,
     unknown_field = JADVOLNI_UNKNOWN_FIELD
 };
 
@@ -180,7 +184,7 @@ private:
 
 namespace detail {
 
-// The six calls for numbers that are kept in a Kept.
+// The eight calls for numbers that are kept in a Kept.
 template <class Kept>
 struct calls;
 
@@ -193,6 +197,8 @@ struct calls;
         static constexpr auto complete_under = &jadvolni_parse_##name##_with_format;        \
         static constexpr auto front_under = &jadvolni_parse_##name##_front_with_format;     \
         static constexpr auto partial_under = &jadvolni_parse_##name##_partial_with_format; \
+        static constexpr auto fixed = &jadvolni_parse_##name##_fixed;                       \
+        static constexpr auto fixed_front = &jadvolni_parse_##name##_fixed_front;           \
     }
 JADVOLNI_CALLS_OF_(std::uint8_t, u8);
 JADVOLNI_CALLS_OF_(std::uint16_t, u16);
@@ -318,6 +324,30 @@ template <class T>
 [[nodiscard]] result<T> parse_partial(std::string_view text, const format &under) noexcept
 {
     return detail::called<T>(detail::calls_as<T>::partial_under, text, &under);
+}
+
+// How fixed-point numbers are written: {} and what differs from it.
+using fixed = jadvolni_fixed;
+
+// The fixed-point number that the whole text is, as a T in units of the last place: "12.50" with two
+// places is 1250. Nothing is rounded.
+template <class T>
+[[nodiscard]] result<T> parse_fixed(std::string_view text, const fixed &under) noexcept
+{
+    return detail::called<T>(detail::calls_as<T>::fixed, text, &under);
+}
+
+// The fixed-point number in front of the text as a T. Its place() is where reading stopped.
+template <class T>
+[[nodiscard]] result<T> parse_fixed_front(std::string_view text, const fixed &under) noexcept
+{
+    return detail::called<T>(detail::calls_as<T>::fixed_front, text, &under);
+}
+
+// Line and column of a place in a text, both from 0: line feeds before it, and bytes behind the last.
+[[nodiscard]] inline jadvolni_position line_column(std::string_view text, std::size_t place) noexcept
+{
+    return jadvolni_line_column(text.data(), text.size(), place);
 }
 
 // The number of a literal, and its suffix, which is a part of the text.

@@ -173,7 +173,7 @@ def messages(place: Place) -> str:
 
 def calls(place: Place) -> Iterator[Step]:
     """Each caller, by each of its compilers, with both libraries and under sanitizers."""
-    c_callers = ("calls.c", "columns.c", "random_columns.c", "skipping.c", "tables.c",
+    c_callers = ("calls.c", "columns.c", "fixed.c", "random_columns.c", "skipping.c", "tables.c",
                  "table_texts.c")
     for compiler, name in product(C_COMPILERS, c_callers):
         step, name = partial(call, place, f"tests/c/{name}", compiler), f"{name}, {compiler}"

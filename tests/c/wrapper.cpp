@@ -93,6 +93,24 @@ static void numbers()
 #endif
 }
 
+// Amounts of money, and where a place is.
+static void fixed_point()
+{
+    using jadvolni::parse_fixed, jadvolni::parse_fixed_front;
+    jadvolni::fixed cents{};
+    cents.places = 2;
+    cents.takes_fewer = 1;
+    CHECK(*parse_fixed<int>("12.5", cents) == 1250 && *parse_fixed<long long>("-0.05", cents) == -5);
+    CHECK(is_fault(parse_fixed<int>("12.505", cents), status::invalid_digit, 5));
+    CHECK(is_fault(parse_fixed<std::uint8_t>("3", cents), status::overflow, 1));
+    auto front = parse_fixed_front<int>("12. And", cents);
+    CHECK(*front == 1200 && front.place() == 2);
+    cents.point = '5';
+    CHECK(is_fault(parse_fixed<int>("12", cents), status::invalid_point, 0));
+    auto at = jadvolni::line_column("12\n34\n5x", 7);
+    CHECK(at.line == 2 && at.column == 1);
+}
+
 static void fronts_under_a_format()
 {
     const std::string text = "1_000_000;";
@@ -301,6 +319,7 @@ int main()
     faults_of_formats();
     texts_of_statuses();
     numbers();
+    fixed_point();
     fronts_under_a_format();
     fronts_without_a_digit();
     wrong_bases();

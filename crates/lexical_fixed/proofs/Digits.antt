@@ -1,10 +1,10 @@
 -- Digits behind a number, one at a time, and the first that takes it out of its type: for loops over digits.
-use Rattle.std.proofs.Common.{◌≡◌, ℕ, zero, suc, ◌+◌, ◌-◌, ◌*◌, ◌^◌, ◌≤◌, ◌<◌, Bool, true, false, cond, not, ◌&&◌, List, [], ◌∷◌, ◌++◌, length, get_or, take, map, Option, Some, None, is_some, refl, sym, ap, subst, ◌∙◌, arith, below_more}
-use Rattle.std.proofs.Math.IntN.{ℤ, pos, negsuc, neg_ℤ, ◌*ℤ◌}
+use Rattle.std.proofs.Common.{◌≡◌, ℕ, zero, suc, ◌+◌, ◌-◌, ◌*◌, ◌^◌, ◌≤◌, ◌<◌, Bool, true, false, cond, not, ◌&&◌, List, [], ◌∷◌, ◌++◌, length, get_or, take, Option, Some, None, refl, sym, ap, subst, ◌∙◌, arith, below_more}
+use Rattle.std.proofs.Math.IntN.{ℤ, pos, negsuc, ◌*ℤ◌}
 use Rattle.std.proofs.Math.Seq.{take-length}
 use Rattle.std.proofs.Math.Nat.{pow-zero, pow-suc, pow-le-pow_right, mul-le-mul_left}
 use Rattle.std.proofs.lemmas.Bool.{and_parts, false≢true, lt-ltb, ltb-true}
-use Rattle.std.specs.Prelude.{if◌then◌else◌, nat_lt, Result, Ok, Err}
+use Rattle.std.specs.Prelude.{nat_lt, Ok, Err}
 use Rattle.std.proofs.lemmas.Int.{ints}
 use Rattle.std.proofs.lemmas.List.{take_more, length_push}
 use Rattle.lexical_util.specs.Number.{HasSign, IntegerType, is_number, mul_add, number_if_fits, number_limit}
@@ -16,7 +16,7 @@ use Rattle.lexical_digits.proofs.LongNumbers.{sign_held}
 use Rattle.lexical_digits.proofs.WordsOfDigits.{value_joined}
 use Rattle.lexical_parse_integer.specs.Grammar.{range_error}
 use Rattle.lexical_parse_integer.proofs.ForCallers.{zero_is_number}
-use Rattle.lexical_parse_integer.proofs.grammar.PlaceSearch.{find_no_place, find_place}
+use Rattle.lexical_fixed.proofs.Places.{find_no_place, find_place}
 use Rattle.lexical_fixed.specs.Fraction.{digit_outside, digits_fault, read_digits, read_zeros, with_digits, with_zeros, zeros_fault}
 
 -- what no number is answered for is none of the type
@@ -125,7 +125,8 @@ pub digits_leave : (t : IntegerType) (b : Bool) (v : ℤ) (ds : List ℕ) (k pla
 unfolding digits_fault digit_outside
 digits_leave t b v ds k place now r l e =
     let out : is_number t (with_digits b v (take (k + 1) ds)) ≡ false = ap (is_number t) (sym (next_is t b v ds k now r l)) ∙ none_told t _ e in
-    let first : digit_outside t b v ds ≡ Some k = find_place _ 0 (length ds) k k (omega arith) l (λ j low high. ap not (r.fit j high)) (ap not out) in
+    let same : 0 + k ≡ k = omega arith in
+    let first : digit_outside t b v ds ≡ Some k = rw same at (find_place (λ index. not (is_number t (with_digits b v (take (index + 1) ds)))) 0 (length ds) k l (λ j high low. ap not (r.fit j (omega arith))) (rw same (ap not out))) in
     rw first refl
 
 pub digits_all : (t : IntegerType) (b : Bool) (v : ℤ) (ds : List ℕ) (k place : ℕ) (now : ℤ) → DigitsRead t b v ds k now → k ≡ length ds → Ok now ≡ read_digits t b v ds place
@@ -137,7 +138,7 @@ digits_all t b v ds k place now r e =
 
 -- ---- zeros
 
-times_is : (b : Bool) (n r : ℕ) → with_sign b n *ℤ pos r ≡ with_sign b (n * r)
+pub times_is : (b : Bool) (n r : ℕ) → with_sign b n *ℤ pos r ≡ with_sign b (n * r)
 times_is false n r = refl
 times_is true zero r = let e : 0 * r ≡ 0 = omega arith in rw e refl
 times_is true (suc n) r = refl
@@ -146,7 +147,7 @@ and_made : (a b : Bool) → a ≡ true → b ≡ true → (a && b) ≡ true
 and_made a b e h = rw (e, h) refl
 
 -- a number of the type stays one when it comes nearer to 0
-is_number-below : (t : IntegerType) (b : Bool) (m n : ℕ) → m ≤ n → is_number t (with_sign b n) ≡ true → is_number t (with_sign b m) ≡ true
+pub is_number-below : (t : IntegerType) (b : Bool) (m n : ℕ) → m ≤ n → is_number t (with_sign b n) ≡ true → is_number t (with_sign b m) ≡ true
 is_number-below t false m n low fits = lt-ltb m (number_limit t) (let h = ltb-true n (number_limit t) fits in omega arith)
 is_number-below t true zero n low fits = zero_is_number t true
 is_number-below t true (suc m) zero low fits = absurd (omega arith)

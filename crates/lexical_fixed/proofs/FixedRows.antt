@@ -1,8 +1,8 @@
 -- Worked texts with their answers, each by hand: what a whole text stands for, and what its front does.
-use Rattle.std.proofs.Common.{◌≡◌, [], ◌∷◌, None, Some, Ok, Err, codes, refl, true, false}
+use Rattle.std.proofs.Common.{◌≡◌, None, Some, Ok, Err, codes, refl, true, false}
 use Rattle.std.proofs.Math.IntN.{pos, negsuc}
 use Rattle.lexical_util.specs.declared.error.Error.TheVariants.{Empty, InvalidDigit, InvalidDigitSeparator, InvalidLeadingZeros, InvalidMantissaRadix, InvalidPositiveSign, MissingSign, Overflow, Underflow}
-use Rattle.lexical_util.specs.Format.{Format, json, standard}
+use Rattle.lexical_util.specs.Format.{json, standard}
 use Rattle.lexical_util.specs.Number.{IntegerType, integer_type}
 use Rattle.lexical_parse_integer.specs.Computed.{grammar}
 use Rattle.lexical_fixed.specs.Computed.{fixed_grammar}

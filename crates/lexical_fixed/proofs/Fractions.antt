@@ -1,8 +1,8 @@
 -- The digits of a fraction, and how many they are.
-use Rattle.std.proofs.Common.{◌≡◌, ℕ, zero, suc, ◌+◌, ◌≤◌, Bool, true, false, cond, List, [], ◌∷◌, length, take, drop, is_some, refl, ap, ◌∙◌, sym, subst, arith}
+use Rattle.std.proofs.Common.{◌≡◌, ℕ, zero, suc, ◌+◌, ◌≤◌, Bool, true, false, cond, List, [], ◌∷◌, length, take, drop, is_some, refl, ap, ◌∙◌, arith}
 use Rattle.std.specs.Prelude.{min, slice_range}
 use Rattle.std.specs.List.{prefix_len}
-use Rattle.std.proofs.Math.Nat.{min-le_left, min-le_right}
+use Rattle.std.proofs.Math.Nat.{min-le_left}
 use Rattle.lexical_util.specs.Digit.{digit}
 use Rattle.lexical_digits.specs.Words.{AreDigits}
 use Rattle.lexical_digits.proofs.WordsInFront.{rest_is}

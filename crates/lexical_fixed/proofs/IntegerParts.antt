@@ -1,23 +1,27 @@
 -- The integer part of a text ends within it, and has the text's sign.
-use Rattle.std.proofs.Common.{◌≡◌, ℕ, ◌≤◌, Bool, true, false, cond, ◌&&◌, List, [], ◌∷◌, ◌++◌, length, Option, Some, None, Result, Ok, Err, refl, sym, ap, ◌∙◌, arith, inl, inr}
+use Rattle.std.proofs.Common.{◌≡◌, ℕ, Bool, true, false, cond, ◌&&◌, List, [], ◌∷◌, ◌++◌, Option, Some, None, Result, Ok, Err, refl, sym, ap, ◌∙◌, arith}
 use Rattle.std.proofs.Math.IntN.{ℤ}
 use Rattle.std.proofs.lemmas.Bool.{eqb-true, false≢true}
 use Rattle.std.specs.Prelude.{◌==◌, IfOk}
 use Rattle.lexical_util.specs.declared.error.Error.{Error}
-use Rattle.lexical_util.specs.declared.error.Error.TheVariants.{Empty, InvalidPositiveSign, MissingSign}
+use Rattle.lexical_util.specs.declared.error.Error.TheVariants.{InvalidPositiveSign, MissingSign}
 use Rattle.lexical_util.specs.Format.{Format}
 use Rattle.lexical_util.specs.Number.{HasSign, IntegerType}
 use Rattle.lexical_digits.proofs.LongNumbers.{sign_held}
-use Rattle.lexical_digits.specs.Value.{positional_value}
 use Rattle.lexical_parse_integer.specs.Answer.{view_of, with_place}
 use Rattle.lexical_parse_integer.specs.Affixes.{prefix_radix}
 use Rattle.lexical_parse_integer.specs.Fronts.{if_digit}
 use Rattle.lexical_parse_integer.specs.Grammar.{after_head, common_faults, first_fault_or, partial, partial_faults}
 use Rattle.lexical_parse_integer.specs.Head.{Head, head_after, head_behind, head_of, no_sign, sign}
-use Rattle.lexical_parse_integer.specs.Numeral.{Numeral, digit_count, numeral_behind, numeral_value}
+use Rattle.lexical_parse_integer.specs.Numeral.{Numeral, numeral_behind, numeral_value}
 use Rattle.lexical_parse_integer.specs.Runs.{are_same}
-use Rattle.lexical_parse_integer.proofs.theorems.CompleteByPartial.{ok_told}
 use Rattle.lexical_fixed.specs.Grammar.{is_negative}
+
+-- an answer without a fault is the value
+value_told : {A : Type 0} (faults : List (Option Error)) (v w : A) → first_fault_or faults v ≡ Ok w → v ≡ w
+value_told [] v w told = cc
+value_told (None ∷ faults) v w told = value_told faults v w told
+value_told (Some error ∷ faults) v w told = cc
 
 no_minus : (f : Format) (s : Bool × ℕ) → no_sign f ≡ Ok s → s.0 ≡ false
 no_minus f s = by_test f.required_mantissa_sign
@@ -61,7 +65,7 @@ partial_sign f t text v k = behind (sign f t text) refl
     behind (Ok s) e told =
         let h : Head = head_behind f text s (prefix_radix f text s.1) in
         let x : Numeral = numeral_behind f text h in
-        let same = ok_told (common_faults f t text h x ++ partial_faults f text x) (numeral_value h.is_negative x, x.stop) (v, k) told in
+        let same = value_told (common_faults f t text h x ++ partial_faults f text x) (numeral_value h.is_negative x, x.stop) (v, k) told in
         let value : v ≡ numeral_value h.is_negative x = sym (ap (λ (w : ℤ × ℕ). w.0) same) in
         let minus : h.is_negative ≡ is_negative t text = head_minus f text s (prefix_radix f text s.1) ∙ sign_told f t text s e in
         sign_held (is_negative t text) v _ (value ∙ ap (λ b. numeral_value b x) minus)

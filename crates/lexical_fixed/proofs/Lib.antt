@@ -3,5 +3,10 @@ mod Digits
 mod FixedRows
 mod Fractions
 mod IntegerParts
+mod Places
+mod QuickDigits
+mod QuickFronts
+mod QuickParts
 mod Units
 mod Valid
+mod WholeByFront

@@ -1,12 +1,12 @@
 -- Where the faults behind an integer part come from, one after the other: for the steps of reading.
-use Rattle.std.proofs.Common.{◌≡◌, ℕ, ◌+◌, Bool, true, false, List, [], ◌∷◌, Option, Some, None, Result, Ok, Err, refl, sym, ap, ◌∙◌, arith}
+use Rattle.std.proofs.Common.{◌≡◌, ℕ, ◌+◌, Bool, true, false, List, [], ◌∷◌, Option, Some, None, Result, Ok, Err, refl, ap, ◌∙◌, arith}
 use Rattle.std.proofs.Math.IntN.{ℤ}
 use Rattle.lexical_util.specs.declared.error.Error.{Error}
 use Rattle.lexical_util.specs.declared.error.Error.TheVariants.{Empty, InvalidDigit}
 use Rattle.lexical_util.specs.Number.{IntegerType}
-use Rattle.lexical_parse_integer.specs.Grammar.{fault_if, first_fault_or}
+use Rattle.lexical_parse_integer.specs.Grammar.{first_fault_or}
 use Rattle.lexical_fixed.specs.Fixed.{Fixed}
-use Rattle.lexical_fixed.specs.Fraction.{fraction, fraction_length, read_digits, read_zeros}
+use Rattle.lexical_fixed.specs.Fraction.{fraction, read_digits, read_zeros}
 use Rattle.lexical_fixed.specs.Grammar.{in_units, is_negative, units_behind, units_fault, written, fraction_fault, zeros_left}
 
 first_told : (a : Option Error) (v : ℤ) (e : Error) (rest : List (Option Error)) (w : ℤ) → ◌≡◌ {A = Result ℤ Error} (Err e) (first_fault_or (a ∷ []) v) → ◌≡◌ {A = Result ℤ Error} (Err e) (first_fault_or (a ∷ rest) w)

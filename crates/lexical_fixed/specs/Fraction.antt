@@ -1,6 +1,6 @@
 -- Point and fraction of a number in a text, and what digits make of a number.
 -- The integer part has been read, and `place` is behind it.
-use Rattle.std.specs.Prelude.{ℕ, ◌+◌, ◌-◌, ◌^◌, ◌==◌, Bool, ◌&&◌, ◌||◌, not, nat_lt, min, if◌then◌else◌, List, [], ◌∷◌, length, take, drop, find, slice_get, is_some, ℤ, pos, ◌*ℤ◌, Option, Some, Result}
+use Rattle.std.specs.Prelude.{ℕ, ◌+◌, ◌^◌, ◌==◌, Bool, ◌&&◌, not, nat_lt, min, if◌then◌else◌, List, [], ◌∷◌, length, take, drop, find, slice_get, is_some, ℤ, pos, ◌*ℤ◌, Option, Some, Result}
 use Rattle.std.specs.List.{prefix_len, range_with_len}
 use Rattle.std.specs.Option.{option_map}
 use Rattle.lexical_util.specs.Digit.{digit}

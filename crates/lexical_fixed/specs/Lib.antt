@@ -3,4 +3,5 @@ pub mod Computed
 pub mod Fixed
 pub mod Fraction
 pub mod Grammar
+pub mod Quick
 pub mod Validity

@@ -73,6 +73,9 @@ impl FixedFormat {
     pub fn error(&self) -> Option<FixedFormatError>
         ensures { result ≡ fixed_fault self.now }
     {
+        if self.is_plain() {
+            return None;
+        }
         if let Some(error) = self.integer.error() {
             return Some(FixedFormatError::Integer(error));
         }
@@ -89,12 +92,49 @@ impl FixedFormat {
         }
     }
 
-    // How many digits stand behind the point, as a size.
+    // Whether the description is valid, and its integer part has no separator: most have none, and are told at once.
     #[inline(always)]
-    pub(crate) fn place_count(&self) -> usize
+    fn is_plain(&self) -> bool
+        ensures { IsTrue result → fixed_fault self.now ≡ None }
+    {
+        let format = &self.integer;
+        format.radix() == 10
+            && format.digit_separator().is_none()
+            && !has_affix(format)
+            && !is_unfit_point(format, self.point)
+            && self.places <= 38
+    }
+
+    /// What the integer part may look like.
+    #[inline(always)]
+    pub fn integer(&self) -> &NumberFormat
+        ensures { result.now ≡ self.now.integer }
+    {
+        &self.integer
+    }
+
+    /// The byte between integer part and fraction.
+    #[inline(always)]
+    pub fn point(&self) -> u8
+        ensures { result ≡ self.now.point }
+    {
+        self.point
+    }
+
+    /// How many digits stand behind the point.
+    #[inline(always)]
+    pub fn places(&self) -> usize
         ensures { result ≡ self.now.places }
     {
         usize::from(self.places)
+    }
+
+    /// Whether fewer digits than `places` are taken behind the point.
+    #[inline(always)]
+    pub fn takes_fewer(&self) -> bool
+        ensures { result ≡ self.now.takes_fewer }
+    {
+        self.takes_fewer
     }
 
     /// Whether the description breaks no rule, so that `error` answers `None`.

@@ -1,10 +1,11 @@
 // The fraction of a number in a text, and digits behind a number. The integer part has been read, and `place` is behind it.
-ghost use Rattle.std.specs.Prelude.{◌≡◌, ◌≢◌, ◌<◌, ◌+◌, ◌^◌, ◌-◌, ◌≤◌, IfOk, IsTrue, length, min, pos, take};
+ghost use Rattle.std.specs.Prelude.{◌≡◌, ◌≢◌, ◌<◌, ◌+◌, ◌^◌, ◌-◌, ◌≤◌, IfOk, IsTrue, Some, length, min, pos, slice_get, take};
 ghost use Rattle.std.specs.Option.{option_map};
 ghost use Rattle.lexical_util.specs.Number.{HasSign, mul_add, number_if_fits};
 ghost use Rattle.lexical_digits.specs.Words.{AreDigits};
 ghost use Rattle.lexical_parse_integer.specs.Answer.{view_of};
 ghost use Rattle.lexical_parse_integer.specs.Grammar.{range_error};
+ghost use Rattle.lexical_parse_integer.specs.Runs.{are_same};
 ghost use Rattle.lexical_fixed.specs.Fraction.{digits_from, fraction, fraction_length, has_point_at, read_digits, read_zeros};
 
 use crate::format::FixedFormat;
@@ -32,13 +33,23 @@ pub(crate) fn digits_from(text: &[u8], place: usize) -> usize
     }
 }
 
+// Whether a byte stands at a place.
+#[inline(always)]
+#[tactic(auto, unfolding(lexical_parse_integer::specs::Runs::are_same))]
+pub(crate) fn stands_at(text: &[u8], byte: u8, place: usize) -> bool
+    ensures answer { result ≡ are_same (Some byte) (slice_get text.now place) }
+    ensures within { IsTrue result → place < length text.now }
+{
+    text.get(place) == Some(&byte)
+}
+
 // Whether the point stands at a place, and the description has places behind it.
-#[tactic(auto, unfolding(crate::specs::Fraction::has_point_at, lexical_parse_integer::specs::Runs::are_same))]
+#[tactic(auto, unfolding(crate::specs::Fraction::has_point_at))]
 pub(crate) fn has_point_at(text: &[u8], format: &FixedFormat, place: usize) -> bool
     ensures answer { result ≡ has_point_at format.now text.now place }
     ensures within { IsTrue result → place < length text.now }
 {
-    format.places > 0 && text.get(place) == Some(&format.point)
+    format.places() > 0 && stands_at(text, format.point(), place)
 }
 
 // The digits of the fraction.
@@ -51,7 +62,7 @@ pub(crate) fn fraction<'a>(text: &'a [u8], format: &FixedFormat, place: usize) -
     if !has_point_at(text, format, place) {
         return &text[..0];
     }
-    first_digits(&text[place + 1..], format.place_count())
+    first_digits(&text[place + 1..], format.places())
 }
 
 // The digits that a text begins with, so many at most.
@@ -82,7 +93,8 @@ fn append_digit<T: Integer>(number: T, digit: u8, is_negative: bool) -> Option<T
     requires greatest { digit < 58 }
     requires sign { HasSign is_negative (T.number number) }
     ensures { option_map T.number result
-        ≡ number_if_fits T.TYPE (mul_add is_negative (T.number number) (pos 10) (pos (digit - 48))) }
+        ≡ number_if_fits T.TYPE
+        (mul_add is_negative (T.number number) (pos 10) (pos (digit - 48))) }
 {
     let ten = T::from_u32(10);
     let add = T::from_u32(u32::from(digit - b'0'));

@@ -6,6 +6,7 @@ pub mod error;
 pub mod format;
 mod fraction;
 mod parse;
+mod quick;
 
 pub use api::{FromFixed, ParseFixed};
 pub use error::{FixedError, FixedFormatError};

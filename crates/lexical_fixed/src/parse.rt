@@ -10,7 +10,8 @@ ghost use Rattle.lexical_fixed.specs.Grammar.{complete_fixed, front_behind, inte
 ghost use Rattle.lexical_fixed.specs.Validity.{fixed_fault};
 
 use crate::format::FixedFormat;
-use crate::fraction::{digits_from, fraction, has_point_at, read_digits, read_zeros};
+use crate::fraction::{digits_from, fraction, has_point_at, read_digits, read_zeros, stands_at};
+use crate::quick::front_at_once;
 use lexical_parse_integer::parse::ParseInteger;
 use lexical_parse_integer::{number_in_front, options};
 use lexical_util::error::Error;
@@ -37,7 +38,8 @@ fn number_with_digit<T: Integer>(text: &[u8], format: &NumberFormat) -> Result<(
 #[tactic(auto, unfolding(crate::specs::Grammar::integer_part))]
 fn integer_part<T: Integer>(text: &[u8], format: &NumberFormat) -> Result<(T, usize)>
     requires valid { IsNone (fault format.now) }
-    ensures answer { view_of (with_place T.number) result ≡ integer_part format.now T.TYPE text.now }
+    ensures answer { view_of (with_place T.number) result
+        ≡ integer_part format.now T.TYPE text.now }
     ensures within { IfOk result (λ found. found.1 ≤ length text.now) }
     ensures sign { IfOk result (λ found. HasSign (is_negative T.TYPE text.now) (T.number found.0)) }
 {
@@ -50,7 +52,8 @@ fn integer_part<T: Integer>(text: &[u8], format: &NumberFormat) -> Result<(T, us
 
 // Whether a text has a minus.
 #[tactic(auto, unfolding(crate::specs::Grammar::is_negative, lexical_parse_integer::specs::Runs::are_same))]
-fn is_negative<T: Integer>(text: &[u8]) -> bool
+#[inline(always)]
+pub(crate) fn is_negative<T: Integer>(text: &[u8]) -> bool
     ensures { result ≡ is_negative T.TYPE text.now }
 {
     T::IS_SIGNED && text.first() == Some(&b'-')
@@ -67,11 +70,11 @@ fn whole_fault(size: usize, error: Error) -> Error
 }
 
 // Whether more digits stand behind the point than the description has places.
-#[tactic(auto, unfolding(crate::specs::Fraction::is_cut, lexical_parse_integer::specs::Runs::are_same))]
+#[tactic(auto, unfolding(crate::specs::Fraction::is_cut))]
 fn is_cut(text: &[u8], format: &FixedFormat, place: usize) -> bool
     ensures { result ≡ is_cut format.now text.now place }
 {
-    text.get(place) == Some(&format.point) && digits_from(text, place + 1) > format.place_count()
+    stands_at(text, format.point(), place) && digits_from(text, place + 1) > format.places()
 }
 
 // The number in units behind an integer part that ends at a place. Reading stops at `stop`, where a byte can't stand or a
@@ -87,7 +90,8 @@ fn units_behind<T: Integer>(
 ) -> Result<T>
     requires within { place ≤ length text.now }
     requires sign { HasSign (is_negative T.TYPE text.now) (T.number whole) }
-    ensures { view_of T.number result ≡ units_behind format.now T.TYPE text.now (T.number whole) place
+    ensures { view_of T.number result
+        ≡ units_behind format.now T.TYPE text.now (T.number whole) place
         stop cannot_stand is_missing }
 {
     let is_negative = is_negative::<T>(text);
@@ -102,7 +106,7 @@ fn units_behind<T: Integer>(
     if is_missing {
         return Err(Error::Empty(stop));
     }
-    let zeros = format.place_count() - digits.len();
+    let zeros = format.places() - digits.len();
     read_zeros::<T>(written, zeros, stop, is_negative)
 }
 
@@ -125,7 +129,7 @@ fn front_end(text: &[u8], format: &FixedFormat, place: usize) -> usize
     requires { place ≤ length text.now }
     ensures { result ≡ front_end format.now text.now place }
 {
-    if format.takes_fewer && fraction(text, format, place).is_empty() {
+    if format.takes_fewer() && fraction(text, format, place).is_empty() {
         place
     } else {
         whole_end(text, format, place)
@@ -137,7 +141,7 @@ fn front_end(text: &[u8], format: &FixedFormat, place: usize) -> usize
 fn lacks_places(text: &[u8], format: &FixedFormat, place: usize) -> bool
     ensures { result ≡ lacks_places format.now text.now place }
 {
-    !format.takes_fewer && fraction(text, format, place).len() < format.place_count()
+    !format.takes_fewer() && fraction(text, format, place).len() < format.places()
 }
 
 // Whether the point has no digit behind it.
@@ -153,7 +157,8 @@ fn has_bare_point(text: &[u8], format: &FixedFormat, place: usize) -> bool
 fn whole_behind<T: Integer>(text: &[u8], format: &FixedFormat, whole: T, place: usize) -> Result<T>
     requires within { place ≤ length text.now }
     requires sign { HasSign (is_negative T.TYPE text.now) (T.number whole) }
-    ensures { view_of T.number result ≡ whole_behind format.now T.TYPE text.now (T.number whole) place }
+    ensures { view_of T.number result
+        ≡ whole_behind format.now T.TYPE text.now (T.number whole) place }
 {
     let stop = whole_end(text, format, place);
     let is_left = stop < text.len();
@@ -184,26 +189,54 @@ fn front_behind<T: Integer>(
     }
 }
 
-// What the whole text stands for.
+// What the whole text stands for, where the quick way left it.
+#[inline(never)]
 #[tactic(auto, unfolding(crate::specs::Grammar::complete_fixed))]
-pub(crate) fn complete<T: Integer>(text: &[u8], format: &FixedFormat) -> Result<T>
+fn complete_if_left<T: Integer>(text: &[u8], format: &FixedFormat) -> Result<T>
     requires valid { IsNone (fixed_fault format.now) }
     ensures { view_of T.number result ≡ complete_fixed format.now T.TYPE text.now }
 {
-    match integer_part::<T>(text, &format.integer) {
+    match integer_part::<T>(text, format.integer()) {
         Ok((whole, place)) => whole_behind::<T>(text, format, whole, place),
         Err(error) => Err(whole_fault(text.len(), error)),
     }
 }
 
-// What the front of the text stands for, and the place at which reading stops.
+// What the front of the text stands for, and the place at which reading stops, where the quick way left it.
+#[inline(never)]
 #[tactic(auto, unfolding(crate::specs::Grammar::partial_fixed))]
+fn partial_if_left<T: Integer>(text: &[u8], format: &FixedFormat) -> Result<(T, usize)>
+    requires valid { IsNone (fixed_fault format.now) }
+    ensures { view_of (with_place T.number) result ≡ partial_fixed format.now T.TYPE text.now }
+{
+    match integer_part::<T>(text, format.integer()) {
+        Ok((whole, place)) => front_behind::<T>(text, format, whole, place),
+        Err(error) => Err(error),
+    }
+}
+
+// What the whole text stands for: where the front is all of it, that is its number.
+#[inline(always)]
+pub(crate) fn complete<T: Integer>(text: &[u8], format: &FixedFormat) -> Result<T>
+    requires valid { IsNone (fixed_fault format.now) }
+    ensures { view_of T.number result ≡ complete_fixed format.now T.TYPE text.now }
+{
+    if let Some((value, end)) = front_at_once::<T>(text, format) {
+        if end == text.len() {
+            return Ok(value);
+        }
+    }
+    complete_if_left::<T>(text, format)
+}
+
+// What the front of the text stands for, and the place at which reading stops.
+#[inline(always)]
 pub(crate) fn partial<T: Integer>(text: &[u8], format: &FixedFormat) -> Result<(T, usize)>
     requires valid { IsNone (fixed_fault format.now) }
     ensures { view_of (with_place T.number) result ≡ partial_fixed format.now T.TYPE text.now }
 {
-    match integer_part::<T>(text, &format.integer) {
-        Ok((whole, place)) => front_behind::<T>(text, format, whole, place),
-        Err(error) => Err(error),
+    match front_at_once::<T>(text, format) {
+        Some(found) => Ok(found),
+        None => partial_if_left::<T>(text, format),
     }
 }

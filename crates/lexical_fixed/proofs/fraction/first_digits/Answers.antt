@@ -1,4 +1,4 @@
-use Rattle.std.proofs.Common.{◌≤◌, ◌∙◌, arith, subst, sym}
+use Rattle.std.proofs.Common.{◌∙◌, arith}
 use Rattle.std.proofs.Math.Nat.{min-le_right}
 use Rattle.lexical_fixed.proofs.Fractions.{digits_from_front, digits_taken}
 use Rattle.lexical_fixed.proofs.fraction.first_digits.Goals as goal

@@ -1,4 +1,4 @@
-use Rattle.std.proofs.Common.{◌∙◌, ap, refl, sym, take}
+use Rattle.std.proofs.Common.{refl, sym}
 use Rattle.lexical_fixed.proofs.Fractions.{count_is, fraction_is, no_fraction}
 use Rattle.lexical_fixed.proofs.fraction.fraction.Goals as goal
 
@@ -13,8 +13,8 @@ returns-then-not-has_point_at-clause-count c =
 
 pub returns-clause-answer : goal.returns-clause-answer
 returns-clause-answer c =
-    fraction_is c.args.format.now c.args.text.now _ c.args.place _ (sym c.if-not-has_point_at.ensures.answer) c.place_count.ensures c.first_digits.ensures.answer
+    fraction_is c.args.format.now c.args.text.now _ c.args.place _ (sym c.if-not-has_point_at.ensures.answer) c.places.ensures c.first_digits.ensures.answer
 
 pub returns-clause-count : goal.returns-clause-count
 returns-clause-count c =
-    count_is c.args.format.now c.args.text.now _ c.args.place _ (sym c.if-not-has_point_at.ensures.answer) c.place_count.ensures c.first_digits.ensures.count
+    count_is c.args.format.now c.args.text.now _ c.args.place _ (sym c.if-not-has_point_at.ensures.answer) c.places.ensures c.first_digits.ensures.count

@@ -1,11 +1,6 @@
-use Rattle.std.proofs.Common.{IsNone, ap, subst, sym}
-use Rattle.lexical_util.specs.Format.{Format}
-use Rattle.lexical_util.specs.Validity.{fault}
-use Rattle.lexical_fixed.specs.Fixed.{Fixed}
-use Rattle.lexical_fixed.proofs.Valid.{integer_valid}
+use Rattle.lexical_fixed.proofs.WholeByFront.{complete_at_end}
 use Rattle.lexical_fixed.proofs.parse.complete.Goals as goal
 
-pub integer_part-requires : goal.integer_part-requires
-integer_part-requires g c = record {
-  valid = subst (λ (f : Format). IsNone (fault f)) (ap (λ (f : Fixed). f.integer) (sym c.format.view_is)) (integer_valid c.args.format.now c.requires.valid);
-}
+pub returns-then-end-text : goal.returns-then-end-text
+returns-then-end-text g c =
+    complete_at_end c.args.format.now g.T.Integer.TYPE c.args.text.now _ _ c.in-Some.ensures c.if-end-text.true

@@ -1,4 +1,4 @@
-use Rattle.std.proofs.Common.{◌∙◌, ap, sym}
+use Rattle.std.proofs.Common.{◌∙◌, ap}
 use Rattle.lexical_parse_integer.specs.Fronts.{number_in_front}
 use Rattle.lexical_parse_integer.specs.Grammar.{if_valid}
 use Rattle.lexical_fixed.proofs.Valid.{none_is}

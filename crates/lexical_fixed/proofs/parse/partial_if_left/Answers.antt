@@ -1,0 +1,10 @@
+use Rattle.std.proofs.Common.{IsNone, subst, sym}
+use Rattle.lexical_util.specs.Format.{Format}
+use Rattle.lexical_util.specs.Validity.{fault}
+use Rattle.lexical_fixed.proofs.Valid.{integer_valid}
+use Rattle.lexical_fixed.proofs.parse.partial_if_left.Goals as goal
+
+pub integer_part-requires : goal.integer_part-requires
+integer_part-requires g c = record {
+  valid = subst (λ (f : Format). IsNone (fault f)) (sym c.integer.ensures) (integer_valid c.args.format.now c.requires.valid);
+}
