@@ -132,12 +132,14 @@ static PyObject *dtype_name(PyObject *type)
     if (is_native)
         name = is_native == Py_True ? PyObject_GetAttrString(type, "name") : PyObject_Str(type);
     Py_XDECREF(is_native);
-    if (!name || !PyUnicode_Check(name)) {
-        Py_CLEAR(name);
+    if (name && PyUnicode_Check(name))
+        return name;
+    if (name || PyErr_ExceptionMatches(PyExc_AttributeError)) {
         PyErr_Clear();
         raise_type("type", "a str such as 'u64'", type, "");
     }
-    return name;
+    Py_XDECREF(name);
+    return NULL;
 }
 
 const number_type *type_of(PyObject *type)

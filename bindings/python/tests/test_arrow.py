@@ -189,7 +189,7 @@ class Capsules(unittest.TestCase):
         for values in ([1, 2], None, "12", b"12"[::2].decode(), 7, memoryview(b"1234")[::2]):
             table = Table(a=values)
             for call in ("__arrow_c_schema__", "__arrow_c_array__", "__arrow_c_stream__"):
-                with self.assertRaisesRegex(TypeError, "the column 'a' has to be an array, and"):
+                with self.assertRaisesRegex(TypeError, "the column 'a' has to be an array of one"):
                     getattr(table, call)()
         two = Table(a=array("q", [1]), b=array("q", [1, 2]))
         with self.assertRaisesRegex(ValueError, r"of one length, and not of \[1, 2\]"):
@@ -202,6 +202,10 @@ class Capsules(unittest.TestCase):
         with self.assertRaises(TypeError):
             Table(a=Sparse(array("q", [0] * 9), "12")).__arrow_c_array__()
         self.assertRaises(KeyError, parse_table(TEXT, COLUMNS).arrow, "what")
+        for name, message in ((7, "names that are str, and not int"), ("a\0b", "without NUL"),
+                              ("\udcff", "names of UTF-8")):
+            with self.assertRaisesRegex((TypeError, ValueError), f"Arrow wants .*{message}"):
+                Table({name: array("q", [1])}).__arrow_c_schema__()
 
     def test_a_table_is_a_dict(self):
         table = parse_table(TEXT, {"a": "u8", "b": None, "c": Column("i8", may_miss=True)})
@@ -241,7 +245,14 @@ class Numpy(unittest.TestCase):
                      numpy.dtype([("int64", "i8")]), numpy.dtype("?")):
             with self.assertRaisesRegex(ValueError, "type has to be u8"):
                 parse("7", kind)
-        for kind in numpy.zeros(1), 7, b"u8":
+
+        class Raising:
+            @property
+            def isnative(self):
+                raise OSError("none")
+
+        self.assertRaises(OSError, parse, "7", Raising())
+        for kind in numpy.zeros(1), 7, b"u8", type("Named", (), {"isnative": True, "name": 5})():
             with self.assertRaisesRegex(TypeError, "type has to be a str such as 'u64'"):
                 parse("7", kind)
 

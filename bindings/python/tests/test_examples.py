@@ -50,7 +50,8 @@ def postgres(folder):
                               stderr=subprocess.DEVNULL).stdout
 
     try:
-        while server.poll() is None and not (data / ".s.PGSQL.5432").exists():
+        ready = ["pg_isready", "-h", data, "-U", "user"]
+        while server.poll() is None and subprocess.run(ready, **settings).returncode:
             time.sleep(0.1)
         yield psql
     finally:

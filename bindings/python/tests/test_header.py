@@ -95,6 +95,8 @@ class Names(unittest.TestCase):
             (b"a,id,id,b,id\n", {"id": "u8"}, {}, "the header has 'id' as its columns 2 and 3 and"
              " 5: no name chooses one of 'a', 'id', 'id', 'b', 'id'"),
             (b"", COLUMNS, {}, "there is no header: the text has no byte"),
+            (b"id,amount\r1,2\r", COLUMNS, {},
+             "the text has returns and no line feed, which has to end each line"),
             (b"id,amount\r\n", COLUMNS, {},
              "the header has no column 'amount': it has 'id', 'amount\\r'"),
             (b",".join(b"%d" % k for k in range(50)), {"x": "u8"}, {}, "the header has no column"

@@ -9,6 +9,10 @@ from ._core import _arrow_array, _arrow_schema, _arrow_stream
 
 def _column(name: str, values: Any) -> tuple[str, str, Any, Any]:
     """What the capsules are made of: a column's name, code, numbers, and bits or None."""
+    if not isinstance(name, str):
+        raise TypeError(f"Arrow wants names that are str, and not {type(name).__name__}")
+    if "\0" in name or name.encode("utf-8", "replace").decode() != name:
+        raise ValueError(f"Arrow wants names of UTF-8 without NUL, and not {name!r}")
     numbers, bits = values if isinstance(values, tuple) else (values, None)
     try:
         with memoryview(numbers) as view:
@@ -17,7 +21,8 @@ def _column(name: str, values: Any) -> tuple[str, str, Any, Any]:
                 return name, code, numbers, bits
     except TypeError:
         pass
-    raise TypeError(f"the column {name!r} has to be an array, and not {type(numbers).__name__}")
+    kind = type(numbers).__name__
+    raise TypeError(f"the column {name!r} has to be an array of one dimension, and not {kind}")
 
 
 class Arrow:

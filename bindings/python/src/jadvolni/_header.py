@@ -84,6 +84,8 @@ def read_header(
             break
     if not line:
         raise ValueError("there is no header: the text has no byte")
+    if not end and b"\r" in line[:-1] and b"\n" not in line:
+        raise ValueError("the text has returns and no line feed, which has to end each line")
     rest = memoryview(block)[len(line) - start:]
     if not end and is_within and b"\n" in line:
         end = line.index(b"\n") + 1
