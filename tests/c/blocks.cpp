@@ -149,6 +149,12 @@ static void refused_columns()
     // Where rows of one array lie behind each other, none is written twice.
     jadvolni::table_column apart[] = {jadvolni::column_into(numbers, 4), jadvolni::column_into(numbers + 2, 2)};
     CHECK(jadvolni::parse_table("1,2\n", commas(false), 2, apart).rows() == 1 && numbers[0] == 1 && numbers[2] == 2);
+    // What isn't written overlaps with nothing: the bits of a column that isn't read, or none.
+    jadvolni::table_column unread{}, bare = jadvolni::column_into(others);
+    unread.present = {reinterpret_cast<std::uint8_t *>(numbers), 4};
+    bare.present = {reinterpret_cast<std::uint8_t *>(numbers + 1), 0};
+    jadvolni::table_column beside[] = {unread, column, bare};
+    CHECK(jadvolni::parse_table("1,2,3\n", commas(false), 4, beside).rows() == 1 && numbers[0] == 2 && others[0] == 3);
     jadvolni::table_column without_format[] = {column, {}};
     without_format[0].format = {};
     auto told = jadvolni::parse_table("1,2\n", commas(false), 4, without_format);
