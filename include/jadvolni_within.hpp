@@ -2,7 +2,9 @@
 // jadvolni.hpp, which includes it.
 #pragma once
 
-#include "jadvolni.hpp"
+#ifndef JADVOLNI_HPP_
+#error "include jadvolni.hpp, of which this is a part"
+#endif
 
 namespace jadvolni {
 

@@ -25,7 +25,7 @@ printf 'c u64 18446744073709551616\n' > line
 cat > ten.cpp << 'END'
 #include <cstdint>
 #include <iostream>
-#include <jadvolni.hpp>
+#include <jadvolni_columns.hpp>
 
 int main()
 {

@@ -4,6 +4,7 @@
 #include "check.h"
 
 #include <algorithm>
+#include <random>
 #include <string>
 #include <vector>
 
@@ -149,6 +150,12 @@ static void refused_columns()
     // Where rows of one array lie behind each other, none is written twice.
     jadvolni::table_column apart[] = {jadvolni::column_into(numbers, 4), jadvolni::column_into(numbers + 2, 2)};
     CHECK(jadvolni::parse_table("1,2\n", commas(false), 2, apart).rows() == 1 && numbers[0] == 1 && numbers[2] == 2);
+    // What isn't written overlaps with nothing: the bits of a column that isn't read, or none.
+    jadvolni::table_column unread{}, bare = jadvolni::column_into(others);
+    unread.present = {reinterpret_cast<std::uint8_t *>(numbers), 4};
+    bare.present = {reinterpret_cast<std::uint8_t *>(numbers + 1), 0};
+    jadvolni::table_column beside[] = {unread, column, bare};
+    CHECK(jadvolni::parse_table("1,2,3\n", commas(false), 4, beside).rows() == 1 && numbers[0] == 2 && others[0] == 3);
     jadvolni::table_column without_format[] = {column, {}};
     without_format[0].format = {};
     auto told = jadvolni::parse_table("1,2\n", commas(false), 4, without_format);
@@ -196,6 +203,84 @@ static void headers()
     CHECK(*first == "a,b\n" && first.place() == 3 && failures == 7 && std::strcmp(first.message(), "no fault") == 0);
 }
 
+// ---- random tables, in blocks and whole
+
+struct moody {
+    std::string_view text;
+    std::mt19937 *random;
+    std::ptrdiff_t operator()(char *to, std::size_t room)
+    {
+        if ((*random)() % 4 == 0) return -1;
+        auto size = text.copy(to, std::min<std::size_t>(1 + (*random)() % 7, room));
+        text.remove_prefix(size);
+        return std::ptrdiff_t(size);
+    }
+};
+
+static jadvolni::table random_table(unsigned flags, const std::size_t *widths)
+{
+    auto how = commas((flags & 2) != 0);
+    how.has_returns = flags & 1;
+    how.allows_blanks = (flags & 4) != 0;
+    how.skips_empty_rows = (flags & 8) != 0;
+    if (flags < 48) return how;
+    how.widths = widths;
+    how.width_count = 2;
+    how.is_records = (flags & 16) != 0;
+    return how;
+}
+
+// The numbers of the first of two columns, and what ended them, but for reading that failed.
+static std::vector<int> in_blocks(moody read, std::size_t size, const jadvolni::table &how, jadvolni::table_block &end)
+{
+    std::vector<char> bytes(size);
+    std::vector<int> all;
+    int numbers[2] = {};
+    jadvolni::table_column columns[] = {jadvolni::column_into(numbers), {}};
+    jadvolni::table_blocks blocks(read, bytes, how, 2, columns);
+    for (bool has_failed = true; has_failed;) {
+        has_failed = false;
+        for (const jadvolni::table_block &block : blocks) {
+            all.insert(all.end(), numbers, numbers + block.rows());
+            has_failed = !block && std::strcmp(block.message(), "reading has failed") == 0;
+            if (!has_failed) end = block;
+        }
+    }
+    return all;
+}
+
+static void random_tables()
+{
+    const char *const pieces[] = {"1", "7", "300", "x", ",", ",", ",", "\n", "\n", "\"", "\"", "\"\"", "\r\n", " "};
+    std::mt19937 random(1);
+    std::size_t wholes = 0, wrong_cells = 0, no_rooms = 0;
+    for (int time = 0; time < 30000; ++time) {
+        std::string text;
+        for (auto count = random() % 20; count > 0; --count) text += pieces[random() % std::size(pieces)];
+        const std::size_t size = 1 + random() % 24, widths[] = {1 + random() % 3, random() % 3};
+        auto how = random_table(random() % 64, widths);
+        std::vector<int> numbers(32, 9);
+        jadvolni::table_column columns[] = {jadvolni::column_into(numbers), {}};
+        auto whole = jadvolni::parse_table(text, how, 32, columns);
+        jadvolni::table_block end(jadvolni::table_result({}), 0, 0, nullptr);
+        auto rows = in_blocks({text, &random}, size, how, end);
+        bool is_right = std::equal(rows.begin(), rows.end(), numbers.begin());
+        if (!end && end.status() == status::ok) {
+            ++no_rooms;
+            is_right &= end.place() < text.size() && size <= text.size();
+        } else if (!whole) {
+            ++wrong_cells;
+            is_right &= !end && end.status() == whole.status() && end.place() == whole.place()
+                && end.column() == whole.column() && rows.size() == whole.rows();
+        } else {
+            ++wholes;
+            is_right &= rows.size() == whole.rows();
+        }
+        CHECK(is_right);
+    }
+    CHECK(wholes > 300 && wrong_cells > 300 && no_rooms > 300);
+}
+
 int main()
 {
     byte_by_byte();
@@ -203,5 +288,6 @@ int main()
     open_quotes();
     refused_columns();
     headers();
+    random_tables();
     return checked();
 }

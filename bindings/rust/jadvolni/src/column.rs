@@ -1,6 +1,6 @@
 //! Columns: the numbers of a text's fields, read into a slice by one call.
 
-use crate::{Error, Format, Integer};
+use crate::{Error, Format, Integer, Position};
 use core::ffi::c_char;
 use core::fmt;
 use jadvolni_sys as sys;
@@ -59,6 +59,20 @@ impl fmt::Display for ColumnError {
                 write!(f, "{error}, in field {field}")
             }
         }
+    }
+}
+
+impl ColumnError {
+    /// What is wrong with the format or the field.
+    pub fn error(&self) -> Error {
+        match *self {
+            ColumnError::InvalidFormat(error) | ColumnError::InvalidField { error, .. } => error,
+        }
+    }
+
+    /// The line and the column of the fault's byte in its text, as of [`Error::position`].
+    pub fn position(&self, text: impl AsRef<[u8]>) -> Option<Position> {
+        self.error().position(text)
     }
 }
 

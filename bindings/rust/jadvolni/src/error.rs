@@ -131,12 +131,12 @@ impl Error {
     /// the table. The text is that in which the place counts.
     ///
     /// ```
-    /// use jadvolni::{parse_column, ColumnError, Position};
+    /// use jadvolni::{parse_column, Position};
     /// let (text, mut values) = ("12\n7x\n", [0u8; 4]);
-    /// let Err(ColumnError::InvalidField { error, .. }) = parse_column(text, b'\n', &mut values) else { panic!() };
-    /// let position = error.position(text).unwrap();
+    /// let told = parse_column(text, b'\n', &mut values).unwrap_err();
+    /// let position = told.position(text).unwrap();
     /// assert_eq!(position, Position { line: 2, column: 2 });
-    /// assert_eq!(format!("{position}: {}", error.message()), "line 2, column 2: invalid digit");
+    /// assert_eq!(format!("{position}: {}", told.error().message()), "line 2, column 2: invalid digit");
     /// ```
     pub fn position(&self, text: impl AsRef<[u8]>) -> Option<Position> {
         self.place().map(|place| Position::of(text, place))

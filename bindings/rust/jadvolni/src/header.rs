@@ -230,7 +230,7 @@ impl<'a> Columns<'a> {
     /// let mut columns = Columns::by_header(text, &comma, wanted)?;
     /// let error = columns.read(text, &comma).unwrap_err();
     /// assert_eq!(error, TableError { row: 1, column: 2, error: Error::InvalidDigit(37) });
-    /// let (line, name) = (error.error.position(text).unwrap().line, columns.header().name(error.column));
+    /// let (line, name) = (error.position(text).unwrap().line, columns.header().name(error.column));
     /// assert_eq!((line, name.as_deref(), error.error.message()), (3, Some("cents"), "invalid digit"));
     /// assert_eq!((days[0], cents[0]), (1, -80000));
     /// # Ok::<(), jadvolni::HeaderError>(())

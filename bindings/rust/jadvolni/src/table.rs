@@ -1,6 +1,6 @@
 //! Tables: the rows of a text, each column read into a slice of its own by one call.
 
-use crate::{ColumnInteger, Error, Format};
+use crate::{ColumnInteger, Error, Format, Position};
 use core::fmt;
 use core::marker::PhantomData;
 use core::ptr::null;
@@ -232,6 +232,11 @@ impl TableError {
     /// ```
     pub fn behind(self, rows: usize, bytes: usize) -> Self {
         TableError { row: self.row.saturating_add(rows), error: self.error.moved(bytes), ..self }
+    }
+
+    /// The line and the column of the fault's byte in its text, as of [`Error::position`].
+    pub fn position(&self, text: impl AsRef<[u8]>) -> Option<Position> {
+        self.error.position(text)
     }
 }
 

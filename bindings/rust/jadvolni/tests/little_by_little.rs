@@ -2,7 +2,7 @@
 #![cfg(feature = "std")]
 
 use jadvolni::{
-    ColumnReader, Dialect, Format, ReadError, TableColumn, TableReadError, TableReader,
+    parse_table, ColumnReader, Dialect, Format, ReadError, TableColumn, TableReadError, TableReader,
 };
 use std::io::{self, ErrorKind, Read};
 
@@ -147,4 +147,86 @@ fn blocks_of_any_size() {
     let told =
         ColumnReader::<_, u8>::with_capacity(3 << 20, Endless, b',', Format::STANDARD).next();
     assert!(matches!(told, Some(Err(ReadError::LongField(0)))));
+}
+
+/// Draws numbers.
+struct Random(u64);
+
+impl Random {
+    fn below(&mut self, end: usize) -> usize {
+        self.0 = self.0.wrapping_mul(6364136223846793005).wrapping_add(1442695040888963407);
+        (self.0 >> 33) as usize % end
+    }
+}
+
+/// Gives a few bytes at a time, and fails now and then.
+struct Moody<'a>(&'a [u8], Random);
+
+impl Read for Moody<'_> {
+    fn read(&mut self, block: &mut [u8]) -> io::Result<usize> {
+        match self.1.below(4) {
+            0 => Err(ErrorKind::WouldBlock.into()),
+            _ => (&mut self.0).take(1 + self.1.below(7) as u64).read(block),
+        }
+    }
+}
+
+/// The numbers of a text's first column, and what ended them.
+fn in_blocks(
+    text: &[u8],
+    how: Dialect<'_>,
+    size: usize,
+    seed: u64,
+) -> (Vec<u16>, Option<TableReadError>) {
+    let mut reader = TableReader::with_capacity(size, Moody(text, Random(seed)), how);
+    let (mut numbers, mut all) = ([0; 2], vec![]);
+    loop {
+        match reader.read(&mut [TableColumn::of(&mut numbers), TableColumn::UNREAD]) {
+            Ok(0) => return (all, None),
+            Ok(count) => all.extend_from_slice(&numbers[..count]),
+            Err(TableReadError::Io(_)) => {}
+            Err(error) => {
+                if let TableReadError::Table { rows, .. } = error {
+                    all.extend_from_slice(&numbers[..rows]);
+                }
+                return (all, Some(error));
+            }
+        }
+    }
+}
+
+#[test]
+fn random_tables_are_read_in_blocks_as_whole() {
+    let pieces = ["1", "7", "300", "x", ",", ",", ",", "\n", "\n", "\"", "\"", "\"\"", "\r\n", " "];
+    let (mut random, mut ends) = (Random(1), [0; 4]);
+    for _ in 0..30_000 {
+        let text: String =
+            (0..random.below(20)).map(|_| pieces[random.below(pieces.len())]).collect();
+        let (flags, size, widths) =
+            (random.below(64), 1 + random.below(24), [1 + random.below(3), random.below(3)]);
+        let layout = match flags >> 4 {
+            0 => Dialect::of_widths(&widths),
+            1 => Dialect::of_widths(&widths).is_records(true),
+            _ => Dialect::separated_by(if size == 24 { b'"' } else { b',' }),
+        };
+        let how = layout.has_returns(flags & 1 != 0).has_quotes(flags & 2 != 0);
+        let how = how.allows_blanks(flags & 4 != 0).skips_empty_rows(flags & 8 != 0);
+        let mut whole = [9; 32];
+        let told =
+            parse_table(&text, &how, &mut [TableColumn::of(&mut whole), TableColumn::UNREAD]);
+        let (rows, end) = in_blocks(text.as_bytes(), how, size, random.0);
+        assert!(whole.starts_with(&rows), "{text:?} by {size}");
+        let is_as_whole = match (told, end) {
+            (Ok(table), None) => (0, rows.len() == table.rows),
+            (Err(fault), Some(TableReadError::Table { error, .. })) => (1, fault == error),
+            (_, Some(TableReadError::LongRow(start))) => (2, text.len() - start >= size),
+            (_, Some(TableReadError::OpenQuote { row_start, quote })) => {
+                (3, text.len() - row_start >= size && text.as_bytes()[quote] == b'"')
+            }
+            _ => (0, false),
+        };
+        ends[is_as_whole.0] += 1;
+        assert!(is_as_whole.1, "{text:?} by {size}");
+    }
+    assert!(ends.iter().all(|count| *count > 300), "{ends:?}");
 }

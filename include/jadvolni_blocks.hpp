@@ -1,0 +1,327 @@
+// jadvolni_blocks.hpp - tables of any size, block by block. It is a part of jadvolni.hpp, which includes it.
+#pragma once
+
+#ifndef JADVOLNI_HPP_
+#error "include jadvolni.hpp, of which this is a part"
+#endif
+
+#include <cstring>
+
+namespace jadvolni {
+
+namespace detail {
+
+// Whether a row ends in bytes that come little by little: each is looked at once.
+class row_ends {
+public:
+    explicit row_ends(const table &how) noexcept : has_quotes_(how.has_quotes != 0)
+    {
+        if (!how.is_records) return;
+        for (std::size_t column = 0; column < how.width_count; ++column) {
+            auto room = std::size_t(-1) - record_size_;
+            record_size_ += std::min(room, how.widths[column]);
+        }
+        record_size_ = std::max<std::size_t>(record_size_, 1);
+    }
+
+    // Another row begins.
+    void begin() noexcept { seen_ = quote_ = closed_ = 0, is_open_ = false; }
+
+    // Whether the row ends in its first bytes, of which those that it was asked before are the front.
+    bool ends_in(const char *row, std::size_t size) noexcept
+    {
+        if (record_size_) return size >= record_size_;
+        for (; seen_ < size; ++seen_) {
+            if (row[seen_] == '"' && has_quotes_) see_quote();
+            else if (row[seen_] == '\n' && !is_open_) return true;
+        }
+        return false;
+    }
+
+    // Where the row stops, that ends in what was seen.
+    std::size_t stop() const noexcept { return record_size_ ? record_size_ : seen_ + 1; }
+
+    // The place in the row of a quote that isn't closed in what was seen, if there is one.
+    std::optional<std::size_t> open_quote() const noexcept
+    {
+        return is_open_ ? std::optional<std::size_t>(quote_) : std::nullopt;
+    }
+
+private:
+    // A quote directly behind one that closes makes with it one that is doubled, and the cell goes on.
+    void see_quote() noexcept
+    {
+        if (is_open_) closed_ = seen_ + 1;
+        else if (closed_ != seen_ || seen_ == 0) quote_ = seen_;
+        is_open_ = !is_open_;
+    }
+
+    // The size of a record, or 0; how many bytes were seen, the last quote that opens, and the place behind the
+    // last one that closes.
+    std::size_t record_size_ = 0, seen_ = 0, quote_ = 0, closed_ = 0;
+    bool has_quotes_, is_open_ = false;
+};
+
+} // namespace detail
+
+// What was read of a block: rows, or what is wrong.
+class table_block : table_result {
+public:
+    table_block(const table_result &read, std::size_t first_row, std::size_t place, const char *trouble) noexcept
+        : table_result(read), first_row_(first_row), place_(place), trouble_(trouble)
+    {
+    }
+
+    // Whether nothing is wrong: then there are rows.
+    explicit operator bool() const noexcept { return !trouble_ && table_result::operator bool(); }
+
+    // How many rows are in the arrays, and how many came before them. So at a fault the sum is the
+    // number of its row, from 0.
+    using table_result::rows;
+    std::size_t first_row() const noexcept { return first_row_; }
+
+    // What is wrong: a fault with its column and its name, or, at status::ok, that a row has no room
+    // among the bytes or that reading has failed.
+    using table_result::column, table_result::status, table_result::name;
+    const char *message() const noexcept { return trouble_ ? trouble_ : table_result::message(); }
+
+    // Where reading stopped, or the place of the fault, in all that was read. Of a row without room it is
+    // that of its quote that isn't closed, or where it starts.
+    std::size_t place() const noexcept { return place_; }
+
+private:
+    std::size_t first_row_, place_;
+    const char *trouble_;
+};
+
+// The first row of a file, which is a header, with what ends it; or what hinders it.
+class header_row {
+public:
+    header_row(std::string_view row, std::size_t place, const char *trouble) noexcept
+        : row_(row), place_(place), trouble_(trouble)
+    {
+    }
+
+    // Whether nothing hinders it. Where the file has no row, it is empty.
+    explicit operator bool() const noexcept { return !trouble_; }
+
+    // Its bytes, as long as these are there.
+    std::string_view operator*() const noexcept { return row_; }
+
+    // What hinders it, as of a block, and where.
+    const char *message() const noexcept { return trouble_ ? trouble_ : jadvolni::message(status::ok); }
+    std::size_t place() const noexcept { return place_; }
+
+private:
+    std::string_view row_;
+    std::size_t place_;
+    const char *trouble_;
+};
+
+// The rows of a file of any size, as a range of blocks of `capacity` rows at most:
+//
+//     std::vector<char> bytes(1 << 20); // a row has to fit, with its line feed
+//     auto read = [&](char *to, std::size_t room) { return ::read(file, to, room); };
+//     jadvolni::table_blocks blocks(read, bytes, ledger, 1000, columns);
+//     for (const jadvolni::table_block &block : blocks)
+//         if (block) use(days, cents, block.rows());
+//         else std::cerr << block.message() << " at byte " << block.place() << '\n';
+//
+// `read` puts bytes to where it is told, and answers how many: 0 at the end, a negative number where it
+// fails, also over std::fread or a std::istream, which say nothing else at a fault than at the end. It may
+// hand out one byte at a time: no byte is looked at more often for it.
+// Nothing follows a block that is wrong. Another loop goes on where the last one stopped, and reads
+// again where that failed.
+template <class Read>
+class table_blocks {
+public:
+    class iterator {
+    public:
+        using iterator_category = std::input_iterator_tag;
+        using value_type = table_block;
+        using difference_type = std::ptrdiff_t;
+        using pointer = const table_block *;
+        using reference = const table_block &;
+
+        explicit iterator(table_blocks *of = nullptr) noexcept : of_(of) {}
+        reference operator*() const noexcept { return of_->block_; }
+        pointer operator->() const noexcept { return &of_->block_; }
+        void operator++(int) { ++*this; }
+        iterator &operator++()
+        {
+            if (!of_->next()) of_ = nullptr;
+            return *this;
+        }
+        friend bool operator==(iterator one, iterator other) noexcept { return one.of_ == other.of_; }
+        friend bool operator!=(iterator one, iterator other) noexcept { return one.of_ != other.of_; }
+
+    private:
+        table_blocks *of_;
+    };
+
+    template <class Bytes, class Columns>
+    table_blocks(Read read, Bytes &bytes, const table &how, std::size_t capacity, Columns &columns)
+        : table_blocks(std::move(read), bytes, how, capacity)
+    {
+        read_into(columns);
+    }
+
+    // Without columns yet: read_into sets them, before the first block.
+    template <class Bytes>
+    table_blocks(Read read, Bytes &bytes, const table &how, std::size_t capacity)
+        : read_(std::move(read)), bytes_(std::data(bytes)), size_(std::size(bytes)), how_(how),
+          capacity_(capacity), ends_(how)
+    {
+    }
+
+    // The columns of the blocks from here on.
+    template <class Columns>
+    void read_into(Columns &columns) noexcept
+    {
+        columns_ = std::data(columns);
+        column_count_ = std::size(columns);
+    }
+
+    // The first row of all, which is no row of the table: so jadvolni_columns.hpp finds columns by their names. Ask
+    // for it before the first block, until which it is among the bytes; again where reading has failed.
+    header_row header()
+    {
+        const char *trouble = pass_byte_order_mark();
+        std::string_view row;
+        do {
+            pass(row.size());
+            if (trouble || (trouble = fill_row())) return {{}, place_of(trouble), trouble};
+            row = {bytes_ + first_, is_last_ && !ends() ? stop_ - first_ : ends_.stop()};
+        } while (how_.skips_empty_rows && (row == "\n" || (row == "\r\n" && how_.has_returns)));
+        header_row header(row, before_ + first_, nullptr);
+        pass(row.size());
+        return header;
+    }
+
+    iterator begin()
+    {
+        is_over_ = false;
+        return ++iterator(this);
+    }
+    iterator end() noexcept { return iterator(); }
+
+private:
+    // Reads the next block. False where there is none.
+    bool next()
+    {
+        while (!is_over_) {
+            if (!may_have_row()) {
+                if (auto trouble = fill()) return hindered(trouble);
+                continue;
+            }
+            std::string_view text(bytes_ + first_, stop_ - first_);
+            auto read = detail::read_table(text, is_last_, how_, capacity_, columns_, column_count_);
+            is_over_ = !read;
+            if (is_over_ || read.rows()) return tell(read);
+            pass(read.place());
+            tried_ = stop_ - first_;
+            is_over_ = is_last_ && first_ == stop_;
+            if (is_over_) return false;
+            if (auto trouble = is_last_ ? without_room() : fill()) return hindered(trouble);
+        }
+        return false;
+    }
+
+    // Whether the bytes that are left may have a whole row: one ends there, or they are twice as many as had none.
+    bool may_have_row() noexcept
+    {
+        return is_last_ || (stop_ - first_) / 2 >= tried_ || ends();
+    }
+
+    // Tells what hinders a row.
+    bool hindered(const char *trouble) noexcept
+    {
+        is_over_ = true;
+        block_ = table_block(table_result({}), row_, place_of(trouble), trouble);
+        return true;
+    }
+
+    // Where that is: at a quote that isn't closed, or where the row starts.
+    std::size_t place_of(const char *trouble) const noexcept
+    {
+        return before_ + first_ + (trouble == failed() ? 0 : ends_.open_quote().value_or(0));
+    }
+
+    // Whether a row ends in the bytes that are left.
+    bool ends() noexcept { return ends_.ends_in(bytes_ + first_, stop_ - first_); }
+
+    // Tells what was read from the first byte on, and goes behind its rows.
+    bool tell(const table_result &read) noexcept
+    {
+        block_ = table_block(read, row_, before_ + first_ + read.place(), nullptr);
+        if (!is_over_) {
+            pass(read.place());
+            row_ += read.rows();
+        }
+        return true;
+    }
+
+    // Goes behind so many bytes, which are whole rows.
+    void pass(std::size_t size) noexcept
+    {
+        if (size == 0) return;
+        first_ += size;
+        tried_ = 0;
+        ends_.begin();
+    }
+
+    static const char *failed() noexcept { return "reading has failed"; }
+    const char *without_room() noexcept
+    {
+        ends();
+        return ends_.open_quote() ? "a row has no room: a quote isn't closed" : "a row has no room";
+    }
+
+    // Puts bytes there until a row ends in them. Answers what hinders it.
+    const char *fill_row()
+    {
+        while (!ends() && !is_last_)
+            if (auto trouble = fill()) return trouble;
+        return nullptr;
+    }
+
+    // Goes behind a byte order mark in front of all. Answers what hinders it.
+    const char *pass_byte_order_mark()
+    {
+        while (stop_ < std::min<std::size_t>(size_, 3) && !is_last_)
+            if (auto trouble = fill()) return trouble;
+        std::string_view front(bytes_, stop_);
+        if (before_ + first_ == 0 && front.substr(0, 3) == "\xEF\xBB\xBF") pass(3);
+        return nullptr;
+    }
+
+    // Puts bytes there once. Answers what hinders it.
+    const char *fill()
+    {
+        if (first_) std::memmove(bytes_, bytes_ + first_, stop_ - first_);
+        before_ += first_;
+        stop_ -= first_;
+        first_ = 0;
+        if (stop_ == size_) return without_room();
+        auto count = static_cast<std::ptrdiff_t>(read_(bytes_ + stop_, size_ - stop_));
+        if (count < 0 || static_cast<std::size_t>(count) > size_ - stop_) return failed();
+        is_last_ = count == 0;
+        stop_ += static_cast<std::size_t>(count);
+        return nullptr;
+    }
+
+    Read read_;
+    char *bytes_;
+    std::size_t size_;
+    table how_;
+    std::size_t capacity_;
+    table_column *columns_ = nullptr;
+    std::size_t column_count_ = 0;
+    detail::row_ends ends_;
+    // The bytes that are left, how many of them had no whole row, how many came before all of them, and how many rows.
+    std::size_t first_ = 0, stop_ = 0, tried_ = 0, before_ = 0, row_ = 0;
+    bool is_last_ = false, is_over_ = false;
+    table_block block_{table_result({}), 0, 0, nullptr};
+};
+
+} // namespace jadvolni

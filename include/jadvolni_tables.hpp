@@ -1,0 +1,229 @@
+// jadvolni_tables.hpp - tables, each column into an array of its own. It is a part of jadvolni.hpp, which includes it.
+#pragma once
+
+#ifndef JADVOLNI_HPP_
+#error "include jadvolni.hpp, of which this is a part"
+#endif
+
+namespace jadvolni {
+
+// How a table is written. Begin with table{}, and set what differs. Its widths have to outlive it.
+using table = jadvolni_table;
+
+// A column of a table: how its cells are read, and where their numbers go. table_column{} isn't read.
+using table_column = jadvolni_table_column;
+
+// A column whose numbers go to an array. One without room, as of a std::vector that was only reserved, is
+// status::invalid_table where rows are asked for.
+template <class T>
+[[nodiscard]] table_column column_into(T *numbers, std::size_t capacity,
+                                       const format &under = standard) noexcept
+{
+    using kept = typename detail::kept_as<T>::type;
+    static_assert(sizeof(T) <= 8, "a column has numbers of up to 64 bits");
+    table_column column{};
+    column.format = under;
+    auto &array = column.*detail::column_call<kept>::array;
+    array.numbers = reinterpret_cast<kept *>(numbers);
+    array.capacity = capacity;
+    return column;
+}
+
+// A column into what has its numbers in a row: a std::vector, a std::array, a std::span, an array.
+template <class Values>
+[[nodiscard]] auto column_into(Values &&values, const format &under = standard) noexcept
+    -> decltype(column_into(std::data(values), std::size(values), under))
+{
+    static_assert(std::is_lvalue_reference_v<Values> || detail::is_view<Values>,
+                  "the numbers have to outlive the column");
+    return column_into(std::data(values), std::size(values), under);
+}
+
+// Whether a column has a number in a row, by the bits that its `present` is set to: `present = {data, size}`.
+template <class Bits>
+[[nodiscard]] bool is_present(const Bits &bits, std::size_t row) noexcept
+{
+    assert(row / 8 < std::size(bits));
+    return (std::data(bits)[row / 8] >> (row % 8) & 1) != 0;
+}
+
+// What was read of a table: a count of rows, and where reading stopped or what is wrong there.
+class table_result : public outcome {
+public:
+    explicit table_result(jadvolni_table_result answer, const char *message = nullptr) noexcept
+        : outcome(answer.status, answer.place), rows_(answer.rows), column_(answer.column), message_(message)
+    {
+    }
+
+    // What is wrong. Where the table or a column is refused, it says what that has to be.
+    const char *message() const noexcept { return message_ ? message_ : outcome::message(); }
+
+    // The same where the text stands so many bytes further on.
+    table_result moved(std::size_t bytes) const noexcept
+    {
+        auto place = is_of_format() ? this->place() : this->place() + bytes;
+        return table_result({static_cast<std::uint32_t>(status()), column_, rows_, place}, message_);
+    }
+
+    // How many rows were read. At a fault of the text that is the number of its row, from 0.
+    std::size_t rows() const noexcept { return rows_; }
+
+    // The column of a fault, from 0: so many cells of the row were read.
+    std::size_t column() const noexcept { return column_; }
+
+private:
+    // Whether it is a fault that has no place.
+    bool is_of_format() const noexcept
+    {
+        auto code = static_cast<std::uint32_t>(status());
+        return (code >= JADVOLNI_INVALID_MANTISSA_RADIX && code <= JADVOLNI_INVALID_LITERAL_PREFIXES)
+            || code == JADVOLNI_INVALID_TABLE || code >= JADVOLNI_UNKNOWN_FIELD;
+    }
+
+    std::size_t rows_, column_;
+    const char *message_;
+};
+
+namespace detail {
+
+// Bytes from a place to before another.
+struct byte_span {
+    std::uintptr_t start = 0, stop = 0;
+
+    bool is_empty() const noexcept { return start == stop; }
+    bool meets(byte_span other) const noexcept
+    {
+        return !is_empty() && !other.is_empty() && start < other.stop && other.start < stop;
+    }
+};
+
+// The bytes that a column writes of so many rows: its numbers, and its bits. One that isn't read writes none.
+struct written {
+    byte_span numbers, bits;
+
+    written(const table_column &column, std::size_t rows) noexcept
+    {
+        auto take = [&](const auto &array) noexcept {
+            if (array.capacity == 0 || !numbers.is_empty()) return;
+            numbers.start = reinterpret_cast<std::uintptr_t>(array.numbers);
+            numbers.stop = numbers.start + std::min(rows, array.capacity) * sizeof *array.numbers;
+        };
+        take(column.i64), take(column.u64), take(column.i32), take(column.u32);
+        take(column.i16), take(column.u16), take(column.i8), take(column.u8);
+        if (numbers.is_empty()) return;
+        bits.start = reinterpret_cast<std::uintptr_t>(column.present.bytes);
+        bits.stop = bits.start + std::min(column.present.size, rows / 8 + (rows % 8 != 0));
+    }
+
+    // Whether a byte is written for two columns.
+    bool meets(const written &other) const noexcept
+    {
+        return numbers.meets(other.numbers) || numbers.meets(other.bits) || bits.meets(other.numbers)
+            || bits.meets(other.bits);
+    }
+};
+
+// The first column that writes where itself or one before it does, or how many there are.
+inline std::size_t overlapping(const table_column *columns, std::size_t count, std::size_t rows) noexcept
+{
+    for (std::size_t index = 0; index < count; ++index) {
+        written here(columns[index], rows);
+        if (here.numbers.is_empty()) continue;
+        if (here.numbers.meets(here.bits)) return index;
+        for (std::size_t before = 0; before < index; ++before)
+            if (here.meets(written(columns[before], rows))) return index;
+    }
+    return count;
+}
+
+// The rows of a part of a text. Columns that write to one place are refused, which the library can't see.
+inline table_result read_table(std::string_view text, bool is_last, const table &how, std::size_t capacity,
+                               table_column *columns, std::size_t count) noexcept
+{
+    auto wrong = overlapping(columns, count, capacity);
+    if (wrong != count)
+        return table_result({JADVOLNI_INVALID_TABLE, wrong, 0, 0},
+                            "the column's array overlaps with that of another column, or with bits");
+    auto answer = jadvolni_parse_table(text.data(), text.size(), is_last, &how, capacity, columns, count);
+    if (answer.status == JADVOLNI_OK) return table_result(answer);
+    return table_result(answer, jadvolni_table_text(answer, &how, capacity, columns, count));
+}
+
+} // namespace detail
+
+// The rows of a part of a text, as a block of a file: its whole ones, and all where it is the last part;
+// each column into an array of its own. Put the bytes from place() on in front of the next part. Where
+// `capacity` rows were read, go on at place() first.
+template <class Columns>
+[[nodiscard]] table_result parse_table_part(std::string_view text, bool is_last, const table &how,
+                                            std::size_t capacity, Columns &&columns) noexcept
+{
+    return detail::read_table(text, is_last, how, capacity, std::data(columns), std::size(columns));
+}
+
+// The rows of a text, `capacity` at most. The numbers of all cells before a wrong one stand, and the
+// rest of the arrays is as it was.
+template <class Columns>
+[[nodiscard]] table_result parse_table(std::string_view text, const table &how, std::size_t capacity,
+                                       Columns &&columns) noexcept
+{
+    return parse_table_part(text, true, how, capacity, columns);
+}
+
+// A row at fault: its number, where its fault is and what, and where the row starts and stops.
+using bad_row = jadvolni_bad_row;
+
+// What was read of a table whose bad rows were skipped: how many rows are right and how many bad, and where
+// reading stopped; or what is wrong with the table or a column.
+class skipping_result : public outcome {
+public:
+    explicit skipping_result(jadvolni_skipping_result answer) noexcept
+        : outcome(answer.status, answer.place), rows_(answer.rows), bad_rows_(answer.bad_rows),
+          column_(answer.column)
+    {
+    }
+
+    // How many right rows were read.
+    std::size_t rows() const noexcept { return rows_; }
+
+    // How many bad rows were skipped, also those that had no room.
+    std::size_t bad_rows() const noexcept { return bad_rows_; }
+
+    // The column that is wrong, from 0.
+    std::size_t column() const noexcept { return column_; }
+
+private:
+    std::size_t rows_, bad_rows_, column_;
+};
+
+// As parse_table_part, but rows at fault are skipped: what is known of each goes to `bad`, as far as there is
+// room, and the right ones are stored one behind another.
+template <class Columns, class Bad>
+[[nodiscard]] skipping_result parse_table_part_skipping(std::string_view text, bool is_last,
+                                                        const table &how, std::size_t capacity,
+                                                        Columns &&columns, Bad &&bad) noexcept
+{
+    return skipping_result(jadvolni_parse_table_skipping(
+        text.data(), text.size(), is_last, &how, capacity, std::data(columns), std::size(columns),
+        std::data(bad), std::size(bad)));
+}
+
+// The right rows of a text, `capacity` at most.
+template <class Columns, class Bad>
+[[nodiscard]] skipping_result parse_table_skipping(std::string_view text, const table &how,
+                                                   std::size_t capacity, Columns &&columns,
+                                                   Bad &&bad) noexcept
+{
+    return parse_table_part_skipping(text, true, how, capacity, columns, bad);
+}
+
+// The bytes of the row of a number, from 0, with what ends it and the empty rows behind it that are skipped: none
+// where the text has no such row, or the table can't be read.
+[[nodiscard]] inline std::string_view row_of(std::string_view text, const table &how,
+                                             std::size_t row) noexcept
+{
+    auto place = jadvolni_row_place(text.data(), text.size(), &how, row);
+    return text.substr(place.start, place.stop - place.start);
+}
+
+} // namespace jadvolni
