@@ -1,6 +1,6 @@
 // What the whole text stands for: its value by the reader for the format's kind, where `None` says nothing, and the answer
 // for what these readers leave.
-ghost use Rattle.std.specs.Prelude.{◌≡◌, ◌<◌, IfSome, IsNone, IsTrue, Ok, Some, length};
+ghost use Rattle.std.specs.Prelude.{◌≡◌, ◌<◌, Err, IfSome, IsNone, IsTrue, Ok, Some, length};
 ghost use Rattle.lexical_util.specs.Format.{standard};
 ghost use Rattle.lexical_util.specs.Validity.{fault};
 ghost use Rattle.lexical_parse_integer.specs.Answer.{view_of};
@@ -13,7 +13,8 @@ use crate::algorithm::plain::faults::{
     answer_after_digits, fault_after_many, place_after_digits, place_after_few,
 };
 use crate::algorithm::plain::{
-    has_forbidden_zero, is_plain, value_behind_plus, value_of_decimal, value_of_plain,
+    has_forbidden_zero, is_plain, standard_behind_plus, value_behind_plus, value_of_decimal,
+    value_of_plain,
 };
 use crate::algorithm::punctuated::{
     is_parted_otherwise, value_behind_head, value_of_groups, value_of_row,
@@ -130,24 +131,40 @@ pub(crate) fn complete_decimal<T: Integer>(bytes: &[u8], format: &NumberFormat) 
     decimal_if_left::<T>(bytes, format)
 }
 
+// Room for what a call answers through memory is cleared where the function begins that makes it: so two such calls stand in
+// functions of their own.
+#[inline(always)]
+fn fault_of_many<T: Integer>(bytes: &[u8]) -> Option<Error>
+    ensures { IfSome result (λ error. complete standard T.TYPE bytes.now ≡ Err error) }
+{
+    fault_after_many::<T>(bytes)
+}
+
+#[inline(always)]
+fn standard_from_front<T: Integer>(bytes: &[u8]) -> Result<T>
+    ensures { view_of T.number result ≡ complete standard T.TYPE bytes.now }
+{
+    complete_from_front::<T>(bytes, &format::STANDARD)
+}
+
 // By calls that know the format: each answers in registers.
 /// The integer that the whole text stands for under the standard format, for a text that `value_for_format` has left.
 #[inline(always)]
 pub fn standard_if_left<T: Integer>(bytes: &[u8]) -> Result<T>
     ensures { view_of T.number result ≡ complete standard T.TYPE bytes.now }
 {
-    if let Some(value) = value_behind_plus::<T>(bytes, &format::STANDARD) {
+    if let Some(value) = standard_behind_plus::<T>(bytes) {
         return Ok(value);
     }
     if bytes.len() > T::overflow_digits(10) {
-        if let Some(fault) = fault_after_many::<T>(bytes) {
+        if let Some(fault) = fault_of_many::<T>(bytes) {
             return Err(fault);
         }
     }
     match place_after_few::<T>(bytes) {
         Some(place) if place < bytes.len() => Err(Error::InvalidDigit(place)),
         Some(place) => Err(Error::Empty(place)),
-        None => complete_from_front::<T>(bytes, &format::STANDARD),
+        None => standard_from_front::<T>(bytes),
     }
 }
 
@@ -170,15 +187,15 @@ fn plain_answer<T: Integer>(bytes: &[u8], format: &NumberFormat) -> Result<T>
 {
     let is_decimal = format.mantissa_radix() == 10;
     if is_decimal && bytes.len() <= 16 {
-        return complete_decimal::<T>(bytes, format);
+        return decimal_answer::<T>(bytes, format);
     }
     if let Some(value) = value_of_plain::<T>(bytes, format) {
         return Ok(value);
     }
     if is_decimal {
-        return complete_decimal::<T>(bytes, format);
+        return decimal_answer::<T>(bytes, format);
     }
-    complete_from_front::<T>(bytes, format)
+    front_answer::<T>(bytes, format)
 }
 
 // A short decimal text is mostly at fault then, and others are read by the reader for the format's kind.
