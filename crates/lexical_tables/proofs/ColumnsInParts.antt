@@ -271,11 +271,11 @@ module _ (kinds : List (Option Kind)) (d : Dialect) where
         ∙ ap (cell_answers d kinds) (take_map (moved bytes) (count_in d) (cells_of d row))
         ∙ answers_moved bytes d kinds (take (count_in d) (cells_of d row)) valid
 
-    row_values_moved : (bytes : ℕ) (row : RowView) → row_values kinds d (row_behind bytes row) ≡ row_values kinds d row
+    pub row_values_moved : (bytes : ℕ) (row : RowView) → row_values kinds d (row_behind bytes row) ≡ row_values kinds d row
     row_values_moved bytes row =
         ap columns.values_before_fault (row_moved bytes row) ∙ values_same bytes (row_answers kinds d row)
 
-    row_fault_moved : (before bytes index : ℕ) (row : RowView) → row_fault kinds d (before + index) (row_behind bytes row)
+    pub row_fault_moved : (before bytes index : ℕ) (row : RowView) → row_fault kinds d (before + index) (row_behind bytes row)
         ≡ option_map (error_behind before bytes) (row_fault kinds d index row)
     row_fault_moved before bytes index row =
         ap₂ (λ n e. fault_of d (before + index) (row_behind bytes row) n e)

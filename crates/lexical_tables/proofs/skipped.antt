@@ -1,4 +1,5 @@
 -- Where rows are, and tables whose bad rows are skipped.
+pub mod InParts
 pub mod Overwritten
 pub mod RightRows
 pub mod RowPlaces

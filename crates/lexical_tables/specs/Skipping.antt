@@ -1,7 +1,8 @@
 -- What is read of a table whose bad rows are skipped.
-use Rattle.std.specs.Prelude.{◌≡◌, ◌+◌, ◌<◌, ◌≤◌, ◌^◌, ℕ, ℤ, zero, suc, Bool, if◌then◌else◌, List, [], ◌∷◌, ◌++◌, length, take, drop, map, filter, is_none, option_map, slice_index, Option, Some, None, IfSome}
+use Rattle.std.specs.Prelude.{◌≡◌, ◌+◌, ◌<◌, ◌≤◌, ◌^◌, ℕ, ℤ, zero, suc, Bool, if◌then◌else◌, List, [], ◌∷◌, ◌++◌, false, length, take, drop, map, filter, is_none, option_map, slice_index, Option, Some, None, IfSome}
 use Rattle.lexical_tables.specs.ByColumn.{kinds_of, put_row, put_rows, row_fault, row_values}
 use Rattle.lexical_tables.specs.Cells.{Kind}
+use Rattle.lexical_tables.specs.Parts.{error_behind, readable, whole_rows}
 use Rattle.lexical_tables.specs.Places.{place_of}
 use Rattle.lexical_tables.specs.Rows.{RowView, next_start, rows, rows_from}
 use Rattle.lexical_tables.specs.Targets.{TargetView, put_value}
@@ -96,6 +97,23 @@ pub record SkipsTo (dialect : Dialect) (room : ℕ) (text : List ℕ) (read : Sk
   pub whole : read.rows < room → read.stop ≡ length text
   pub left : rows_from dialect read.stop (drop read.stop text)
       ≡ drop (read.rows + read.bad_rows) (rows dialect text)
+
+-- Wherever a text is cut, what is read of the right rows in front of the cut, as far as these are whole, and then of those in
+-- all that is left, is what is read of the right rows of the text; and so it is with the faults: the rows and bytes in front are
+-- counted on.
+pub record SkippingInParts (kinds : List (Option Kind)) (dialect : Dialect)
+    (part more : List ℕ) : Type 0 where
+  pub values : let front = readable false dialect part in
+      let left = drop (whole_rows dialect part) part ++ more in
+      right_values kinds dialect (rows dialect (part ++ more))
+      ≡ right_values kinds dialect (rows dialect front)
+      ++ right_values kinds dialect (rows dialect left)
+  pub faults : let front = readable false dialect part in
+      let left = drop (whole_rows dialect part) part ++ more in
+      faults_from kinds dialect 0 (rows dialect (part ++ more))
+      ≡ faults_from kinds dialect 0 (rows dialect front)
+      ++ map (error_behind (length (rows dialect front)) (length front))
+      (faults_from kinds dialect 0 (rows dialect left))
 
 -- ---- the right rows alone
 

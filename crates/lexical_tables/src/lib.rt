@@ -45,5 +45,5 @@ pub use header::after_lines;
 pub use parsed::put_standard_parsed;
 pub use parts::{columns_in_parts, read_columns_part};
 pub use places::{RowPlace, faults_have_places, row_place};
-pub use skipping::{read_columns_skipping, read_part_skipping};
+pub use skipping::{read_columns_skipping, read_part_skipping, skipping_in_parts};
 pub use targets::{Numbers, TableColumn, Target, put_bit, put_cell, put_standard_cell, put_zero};

@@ -1,10 +1,11 @@
 //! Tables whose bad rows are skipped.
 
-ghost use Rattle.std.specs.Prelude.{◌≡◌, ◌∷◌, ◌+◌, ◌-◌, ◌<◌, ◌^◌, ℕ, drop, length, map, set};
+ghost use Rattle.std.specs.Prelude.{◌≡◌, ◌∷◌, ◌+◌, ◌-◌, ◌<◌, ◌^◌, ℕ, List, Option, drop, length, map, set};
 ghost use Rattle.lexical_tables.specs.ByColumn.{AreUsable, kinds_of};
-ghost use Rattle.lexical_tables.specs.Parts.{readable};
+ghost use Rattle.lexical_tables.specs.Cells.{Kind};
+ghost use Rattle.lexical_tables.specs.Parts.{AreValid, readable};
 ghost use Rattle.lexical_tables.specs.Rows.{FirstCounts, first_row, rows_from};
-ghost use Rattle.lexical_tables.specs.Skipping.{HoldRightRows, SkipsTo, put_in_front, skipped_rows, skipping_answer, skipping_put};
+ghost use Rattle.lexical_tables.specs.Skipping.{HoldRightRows, SkippingInParts, SkipsTo, put_in_front, skipped_rows, skipping_answer, skipping_put};
 
 use crate::answers::TableError;
 use crate::bad_rows::{BadRow, KeptRow, Skipped, put_bad_row};
@@ -170,3 +171,13 @@ pub fn read_part_skipping<C: TableColumn, B: KeptRow>(
     let whole = &text[..whole_rows(text, dialect)];
     read_columns_skipping(whole, dialect, options, rows, targets, bad)
 }
+
+/// The law of parts, where bad rows are skipped: wherever a text is cut, its whole rows in front of the cut, and then all
+/// that is left, give the right rows and the faults of the whole text, where each column's format is valid. Rows and
+/// places are counted on.
+///
+/// The call does nothing. A proof that needs the law makes it, and has its clause.
+pub fn skipping_in_parts()
+    ensures { (kinds : List (Option Kind)) (dialect : Dialect) (part more : List ℕ)
+        → AreValid kinds → SkippingInParts kinds dialect part more }
+{}
