@@ -174,16 +174,16 @@ typedef enum jadvolni_status {
 
     /* The integer part of fixed-point numbers has a radix other than 10. For this and the next three the
      * place is 0. */
-    JADVOLNI_INVALID_FIXED_RADIX = 32,
+    JADVOLNI_INVALID_FIXED_RADIX = 19,
 
     /* The integer part has a prefix, a suffix, literal prefixes or octal zeros. */
-    JADVOLNI_INVALID_FIXED_AFFIX = 33,
+    JADVOLNI_INVALID_FIXED_AFFIX = 20,
 
     /* The point of fixed-point numbers is a digit, '+', '-', or the separator of the integer part. */
-    JADVOLNI_INVALID_POINT = 34,
+    JADVOLNI_INVALID_POINT = 21,
 
     /* Fixed-point numbers have more than 38 places. */
-    JADVOLNI_INVALID_PLACES = 35,
+    JADVOLNI_INVALID_PLACES = 22,
 
     /* A reserved byte or bit of the format isn't 0: it was written for a later version of the
      * library, or it was never set. It comes before the rules of formats. */
@@ -248,9 +248,9 @@ typedef struct jadvolni_format {
     uint8_t mantissa_radix;
 
     /* A byte that counts for nothing among the digits: "_" in "1_000". Where it may be, the flags
-     * on separators say; with none of the first three it is no part of a number. IT IS NO DECIMAL
-     * POINT: with ',' between digits "12,5" is 125, and "12,505" is 12505, with JADVOLNI_OK. Amounts
-     * are read by jadvolni_parse_i64_fixed. */
+     * on separators say; with none of the first three it is no part of a number. It is no decimal
+     * point: with "," between digits "12,5" is 125, and "12,505" is 12505. Amounts are read as
+     * fixed-point numbers. */
     uint8_t digit_separator;
 
     /* A byte that may follow a 0 before the digits: with "x", "0x1F" is read as "1F" is. The radix
@@ -1100,13 +1100,16 @@ static inline const char *jadvolni_status_text(uint32_t status)
                "many as columns, records need widths, and the reserved bytes of a table have "
                "to be 0";
     case JADVOLNI_MISPLACED_QUOTE: return "misplaced quote";
-    case JADVOLNI_INVALID_FIXED_RADIX: return "fixed-point numbers have to have the radix 10";
+    case JADVOLNI_INVALID_FIXED_RADIX:
+        return "fixed-point numbers have to have the radix 10";
     case JADVOLNI_INVALID_FIXED_AFFIX:
-        return "fixed-point numbers have no prefix, no suffix, no literal prefixes and no octal "
-               "zeros";
+        return "fixed-point numbers have no prefix, no suffix, no literal prefixes and no "
+               "octal zeros";
     case JADVOLNI_INVALID_POINT:
-        return "the point has to be no digit, no sign, and not the separator of the integer part";
-    case JADVOLNI_INVALID_PLACES: return "fixed-point numbers have to have at most 38 places";
+        return "the point has to be no digit, no sign, and not the separator of the integer "
+               "part";
+    case JADVOLNI_INVALID_PLACES:
+        return "fixed-point numbers have to have at most 38 places";
     case JADVOLNI_UNKNOWN_FIELD:
         return "the reserved bytes and bits of the format have to be 0";
     default: return "a status that only a later library has";

@@ -2,7 +2,7 @@
 
 export const FIELDS = [
   {"name": "mantissa_radix", "kind": "radix", "meaning": "The radix, from 2 to 36. Digits above 9 are letters, in either case."},
-  {"name": "digit_separator", "kind": "punctuation", "meaning": "A byte that counts for nothing among the digits: \"_\" in \"1_000\". Where it may be, the flags on separators say; with none of the first three it is no part of a number."},
+  {"name": "digit_separator", "kind": "punctuation", "meaning": "A byte that counts for nothing among the digits: \"_\" in \"1_000\". Where it may be, the flags on separators say; with none of the first three it is no part of a number. It is no decimal point: with \",\" between digits \"12,5\" is 125, and \"12,505\" is 12505. Amounts are read as fixed-point numbers."},
   {"name": "base_prefix", "kind": "punctuation", "meaning": "A byte that may follow a 0 before the digits: with \"x\", \"0x1F\" is read as \"1F\" is. The radix stays."},
   {"name": "base_suffix", "kind": "punctuation", "meaning": "A byte that may follow the digits: with \"h\", \"1Fh\" is read as \"1F\" is."},
   {"name": "case_sensitive_base_prefix", "kind": "flag", "meaning": "The prefix is matched exactly. Else a letter is matched in either case."},
@@ -41,6 +41,10 @@ export const STATUSES = [
   ["MissingReturn", "missing carriage return"],
   ["InvalidTable", "each array of a table has to have room for all rows, widths have to be as many as columns, records need widths, and the reserved bytes of a table have to be 0"],
   ["MisplacedQuote", "misplaced quote"],
+  ["InvalidFixedRadix", "fixed-point numbers have to have the radix 10"],
+  ["InvalidFixedAffix", "fixed-point numbers have no prefix, no suffix, no literal prefixes and no octal zeros"],
+  ["InvalidPoint", "the point has to be no digit, no sign, and not the separator of the integer part"],
+  ["InvalidPlaces", "fixed-point numbers have to have at most 38 places"],
 ];
 
 export const LANGUAGES = [

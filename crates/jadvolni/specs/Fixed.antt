@@ -46,10 +46,10 @@ fixed_of fields = record {
 -- the status of a fault of a description
 abbrev pub fixed_status : FixedFormatError → ℕ
 fixed_status (Integer error) = fault_status error
-fixed_status Radix = 32
-fixed_status Affix = 33
-fixed_status Point = 34
-fixed_status Places = 35
+fixed_status Radix = 19
+fixed_status Affix = 20
+fixed_status Point = 21
+fixed_status Places = 22
 
 -- the status of a description: that of its first broken rule, and 0 where there is none
 abbrev pub fixed_rule_status : Option FixedFormatError → ℕ

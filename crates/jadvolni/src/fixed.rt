@@ -42,10 +42,10 @@ fn fixed_status(error: FixedFormatError) -> u32
 {
     match error {
         FixedFormatError::Integer(error) => status_of(&error),
-        FixedFormatError::Radix => 32,
-        FixedFormatError::Affix => 33,
-        FixedFormatError::Point => 34,
-        FixedFormatError::Places => 35,
+        FixedFormatError::Radix => 19,
+        FixedFormatError::Affix => 20,
+        FixedFormatError::Point => 21,
+        FixedFormatError::Places => 22,
     }
 }
 

@@ -10,3 +10,4 @@ mod QuickParts
 mod Units
 mod Valid
 mod WholeByFront
+mod WithoutPlaces

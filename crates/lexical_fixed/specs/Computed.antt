@@ -3,7 +3,7 @@ use Rattle.lexical_fixed.specs.Fraction.{digit_outside, digits_fault, digits_fro
 use Rattle.lexical_fixed.specs.Grammar.{complete_fixed, front_behind, integer_part, is_negative, partial_fixed, units_behind, whole_behind}
 
 unfoldable pub fixed_grammar : Unit {0}
-unfolding complete_fixed partial_fixed whole_behind front_behind units_behind integer_part is_negative
-    digits_from has_point_at fraction_length whole_end front_end is_cut lacks_places
+unfolding complete_fixed partial_fixed whole_behind front_behind units_behind integer_part
+    is_negative digits_from has_point_at fraction_length whole_end front_end is_cut lacks_places
     has_bare_point with_digits digit_outside digits_fault zeros_fault
 fixed_grammar = tt

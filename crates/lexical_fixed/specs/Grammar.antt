@@ -66,7 +66,8 @@ units_fault fixed type text whole place stop =
 
 -- the number in units behind an integer part that ends at a place: reading stops at `stop`, where a byte can't stand or a
 -- digit is missing
-unfoldable pub units_behind : Fixed → IntegerType → List ℕ → ℤ → ℕ → ℕ → Bool → Bool → Result ℤ Error
+unfoldable pub units_behind : Fixed → IntegerType → List ℕ → ℤ → ℕ → ℕ → Bool → Bool
+    → Result ℤ Error
 units_behind fixed type text whole place stop cannot_stand is_missing =
     first_fault_or
     (fraction_fault fixed type text whole place

@@ -5,6 +5,7 @@ mod api;
 pub mod error;
 pub mod format;
 mod fraction;
+pub mod laws;
 mod parse;
 mod quick;
 

@@ -47,6 +47,14 @@ pub enum Error {
     InvalidTable,
     /// A quote of a cell at the place is out of place, or within a number, or is never closed.
     MisplacedQuote(usize),
+    /// Fixed-point numbers have a radix other than 10.
+    InvalidFixedRadix,
+    /// Fixed-point numbers have a prefix, a suffix, literal prefixes or octal zeros.
+    InvalidFixedAffix,
+    /// The point of fixed-point numbers is a digit, a sign, or the separator of their integer part.
+    InvalidPoint,
+    /// Fixed-point numbers have more than 38 places.
+    InvalidPlaces,
     /// A status that only a later library has.
     Unknown(u32),
 }
@@ -75,6 +83,10 @@ impl Error {
             16 => Error::MissingReturn(outcome.place),
             17 => Error::InvalidTable,
             18 => Error::MisplacedQuote(outcome.place),
+            19 => Error::InvalidFixedRadix,
+            20 => Error::InvalidFixedAffix,
+            21 => Error::InvalidPoint,
+            22 => Error::InvalidPlaces,
             other => Error::Unknown(other),
         })
     }
@@ -123,6 +135,15 @@ impl Error {
                 as many as columns, records need widths, and the reserved bytes of a \
                 table have to be 0",
             Error::MisplacedQuote(_) => "misplaced quote",
+            Error::InvalidFixedRadix => "fixed-point numbers have to have the radix 10",
+            Error::InvalidFixedAffix =>
+                "fixed-point numbers have no prefix, no suffix, no literal prefixes and \
+                no octal zeros",
+            Error::InvalidPoint =>
+                "the point has to be no digit, no sign, and not the separator of the \
+                integer part",
+            Error::InvalidPlaces =>
+                "fixed-point numbers have to have at most 38 places",
             Error::Unknown(_) => "a status that only a later library has",
         }
     }

@@ -71,7 +71,9 @@ impl Format {
 
     punctuation! {
         /// A byte that counts for nothing among the digits: "_" in "1_000". Where it may be, the
-        /// flags on separators say; with none of the first three it is no part of a number.
+        /// flags on separators say; with none of the first three it is no part of a number. It is
+        /// no decimal point: with "," between digits "12,5" is 125, and "12,505" is 12505. Amounts
+        /// are read as fixed-point numbers.
         digit_separator JADVOLNI_NUL_IS_SEPARATOR
         /// A byte that may follow a 0 before the digits: with "x", "0x1F" is read as "1F" is. The
         /// radix stays.

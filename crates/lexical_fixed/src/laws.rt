@@ -1,0 +1,30 @@
+//! What always holds between the answers to fixed-point numbers and to integers.
+//!
+//! These calls do nothing. A proof that needs one of these laws calls it and has its clauses.
+ghost use Rattle.std.specs.Prelude.{◌≡◌, List, Ok, length, ℕ, ℤ};
+ghost use Rattle.lexical_fixed.specs.Fixed.{Fixed};
+ghost use Rattle.lexical_fixed.specs.Grammar.{complete_fixed, partial_fixed};
+ghost use Rattle.lexical_parse_integer.specs.Grammar.{complete};
+ghost use Rattle.lexical_util.specs.Number.{IntegerType};
+
+use lexical_parse_integer::laws::grammar::complete_by_partial;
+
+/// A number in front that is all of the text is the number of the whole text.
+///
+/// The front of `12.50` with two places is 1250 up to its end, and the whole is 1250.
+pub fn whole_by_front()
+    ensures { (fixed : Fixed) (type : IntegerType) (text : List ℕ) (value : ℤ)
+        → partial_fixed fixed type text ≡ Ok (value, length text)
+        → complete_fixed fixed type text ≡ Ok value }
+{}
+
+/// Without places the number of a whole text is the integer that it stands for, and each fault is that of the integer.
+///
+/// With no places `12` is 12, and `12.` is `InvalidDigit(2)`.
+pub fn without_places()
+    ensures { (fixed : Fixed) (type : IntegerType) (text : List ℕ) → fixed.places ≡ 0
+        → complete_fixed fixed type text ≡ complete fixed.integer type text }
+{
+    // The law by which the complete answer of integers follows from the partial one.
+    complete_by_partial();
+}
