@@ -16,6 +16,10 @@ if TYPE_CHECKING:
 # So many rows tell how much room a text needs, and so many more have room in any case.
 _FIRST = 1024
 _FEW = 64
+# Room is made for so many times the rows at most: those to come may be longer. Room that isn't
+# written takes no memory, but in the module array, which clears it.
+_FOLD = 1 << 14
+_FOLD_OF_ARRAY = 32
 
 
 class Rows:
@@ -66,7 +70,8 @@ class Rows:
 
     def _told(self, size: int) -> int:
         """How many rows so many bytes have, as those before them tell, and some more."""
-        return min(int(size * self.reader.rate * 1.125), 32 * self.count) + _FEW
+        most = self.count * (_FOLD if self.reader.numpy else _FOLD_OF_ARRAY)
+        return min(int(size * self.reader.rate * 1.125), most) + _FEW
 
     def _make_room(self, size: int, behind: int) -> None:
         """Makes room for some rows of so many bytes, or for all, as those before them tell."""
