@@ -94,6 +94,12 @@ class Interpreters(unittest.TestCase):
                 assert error.place == 1
             else:
                 raise AssertionError
+            try:
+                jadvolni.Table(a=jadvolni.parse_column("7")).__arrow_c_array__()
+            except RuntimeError as error:
+                assert "needs the first interpreter" in str(error)
+            else:
+                raise AssertionError
         """
         for _ in range(3):
             one = made.create()

@@ -141,6 +141,18 @@ class Files(unittest.TestCase):
                 pipe.write(b'b",%d\n' % number)
                 self.assertEqual(next(tables)["c"].tolist(), [number])
 
+    def test_files_without_rows(self):
+        wanted = {"a": [[], []], "c": []}
+        for text, given in (b"", {}), (b"\n\n", {"skips_empty_rows": True}):
+            for threads in 1, 3:
+                for size in 1, 99:
+                    how = {"threads": threads, "size": size, **given}
+                    found = read_table(io.BytesIO(text), COLUMNS, **how)
+                    self.assertEqual(test_threads.lists(found), wanted)
+                    self.assertEqual(list(iter_table(io.BytesIO(text), COLUMNS, **how)), [])
+                found = parse_table(text, COLUMNS, threads=threads, **given)
+                self.assertEqual(test_threads.lists(found), wanted)
+
     def test_a_file_that_is_cut_short_meanwhile(self):
         self.path.write_bytes(b"1\n" * 100_000)
         for threads in 1, 2:

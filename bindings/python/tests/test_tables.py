@@ -124,7 +124,7 @@ class Tables(unittest.TestCase):
             file.seek(2)
             self.assertEqual(lists(read_table(file, {"a": "u8"})), {"a": [7]})
             with self.assertRaises(ParseError) as told:
-                read_table(file.name, {"a": "u8"})
+                read_table(file.name, {"a": "u8"}, mmap=True)
         self.assertIsNone(told.exception.__context__)
 
     def test_missing_numbers(self):

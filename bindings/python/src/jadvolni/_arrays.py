@@ -5,6 +5,9 @@ from __future__ import annotations
 from array import array
 from typing import Any
 
+# So many numbers that are left over are always kept.
+_FEW = 512
+
 
 def numpy_or_none() -> Any:
     """The module NumPy where it is installed. It is asked for once a call: a search takes long."""
@@ -47,6 +50,6 @@ def cut(values: Any, count: int) -> Any:
     if isinstance(values, array):
         del values[count:]
         return values
-    if len(values) - count > len(values) // 4:
+    if len(values) - count > len(values) // 4 + _FEW:
         values.resize(count, refcheck=False)
     return values if len(values) == count else values[:count]

@@ -89,7 +89,7 @@ class Reader:
         if how.is_records and not sizes:
             raise ValueError("widths have to be there where is_records is true")
         separator = b"," if how.separator is None else how.separator
-        self.how = how._replace(separator=separator, widths=sizes)
+        self.how = (separator, *how[1:6], sizes, how.is_records)
         self.has_quotes = bool(how.has_quotes)
         self.record = min(max(sum(sizes), 1), sys.maxsize) if how.is_records else 0
         # A row has so many bytes at least, unless it is the last one: a line feed and its cells.

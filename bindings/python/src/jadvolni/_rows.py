@@ -16,6 +16,10 @@ if TYPE_CHECKING:
 # So many rows tell how much room a text needs, and so many more have room in any case.
 _FIRST = 1024
 _FEW = 64
+# Room is made for so many times the rows at most: those to come may be longer. Room that isn't
+# written takes no memory, but in the module array, which clears it.
+_FOLD = 1 << 14
+_FOLD_OF_ARRAY = 32
 
 
 class Rows:
@@ -24,7 +28,7 @@ class Rows:
     def __init__(self, reader: Reader, most: int = sys.maxsize) -> None:
         self.reader, self.most = reader, most
         self.count = self.room = self.size = 0
-        self.arrays = reader.room(0)
+        self.arrays = Table()
 
     @classmethod
     def of(cls, reader: Reader, arrays: Table, most: int) -> Rows:
@@ -48,9 +52,9 @@ class Rows:
             asked = self.room - self.count
             count, length = self._parse(text, place, asked, part)
             place += length
-            part = part._replace(row=part.row + count, start=part.start + length)
             if count < asked or self.is_full():
                 return place
+            part = Part(part.is_last, part.row + count, part.start + length)
 
     def _parse(self, text: Text, place: int, rows: int, part: Part) -> tuple[int, int]:
         """Reads so many rows at most."""
@@ -66,7 +70,8 @@ class Rows:
 
     def _told(self, size: int) -> int:
         """How many rows so many bytes have, as those before them tell, and some more."""
-        return min(int(size * self.reader.rate * 1.125), 32 * self.count) + _FEW
+        most = self.count * (_FOLD if self.reader.numpy else _FOLD_OF_ARRAY)
+        return min(int(size * self.reader.rate * 1.125), most) + _FEW
 
     def _make_room(self, size: int, behind: int) -> None:
         """Makes room for some rows of so many bytes, or for all, as those before them tell."""
@@ -78,7 +83,10 @@ class Rows:
     def grow(self, rows: int) -> None:
         """Makes room for so many rows more."""
         self.room = min(self.count + rows + 7 & ~7, self.most)
-        self.arrays = Table({name: self._grown(values) for name, values in self.arrays.items()})
+        if self.count:
+            self.arrays = Table({name: self._grown(it) for name, it in self.arrays.items()})
+        else:
+            self.arrays = self.reader.room(self.room)
 
     def _grown(self, values: Any) -> Any:
         """What a column was read into, with the room that there is now."""
@@ -91,7 +99,7 @@ class Rows:
 
     def append(self, other: Rows, behind: int) -> None:
         """Puts the rows of another behind these. Behind them stand about so many bytes more."""
-        if self.room - self.count < other.count:
+        if self.room - self.count < other.count or not self.room:
             self.grow(max(other.count, self._told(behind), self.count // 2))
         for name, values in other.arrays.items():
             (numbers, bits), (to, to_bits) = pair_of(values), pair_of(self.arrays[name])
@@ -103,6 +111,8 @@ class Rows:
 
     def table(self) -> Table:
         """The rows as a table, which alone has them."""
+        if not self.room:
+            self.grow(0)
         return Table({name: _front(values, self.count) for name, values in self.arrays.items()})
 
     def fronts(self) -> Table:

@@ -138,7 +138,7 @@ def read_table(
     out: Optional[Mapping[str, Any]] = None,
     threads: int = 1,
     *,
-    size: int = 1 << 19,
+    size: int = 1 << 20,
     progress: Optional[Callable[[int], object]] = None,
     mmap: bool = False,
     header: bool = False,
