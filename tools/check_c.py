@@ -306,6 +306,8 @@ def cargo(place: Place) -> str:
     said = run(["cargo", "test", *alone, "--all-features"], where, crates)
     answer(run(["cargo", "run", *alone, "--example", "ten_lines"], where, crates),
            "err Overflow 19\n")
+    settings = ["cargo", "run", *alone, "--example", "settings", "80", "7"]
+    answer(run(settings, where, crates), "port 80, 7 percent\n")
     passed = re.findall(r"(?m)^test result: ok. ([0-9]+) passed", said)
     if shutil.which("cargo-clippy"):
         run(["cargo", "clippy", *alone, "--all-features", "--all-targets", "--", "-D", "warnings"],

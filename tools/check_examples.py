@@ -84,6 +84,16 @@ COLUMN_FAULTS = {
     b"a,1\r\n": "row 1, cell 2, byte 3: invalid digit",
     b"a,1\0,2": "row 1, cell 2, byte 3: invalid digit",
 }
+SETTING_FAULTS = {
+    ("70000", "5"): "PORT: 70000 is not from 1 to 65535",
+    ("-1", "5"): "PORT: -1 is not from 1 to 65535",
+    ("0", "5"): "PORT: 0 is not from 1 to 65535",
+    ("80", "101"): "PERCENT: 101 is not from 0 to 100",
+    ("80", "+5"): "PERCENT: forbidden plus sign",
+    ("080", "5"): "PORT: forbidden leading zero",
+    ("", "5"): "PORT: missing digit",
+    ("80 ", "5"): "PORT: invalid digit",
+}
 COLOUR_FAULTS = {
     "0#": "invalid digit",
     "": "missing digit",
@@ -148,6 +158,11 @@ def of_words() -> Iterator[Case]:
     yield Case("colour")
     yield Case("colour", said="30 144 255\n0 1 2\n", words=("1e90FF", "000102"))
     yield Case("colour", status=2, told=f"colour: {IS_FULL}", words=("1e90FF",), redirected=FULL)
+    yield Case("settings", said="port 65535, 0 percent\n", words=("65535", "0"))
+    yield Case("settings", status=2, told="usage: settings PORT PERCENT", words=("80",))
+    yield Case("settings", status=2, told=f"settings: {IS_FULL}", words=("80", "5"), redirected=FULL)
+    for words, fault in SETTING_FAULTS.items():
+        yield Case("settings", status=2, told=f"settings: {fault}", words=words)
     for word, fault in COLOUR_FAULTS.items():
         told = f"colour: {word}: {fault}"
         yield Case("colour", b"", "30 144 255\n", 1, told, ("1e90FF", word))
