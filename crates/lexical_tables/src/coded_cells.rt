@@ -37,7 +37,14 @@ fn read_coded_cell<C: TableColumn>(
     if column >= targets.len() {
         return false;
     }
-    read_coded(&mut targets[column], codes[column], row, ahead, size, dialect)
+    read_coded(
+        &mut targets[column],
+        codes[column],
+        row,
+        ahead,
+        size,
+        dialect,
+    )
 }
 
 // Reads the cell of a column as `read_coded_cell` does, of more digits. Why out of line: docs/DECISIONS.md, code.
@@ -68,7 +75,14 @@ fn read_long_cell<C: TableColumn>(
     if column >= targets.len() {
         return false;
     }
-    read_long_coded(&mut targets[column], codes[column], row, ahead, size, dialect)
+    read_long_coded(
+        &mut targets[column],
+        codes[column],
+        row,
+        ahead,
+        size,
+        dialect,
+    )
 }
 
 // How many bytes a cell may have whose digits are all read at once.

@@ -134,5 +134,12 @@ pub(crate) fn read_long_coded<C: TableColumn>(
         return false;
     }
     let (held, count) = within_quotes(ahead, size, dialect.has_quotes);
-    put_found(target, code, row, held, count, long_number_of_front(held, count))
+    put_found(
+        target,
+        code,
+        row,
+        held,
+        count,
+        long_number_of_front(held, count),
+    )
 }

@@ -11,20 +11,23 @@ ghost use Rattle.lexical_tables.specs.Rows.{FirstCounts, behind_piece, carriage_
 use crate::answers::{CellFault, Table, TableError};
 use crate::by_column::{put_end_fault, read_by_column, read_rest};
 use crate::cells::column_count;
+use crate::coded_cells::read_cell_at_once;
 use crate::codes::{CODED, UNKNOWN, put_codes};
 use crate::content::Cell;
 use crate::dialect::{Dialect, Layout};
-use crate::coded_cells::read_cell_at_once;
 use crate::ends::{LEAST_MARKED, next_ends};
 use crate::next_part::{Left, lacks_return, next_part};
 use crate::rows::{Row, without_empty_rows};
 use crate::targets::TableColumn;
 use lexical_parse_integer::Options;
 
-// The byte between cells, if one pass of marks finds these and the rows.
-fn marked_separator(dialect: &Dialect<'_>) -> Option<u8>
+// The byte between cells, if one pass of marks finds these and the rows: a short text has no marks.
+fn marked_separator(text: &[u8], dialect: &Dialect<'_>) -> Option<u8>
     ensures { IfSome result (λ separator. IsMarked dialect.now separator) }
 {
+    if text.len() < LEAST_MARKED {
+        return None;
+    }
     let Layout::Separated { separator, .. } = dialect.layout else {
         return None;
     };
@@ -92,7 +95,7 @@ fn read_marked_row<'a, C: TableColumn>(
                 ahead: left.text,
             };
             if !read_by_column(targets, column, index, cell, dialect, options, wrong) {
-                return left;
+                return part.behind;
             }
         }
         column += 1;
@@ -107,7 +110,7 @@ fn read_marked_row<'a, C: TableColumn>(
                 lacks_return,
             };
             put_end_fault(&row, index, columns, column, None, wrong);
-            return left;
+            return part.behind;
         }
         left = part.behind;
     }
@@ -157,7 +160,9 @@ fn read_row<'a, C: TableColumn>(
             start, text, index, columns, separator, codes, dialect, options, targets, wrong,
         );
     }
-    let behind = read_rest(start, text.text, 0, 0, index, dialect, options, targets, wrong);
+    let behind = read_rest(
+        start, text.text, 0, 0, index, dialect, options, targets, wrong,
+    );
     Left {
         text: behind,
         marks: 0,
@@ -184,10 +189,10 @@ fn behind_empty_rows<'a>(left: Left<'a>, marked: Option<u8>, dialect: &Dialect<'
     Left { text, marks: 0 }
 }
 
-// Asks the columns for their codes, where a text is long enough for marks: else no cell is read by them.
+// Asks the columns for their codes, where marks find the cells: else none is read by them.
 #[inline(always)]
 fn ask_codes<C: TableColumn>(
-    text: &[u8],
+    marked: Option<u8>,
     dialect: &Dialect<'_>,
     targets: &[C],
     codes: &mut [u8; CODED],
@@ -195,7 +200,7 @@ fn ask_codes<C: TableColumn>(
     requires unknown { (k : ℕ) → k < length codes.old → slice_index codes.old k ≡ 0 }
     ensures { AreCodes dialect.now codes.new (map C.target targets.now) }
 {
-    if text.len() < LEAST_MARKED {
+    if marked.is_none() {
         return;
     }
     put_codes(dialect, targets, codes);
@@ -217,10 +222,10 @@ pub(crate) fn read_rows<C: TableColumn>(
         (map C.target targets.old) }
     ensures goes_on { IfOk result (StopsAt dialect.now rows text.now) }
 {
-    let marked = marked_separator(dialect);
+    let marked = marked_separator(text, dialect);
     let columns = column_count(dialect);
     let mut codes = [UNKNOWN; CODED];
-    ask_codes(text, dialect, targets, &mut codes);
+    ask_codes(marked, dialect, targets, &mut codes);
     let mut left = behind_empty_rows(Left { text, marks: 0 }, marked, dialect);
     let mut count = 0;
     let mut wrong = None;

@@ -206,8 +206,12 @@ returns-then-part-clause-fault g c =
     now read.0.fine read.0.put in
     let done = row_ends kinds d c.args.index row old now (column + 1) [] put c.put_end_fault.new.wrong (inl refl)
     (c.put_end_fault.ensures
-    ∙ ap (λ t. end_fault c.args.columns c.args.index (record { start = c.args.start; text = take (length text - length left
-    + part.result.size) text; lacks_return = t }) (column + 1) None) c.lacks_return-lacks_return.ensures
+    ∙ ap (λ t. end_fault c.args.columns c.args.index (record {
+      start = c.args.start;
+      text = take (length text - length left
+          + part.result.size) text;
+      lacks_return = t;
+    }) (column + 1) None) c.lacks_return-lacks_return.ensures
     ∙ ap (λ r. end_fault c.args.columns c.args.index r (column + 1) None) (part.ensures.row c.if-part.true c.args.start)
     ∙ ap (λ n. end_fault n c.args.index row (column + 1) None) c.requires.columns) in
     done.fault_is
@@ -288,8 +292,12 @@ returns-then-part-clause-targets g c =
     now read.0.fine read.0.put in
     let done = row_ends kinds d c.args.index row old now (column + 1) [] put c.put_end_fault.new.wrong (inl refl)
     (c.put_end_fault.ensures
-    ∙ ap (λ t. end_fault c.args.columns c.args.index (record { start = c.args.start; text = take (length text - length left
-    + part.result.size) text; lacks_return = t }) (column + 1) None) c.lacks_return-lacks_return.ensures
+    ∙ ap (λ t. end_fault c.args.columns c.args.index (record {
+      start = c.args.start;
+      text = take (length text - length left
+          + part.result.size) text;
+      lacks_return = t;
+    }) (column + 1) None) c.lacks_return-lacks_return.ensures
     ∙ ap (λ r. end_fault c.args.columns c.args.index r (column + 1) None) (part.ensures.row c.if-part.true c.args.start)
     ∙ ap (λ n. end_fault n c.args.index row (column + 1) None) c.requires.columns) in
     done.targets_are
