@@ -40,8 +40,9 @@ fn marked_separator(text: &[u8], dialect: &Dialect<'_>) -> Option<u8>
     Some(separator)
 }
 
-// The numbers of the first row of a text go to its place in the targets, up to the row's fault, where one pass of marks finds
-// its cells: what is left of the text behind it, where nothing is wrong. Why what is wrong is told so: docs/DECISIONS.md, code.
+// The numbers of the first row of a text go to its place in the targets, up to the row's fault, which is told, where one pass of
+// marks finds its cells: what is left of the text behind it, where nothing is wrong. An answer that may be a fault would clear
+// its memory for each row.
 #[inline(always)]
 fn read_marked_row<'a, C: TableColumn>(
     start: usize,

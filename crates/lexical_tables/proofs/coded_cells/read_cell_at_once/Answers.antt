@@ -1,4 +1,4 @@
-use Rattle.std.proofs.Common.{◌≡◌, ◌∙◌, ◌+◌, None, ap, map, refl, subst, sym, take}
+use Rattle.std.proofs.Common.{◌≡◌, ◌∙◌, ◌+◌, None, map, refl, subst, sym, take}
 use Rattle.lexical_tables.specs.ByColumn.{AreUsable, answer_at, fault_in, kinds_of, put_read_at}
 use Rattle.lexical_tables.specs.Codes.{AreCodes}
 use Rattle.lexical_tables.proofs.coded_cells.read_cell_at_once.Goals as goal
