@@ -10,7 +10,8 @@ from reference import JSON, STANDARD, Format
 
 # In the order of their numbers in answers.c.
 KINDS = (b"u8", b"u16", b"u32", b"u64", b"i8", b"i16", b"i32", b"i64")
-FORMS = (STANDARD, STANDARD, STANDARD, JSON,
+FORMS = (STANDARD, STANDARD, STANDARD, JSON, Format(no_integer_leading_zeros=True),
+         Format(no_positive_mantissa_sign=True), Format(required_mantissa_digits=False),
          Format(mantissa_radix=16, base_prefix=ord("x"), base_suffix=ord("h")),
          Format(digit_separator=ord("_"), integer_internal_digit_separator=True),
          Format(required_mantissa_digits=False, required_mantissa_sign=True),
@@ -83,13 +84,15 @@ def random_cell(chance: random.Random, dialect: Dialect, is_plain: bool, column:
     """A cell, plain or as it comes."""
     kind = chance.random()
     if is_plain or kind < 0.6:
-        digits = chance.choice((1, 1, 1, 2, 2, 3, 5, 9, 13, 19))
+        digits = chance.choice((1, 1, 1, 2, 2, 3, 5, 9, 12, 13, 15, 18, 19))
         cell = b"%d" % int(chance.random() * 10 ** digits)
+        cell = cell.zfill(chance.randint(1, 20)) if chance.random() < 0.1 else cell
         cell = b"-" + cell if chance.random() < 0.15 else cell
     elif kind < 0.97:
         cell = chance.choice(CELLS)
     else:  # as long as a few words of the machine
-        cell = chance.choice((b"x", b"1", b" ", b"\xff")) * chance.randint(1, 90)
+        cell = chance.choice((b"x", b"1", b" ", b"\xff")) * chance.choice((90, 90, 200))
+        cell = cell[:chance.randint(1, len(cell))]
     if dialect.missing and chance.random() < 0.1:
         cell = dialect.missing
     if dialect.allows_blanks and chance.random() < 0.2:
@@ -126,7 +129,7 @@ def random_text(chance: random.Random, dialect: Dialect) -> bytes:
     if chance.random() < 0.25:
         return bytes(chance.choices(ALPHABET, k=chance.randint(0, 24)))
     is_plain = chance.random() < 0.5
-    count = chance.choice((0, 1, 1, 2, 2, 3, 4, 5, 8)) if chance.random() < 0.97 else 40
+    count = chance.choice((0, 1, 1, 2, 2, 3, 4, 5, 8, 12)) if chance.random() < 0.97 else 40
     rows = [random_row(chance, dialect, is_plain) for _ in range(count)]
     if dialect.skips_empty_rows or chance.random() < 0.05:
         rows.insert(chance.randint(0, len(rows)), chance.choice((b"\n", b"\r\n", b"\n\n")))

@@ -1,7 +1,6 @@
 -- A cell of digits that is read by its column's code.
 use Rattle.std.proofs.Common.{◌≡◌, ◌∙◌, ℕ, ◌+◌, ◌-◌, ◌*◌, ◌≤◌, List, true, false, length, length-take-le, take, drop, Option, Some, None, Ok, refl, ap, sym, subst, arith, inl, inr}
-use Rattle.std.specs.Prelude.{is_some, nat_le, option_map}
-use Rattle.std.proofs.lemmas.Bool.{leb-true}
+use Rattle.std.specs.Prelude.{is_some, option_map}
 use Rattle.std.proofs.lemmas.List.{drop-take, take-take}
 use Rattle.lexical_parse_integer.specs.Value.{with_sign}
 use Rattle.lexical_fields.specs.Fields.{FieldView}

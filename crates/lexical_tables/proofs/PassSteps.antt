@@ -1,6 +1,6 @@
 -- A row whose cells are found in one pass, from what is left of its text on.
 use Rattle.std.proofs.Common.{◌≡◌, ◌≢◌, ◌∙◌, ℕ, zero, suc, ◌+◌, ◌-◌, ◌<◌, ◌≤◌, ◌&&◌, ◌==◌, List, [], ◌∷◌, length, take, drop, get_or, get_or-drop, length-drop, length-take-le, Bool, true, false, not, cond, eqb, eq-eqb, Option, Some, None, refl, ap, ap₂, sym, subst, arith, inl, inr, ◌⊎◌}
-use Rattle.std.specs.Prelude.{nat_lt}
+use Rattle.std.specs.Prelude.{is_none, nat_lt}
 use Rattle.std.proofs.lemmas.Bool.{le-ltb, lt-ltb, ne_eqb}
 use Rattle.std.proofs.lemmas.Bool.Decides.{eqb_tells}
 use Rattle.std.proofs.lemmas.List.{drop-drop, drop-take, get_or-take, take-take, take_all}
@@ -11,6 +11,7 @@ use Rattle.lexical_tables.specs.Quotes.{length_outside, pieces_outside}
 use Rattle.lexical_tables.specs.RowSoFar.{IsMarked, IsOnRow, cells_behind}
 use Rattle.lexical_tables.specs.Rows.{RowView, behind_piece, carriage_return, ends_in, first_piece, first_row, has_lines, is_ended, line_feed, row_of}
 use Rattle.lexical_tables.specs.Targets.{TargetView}
+use Rattle.lexical_tables.specs.declared.answers.CellFault.{CellFault}
 use Rattle.lexical_tables.specs.declared.answers.CellFault.TheVariants.{MissingReturn, TooFewCells, TooManyCells}
 use Rattle.lexical_tables.specs.declared.dialect.Dialect.{Dialect}
 use Rattle.lexical_tables.specs.declared.dialect.Layout.{Layout}
@@ -411,3 +412,14 @@ pub record IsCellRead (d : Dialect) (index column : ℕ) (cell : FieldView) (old
 pub read_kept : (d : Dialect) (index column : ℕ) (cell : FieldView) (old same now : List (Option TargetView)) → same ≡ old
     → IsCellRead d index column cell same now → IsCellRead d index column cell old now
 read_kept d index column cell old same now is read = subst (λ l. IsCellRead d index column cell l now) is read
+
+-- where it is told that nothing is wrong with a cell
+pub none_wrong : (found : Option CellFault) → true ≡ is_none found → None ≡ found
+none_wrong None is = refl
+none_wrong (Some fault) is = absurd cc
+
+-- and where something is
+pub some_wrong : (found : Option CellFault) → false ≡ is_none found → (P : Option CellFault → Type 0)
+    → ((fault : CellFault) → Some fault ≡ found → P (Some fault)) → P found
+some_wrong None is P some = absurd cc
+some_wrong (Some fault) is P some = some fault refl

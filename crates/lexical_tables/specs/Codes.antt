@@ -2,7 +2,7 @@
 -- 0: nothing is known, and the column is asked at each cell. 1: its cells aren't read. 8 and more: they are read as decimal
 -- digits behind an optional minus are, whatever else the format allows, as numbers of u8, u16, u32, u64, i8, i16, i32 or i64
 -- in this order. 16 is added where a number may be missing, and 32 where no zero may stand in front of another digit.
-use Rattle.std.specs.Prelude.{◌≡◌, ◌-◌, ◌*◌, ◌%◌, ◌^◌, ◌<◌, ◌≤◌, ◌⊎◌, ℕ, Bool, false, true, IfSome, IsTrue, if◌then◌else◌, List, get_or, length, nat_le, slice_index, Option, Some, None, is_some, option_map}
+use Rattle.std.specs.Prelude.{◌≡◌, ◌-◌, ◌*◌, ◌%◌, ◌^◌, ◌<◌, ◌≤◌, ◌⊎◌, ℕ, Bool, false, true, IfSome, IsTrue, List, get_or, length, nat_le, slice_index, Option, Some, None, is_some, option_map}
 use Rattle.lexical_util.specs.Format.{Format}
 use Rattle.lexical_util.specs.Number.{IntegerType, IsNumber, integer_type}
 use Rattle.lexical_parse_integer.specs.Plain.{IsPlain, keeps_zero_rule}
@@ -66,7 +66,8 @@ AreQuotesRound has_quotes text count = (count ≡ 0) ⊎ ((count ≡ 1) × (has_
     × (slice_index text (length text - 1) ≡ quote))
 
 -- a text is digits alone or behind a minus, which write a number, and keep a format's rule on zeros
-pub record IsNumeralUnder (format : Format) (is_negative : Bool) (number : ℕ) (text : List ℕ) : Type 0 where
+pub record IsNumeralUnder (format : Format) (is_negative : Bool) (number : ℕ)
+    (text : List ℕ) : Type 0 where
   pub numeral : IsNumeral is_negative number text
   pub rule : keeps_zero_rule format numeral.digits ≡ true
 

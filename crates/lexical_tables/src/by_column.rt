@@ -1,22 +1,18 @@
 //! Tables whose columns go into slices of their own.
 
-ghost use Rattle.std.specs.Prelude.{◌≡◌, ◌≢◌, ◌+◌, ◌-◌, ◌<◌, ◌≤◌, ◌^◌, ℕ, List, Option, length, take, drop, map, is_some, option_map, slice_index, true, IfOk, IsTrue, None, Some};
-ghost use Rattle.lexical_tables.specs.ByColumn.{AreUsable, IsUsable, StopsAt, answer_at, columns_answer, columns_put, end_fault, fault_in, kind_of, kinds_of, put_read, put_read_at, put_row, row_fault, row_values};
+ghost use Rattle.std.specs.Prelude.{◌≡◌, ◌≢◌, ◌+◌, ◌-◌, ◌<◌, ◌≤◌, ◌^◌, ℕ, List, Option, length, take, drop, map, is_none, is_some, option_map, slice_index, true, IfOk, IsTrue, None};
+ghost use Rattle.lexical_tables.specs.ByColumn.{AreUsable, IsUsable, StopsAt, answer_at, columns_answer, columns_put, end_fault, fault_in, kind_of, kinds_of, put_read, put_read_at, put_row, row_fault, row_values, wrong_cell};
 ghost use Rattle.lexical_tables.specs.Cells.{Kind, answer_as, quote_fault, view_of_cell};
-ghost use Rattle.lexical_tables.specs.Codes.{AreCodes};
 ghost use Rattle.lexical_tables.specs.Quotes.{quote};
-ghost use Rattle.lexical_tables.specs.RowSoFar.{IsRowDone, IsRowPut, cells_behind, wrong_in};
+ghost use Rattle.lexical_tables.specs.RowSoFar.{IsRowDone, IsRowPut, cells_behind};
 ghost use Rattle.lexical_tables.specs.Rows.{behind_piece, first_row, view_of_row};
 ghost use Rattle.lexical_tables.specs.Targets.{TargetView, put_text, text_fault};
 
 use crate::answers::{CellFault, Table, TableError};
 use crate::cells::{column_count, lacks_cell, next_cell};
-use crate::coded_cells::read_long_cell;
-use crate::codes::CODED;
 use crate::content::{Cell, content};
 use crate::dialect::Dialect;
 use crate::misplaced::quote_fault;
-use crate::next_part::Left;
 use crate::pass::read_rows;
 use crate::rows::{Row, first_row};
 use crate::targets::TableColumn;
@@ -136,29 +132,6 @@ fn read_cell<C: TableColumn>(
     cell_fault(dialect, false, has_no_quote, cell)
 }
 
-// What is wrong with a row's end, if so many of its cells have a column, and no other cell is there: it has too few, or lacks
-// its return.
-#[inline(never)]
-pub(crate) fn wrong_end(row: &Row<'_>, index: usize, columns: usize, count: usize) -> TableError
-    requires wrong { columns ≤ count → row.now.lacks_return ≡ true }
-    requires fits { row.now.start + length row.now.text.now < 2 ^ 64 }
-    ensures { Some result ≡ end_fault columns index (view_of_row row.now) count None }
-{
-    let end = row.start + row.text.len();
-    if count < columns {
-        return TableError {
-            row: index,
-            column: count,
-            fault: CellFault::TooFewCells(end),
-        };
-    }
-    TableError {
-        row: index,
-        column: columns,
-        fault: CellFault::MissingReturn(end),
-    }
-}
-
 // What is wrong with the number of a row's cells, or with its end, if so many have a column, and one more starts there.
 pub(crate) fn end_fault(
     row: &Row<'_>,
@@ -190,37 +163,54 @@ pub(crate) fn end_fault(
     })
 }
 
-// How many bytes a cell may have whose digits are all read at once.
-const SHORT: usize = 12;
+// Tells what is wrong with the number of a row's cells, or with its end. Why out of line: docs/DECISIONS.md, code.
+#[inline(never)]
+pub(crate) fn put_end_fault(
+    row: &Row<'_>,
+    index: usize,
+    columns: usize,
+    count: usize,
+    extra: Option<usize>,
+    wrong: &mut Option<TableError>,
+)
+    requires fits { row.now.start + length row.now.text.now < 2 ^ 64 }
+    ensures { wrong.new ≡ end_fault columns index (view_of_row row.now) count extra }
+{
+    *wrong = end_fault(row, index, columns, count, extra);
+}
 
-// Reads a cell that isn't had at once: by its column's code where it has more digits, or else as `read_cell` does. Why out of
-// line: docs/DECISIONS.md, code.
+// Reads a cell as `read_cell` does, where it isn't had at once, and tells whether it is right: else what is wrong is told. Why
+// out of line: docs/DECISIONS.md, code.
 #[inline(never)]
 pub(crate) fn read_by_column<C: TableColumn>(
     targets: &mut [C],
-    codes: &[u8; CODED],
     column: usize,
     row: usize,
     cell: Cell<'_>,
     dialect: &Dialect<'_>,
     options: &Options,
-) -> Option<CellFault>
-    requires codes { AreCodes dialect.now codes.now (map C.target targets.old) }
+    wrong: &mut Option<TableError>,
+) -> bool
+    requires fine { wrong.old ≡ None }
     requires usable { AreUsable (row + 1) (map C.target targets.old) }
     requires front { cell.text.now ≡ take (length cell.text.now) cell.ahead.now }
-    requires room { length cell.text.now + 17 ≤ length cell.ahead.now }
     requires fits { cell.start + length cell.text.now < 2 ^ 64 }
-    ensures fault { result ≡ fault_in (answer_at dialect.now (kinds_of (map C.target targets.old))
-        column (view_of_cell cell.entry)) }
+    ensures right { result ≡ is_none (fault_in (answer_at dialect.now
+        (kinds_of (map C.target targets.old)) column (view_of_cell cell.entry))) }
+    ensures fault { wrong.new ≡ option_map (wrong_cell row column) (fault_in
+        (answer_at dialect.now (kinds_of (map C.target targets.old)) column
+        (view_of_cell cell.entry))) }
     ensures targets { map C.target targets.new ≡ put_read_at row column (answer_at dialect.now
         (kinds_of (map C.target targets.old)) column (view_of_cell cell.entry))
         (map C.target targets.old) }
 {
-    let size = cell.text.len();
-    if size > SHORT && read_long_cell(targets, codes, column, row, cell.ahead, size, dialect) {
-        return None;
+    match read_cell(targets, column, row, cell, false, dialect, options) {
+        Some(fault) => {
+            *wrong = Some(TableError { row, column, fault });
+            false
+        }
+        None => true,
     }
-    read_cell(targets, column, row, cell, false, dialect, options)
 }
 
 // The numbers of a row's cells behind so many bytes and columns go to its place in the targets, up to the row's fault. What is
@@ -284,7 +274,7 @@ fn read_cells<C: TableColumn>(
 }
 
 // The numbers of the first row of a text go to its place in the targets, behind so many bytes and columns of the row that were
-// read, up to the row's fault: what is behind it. Why out of line: docs/DECISIONS.md, code.
+// read, up to the row's fault, which is told: what is behind it. Why out of line: docs/DECISIONS.md, code.
 #[inline(never)]
 pub(crate) fn read_rest<'a, C: TableColumn>(
     start: usize,
@@ -295,7 +285,9 @@ pub(crate) fn read_rest<'a, C: TableColumn>(
     dialect: &Dialect<'_>,
     options: &Options,
     targets: &mut [C],
-) -> Result<Left<'a>, TableError>
+    wrong: &mut Option<TableError>,
+) -> &'a [u8]
+    requires fine { wrong.old ≡ None }
     requires some { 0 < length text.now }
     requires passed { passed ≤ length (first_row dialect.now start text.now).text }
     requires usable { AreUsable (index + 1) (map C.target targets.old) }
@@ -305,20 +297,14 @@ pub(crate) fn read_rest<'a, C: TableColumn>(
         (map C.target targets.old) first
         (cells_behind dialect.now (first_row dialect.now start text.now) first passed)
         → IsRowDone kinds dialect.now index (first_row dialect.now start text.now) old
-        (map C.target targets.new) (wrong_in result) }
-    ensures behind { IfOk result (λ left. left.text.now
-        ≡ behind_piece dialect.now.layout dialect.now.has_quotes text.now) }
-    ensures shorter { IfOk result (λ left. length left.text.now < length text.now) }
-    ensures unmarked { IfOk result (λ left. left.marks ≡ 0) }
+        (map C.target targets.new) wrong.new }
+    ensures behind { result.now
+        ≡ behind_piece dialect.now.layout dialect.now.has_quotes text.now }
+    ensures shorter { length result.now < length text.now }
 {
     let (row, behind) = first_row(start, text, dialect);
-    match read_cells(&row, text, passed, first, index, dialect, options, targets) {
-        Some(error) => Err(error),
-        None => Ok(Left {
-            text: behind,
-            marks: 0,
-        }),
-    }
+    *wrong = read_cells(&row, text, passed, first, index, dialect, options, targets);
+    behind
 }
 
 /// Reads a table's columns into slices of their own, for as many rows as are asked for at most.

@@ -11,7 +11,7 @@ use crate::targets::TableColumn;
 
 // Reads the cell of a column at once, the first bytes of a text, so many, by the column's code, and tells whether it did.
 #[inline(always)]
-pub(crate) fn read_coded_cell<C: TableColumn>(
+fn read_coded_cell<C: TableColumn>(
     targets: &mut [C],
     codes: &[u8; CODED],
     column: usize,
@@ -37,12 +37,19 @@ pub(crate) fn read_coded_cell<C: TableColumn>(
     if column >= targets.len() {
         return false;
     }
-    read_coded(&mut targets[column], codes[column], row, ahead, size, dialect)
+    read_coded(
+        &mut targets[column],
+        codes[column],
+        row,
+        ahead,
+        size,
+        dialect,
+    )
 }
 
-// Reads the cell of a column as `read_coded_cell` does, of more digits.
-#[inline(always)]
-pub(crate) fn read_long_cell<C: TableColumn>(
+// Reads the cell of a column as `read_coded_cell` does, of more digits. Why out of line: docs/DECISIONS.md, code.
+#[inline(never)]
+fn read_long_cell<C: TableColumn>(
     targets: &mut [C],
     codes: &[u8; CODED],
     column: usize,
@@ -68,5 +75,47 @@ pub(crate) fn read_long_cell<C: TableColumn>(
     if column >= targets.len() {
         return false;
     }
-    read_long_coded(&mut targets[column], codes[column], row, ahead, size, dialect)
+    read_long_coded(
+        &mut targets[column],
+        codes[column],
+        row,
+        ahead,
+        size,
+        dialect,
+    )
+}
+
+// How many bytes a cell may have whose digits are all read at once.
+const SHORT: usize = 12;
+
+// Reads the cell of a column at once, the first bytes of a text, so many, by the column's code, however many digits it has, and
+// tells whether it did.
+#[inline(always)]
+pub(crate) fn read_cell_at_once<C: TableColumn>(
+    targets: &mut [C],
+    codes: &[u8; CODED],
+    column: usize,
+    row: usize,
+    ahead: &[u8],
+    size: usize,
+    dialect: &Dialect<'_>,
+) -> bool
+    requires codes { AreCodes dialect.now codes.now (map C.target targets.old) }
+    requires usable { AreUsable (row + 1) (map C.target targets.old) }
+    requires room { size + 17 ≤ length ahead.now }
+    ensures fault { IsTrue result → (start : ℕ) → fault_in (answer_at dialect.now
+        (kinds_of (map C.target targets.old)) column
+        (record { start = start; text = take size ahead.now })) ≡ None }
+    ensures targets { IsTrue result → (start : ℕ) → map C.target targets.new ≡ put_read_at row
+        column (answer_at dialect.now (kinds_of (map C.target targets.old)) column
+        (record { start = start; text = take size ahead.now })) (map C.target targets.old) }
+    ensures kept { result ≡ false → map C.target targets.new ≡ map C.target targets.old }
+{
+    if read_coded_cell(targets, codes, column, row, ahead, size, dialect) {
+        return true;
+    }
+    if size <= SHORT {
+        return false;
+    }
+    read_long_cell(targets, codes, column, row, ahead, size, dialect)
 }

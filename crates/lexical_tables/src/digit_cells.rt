@@ -109,8 +109,8 @@ pub(crate) fn read_coded<C: TableColumn>(
     put_found(target, code, row, held, count, number_of_front(held, count))
 }
 
-// Reads a cell as `read_coded` does, of more digits. Why out of line: docs/DECISIONS.md, code.
-#[inline(never)]
+// Reads a cell as `read_coded` does, of more digits.
+#[inline(always)]
 pub(crate) fn read_long_coded<C: TableColumn>(
     target: &mut C,
     code: u8,
@@ -134,5 +134,12 @@ pub(crate) fn read_long_coded<C: TableColumn>(
         return false;
     }
     let (held, count) = within_quotes(ahead, size, dialect.has_quotes);
-    put_found(target, code, row, held, count, long_number_of_front(held, count))
+    put_found(
+        target,
+        code,
+        row,
+        held,
+        count,
+        long_number_of_front(held, count),
+    )
 }

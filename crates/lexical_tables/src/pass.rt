@@ -5,26 +5,29 @@ ghost use Rattle.lexical_tables.specs.ByColumn.{AreUsable, StopsAt, answer_at, c
 ghost use Rattle.lexical_tables.specs.Codes.{AreCodes};
 ghost use Rattle.lexical_tables.specs.Ends.{AreEnds, AreEndsIf};
 ghost use Rattle.lexical_tables.specs.Quotes.{quote};
-ghost use Rattle.lexical_tables.specs.RowSoFar.{IsMarked, wrong_in};
+ghost use Rattle.lexical_tables.specs.RowSoFar.{IsMarked};
 ghost use Rattle.lexical_tables.specs.Rows.{FirstCounts, behind_piece, carriage_return, first_row, rows_from};
 
 use crate::answers::{CellFault, Table, TableError};
-use crate::by_column::{read_by_column, read_rest, wrong_end};
+use crate::by_column::{put_end_fault, read_by_column, read_rest};
 use crate::cells::column_count;
+use crate::coded_cells::read_cell_at_once;
 use crate::codes::{CODED, UNKNOWN, put_codes};
 use crate::content::Cell;
 use crate::dialect::{Dialect, Layout};
-use crate::coded_cells::read_coded_cell;
 use crate::ends::{LEAST_MARKED, next_ends};
 use crate::next_part::{Left, lacks_return, next_part};
 use crate::rows::{Row, without_empty_rows};
 use crate::targets::TableColumn;
 use lexical_parse_integer::Options;
 
-// The byte between cells, if one pass of marks finds these and the rows.
-pub(crate) fn marked_separator(dialect: &Dialect<'_>) -> Option<u8>
+// The byte between cells, if one pass of marks finds these and the rows: a short text has no marks.
+pub(crate) fn marked_separator(text: &[u8], dialect: &Dialect<'_>) -> Option<u8>
     ensures { IfSome result (λ separator. IsMarked dialect.now separator) }
 {
+    if text.len() < LEAST_MARKED {
+        return None;
+    }
     let Layout::Separated { separator, .. } = dialect.layout else {
         return None;
     };
@@ -37,8 +40,9 @@ pub(crate) fn marked_separator(dialect: &Dialect<'_>) -> Option<u8>
     Some(separator)
 }
 
-// The numbers of the first row of a text go to its place in the targets, up to the row's fault, where one pass of marks finds
-// its cells: what is left of the text behind it.
+// The numbers of the first row of a text go to its place in the targets, up to the row's fault, which is told, where one pass of
+// marks finds its cells: what is left of the text behind it, where nothing is wrong. An answer that may be a fault would clear
+// its memory for each row.
 #[inline(always)]
 fn read_marked_row<'a, C: TableColumn>(
     start: usize,
@@ -50,7 +54,9 @@ fn read_marked_row<'a, C: TableColumn>(
     dialect: &Dialect<'_>,
     options: &Options,
     targets: &mut [C],
-) -> Result<Left<'a>, TableError>
+    wrong: &mut Option<TableError>,
+) -> Left<'a>
+    requires fine { wrong.old ≡ None }
     requires some { 0 < length text.text.now }
     requires marks { AreEnds dialect.now.has_quotes separator text.text.now text.marks }
     requires columns { columns ≡ column_count dialect.now.layout }
@@ -58,16 +64,15 @@ fn read_marked_row<'a, C: TableColumn>(
     requires codes { AreCodes dialect.now codes.now (map C.target targets.old) }
     requires usable { AreUsable (index + 1) (map C.target targets.old) }
     requires fits { start + length text.text.now < 2 ^ 64 }
-    ensures fault { wrong_in result ≡ row_fault (kinds_of (map C.target targets.old)) dialect.now
+    ensures fault { wrong.new ≡ row_fault (kinds_of (map C.target targets.old)) dialect.now
         index (first_row dialect.now start text.entry.text.now) }
     ensures targets { map C.target targets.new ≡ put_row index (row_values
         (kinds_of (map C.target targets.old)) dialect.now
         (first_row dialect.now start text.entry.text.now)) (map C.target targets.old) }
-    ensures behind { IfOk result (λ left. left.text.now
-        ≡ behind_piece dialect.now.layout dialect.now.has_quotes text.entry.text.now) }
-    ensures shorter { IfOk result (λ left. length left.text.now < length text.entry.text.now) }
-    ensures marks { IfOk result (λ left.
-        AreEnds dialect.now.has_quotes separator left.text.now left.marks) }
+    ensures behind { wrong.new ≡ None → result.text.now
+        ≡ behind_piece dialect.now.layout dialect.now.has_quotes text.entry.text.now }
+    ensures shorter { wrong.new ≡ None → length result.text.now < length text.entry.text.now }
+    ensures marks { AreEnds dialect.now.has_quotes separator result.text.now result.marks }
 {
     let mut left = text;
     let mut column = 0;
@@ -75,51 +80,51 @@ fn read_marked_row<'a, C: TableColumn>(
         let marks = next_ends(left.text, left.marks, separator, dialect.has_quotes);
         if marks == 0 {
             let passed = text.text.len() - left.text.len();
-            return read_rest(
-                start, text.text, passed, column, index, dialect, options, targets,
+            let behind = read_rest(
+                start, text.text, passed, column, index, dialect, options, targets, wrong,
             );
+            return Left {
+                text: behind,
+                marks: 0,
+            };
         }
         let part = next_part(text.text, left.text, marks, separator, dialect);
-        if !read_coded_cell(targets, codes, column, index, left.text, part.size, dialect) {
+        if !read_cell_at_once(targets, codes, column, index, left.text, part.size, dialect) {
             let cell = Cell {
                 start: start + (text.text.len() - left.text.len()),
                 text: &left.text[..part.size],
                 ahead: left.text,
             };
-            if let Some(fault) =
-                read_by_column(targets, codes, column, index, cell, dialect, options)
-            {
-                return Err(TableError {
-                    row: index,
-                    column,
-                    fault,
-                });
+            if !read_by_column(targets, column, index, cell, dialect, options, wrong) {
+                return part.behind;
             }
         }
         column += 1;
         if part.is_last {
             let lacks_return = lacks_return(left.text, part.size, dialect.has_returns);
             if column == columns && !lacks_return {
-                return Ok(part.behind);
+                return part.behind;
             }
             let row = Row {
                 start,
                 text: &text.text[..text.text.len() - left.text.len() + part.size],
                 lacks_return,
             };
-            return Err(wrong_end(&row, index, columns, column));
+            put_end_fault(&row, index, columns, column, None, wrong);
+            return part.behind;
         }
         left = part.behind;
     }
-    Err(TableError {
+    *wrong = Some(TableError {
         row: index,
         column,
         fault: CellFault::TooManyCells(start + (text.text.len() - left.text.len())),
-    })
+    });
+    left
 }
 
-// The numbers of the first row of a text go to its place in the targets, up to the row's fault: what is left of the text
-// behind it.
+// The numbers of the first row of a text go to its place in the targets, up to the row's fault, which is told: what is left of
+// the text behind it, where nothing is wrong.
 #[inline(always)]
 pub(crate) fn read_row<'a, C: TableColumn>(
     start: usize,
@@ -131,7 +136,9 @@ pub(crate) fn read_row<'a, C: TableColumn>(
     dialect: &Dialect<'_>,
     options: &Options,
     targets: &mut [C],
-) -> Result<Left<'a>, TableError>
+    wrong: &mut Option<TableError>,
+) -> Left<'a>
+    requires fine { wrong.old ≡ None }
     requires some { 0 < length text.text.now }
     requires marks { AreEndsIf marked dialect.now.has_quotes text.text.now text.marks }
     requires columns { columns ≡ column_count dialect.now.layout }
@@ -139,23 +146,28 @@ pub(crate) fn read_row<'a, C: TableColumn>(
     requires codes { AreCodes dialect.now codes.now (map C.target targets.old) }
     requires usable { AreUsable (index + 1) (map C.target targets.old) }
     requires fits { start + length text.text.now < 2 ^ 64 }
-    ensures fault { wrong_in result ≡ row_fault (kinds_of (map C.target targets.old)) dialect.now
+    ensures fault { wrong.new ≡ row_fault (kinds_of (map C.target targets.old)) dialect.now
         index (first_row dialect.now start text.entry.text.now) }
     ensures targets { map C.target targets.new ≡ put_row index (row_values
         (kinds_of (map C.target targets.old)) dialect.now
         (first_row dialect.now start text.entry.text.now)) (map C.target targets.old) }
-    ensures behind { IfOk result (λ left. left.text.now
-        ≡ behind_piece dialect.now.layout dialect.now.has_quotes text.entry.text.now) }
-    ensures shorter { IfOk result (λ left. length left.text.now < length text.entry.text.now) }
-    ensures marks { IfOk result (λ left.
-        AreEndsIf marked dialect.now.has_quotes left.text.now left.marks) }
+    ensures behind { wrong.new ≡ None → result.text.now
+        ≡ behind_piece dialect.now.layout dialect.now.has_quotes text.entry.text.now }
+    ensures shorter { wrong.new ≡ None → length result.text.now < length text.entry.text.now }
+    ensures marks { AreEndsIf marked dialect.now.has_quotes result.text.now result.marks }
 {
     if let Some(separator) = marked {
         return read_marked_row(
-            start, text, index, columns, separator, codes, dialect, options, targets,
+            start, text, index, columns, separator, codes, dialect, options, targets, wrong,
         );
     }
-    read_rest(start, text.text, 0, 0, index, dialect, options, targets)
+    let behind = read_rest(
+        start, text.text, 0, 0, index, dialect, options, targets, wrong,
+    );
+    Left {
+        text: behind,
+        marks: 0,
+    }
 }
 
 // What is left of a text behind the empty rows in front of it, where these are skipped.
@@ -182,10 +194,10 @@ pub(crate) fn behind_empty_rows<'a>(
     Left { text, marks: 0 }
 }
 
-// Asks the columns for their codes, where a text is long enough for marks: else no cell is read by them.
+// Asks the columns for their codes, where marks find the cells: else none is read by them.
 #[inline(always)]
 pub(crate) fn ask_codes<C: TableColumn>(
-    text: &[u8],
+    marked: Option<u8>,
     dialect: &Dialect<'_>,
     targets: &[C],
     codes: &mut [u8; CODED],
@@ -193,7 +205,7 @@ pub(crate) fn ask_codes<C: TableColumn>(
     requires unknown { (k : ℕ) → k < length codes.old → slice_index codes.old k ≡ 0 }
     ensures { AreCodes dialect.now codes.new (map C.target targets.now) }
 {
-    if text.len() < LEAST_MARKED {
+    if marked.is_none() {
         return;
     }
     put_codes(dialect, targets, codes);
@@ -215,20 +227,22 @@ pub(crate) fn read_rows<C: TableColumn>(
         (map C.target targets.old) }
     ensures goes_on { IfOk result (StopsAt dialect.now rows text.now) }
 {
-    let marked = marked_separator(dialect);
+    let marked = marked_separator(text, dialect);
     let columns = column_count(dialect);
     let mut codes = [UNKNOWN; CODED];
-    ask_codes(text, dialect, targets, &mut codes);
+    ask_codes(marked, dialect, targets, &mut codes);
     let mut left = behind_empty_rows(Left { text, marks: 0 }, marked, dialect);
     let mut count = 0;
+    let mut wrong = None;
     while count < rows && !left.text.is_empty() {
         let start = text.len() - left.text.len();
-        match read_row(
-            start, left, count, columns, marked, &codes, dialect, options, targets,
-        ) {
-            Ok(behind) => left = behind_empty_rows(behind, marked, dialect),
-            Err(error) => return Err(error),
+        let behind = read_row(
+            start, left, count, columns, marked, &codes, dialect, options, targets, &mut wrong,
+        );
+        if let Some(error) = wrong {
+            return Err(error);
         }
+        left = behind_empty_rows(behind, marked, dialect);
         count += 1;
     }
     Ok(Table {

@@ -1,10 +1,13 @@
 //! Tables whose bad rows are skipped.
 
-ghost use Rattle.std.specs.Prelude.{◌≡◌, ◌∷◌, ◌+◌, ◌-◌, ◌<◌, ◌^◌, ℕ, List, Option, drop, length, map, set};
-ghost use Rattle.lexical_tables.specs.ByColumn.{AreUsable, kinds_of};
+ghost use Rattle.std.specs.Prelude.{◌≡◌, ◌∷◌, ◌+◌, ◌-◌, ◌<◌, ◌^◌, ℕ, IfOk, IfSome, List, Option, drop, length, map, set};
+ghost use Rattle.lexical_tables.specs.ByColumn.{AreUsable, column_count, kinds_of, put_row, row_fault, row_values};
 ghost use Rattle.lexical_tables.specs.Cells.{Kind};
+ghost use Rattle.lexical_tables.specs.Codes.{AreCodes};
+ghost use Rattle.lexical_tables.specs.Ends.{AreEndsIf};
 ghost use Rattle.lexical_tables.specs.Parts.{AreValid, readable};
-ghost use Rattle.lexical_tables.specs.Rows.{FirstCounts, first_row, rows_from};
+ghost use Rattle.lexical_tables.specs.RowSoFar.{IsMarked, wrong_in};
+ghost use Rattle.lexical_tables.specs.Rows.{FirstCounts, behind_piece, first_row, rows_from};
 ghost use Rattle.lexical_tables.specs.Skipping.{HoldRightRows, SkippingInParts, SkipsTo, put_in_front, skipped_rows, skipping_answer, skipping_put};
 
 use crate::answers::TableError;
@@ -14,7 +17,7 @@ use crate::codes::{CODED, UNKNOWN};
 use crate::dialect::Dialect;
 use crate::next_part::Left;
 use crate::parts::whole_rows;
-use crate::pass::{ask_codes, behind_empty_rows, marked_separator, read_row};
+use crate::pass::{self, ask_codes, behind_empty_rows, marked_separator};
 use crate::places::{RowPlace, behind_row};
 use crate::targets::TableColumn;
 use lexical_parse_integer::Options;
@@ -35,6 +38,48 @@ fn bad_row(error: TableError, bad_count: usize, start: usize, stop: usize) -> Ba
             fault: error.fault,
         },
         place: RowPlace { start, stop },
+    }
+}
+
+// The numbers of the first row of a text go to its place in the targets, up to the row's fault: what is left of the text
+// behind it, or the fault.
+#[inline(always)]
+fn read_row<'a, C: TableColumn>(
+    start: usize,
+    text: Left<'a>,
+    index: usize,
+    columns: usize,
+    marked: Option<u8>,
+    codes: &[u8; CODED],
+    dialect: &Dialect<'_>,
+    options: &Options,
+    targets: &mut [C],
+) -> Result<Left<'a>, TableError>
+    requires some { 0 < length text.text.now }
+    requires marks { AreEndsIf marked dialect.now.has_quotes text.text.now text.marks }
+    requires columns { columns ≡ column_count dialect.now.layout }
+    requires marked { IfSome marked (λ separator. IsMarked dialect.now separator) }
+    requires codes { AreCodes dialect.now codes.now (map C.target targets.old) }
+    requires usable { AreUsable (index + 1) (map C.target targets.old) }
+    requires fits { start + length text.text.now < 2 ^ 64 }
+    ensures fault { wrong_in result ≡ row_fault (kinds_of (map C.target targets.old)) dialect.now
+        index (first_row dialect.now start text.entry.text.now) }
+    ensures targets { map C.target targets.new ≡ put_row index (row_values
+        (kinds_of (map C.target targets.old)) dialect.now
+        (first_row dialect.now start text.entry.text.now)) (map C.target targets.old) }
+    ensures behind { IfOk result (λ left. left.text.now
+        ≡ behind_piece dialect.now.layout dialect.now.has_quotes text.entry.text.now) }
+    ensures shorter { IfOk result (λ left. length left.text.now < length text.entry.text.now) }
+    ensures marks { IfOk result (λ left.
+        AreEndsIf marked dialect.now.has_quotes left.text.now left.marks) }
+{
+    let mut wrong = None;
+    let left = pass::read_row(
+        start, text, index, columns, marked, codes, dialect, options, targets, &mut wrong,
+    );
+    match wrong {
+        None => Ok(left),
+        Some(error) => Err(error),
     }
 }
 
@@ -107,10 +152,10 @@ pub fn read_columns_skipping<C: TableColumn, B: KeptRow>(
     ensures right_rows { HoldRightRows dialect.now rows text.now (map C.target targets.old)
         (map C.target targets.new) }
 {
-    let marked = marked_separator(dialect);
+    let marked = marked_separator(text, dialect);
     let columns = column_count(dialect);
     let mut codes = [UNKNOWN; CODED];
-    ask_codes(text, dialect, targets, &mut codes);
+    ask_codes(marked, dialect, targets, &mut codes);
     let mut left = behind_empty_rows(Left { text, marks: 0 }, marked, dialect);
     let mut count = 0;
     let mut bad_count = 0;

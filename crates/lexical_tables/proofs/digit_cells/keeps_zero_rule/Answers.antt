@@ -1,5 +1,4 @@
 use Rattle.std.proofs.Common.{◌∙◌, arith, inl, inr}
-use Rattle.std.specs.Prelude.{nat_le}
 use Rattle.std.proofs.lemmas.Bool.Decides.{nat_tests}
 use Rattle.lexical_tables.proofs.ZeroRule.{rule_kept, rule_unasked}
 use Rattle.lexical_tables.proofs.digit_cells.keeps_zero_rule.Goals as goal

@@ -1,6 +1,6 @@
-use Rattle.lexical_tables.proofs.CodedCells.{IsCellPut, found_put}
+use Rattle.lexical_tables.proofs.CodedCells.{found_put}
 use Rattle.lexical_tables.proofs.digit_cells.read_coded.Goals as goal
-use Rattle.std.proofs.Common.{◌≤◌, arith, length}
+use Rattle.std.proofs.Common.{◌≤◌, arith}
 use Rattle.std.proofs.lemmas.Bool.Decides.{nat_tests}
 
 pub returns-clause-fault : goal.returns-clause-fault

@@ -1,15 +1,16 @@
-use Rattle.std.proofs.Common.{◌≡◌, ◌∙◌, ◌+◌, ◌-◌, ◌≤◌, ◌∷◌, [], Some, None, ap, arith, cond, inl, inr, length, map, refl, subst, sym, take}
+use Rattle.std.proofs.Common.{◌≡◌, ◌∙◌, ◌+◌, ◌-◌, ◌≤◌, ◌∷◌, [], None, ap, arith, cond, inl, inr, length, map, refl, subst, sym, take}
 use Rattle.std.proofs.lemmas.Bool.Decides.{nat_tests}
-use Rattle.lexical_tables.specs.ByColumn.{answer_at, end_fault, fault_in, kinds_of, put_read_at}
+use Rattle.std.specs.Prelude.{option_map}
+use Rattle.lexical_tables.specs.ByColumn.{answer_at, end_fault, fault_in, kinds_of, put_read_at, wrong_cell}
 use Rattle.lexical_fields.specs.Fields.{FieldView}
 use Rattle.lexical_tables.specs.Codes.{AreCodes}
-use Rattle.lexical_tables.specs.RowSoFar.{cells_behind, count_in}
+use Rattle.lexical_tables.specs.RowSoFar.{IsRowDone, cells_behind, count_in}
 use Rattle.lexical_tables.specs.Rows.{first_row}
 use Rattle.lexical_tables.proofs.CellsLeft.{cells_begin}
 use Rattle.lexical_tables.proofs.CodeSteps.{codes_put}
 use Rattle.lexical_tables.proofs.ColumnSteps.{after_cell, after_fault, row_ends, row_starts}
-use Rattle.lexical_tables.proofs.PassSteps.{IsCellRead, cell_starts, end_fine, passed_low, read_kept, row_begins, row_size, too_many}
-use Rattle.lexical_tables.proofs.pass.read_marked_row.Goals.{then-not-read_coded_cell+in_default, else-not-read_coded_cell}
+use Rattle.lexical_tables.proofs.PassSteps.{IsCellRead, cell_starts, end_fine, none_wrong, passed_low, read_kept, row_begins, row_size, some_wrong, too_many}
+use Rattle.lexical_tables.proofs.pass.read_marked_row.Goals.{else-not-read_cell_at_once, then-not-read_cell_at_once+else-not-read_by_column}
 use Rattle.lexical_tables.proofs.pass.read_marked_row.Goals as goal
 
 pub loop-column-init : goal.loop-column-init
@@ -21,13 +22,14 @@ loop-column-init g c =
       row_begins d c.args.separator c.requires.marked c.args.start text,
       c.requires.marks,
       c.requires.codes,
+      c.requires.fine,
       row_starts (kinds_of (map g.C.TableColumn.target c.args.targets.now)) d c.args.index row
           (map g.C.TableColumn.target c.args.targets.now) _ refl c.requires.usable
           (ap (cells_behind d row 0) none ∙ cells_begin d row),
     )
 
-pub read_rest-requires-clause-passed : goal.read_rest-requires-clause-passed
-read_rest-requires-clause-passed g c =
+pub read_rest-behind-requires-clause-passed : goal.read_rest-behind-requires-clause-passed
+read_rest-behind-requires-clause-passed g c =
     let d = c.args.dialect.now in
     let text = c.args.text.text.now in
     let left = c.loop-column.left.text.now in
@@ -37,8 +39,8 @@ read_rest-requires-clause-passed g c =
       row_size d c.args.separator c.requires.marked c.args.start text,
     )
 
-pub returns-in-Some-clause-fault : goal.returns-in-Some-clause-fault
-returns-in-Some-clause-fault g c =
+pub returns-then-not-read_by_column-clause-fault : goal.returns-then-not-read_by_column-clause-fault
+returns-then-not-read_by_column-clause-fault g c =
     let d = c.args.dialect.now in
     let text = c.args.text.text.now in
     let left = c.loop-column.left.text.now in
@@ -49,16 +51,21 @@ returns-in-Some-clause-fault g c =
     let old = map g.C.TableColumn.target c.args.targets.now in
     let before = map g.C.TableColumn.target c.loop-column.targets in
     let cell : FieldView = record { start = c.args.start + (length text - length left); text = take part.result.size left } in
-    let kept = c.if-not-read_coded_cell.ensures.kept refl in
-    let done = after_fault kinds d c.args.index row old before column
-    _ c.loop-column.invariant.3 cell _ (part.ensures.cells c.args.start column) (grind (arith, nat_tests))
-    (map g.C.TableColumn.target c.read_by_column.new.targets) c.in-Some.fault
-    (c.in-Some.ensures.fault ∙ ap (λ l. fault_in (answer_at d (kinds_of l) column cell)) kept)
-    (c.in-Some.ensures.targets ∙ ap (λ l. put_read_at c.args.index column (answer_at d (kinds_of l) column cell) l) kept) in
-    done.fault_is
+    let kept = c.if-not-read_cell_at_once.ensures.kept refl in
+    let found = fault_in (answer_at d (kinds_of (map g.C.TableColumn.target c.read_cell_at_once.new.targets)) column cell) in
+    let told : IsRowDone kinds d c.args.index row old (map g.C.TableColumn.target c.read_by_column.new.targets)
+    (option_map (wrong_cell c.args.index column) found) = some_wrong found c.if-not-read_by_column.ensures.right
+    (λ f. IsRowDone kinds d c.args.index row old (map g.C.TableColumn.target c.read_by_column.new.targets)
+    (option_map (wrong_cell c.args.index column) f))
+    (λ fault is. after_fault kinds d c.args.index row old before column
+    _ c.loop-column.invariant.4 cell _ (part.ensures.cells c.args.start column) (grind (arith, nat_tests))
+    (map g.C.TableColumn.target c.read_by_column.new.targets) fault
+    (is ∙ ap (λ l. fault_in (answer_at d (kinds_of l) column cell)) kept)
+    (c.read_by_column.ensures.targets ∙ ap (λ l. put_read_at c.args.index column (answer_at d (kinds_of l) column cell) l) kept)) in
+    c.read_by_column.ensures.fault ∙ told.fault_is
 
-pub returns-in-Some-clause-targets : goal.returns-in-Some-clause-targets
-returns-in-Some-clause-targets g c =
+pub returns-then-not-read_by_column-clause-targets : goal.returns-then-not-read_by_column-clause-targets
+returns-then-not-read_by_column-clause-targets g c =
     let d = c.args.dialect.now in
     let text = c.args.text.text.now in
     let left = c.loop-column.left.text.now in
@@ -69,13 +76,18 @@ returns-in-Some-clause-targets g c =
     let old = map g.C.TableColumn.target c.args.targets.now in
     let before = map g.C.TableColumn.target c.loop-column.targets in
     let cell : FieldView = record { start = c.args.start + (length text - length left); text = take part.result.size left } in
-    let kept = c.if-not-read_coded_cell.ensures.kept refl in
-    let done = after_fault kinds d c.args.index row old before column
-    _ c.loop-column.invariant.3 cell _ (part.ensures.cells c.args.start column) (grind (arith, nat_tests))
-    (map g.C.TableColumn.target c.read_by_column.new.targets) c.in-Some.fault
-    (c.in-Some.ensures.fault ∙ ap (λ l. fault_in (answer_at d (kinds_of l) column cell)) kept)
-    (c.in-Some.ensures.targets ∙ ap (λ l. put_read_at c.args.index column (answer_at d (kinds_of l) column cell) l) kept) in
-    done.targets_are
+    let kept = c.if-not-read_cell_at_once.ensures.kept refl in
+    let found = fault_in (answer_at d (kinds_of (map g.C.TableColumn.target c.read_cell_at_once.new.targets)) column cell) in
+    let told : IsRowDone kinds d c.args.index row old (map g.C.TableColumn.target c.read_by_column.new.targets)
+    (option_map (wrong_cell c.args.index column) found) = some_wrong found c.if-not-read_by_column.ensures.right
+    (λ f. IsRowDone kinds d c.args.index row old (map g.C.TableColumn.target c.read_by_column.new.targets)
+    (option_map (wrong_cell c.args.index column) f))
+    (λ fault is. after_fault kinds d c.args.index row old before column
+    _ c.loop-column.invariant.4 cell _ (part.ensures.cells c.args.start column) (grind (arith, nat_tests))
+    (map g.C.TableColumn.target c.read_by_column.new.targets) fault
+    (is ∙ ap (λ l. fault_in (answer_at d (kinds_of l) column cell)) kept)
+    (c.read_by_column.ensures.targets ∙ ap (λ l. put_read_at c.args.index column (answer_at d (kinds_of l) column cell) l) kept)) in
+    told.targets_are
 
 pub loop-column-preserved : goal.loop-column-preserved
 loop-column-preserved g c =
@@ -89,24 +101,33 @@ loop-column-preserved g c =
     let old = map g.C.TableColumn.target c.args.targets.now in
     let before = map g.C.TableColumn.target c.loop-column.targets in
     let cell : FieldView = record { start = c.args.start + (length text - length left); text = take part.result.size left } in
-    let now = map g.C.TableColumn.target c.if-not-read_coded_cell.targets in
-    let read : IsCellRead d c.args.index column cell before now = elim c.if-not-read_coded_cell.branch [
-      | then-not-read_coded_cell+in_default w ↦ read_kept d c.args.index column cell before _ now
-          (w.if-not-read_coded_cell.ensures.kept refl)
-          (record { fine = w.in_default.ensures.fault; put = ap (map g.C.TableColumn.target) w.targets-is ∙ w.in_default.ensures.targets })
-      | else-not-read_coded_cell w ↦ record {
-        fine = sym (w.if-not-read_coded_cell.ensures.fault refl cell.start);
-        put = ap (map g.C.TableColumn.target) w.targets-is ∙ w.if-not-read_coded_cell.ensures.targets refl cell.start;
-      }
+    let now = map g.C.TableColumn.target c.if-not-read_cell_at_once.targets in
+    let read : IsCellRead d c.args.index column cell before now × (c.if-not-read_cell_at_once.wrong ≡ None) =
+    elim c.if-not-read_cell_at_once.branch [
+      | then-not-read_cell_at_once+else-not-read_by_column w ↦
+          let kept = w.if-not-read_cell_at_once.ensures.kept refl in
+          let fine = none_wrong _ w.if-not-read_by_column.ensures.right in (
+            read_kept d c.args.index column cell before _ now kept
+                (record { fine = fine; put = ap (map g.C.TableColumn.target) w.targets-is ∙ w.read_by_column.ensures.targets }),
+            w.wrong-is ∙ w.read_by_column.ensures.fault ∙ ap (option_map (wrong_cell c.args.index column)) (sym fine),
+          )
+      | else-not-read_cell_at_once w ↦ (
+        record {
+          fine = sym (w.if-not-read_cell_at_once.ensures.fault refl cell.start);
+          put = ap (map g.C.TableColumn.target) w.targets-is ∙ w.if-not-read_cell_at_once.ensures.targets refl cell.start;
+        },
+        w.wrong-is ∙ c.loop-column.invariant.3,
+      )
     ] in
     let at = part.ensures.cells c.args.start column
     ∙ ap (λ t. cell ∷ cond t [] (cells_behind d row (column + 1) (length text - length part.result.behind.text.now))) c.if-part.false in (
       part.ensures.goes c.if-part.false,
       part.ensures.marks,
-      subst (AreCodes d c.args.codes.now) (sym read.put)
+      subst (AreCodes d c.args.codes.now) (sym read.0.put)
           (codes_put d c.args.codes.now c.args.index column (answer_at d (kinds_of before) column cell) before c.loop-column.invariant.2),
-      after_cell kinds d c.args.index row old before column _ c.loop-column.invariant.3 cell _ at (grind (arith, nat_tests))
-          now read.fine read.put,
+      read.1,
+      after_cell kinds d c.args.index row old before column _ c.loop-column.invariant.4 cell _ at (grind (arith, nat_tests))
+          now read.0.fine read.0.put,
     )
 
 pub returns-then-not-lacks_return-clause-fault : goal.returns-then-not-lacks_return-clause-fault
@@ -121,25 +142,33 @@ returns-then-not-lacks_return-clause-fault g c =
     let old = map g.C.TableColumn.target c.args.targets.now in
     let before = map g.C.TableColumn.target c.loop-column.targets in
     let cell : FieldView = record { start = c.args.start + (length text - length left); text = take part.result.size left } in
-    let now = map g.C.TableColumn.target c.if-not-read_coded_cell.targets in
-    let read : IsCellRead d c.args.index column cell before now = elim c.if-not-read_coded_cell.branch [
-      | then-not-read_coded_cell+in_default w ↦ read_kept d c.args.index column cell before _ now
-          (w.if-not-read_coded_cell.ensures.kept refl)
-          (record { fine = w.in_default.ensures.fault; put = ap (map g.C.TableColumn.target) w.targets-is ∙ w.in_default.ensures.targets })
-      | else-not-read_coded_cell w ↦ record {
-        fine = sym (w.if-not-read_coded_cell.ensures.fault refl cell.start);
-        put = ap (map g.C.TableColumn.target) w.targets-is ∙ w.if-not-read_coded_cell.ensures.targets refl cell.start;
-      }
+    let now = map g.C.TableColumn.target c.if-not-read_cell_at_once.targets in
+    let read : IsCellRead d c.args.index column cell before now × (c.if-not-read_cell_at_once.wrong ≡ None) =
+    elim c.if-not-read_cell_at_once.branch [
+      | then-not-read_cell_at_once+else-not-read_by_column w ↦
+          let kept = w.if-not-read_cell_at_once.ensures.kept refl in
+          let fine = none_wrong _ w.if-not-read_by_column.ensures.right in (
+            read_kept d c.args.index column cell before _ now kept
+                (record { fine = fine; put = ap (map g.C.TableColumn.target) w.targets-is ∙ w.read_by_column.ensures.targets }),
+            w.wrong-is ∙ w.read_by_column.ensures.fault ∙ ap (option_map (wrong_cell c.args.index column)) (sym fine),
+          )
+      | else-not-read_cell_at_once w ↦ (
+        record {
+          fine = sym (w.if-not-read_cell_at_once.ensures.fault refl cell.start);
+          put = ap (map g.C.TableColumn.target) w.targets-is ∙ w.if-not-read_cell_at_once.ensures.targets refl cell.start;
+        },
+        w.wrong-is ∙ c.loop-column.invariant.3,
+      )
     ] in
     let at = part.ensures.cells c.args.start column
     ∙ ap (λ t. cell ∷ cond t [] (cells_behind d row (column + 1) (length text - length part.result.behind.text.now))) c.if-part.true in
-    let put = after_cell kinds d c.args.index row old before column _ c.loop-column.invariant.3 cell _ at (grind (arith, nat_tests))
-    now read.fine read.put in
+    let put = after_cell kinds d c.args.index row old before column _ c.loop-column.invariant.4 cell _ at (grind (arith, nat_tests))
+    now read.0.fine read.0.put in
     let done = row_ends kinds d c.args.index row old now (column + 1) [] put None (inl refl)
     (end_fine (count_in d) c.args.index (column + 1) row (grind (arith, nat_tests))
     (sym (ap (λ r. r.lacks_return) (part.ensures.row c.if-part.true c.args.start)) ∙ sym c.lacks_return-lacks_return.ensures
     ∙ (grind (arith, nat_tests)))) in
-    done.fault_is
+    read.1 ∙ done.fault_is
 
 pub returns-then-part-clause-fault : goal.returns-then-part-clause-fault
 returns-then-part-clause-fault g c =
@@ -153,24 +182,36 @@ returns-then-part-clause-fault g c =
     let old = map g.C.TableColumn.target c.args.targets.now in
     let before = map g.C.TableColumn.target c.loop-column.targets in
     let cell : FieldView = record { start = c.args.start + (length text - length left); text = take part.result.size left } in
-    let now = map g.C.TableColumn.target c.if-not-read_coded_cell.targets in
-    let read : IsCellRead d c.args.index column cell before now = elim c.if-not-read_coded_cell.branch [
-      | then-not-read_coded_cell+in_default w ↦ read_kept d c.args.index column cell before _ now
-          (w.if-not-read_coded_cell.ensures.kept refl)
-          (record { fine = w.in_default.ensures.fault; put = ap (map g.C.TableColumn.target) w.targets-is ∙ w.in_default.ensures.targets })
-      | else-not-read_coded_cell w ↦ record {
-        fine = sym (w.if-not-read_coded_cell.ensures.fault refl cell.start);
-        put = ap (map g.C.TableColumn.target) w.targets-is ∙ w.if-not-read_coded_cell.ensures.targets refl cell.start;
-      }
+    let now = map g.C.TableColumn.target c.if-not-read_cell_at_once.targets in
+    let read : IsCellRead d c.args.index column cell before now × (c.if-not-read_cell_at_once.wrong ≡ None) =
+    elim c.if-not-read_cell_at_once.branch [
+      | then-not-read_cell_at_once+else-not-read_by_column w ↦
+          let kept = w.if-not-read_cell_at_once.ensures.kept refl in
+          let fine = none_wrong _ w.if-not-read_by_column.ensures.right in (
+            read_kept d c.args.index column cell before _ now kept
+                (record { fine = fine; put = ap (map g.C.TableColumn.target) w.targets-is ∙ w.read_by_column.ensures.targets }),
+            w.wrong-is ∙ w.read_by_column.ensures.fault ∙ ap (option_map (wrong_cell c.args.index column)) (sym fine),
+          )
+      | else-not-read_cell_at_once w ↦ (
+        record {
+          fine = sym (w.if-not-read_cell_at_once.ensures.fault refl cell.start);
+          put = ap (map g.C.TableColumn.target) w.targets-is ∙ w.if-not-read_cell_at_once.ensures.targets refl cell.start;
+        },
+        w.wrong-is ∙ c.loop-column.invariant.3,
+      )
     ] in
     let at = part.ensures.cells c.args.start column
     ∙ ap (λ t. cell ∷ cond t [] (cells_behind d row (column + 1) (length text - length part.result.behind.text.now))) c.if-part.true in
-    let put = after_cell kinds d c.args.index row old before column _ c.loop-column.invariant.3 cell _ at (grind (arith, nat_tests))
-    now read.fine read.put in
-    let done = row_ends kinds d c.args.index row old now (column + 1) [] put (Some c.wrong_end.result) (inl refl)
-    (c.wrong_end.ensures
-    ∙ ap (λ t. end_fault c.args.columns c.args.index (record { start = c.args.start; text = take (length text - length left
-    + part.result.size) text; lacks_return = t }) (column + 1) None) c.lacks_return-lacks_return.ensures
+    let put = after_cell kinds d c.args.index row old before column _ c.loop-column.invariant.4 cell _ at (grind (arith, nat_tests))
+    now read.0.fine read.0.put in
+    let done = row_ends kinds d c.args.index row old now (column + 1) [] put c.put_end_fault.new.wrong (inl refl)
+    (c.put_end_fault.ensures
+    ∙ ap (λ t. end_fault c.args.columns c.args.index (record {
+      start = c.args.start;
+      text = take (length text - length left
+          + part.result.size) text;
+      lacks_return = t;
+    }) (column + 1) None) c.lacks_return-lacks_return.ensures
     ∙ ap (λ r. end_fault c.args.columns c.args.index r (column + 1) None) (part.ensures.row c.if-part.true c.args.start)
     ∙ ap (λ n. end_fault n c.args.index row (column + 1) None) c.requires.columns) in
     done.fault_is
@@ -187,20 +228,28 @@ returns-then-not-lacks_return-clause-targets g c =
     let old = map g.C.TableColumn.target c.args.targets.now in
     let before = map g.C.TableColumn.target c.loop-column.targets in
     let cell : FieldView = record { start = c.args.start + (length text - length left); text = take part.result.size left } in
-    let now = map g.C.TableColumn.target c.if-not-read_coded_cell.targets in
-    let read : IsCellRead d c.args.index column cell before now = elim c.if-not-read_coded_cell.branch [
-      | then-not-read_coded_cell+in_default w ↦ read_kept d c.args.index column cell before _ now
-          (w.if-not-read_coded_cell.ensures.kept refl)
-          (record { fine = w.in_default.ensures.fault; put = ap (map g.C.TableColumn.target) w.targets-is ∙ w.in_default.ensures.targets })
-      | else-not-read_coded_cell w ↦ record {
-        fine = sym (w.if-not-read_coded_cell.ensures.fault refl cell.start);
-        put = ap (map g.C.TableColumn.target) w.targets-is ∙ w.if-not-read_coded_cell.ensures.targets refl cell.start;
-      }
+    let now = map g.C.TableColumn.target c.if-not-read_cell_at_once.targets in
+    let read : IsCellRead d c.args.index column cell before now × (c.if-not-read_cell_at_once.wrong ≡ None) =
+    elim c.if-not-read_cell_at_once.branch [
+      | then-not-read_cell_at_once+else-not-read_by_column w ↦
+          let kept = w.if-not-read_cell_at_once.ensures.kept refl in
+          let fine = none_wrong _ w.if-not-read_by_column.ensures.right in (
+            read_kept d c.args.index column cell before _ now kept
+                (record { fine = fine; put = ap (map g.C.TableColumn.target) w.targets-is ∙ w.read_by_column.ensures.targets }),
+            w.wrong-is ∙ w.read_by_column.ensures.fault ∙ ap (option_map (wrong_cell c.args.index column)) (sym fine),
+          )
+      | else-not-read_cell_at_once w ↦ (
+        record {
+          fine = sym (w.if-not-read_cell_at_once.ensures.fault refl cell.start);
+          put = ap (map g.C.TableColumn.target) w.targets-is ∙ w.if-not-read_cell_at_once.ensures.targets refl cell.start;
+        },
+        w.wrong-is ∙ c.loop-column.invariant.3,
+      )
     ] in
     let at = part.ensures.cells c.args.start column
     ∙ ap (λ t. cell ∷ cond t [] (cells_behind d row (column + 1) (length text - length part.result.behind.text.now))) c.if-part.true in
-    let put = after_cell kinds d c.args.index row old before column _ c.loop-column.invariant.3 cell _ at (grind (arith, nat_tests))
-    now read.fine read.put in
+    let put = after_cell kinds d c.args.index row old before column _ c.loop-column.invariant.4 cell _ at (grind (arith, nat_tests))
+    now read.0.fine read.0.put in
     let done = row_ends kinds d c.args.index row old now (column + 1) [] put None (inl refl)
     (end_fine (count_in d) c.args.index (column + 1) row (grind (arith, nat_tests))
     (sym (ap (λ r. r.lacks_return) (part.ensures.row c.if-part.true c.args.start)) ∙ sym c.lacks_return-lacks_return.ensures
@@ -219,24 +268,36 @@ returns-then-part-clause-targets g c =
     let old = map g.C.TableColumn.target c.args.targets.now in
     let before = map g.C.TableColumn.target c.loop-column.targets in
     let cell : FieldView = record { start = c.args.start + (length text - length left); text = take part.result.size left } in
-    let now = map g.C.TableColumn.target c.if-not-read_coded_cell.targets in
-    let read : IsCellRead d c.args.index column cell before now = elim c.if-not-read_coded_cell.branch [
-      | then-not-read_coded_cell+in_default w ↦ read_kept d c.args.index column cell before _ now
-          (w.if-not-read_coded_cell.ensures.kept refl)
-          (record { fine = w.in_default.ensures.fault; put = ap (map g.C.TableColumn.target) w.targets-is ∙ w.in_default.ensures.targets })
-      | else-not-read_coded_cell w ↦ record {
-        fine = sym (w.if-not-read_coded_cell.ensures.fault refl cell.start);
-        put = ap (map g.C.TableColumn.target) w.targets-is ∙ w.if-not-read_coded_cell.ensures.targets refl cell.start;
-      }
+    let now = map g.C.TableColumn.target c.if-not-read_cell_at_once.targets in
+    let read : IsCellRead d c.args.index column cell before now × (c.if-not-read_cell_at_once.wrong ≡ None) =
+    elim c.if-not-read_cell_at_once.branch [
+      | then-not-read_cell_at_once+else-not-read_by_column w ↦
+          let kept = w.if-not-read_cell_at_once.ensures.kept refl in
+          let fine = none_wrong _ w.if-not-read_by_column.ensures.right in (
+            read_kept d c.args.index column cell before _ now kept
+                (record { fine = fine; put = ap (map g.C.TableColumn.target) w.targets-is ∙ w.read_by_column.ensures.targets }),
+            w.wrong-is ∙ w.read_by_column.ensures.fault ∙ ap (option_map (wrong_cell c.args.index column)) (sym fine),
+          )
+      | else-not-read_cell_at_once w ↦ (
+        record {
+          fine = sym (w.if-not-read_cell_at_once.ensures.fault refl cell.start);
+          put = ap (map g.C.TableColumn.target) w.targets-is ∙ w.if-not-read_cell_at_once.ensures.targets refl cell.start;
+        },
+        w.wrong-is ∙ c.loop-column.invariant.3,
+      )
     ] in
     let at = part.ensures.cells c.args.start column
     ∙ ap (λ t. cell ∷ cond t [] (cells_behind d row (column + 1) (length text - length part.result.behind.text.now))) c.if-part.true in
-    let put = after_cell kinds d c.args.index row old before column _ c.loop-column.invariant.3 cell _ at (grind (arith, nat_tests))
-    now read.fine read.put in
-    let done = row_ends kinds d c.args.index row old now (column + 1) [] put (Some c.wrong_end.result) (inl refl)
-    (c.wrong_end.ensures
-    ∙ ap (λ t. end_fault c.args.columns c.args.index (record { start = c.args.start; text = take (length text - length left
-    + part.result.size) text; lacks_return = t }) (column + 1) None) c.lacks_return-lacks_return.ensures
+    let put = after_cell kinds d c.args.index row old before column _ c.loop-column.invariant.4 cell _ at (grind (arith, nat_tests))
+    now read.0.fine read.0.put in
+    let done = row_ends kinds d c.args.index row old now (column + 1) [] put c.put_end_fault.new.wrong (inl refl)
+    (c.put_end_fault.ensures
+    ∙ ap (λ t. end_fault c.args.columns c.args.index (record {
+      start = c.args.start;
+      text = take (length text - length left
+          + part.result.size) text;
+      lacks_return = t;
+    }) (column + 1) None) c.lacks_return-lacks_return.ensures
     ∙ ap (λ r. end_fault c.args.columns c.args.index r (column + 1) None) (part.ensures.row c.if-part.true c.args.start)
     ∙ ap (λ n. end_fault n c.args.index row (column + 1) None) c.requires.columns) in
     done.targets_are
@@ -248,7 +309,7 @@ returns-clause-fault g c =
     let left = c.loop-column.left.text.now in
     let row = first_row d c.args.start text in
     let column = c.loop-column.column in
-    let put = c.loop-column.invariant.3 in
+    let put = c.loop-column.invariant.4 in
     let full : count_in d ≤ column = grind (arith, nat_tests) in
     let all : count_in d ≡ column = omega (arith, put.few, full) in
     let done = row_ends (kinds_of (map g.C.TableColumn.target c.args.targets.now)) d c.args.index row
@@ -266,7 +327,7 @@ returns-clause-targets g c =
     let left = c.loop-column.left.text.now in
     let row = first_row d c.args.start text in
     let column = c.loop-column.column in
-    let put = c.loop-column.invariant.3 in
+    let put = c.loop-column.invariant.4 in
     let full : count_in d ≤ column = grind (arith, nat_tests) in
     let all : count_in d ≡ column = omega (arith, put.few, full) in
     let done = row_ends (kinds_of (map g.C.TableColumn.target c.args.targets.now)) d c.args.index row

@@ -1,4 +1,4 @@
-use Rattle.std.proofs.Common.{◌-◌, length, map}
+use Rattle.std.proofs.Common.{◌≡◌, ◌-◌, None, length, map}
 use Rattle.lexical_tables.specs.ByColumn.{kinds_of}
 use Rattle.lexical_tables.specs.Codes.{AreCodes}
 use Rattle.lexical_tables.specs.Ends.{AreEnds}
@@ -12,6 +12,7 @@ invariant-loop-column g l =
     IsOnRow l.dialect l.separator l.fn.text.text.now l.left.text.now
     × AreEnds l.dialect.has_quotes l.separator l.left.text.now l.left.marks
     × AreCodes l.dialect l.codes (map g.C.TableColumn.target l.targets)
+    × (l.wrong ≡ None)
     × IsRowPut (kinds_of (map g.C.TableColumn.target l.initial.targets)) l.dialect l.index
     (first_row l.dialect l.start l.fn.text.text.now) (map g.C.TableColumn.target l.initial.targets)
     (map g.C.TableColumn.target l.targets) l.column
