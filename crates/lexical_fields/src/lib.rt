@@ -24,10 +24,9 @@ pub use columns::{Column, ColumnError, read_column};
 pub use iterator::{Field, Fields};
 pub use lines::{LineColumn, line_column};
 pub use marked::{
-    long_number_of_front, next_marks, number_of_front, split_marked, value_in_front,
-    value_of_front,
+    long_number_of_front, next_marks, number_of_front, split_marked, value_in_front, value_of_front,
 };
 pub use parts::{read_column_part, reads_in_parts, whole_fields};
 pub use places::error_in_text;
-pub use search::{lowest_mark, marks_among_16, plain_of_16};
+pub use search::{lowest_mark, marks_among_16};
 pub use split::field_length;

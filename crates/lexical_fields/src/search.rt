@@ -1,5 +1,5 @@
 // Where a byte first stands, by sixteen bytes at once.
-ghost use Rattle.std.specs.Prelude.{◌≡◌, ◌≢◌, ◌==◌, ◌||◌, ◌<◌, ◌≤◌, ℕ, true, if◌then◌else◌, length, slice_index, IfSome, IsNone};
+ghost use Rattle.std.specs.Prelude.{◌≡◌, ◌≢◌, ◌==◌, ◌<◌, ◌≤◌, ℕ, if◌then◌else◌, length, slice_index, IfSome, IsNone};
 ghost use Rattle.std.specs.Int.{bit_at};
 ghost use Rattle.lexical_fields.specs.Search.{AreMarks, StandsFirst};
 
@@ -76,22 +76,4 @@ pub(crate) fn first_of_16(bytes: &[u8], byte: u8) -> Option<usize>
     } else {
         Some(lowest_mark(marks))
     }
-}
-
-/// How many of sixteen bytes stand before the first that is one of two, or all where none is.
-#[inline(always)]
-pub fn plain_of_16(bytes: &[u8], first: u8, second: u8) -> usize
-    requires { length bytes.now ≡ 16 }
-    ensures within { result ≤ 16 }
-    ensures no_first { (k : ℕ) → k < result → slice_index bytes.now k ≢ first }
-    ensures no_second { (k : ℕ) → k < result → slice_index bytes.now k ≢ second }
-    ensures ends { result < 16 → ((slice_index bytes.now result == first)
-        || (slice_index bytes.now result == second)) ≡ true }
-{
-    let lanes = u8x16::from_slice(bytes);
-    let marks = marks_of_16(lanes, first) | marks_of_16(lanes, second);
-    if marks == 0 {
-        return 16;
-    }
-    lowest_mark(marks)
 }
