@@ -181,7 +181,7 @@ pub fn algorithm_partial<T: Integer>(
 {
     match front_if_plain::<T>(bytes, format) {
         Some(found) => Ok(found),
-        None => partial_out_of_line::<T>(bytes, format),
+        None => valid_front::<T>(bytes, format),
     }
 }
 
@@ -192,6 +192,15 @@ fn partial_out_of_line<T: Integer>(bytes: &[u8], format: &NumberFormat) -> Resul
     ensures { view_of (with_place T.number) result ≡ partial format.now T.TYPE bytes.now }
 {
     partial_from_front::<T>(bytes, format)
+}
+
+// The same, by a function that clears the room for its `Result` itself: a number in front then pays for none.
+#[inline(always)]
+fn valid_front<T: Integer>(bytes: &[u8], format: &NumberFormat) -> Result<(T, usize)>
+    requires valid { IsNone (fault format.now) }
+    ensures { view_of (with_place T.number) result ≡ partial format.now T.TYPE bytes.now }
+{
+    partial_out_of_line::<T>(bytes, format)
 }
 
 // ---- under the standard format

@@ -26,6 +26,14 @@ fn partial_if_valid<T: Integer>(bytes: &[u8], format: &NumberFormat) -> Result<(
     }
 }
 
+// The same, by a function that clears the room for its `Result` itself: a number in front then pays for none.
+#[inline(always)]
+fn front_if_valid<T: Integer>(bytes: &[u8], format: &NumberFormat) -> Result<(T, usize)>
+    ensures { view_of (with_place T.number) result ≡ partial_if_valid format.now T.TYPE bytes.now }
+{
+    partial_if_valid::<T>(bytes, format)
+}
+
 impl<T: Integer> FromLexical for T {
     #[inline(always)]
     fn from_lexical(bytes: &[u8]) -> Result<T> {
@@ -68,7 +76,7 @@ impl<T: Integer> FromLexicalWithOptions for T {
     ) -> Result<(T, usize)> {
         match front_if_plain::<T>(bytes, format) {
             Some(found) => Ok(found),
-            None => partial_if_valid::<T>(bytes, format),
+            None => front_if_valid::<T>(bytes, format),
         }
     }
 }

@@ -5,4 +5,4 @@ pub returns-in-Some : goal.returns-in-Some
 returns-in-Some g c = front_answered_if_valid _ _ _ _ c.in-Some.ensures.valid c.in-Some.ensures.answer
 
 pub returns-in-None : goal.returns-in-None
-returns-in-None g c = c.partial_if_valid.ensures
+returns-in-None g c = c.front_if_valid.ensures
