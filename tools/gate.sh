@@ -105,7 +105,7 @@ devices() {
 # A crate or a line that a user has changed is named, and stays; what was copied is what stands here.
 vendor() {
     user="$copy/a user"
-    set -- make -s vendor DEST="$user" WITH="lexical_fields lexical_formats lexical_laws lexical_literals lexical_tables"
+    set -- make -s vendor DEST="$user" WITH="lexical_fields lexical_fixed lexical_formats lexical_laws lexical_literals lexical_tables"
     mkdir -p "$user" crates/lexical_util/out
     "$@" && test ! -e "$user/crates/lexical_util/out" || return 1
     echo >> "$user/crates/lexical_util/README.md"

@@ -3,6 +3,7 @@ mod Digits
 mod FixedRows
 mod Fractions
 mod IntegerParts
+mod LastFractions
 mod Places
 mod QuickDigits
 mod QuickFronts

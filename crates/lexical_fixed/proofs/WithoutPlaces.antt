@@ -1,5 +1,5 @@
 -- Without places a whole text is read as an integer.
-use Rattle.std.proofs.Common.{◌≡◌, ℕ, ◌+◌, ◌-◌, ◌≤◌, ◌<◌, Bool, true, false, cond, not, ◌&&◌, ◌||◌, List, [], ◌∷◌, ◌++◌, length, take, drop, Option, Some, None, Result, Ok, Err, refl, sym, ap, ◌∙◌, arith, inl, inr}
+use Rattle.std.proofs.Common.{◌≡◌, ℕ, Bool, true, false, cond, not, ◌&&◌, ◌||◌, List, [], ◌∷◌, ◌++◌, length, Option, Some, None, Result, Ok, Err, refl, sym, ap, ◌∙◌, arith, inl, inr}
 use Rattle.std.proofs.Math.IntN.{ℤ}
 use Rattle.std.proofs.lemmas.Bool.{cases_lt, eq-eqb, false≢true, lt-ltb}
 use Rattle.std.specs.Prelude.{◌==◌, nat_lt, is_some}
@@ -7,16 +7,16 @@ use Rattle.lexical_util.specs.declared.error.Error.{Error}
 use Rattle.lexical_util.specs.declared.error.Error.TheVariants.{Overflow, Underflow, InvalidDigit, Empty, MissingSign, InvalidPositiveSign, InvalidLeadingZeros, InvalidMantissaRadix, InvalidDigitSeparator, InvalidBasePrefix, InvalidBaseSuffix, InvalidPunctuation, InvalidLiteralPrefixes}
 use Rattle.lexical_util.specs.Format.{Format}
 use Rattle.lexical_util.specs.Number.{IntegerType}
-use Rattle.lexical_parse_integer.specs.Fronts.{has_digit, has_digit_behind, if_digit, number_in_front}
+use Rattle.lexical_parse_integer.specs.Fronts.{has_digit, has_digit_behind, if_digit}
 use Rattle.lexical_parse_integer.specs.Grammar.{after_head, common_faults, complete, digits_required, fault_if, first_fault_or, lacks_digits, partial, partial_faults, prefix_fault, range_fault, zero_fault}
 use Rattle.lexical_parse_integer.specs.Head.{Head, chooses_radix, head_of}
 use Rattle.lexical_parse_integer.specs.Laws.{completion_of}
 use Rattle.lexical_parse_integer.specs.Numeral.{Numeral, digit_count, numeral_behind, numeral_value}
 use Rattle.lexical_parse_integer.proofs.ForCallers.{partial_within}
 use Rattle.lexical_fixed.specs.Fixed.{Fixed}
-use Rattle.lexical_fixed.specs.Fraction.{digit_outside, digits_fault, fraction, fraction_length, has_bare_point, has_point_at, lacks_places, whole_end, with_digits, with_zeros, zeros_fault}
+use Rattle.lexical_fixed.specs.Fraction.{digit_outside, digits_fault, fraction_length, has_bare_point, has_point_at, lacks_places, whole_end, with_digits, zeros_fault}
 use Rattle.lexical_fixed.specs.Grammar.{complete_by, complete_fixed, integer_part, is_negative, units_behind, whole_behind, whole_fault}
-use Rattle.lexical_fixed.proofs.Digits.{with_digits-none, zeros_none}
+use Rattle.lexical_fixed.proofs.Digits.{with_digits-none}
 use Rattle.lexical_fixed.proofs.IntegerParts.{partial_sign}
 use Rattle.lexical_fixed.proofs.QuickDigits.{no_zeros}
 

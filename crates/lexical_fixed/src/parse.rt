@@ -11,7 +11,7 @@ ghost use Rattle.lexical_fixed.specs.Validity.{fixed_fault};
 
 use crate::format::FixedFormat;
 use crate::fraction::{digits_from, fraction, has_point_at, read_digits, read_zeros, stands_at};
-use crate::quick::front_at_once;
+use crate::quick::{front_at_once, whole_at_once};
 use lexical_parse_integer::parse::ParseInteger;
 use lexical_parse_integer::{number_in_front, options};
 use lexical_util::error::Error;
@@ -215,18 +215,16 @@ fn partial_if_left<T: Integer>(text: &[u8], format: &FixedFormat) -> Result<(T, 
     }
 }
 
-// What the whole text stands for: where the front is all of it, that is its number.
+// What the whole text stands for.
 #[inline(always)]
 pub(crate) fn complete<T: Integer>(text: &[u8], format: &FixedFormat) -> Result<T>
     requires valid { IsNone (fixed_fault format.now) }
     ensures { view_of T.number result ≡ complete_fixed format.now T.TYPE text.now }
 {
-    if let Some((value, end)) = front_at_once::<T>(text, format) {
-        if end == text.len() {
-            return Ok(value);
-        }
+    match whole_at_once::<T>(text, format) {
+        Some(value) => Ok(value),
+        None => complete_if_left::<T>(text, format),
     }
-    complete_if_left::<T>(text, format)
 }
 
 // What the front of the text stands for, and the place at which reading stops.

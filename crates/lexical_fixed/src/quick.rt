@@ -3,7 +3,8 @@
 ghost use Rattle.std.specs.Prelude.{◌≡◌, ◌==◌, ◌≤◌, ◌<◌, ◌+◌, ◌^◌, if◌then◌else◌, IfSome, IsNone, Ok, length, pos, true};
 ghost use Rattle.lexical_util.specs.Number.{HasSign, is_number, mul_add};
 ghost use Rattle.lexical_parse_integer.specs.Answer.{with_place};
-ghost use Rattle.lexical_fixed.specs.Grammar.{front_behind, integer_part, is_negative, partial_fixed};
+ghost use Rattle.lexical_fixed.specs.Fraction.{front_end};
+ghost use Rattle.lexical_fixed.specs.Grammar.{complete_fixed, front_behind, integer_part, is_negative, partial_fixed};
 ghost use Rattle.lexical_fixed.specs.Quick.{IsFraction};
 ghost use Rattle.lexical_fixed.specs.Validity.{fixed_fault};
 
@@ -11,6 +12,7 @@ use crate::format::FixedFormat;
 use crate::fraction::stands_at;
 use crate::parse::is_negative;
 use lexical_digits::fronts::number_in_front;
+use lexical_digits::values::value_to_16;
 use lexical_parse_integer::laws::grammar::front_digits;
 use lexical_parse_integer::quick::front_if_plain;
 use lexical_parse_integer::stops_after_digit;
@@ -83,37 +85,60 @@ fn end_behind(place: usize, count: usize) -> usize
     if count == 0 { place } else { place + 1 + count }
 }
 
-// The number in units and where the front ends, behind an integer part that ends at a place.
+// The number in units behind an integer part that ends at a place, and a fraction that is known.
 #[inline(always)]
-fn short_front<T: Integer>(
+fn short_units<T: Integer>(
     text: &[u8],
     format: &FixedFormat,
     whole: T,
     place: usize,
-) -> Option<(T, usize)>
+    number: u32,
+    count: usize,
+) -> Option<T>
     requires bits { 32 ≤ T.TYPE.bits }
-    requires within { place ≤ length text.now }
     requires sign { HasSign (is_negative T.TYPE text.now) (T.number whole) }
-    ensures { IfSome result (λ found. front_behind format.now T.TYPE text.now (T.number whole) place
-        ≡ Ok (with_place T.number found)) }
+    requires fraction { IsFraction format.now text.now place number count }
+    ensures { IfSome result (λ units. front_behind format.now T.TYPE text.now (T.number whole) place
+        ≡ Ok (T.number units, front_end format.now text.now place)) }
 {
     let is_negative = is_negative::<T>(text);
-    let Some((number, count)) = short_fraction(text, format, place) else {
-        return None;
-    };
-    let end = end_behind(place, count);
     let Some(written) = append_number::<T>(whole, number, count, is_negative) else {
         return None;
     };
     let zeros = format.places() - count;
     if zeros == 0 {
-        return Some((written, end));
+        return Some(written);
     }
     if !format.takes_fewer() || zeros > 9 {
         return None;
     }
-    match append_number::<T>(written, 0, zeros, is_negative) {
-        Some(units) => Some((units, end)),
+    let Some(units) = append_number::<T>(written, 0, zeros, is_negative) else {
+        return None;
+    };
+    Some(units)
+}
+
+// The number of a fraction that goes to the text's end, and how many digits it has, where they are few.
+#[inline(always)]
+fn last_fraction(text: &[u8], format: &FixedFormat, place: usize) -> Option<(u32, usize)>
+    requires { place ≤ length text.now }
+    ensures fraction { IfSome result
+        (λ found. IsFraction format.now text.now place found.0 found.1) }
+    ensures ends { IfSome result (λ found. front_end format.now text.now place ≡ length text.now) }
+{
+    if place == text.len() {
+        return Some((0, 0));
+    }
+    if !stands_at(text, format.point(), place) {
+        return None;
+    }
+    let rest = &text[place + 1..];
+    let count = rest.len();
+    if count == 0 || count > 4 || count > format.places() {
+        return None;
+    }
+    match value_to_16::<u32>(rest, false) {
+        Some(number) => Some((number, count)),
         None => None,
     }
 }
@@ -153,8 +178,33 @@ pub(crate) fn front_at_once<T: Integer>(text: &[u8], format: &FixedFormat) -> Op
     if T::BITS < 32 {
         return None;
     }
-    match plain_part::<T>(text, format) {
-        Some((whole, place)) => short_front::<T>(text, format, whole, place),
+    let Some((whole, place)) = plain_part::<T>(text, format) else {
+        return None;
+    };
+    let Some((number, count)) = short_fraction(text, format, place) else {
+        return None;
+    };
+    match short_units::<T>(text, format, whole, place, number, count) {
+        Some(units) => Some((units, end_behind(place, count))),
         None => None,
     }
+}
+
+// The number that the whole text stands for.
+#[inline(always)]
+pub(crate) fn whole_at_once<T: Integer>(text: &[u8], format: &FixedFormat) -> Option<T>
+    requires valid { IsNone (fixed_fault format.now) }
+    ensures { IfSome result
+        (λ units. complete_fixed format.now T.TYPE text.now ≡ Ok (T.number units)) }
+{
+    if T::BITS < 32 {
+        return None;
+    }
+    let Some((whole, place)) = plain_part::<T>(text, format) else {
+        return None;
+    };
+    let Some((number, count)) = last_fraction(text, format, place) else {
+        return None;
+    };
+    short_units::<T>(text, format, whole, place, number, count)
 }

@@ -1,0 +1,90 @@
+-- A fraction that goes to the text's end, by the number that its digits stand for: for the quick way.
+use Rattle.std.proofs.Common.{◌≡◌, ℕ, zero, suc, ◌+◌, ◌-◌, ◌^◌, ◌≤◌, ◌<◌, true, false, List, [], ◌∷◌, length, take, map, Some, None, is_some, refl, sym, ap, subst, ◌∙◌, arith}
+use Rattle.std.proofs.Math.IntN.{pos}
+use Rattle.std.proofs.Math.Nat.{pow-le-pow_right}
+use Rattle.std.proofs.Math.Seq.{take-length}
+use Rattle.std.proofs.lemmas.Bool.Decides.{nat_tests}
+use Rattle.std.proofs.lemmas.List.{length-drop}
+use Rattle.std.proofs.lemmas.Option.{slice_get_past}
+use Rattle.std.specs.Prelude.{◌==◌, slice_get, slice_range}
+use Rattle.lexical_util.specs.Digit.{digit}
+use Rattle.lexical_util.specs.Number.{IntegerType}
+use Rattle.lexical_digits.specs.Value.{positional_value}
+use Rattle.lexical_digits.specs.Words.{AreDigits, word_value}
+use Rattle.lexical_digits.specs.WrittenNumbers.{StandsFor, WritesFirst}
+use Rattle.lexical_digits.proofs.AsciiDigits.{digit_from, digit_to}
+use Rattle.lexical_digits.proofs.WordsInFront.{rest_is}
+use Rattle.lexical_digits.proofs.WordsOfDigits.{digits_below, raised_none}
+use Rattle.lexical_parse_integer.specs.Runs.{are_same}
+use Rattle.lexical_fixed.specs.Fixed.{Fixed}
+use Rattle.lexical_fixed.specs.Fraction.{front_end}
+use Rattle.lexical_fixed.specs.Quick.{IsFraction}
+use Rattle.lexical_fixed.proofs.QuickFronts.{few_digits, no_point}
+
+-- bytes that have values are digits, worth these
+record HaveValues (bytes values : List ℕ) : Type 0 where
+  digits : AreDigits 10 bytes
+  worth : map (λ byte. byte - 48) bytes ≡ values
+
+have_values : (bytes values : List ℕ) → map (λ byte. digit 10 byte) bytes ≡ map Some values → HaveValues bytes values
+have_values [] [] same = record { digits = tt; worth = refl }
+have_values [] (v ∷ vs) same = absurd (cc)
+have_values (b ∷ bs) [] same = absurd (cc)
+have_values (b ∷ bs) (v ∷ vs) same =
+    let first : digit 10 b ≡ Some v = cc in
+    let more : map (λ byte. digit 10 byte) bs ≡ map Some vs = cc in
+    let rest = have_values bs vs more in
+    let is : is_some (digit 10 b) ≡ true = ap is_some first in
+    let value : digit 10 b ≡ Some (b - 48) = digit_from 10 b (digit_to 10 b is (omega arith)) (omega arith) in
+    let worth : b - 48 ≡ v = grind (arith, first, value) in
+    record { digits = (is, rest.digits); worth = rw worth (ap (λ (all : List ℕ). v ∷ all) rest.worth) }
+
+-- the first digits are all of the text
+pub first_digits : (t : IntegerType) (bytes : List ℕ) (number : ℕ) → length bytes ≤ 4 → StandsFor t 10 false bytes (pos number) → WritesFirst bytes number (length bytes)
+first_digits t bytes number few s =
+    let w = s.writes in
+    let same : map (λ byte. digit 10 byte) bytes ≡ map Some w.values = ap (map (λ byte. digit 10 byte)) (sym (take-length bytes)) ∙ w.digits in
+    let have = have_values bytes w.values same in
+    let taken = raised_none (take (length bytes) bytes) ∙ take-length bytes in
+    let equal : pos number ≡ pos (positional_value 10 w.values) = s.worth ∙ w.worth in
+    let number_is : number ≡ positional_value 10 w.values = grind (arith, equal) in
+    record {
+      few = omega arith;
+      within = omega arith;
+      writes = record {
+        digits = subst (λ (all : List ℕ). AreDigits 10 all) (sym taken) have.digits;
+        worth = number_is ∙ ap (positional_value 10) (sym have.worth) ∙ ap (word_value 10) (sym taken);
+      };
+      stops = λ less more. absurd (omega arith);
+    }
+
+-- at the text's end there is no fraction
+pub none_at_end : (f : Fixed) (text : List ℕ) (place : ℕ) → place ≡ length text → IsFraction f text place 0 0
+unfolding are_same
+none_at_end f text place end =
+    let none : slice_get text place ≡ None = slice_get_past text place (omega arith) in
+    no_point f text place (rw none refl)
+
+pub ends_at_end : (f : Fixed) (text : List ℕ) (place : ℕ) → place ≡ length text → front_end f text place ≡ length text
+ends_at_end f text place end = (none_at_end f text place end).ends ∙ end
+
+-- digits up to the end are the fraction
+pub last_digits : (f : Fixed) (t : IntegerType) (text : List ℕ) (place number count : ℕ) → are_same (Some f.point) (slice_get text place) ≡ true
+    → count ≡ length (slice_range text (place + 1) (length text)) → 1 ≤ count → count ≤ 4 → count ≤ f.places → StandsFor t 10 false (slice_range text (place + 1) (length text)) (pos number)
+    → IsFraction f text place number count
+last_digits f t text place number count some size more few room s =
+    let rest : List ℕ = slice_range text (place + 1) (length text) in
+    let first : WritesFirst rest number (length rest) = first_digits t rest number (omega arith) s in
+    let same : WritesFirst rest number count = subst (λ (n : ℕ). WritesFirst rest number n) (sym size) first in
+    let below = digits_below (take (length rest) rest) number (subst (λ (all : List ℕ). AreDigits 10 all) (raised_none (take (length rest) rest)) first.writes.digits) (first.writes.worth ∙ ap (word_value 10) (raised_none (take (length rest) rest))) in
+    let all : length (take (length rest) rest) ≡ length rest = ap (λ (bytes : List ℕ). length bytes) (take-length rest) in
+    let short : length (take (length rest) rest) ≤ 4 = omega (arith, all, size, few) in
+    let most : 10 ^ length (take (length rest) rest) ≤ 10 ^ 4 = pow-le-pow_right {n = 10} (omega arith) short in
+    few_digits f text place number count some same more (omega arith) room (omega (arith, below, most))
+
+pub last_ends : (f : Fixed) (text : List ℕ) (place number count : ℕ) → IsFraction f text place number count → 1 ≤ count → place < length text → count ≡ length (slice_range text (place + 1) (length text)) → front_end f text place ≡ length text
+last_ends f text place number zero x more within size = absurd (omega arith)
+last_ends f text place number (suc n) x more within size =
+    let some : (suc n == 0) ≡ false = grind (arith, nat_tests) in
+    let rest : length (slice_range text (place + 1) (length text)) ≡ length text - (place + 1) = ap (λ (bytes : List ℕ). length bytes) (rest_is text (place + 1)) ∙ length-drop (place + 1) text in
+    x.ends ∙ rw some (omega (arith, size, rest, within))
