@@ -2,6 +2,7 @@
 
 mod bad_rows;
 mod fields;
+mod fixed;
 mod lines;
 mod literals;
 mod parser;
