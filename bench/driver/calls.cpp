@@ -249,7 +249,7 @@ bool answer_table(const Case &asked) {
 }
 
 // Calls that the library of the start lacks: bench/calls says whether this one has them.
-#ifdef HAS_FIXED
+#ifdef HAS_NEW
 
 template <class Number>
 using ParseFixed = jadvolni_result (*)(const char *, std::size_t, const jadvolni_fixed *, Number *);
