@@ -37,16 +37,20 @@ LIBDIR = "/usr/lib/x86_64-linux-gnu"
 INSTALLED = ["PREFIX=/usr", f"LIBDIR={LIBDIR}"]
 BUILT = ["-o", "build/libjadvolni.a", "-o", "build/symbols.map", "-o", "build/libjadvolni.so"]
 FORMS = [what + under for what in ("", "_front", "_partial") for under in ("", "_with_format")]
+FIXED = ["", "_front"]
 # The structs of the header, by their names in the crate. jadvolni-sys has the header's names.
 STRUCTS = {"result": "Outcome", "format": "FormatFields", "uint128": "Unsigned128",
            "int128": "Signed128", "table_result": "TableOutcome", "row_result": "RowOutcome",
-           "bad_row": "BadRowFields", "skipping_result": "SkippingOutcome"}
+           "bad_row": "BadRowFields", "skipping_result": "SkippingOutcome", "fixed": "FixedFields",
+           "position": "LineAndColumn"}
 OF_RUST = {"uint8_t": "u8", "uint32_t": "u32", "uint64_t": "u64", "int64_t": "i64",
-           "size_t": "usize"}
+           "size_t": "usize", "jadvolni_format": "jadvolni_format"}
 COLUMN_TYPES = [f"{sign}{size}" for sign in "ui" for size in (8, 16, 32, 64)]
 CALLS = sorted(["jadvolni_version", "jadvolni_format_error", "jadvolni_field_start",
                 "jadvolni_parse_literal", "jadvolni_parse_table",
-                "jadvolni_parse_table_skipping", "jadvolni_row_place"]
+                "jadvolni_parse_table_skipping", "jadvolni_row_place", "jadvolni_fixed_error",
+                "jadvolni_line_column"]
+               + [f"jadvolni_parse_{name}_fixed{form}" for name, form in product(TYPES, FIXED)]
                + [f"jadvolni_parse_{name}{form}" for name, form in product(TYPES, FORMS)]
                + [f"jadvolni_parse_{name}_column" for name in COLUMN_TYPES])
 
@@ -136,7 +140,8 @@ def layout() -> str:
     """The header, the crate and jadvolni-sys have the same fields in the same order, and calls."""
     crate = "".join(text_of("crates", "jadvolni", "src", f"{name}.rt")
                     for name in ("outcome", "format", "halves", "tables", "bad_rows",
-                                 "skipping"))
+                                 "skipping", "fixed", "lines"))
+    crate = crate.replace("pub integer: FormatFields", "pub integer: jadvolni_format")
     bound = text_of("bindings", "rust", "jadvolni-sys", "src", "lib.rs")
     for name, of_crate in STRUCTS.items():
         wanted = fields_of_c(name)

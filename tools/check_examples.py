@@ -160,7 +160,8 @@ def of_words() -> Iterator[Case]:
     yield Case("colour", status=2, told=f"colour: {IS_FULL}", words=("1e90FF",), redirected=FULL)
     yield Case("settings", said="port 65535, 0 percent\n", words=("65535", "0"))
     yield Case("settings", status=2, told="usage: settings PORT PERCENT", words=("80",))
-    yield Case("settings", status=2, told=f"settings: {IS_FULL}", words=("80", "5"), redirected=FULL)
+    yield Case("settings", status=2, told=f"settings: {IS_FULL}", words=("80", "5"),
+               redirected=FULL)
     for words, fault in SETTING_FAULTS.items():
         yield Case("settings", status=2, told=f"settings: {fault}", words=words)
     for word, fault in COLOUR_FAULTS.items():

@@ -69,7 +69,7 @@ impl FixedFormat {
     /// 3. It has no prefix, no suffix, no literal prefixes and no octal zeros; else `Affix`.
     /// 4. The point is neither a decimal digit, nor `+` or `-`, nor the separator; else `Point`.
     /// 5. There are at most 38 places; else `Places`.
-    #[inline]
+    #[inline(never)]
     pub fn error(&self) -> Option<FixedFormatError>
         ensures { result ≡ fixed_fault self.now }
     {

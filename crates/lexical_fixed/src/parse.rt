@@ -36,6 +36,7 @@ fn number_with_digit<T: Integer>(text: &[u8], format: &NumberFormat) -> Result<(
 
 // The integer part in front of a text, and the place behind it.
 #[tactic(auto, unfolding(crate::specs::Grammar::integer_part))]
+#[inline(never)]
 fn integer_part<T: Integer>(text: &[u8], format: &NumberFormat) -> Result<(T, usize)>
     requires valid { IsNone (fault format.now) }
     ensures answer { view_of (with_place T.number) result
@@ -79,6 +80,7 @@ fn is_cut(text: &[u8], format: &FixedFormat, place: usize) -> bool
 
 // The number in units behind an integer part that ends at a place. Reading stops at `stop`, where a byte can't stand or a
 // digit is missing.
+#[inline(never)]
 fn units_behind<T: Integer>(
     text: &[u8],
     format: &FixedFormat,
@@ -190,9 +192,9 @@ fn front_behind<T: Integer>(
 }
 
 // What the whole text stands for, where the quick way left it.
-#[inline(never)]
 #[tactic(auto, unfolding(crate::specs::Grammar::complete_fixed))]
-fn complete_if_left<T: Integer>(text: &[u8], format: &FixedFormat) -> Result<T>
+#[inline(never)]
+fn read_whole<T: Integer>(text: &[u8], format: &FixedFormat) -> Result<T>
     requires valid { IsNone (fixed_fault format.now) }
     ensures { view_of T.number result ≡ complete_fixed format.now T.TYPE text.now }
 {
@@ -203,9 +205,9 @@ fn complete_if_left<T: Integer>(text: &[u8], format: &FixedFormat) -> Result<T>
 }
 
 // What the front of the text stands for, and the place at which reading stops, where the quick way left it.
-#[inline(never)]
 #[tactic(auto, unfolding(crate::specs::Grammar::partial_fixed))]
-fn partial_if_left<T: Integer>(text: &[u8], format: &FixedFormat) -> Result<(T, usize)>
+#[inline(never)]
+fn read_front<T: Integer>(text: &[u8], format: &FixedFormat) -> Result<(T, usize)>
     requires valid { IsNone (fixed_fault format.now) }
     ensures { view_of (with_place T.number) result ≡ partial_fixed format.now T.TYPE text.now }
 {
@@ -223,7 +225,7 @@ pub(crate) fn complete<T: Integer>(text: &[u8], format: &FixedFormat) -> Result<
 {
     match whole_at_once::<T>(text, format) {
         Some(value) => Ok(value),
-        None => complete_if_left::<T>(text, format),
+        None => read_whole::<T>(text, format),
     }
 }
 
@@ -235,6 +237,6 @@ pub(crate) fn partial<T: Integer>(text: &[u8], format: &FixedFormat) -> Result<(
 {
     match front_at_once::<T>(text, format) {
         Some(found) => Ok(found),
-        None => partial_if_left::<T>(text, format),
+        None => read_front::<T>(text, format),
     }
 }

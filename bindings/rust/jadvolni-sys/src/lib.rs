@@ -141,6 +141,25 @@ pub struct jadvolni_skipping_result {
     pub place: usize,
 }
 
+/// How fixed-point numbers are written.
+#[repr(C)]
+#[derive(Debug, Copy, Clone, PartialEq, Eq)]
+pub struct jadvolni_fixed {
+    pub integer: jadvolni_format,
+    pub point: u8,
+    pub places: u8,
+    pub takes_fewer: u8,
+    pub reserved: [u8; 13],
+}
+
+/// Line and column of a place, both from 0.
+#[repr(C)]
+#[derive(Debug, Copy, Clone, PartialEq, Eq)]
+pub struct jadvolni_position {
+    pub line: usize,
+    pub column: usize,
+}
+
 /// The bits of `nul_is_punctuation`.
 pub const JADVOLNI_NUL_IS_SEPARATOR: u8 = 1;
 pub const JADVOLNI_NUL_IS_PREFIX: u8 = 2;
@@ -166,6 +185,8 @@ const _: () = {
         size_of::<jadvolni_skipping_result>() == 40
             && offset_of!(jadvolni_skipping_result, bad_rows) == 24
     );
+    assert!(size_of::<jadvolni_fixed>() == 48 && offset_of!(jadvolni_fixed, point) == 32);
+    assert!(size_of::<jadvolni_position>() == 16);
     assert!(size_of::<jadvolni_uint128>() == 16 && offset_of!(jadvolni_uint128, high) == 8);
     assert!(size_of::<jadvolni_int128>() == 16 && offset_of!(jadvolni_int128, high) == 8);
 };
@@ -271,5 +292,31 @@ extern "C" {
     pub fn jadvolni_parse_table(text: *const c_char, len: usize, is_last: bool, table: *const jadvolni_table, capacity: usize, columns: *mut jadvolni_table_column, column_count: usize) -> jadvolni_table_result;
     pub fn jadvolni_parse_table_skipping(text: *const c_char, len: usize, is_last: bool, table: *const jadvolni_table, capacity: usize, columns: *mut jadvolni_table_column, column_count: usize, bad: *mut jadvolni_bad_row, bad_capacity: usize) -> jadvolni_skipping_result;
     pub fn jadvolni_row_place(text: *const c_char, len: usize, table: *const jadvolni_table, row: usize) -> jadvolni_row_result;
+    pub fn jadvolni_fixed_error(fixed: *const jadvolni_fixed) -> u32;
+    pub fn jadvolni_parse_u8_fixed(text: *const c_char, len: usize, fixed: *const jadvolni_fixed, value: *mut u8) -> jadvolni_result;
+    pub fn jadvolni_parse_u8_fixed_front(text: *const c_char, len: usize, fixed: *const jadvolni_fixed, value: *mut u8) -> jadvolni_result;
+    pub fn jadvolni_parse_u16_fixed(text: *const c_char, len: usize, fixed: *const jadvolni_fixed, value: *mut u16) -> jadvolni_result;
+    pub fn jadvolni_parse_u16_fixed_front(text: *const c_char, len: usize, fixed: *const jadvolni_fixed, value: *mut u16) -> jadvolni_result;
+    pub fn jadvolni_parse_u32_fixed(text: *const c_char, len: usize, fixed: *const jadvolni_fixed, value: *mut u32) -> jadvolni_result;
+    pub fn jadvolni_parse_u32_fixed_front(text: *const c_char, len: usize, fixed: *const jadvolni_fixed, value: *mut u32) -> jadvolni_result;
+    pub fn jadvolni_parse_u64_fixed(text: *const c_char, len: usize, fixed: *const jadvolni_fixed, value: *mut u64) -> jadvolni_result;
+    pub fn jadvolni_parse_u64_fixed_front(text: *const c_char, len: usize, fixed: *const jadvolni_fixed, value: *mut u64) -> jadvolni_result;
+    pub fn jadvolni_parse_u128_fixed(text: *const c_char, len: usize, fixed: *const jadvolni_fixed, value: *mut jadvolni_uint128) -> jadvolni_result;
+    pub fn jadvolni_parse_u128_fixed_front(text: *const c_char, len: usize, fixed: *const jadvolni_fixed, value: *mut jadvolni_uint128) -> jadvolni_result;
+    pub fn jadvolni_parse_usize_fixed(text: *const c_char, len: usize, fixed: *const jadvolni_fixed, value: *mut usize) -> jadvolni_result;
+    pub fn jadvolni_parse_usize_fixed_front(text: *const c_char, len: usize, fixed: *const jadvolni_fixed, value: *mut usize) -> jadvolni_result;
+    pub fn jadvolni_parse_i8_fixed(text: *const c_char, len: usize, fixed: *const jadvolni_fixed, value: *mut i8) -> jadvolni_result;
+    pub fn jadvolni_parse_i8_fixed_front(text: *const c_char, len: usize, fixed: *const jadvolni_fixed, value: *mut i8) -> jadvolni_result;
+    pub fn jadvolni_parse_i16_fixed(text: *const c_char, len: usize, fixed: *const jadvolni_fixed, value: *mut i16) -> jadvolni_result;
+    pub fn jadvolni_parse_i16_fixed_front(text: *const c_char, len: usize, fixed: *const jadvolni_fixed, value: *mut i16) -> jadvolni_result;
+    pub fn jadvolni_parse_i32_fixed(text: *const c_char, len: usize, fixed: *const jadvolni_fixed, value: *mut i32) -> jadvolni_result;
+    pub fn jadvolni_parse_i32_fixed_front(text: *const c_char, len: usize, fixed: *const jadvolni_fixed, value: *mut i32) -> jadvolni_result;
+    pub fn jadvolni_parse_i64_fixed(text: *const c_char, len: usize, fixed: *const jadvolni_fixed, value: *mut i64) -> jadvolni_result;
+    pub fn jadvolni_parse_i64_fixed_front(text: *const c_char, len: usize, fixed: *const jadvolni_fixed, value: *mut i64) -> jadvolni_result;
+    pub fn jadvolni_parse_i128_fixed(text: *const c_char, len: usize, fixed: *const jadvolni_fixed, value: *mut jadvolni_int128) -> jadvolni_result;
+    pub fn jadvolni_parse_i128_fixed_front(text: *const c_char, len: usize, fixed: *const jadvolni_fixed, value: *mut jadvolni_int128) -> jadvolni_result;
+    pub fn jadvolni_parse_isize_fixed(text: *const c_char, len: usize, fixed: *const jadvolni_fixed, value: *mut isize) -> jadvolni_result;
+    pub fn jadvolni_parse_isize_fixed_front(text: *const c_char, len: usize, fixed: *const jadvolni_fixed, value: *mut isize) -> jadvolni_result;
+    pub fn jadvolni_line_column(text: *const c_char, len: usize, place: usize) -> jadvolni_position;
     pub fn jadvolni_field_start(text: *const c_char, len: usize, separator: u8) -> usize;
 }

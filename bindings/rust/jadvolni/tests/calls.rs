@@ -148,6 +148,10 @@ fn texts_of_faults_are_those_of_the_list() {
         Error::MissingReturn(7),
         Error::InvalidTable,
         Error::MisplacedQuote(7),
+        Error::InvalidFixedRadix,
+        Error::InvalidFixedAffix,
+        Error::InvalidPoint,
+        Error::InvalidPlaces,
         Error::Unknown(7),
     ];
     let said = faults.map(|fault| {
