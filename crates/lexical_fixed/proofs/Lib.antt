@@ -1,5 +1,6 @@
 -- The lemmas on fixed-point numbers.
 mod Digits
+mod FaultPlaces
 mod FixedRows
 mod Fractions
 mod IntegerParts

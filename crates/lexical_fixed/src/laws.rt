@@ -1,10 +1,11 @@
 //! What always holds between the answers to fixed-point numbers and to integers.
 //!
 //! These calls do nothing. A proof that needs one of these laws calls it and has its clauses.
-ghost use Rattle.std.specs.Prelude.{◌≡◌, List, Ok, length, ℕ, ℤ};
+ghost use Rattle.std.specs.Prelude.{◌≡◌, IfErr, List, Ok, length, ℕ, ℤ};
 ghost use Rattle.lexical_fixed.specs.Fixed.{Fixed};
 ghost use Rattle.lexical_fixed.specs.Grammar.{complete_fixed, partial_fixed};
 ghost use Rattle.lexical_parse_integer.specs.Grammar.{complete};
+ghost use Rattle.lexical_parse_integer.specs.Laws.{StandsWithin};
 ghost use Rattle.lexical_util.specs.Number.{IntegerType};
 
 use lexical_parse_integer::laws::grammar::complete_by_partial;
@@ -27,4 +28,18 @@ pub fn without_places()
 {
     // The law by which the complete answer of integers follows from the partial one.
     complete_by_partial();
+}
+
+/// Each fault of a text is within the text or at its end.
+///
+/// So a place may be added to the place of a text within a longer one: the sum is within that.
+/// With two places the whole text `12.3x` gives `InvalidDigit(4)`, and `12.` gives `Empty(3)`, at its end.
+pub fn fault_places()
+    ensures whole { (fixed : Fixed) (type : IntegerType) (text : List ℕ)
+        → IfErr (complete_fixed fixed type text) (StandsWithin (length text)) }
+    ensures front { (fixed : Fixed) (type : IntegerType) (text : List ℕ)
+        → IfErr (partial_fixed fixed type text) (StandsWithin (length text)) }
+{
+    // The law by which each fault of an integer is within its text or at its end.
+    lexical_parse_integer::laws::grammar::fault_places();
 }
